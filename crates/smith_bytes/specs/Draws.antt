@@ -1,0 +1,39 @@
+-- What each draw gives, and the bytes that it leaves. Past the end of the source a draw reads zeros.
+use Rattle.std.specs.Prelude.{ℕ, zero, suc, ◌+◌, ◌-◌, ◌*◌, ◌/◌, ◌%◌, ◌==◌, Bool, List, [], ◌∷◌, take, drop, fold, nat_le, slice_index}
+
+-- the number whose base-256 digits these are, the lowest first
+abbrev pub little_endian : List ℕ → ℕ
+little_endian [] = 0
+little_endian (b ∷ bs) = b + 256 * little_endian bs
+
+-- the number whose base-256 digits these are, the highest first
+abbrev pub big_endian : List ℕ → ℕ
+big_endian = fold (λ x b. 256 * x + b) 0
+
+-- how many base-256 digits a number has, none for zero, looking at no more than n of them
+abbrev pub digit_count_within : ℕ → ℕ → ℕ
+digit_count_within zero d = 0
+digit_count_within (suc n) zero = 0
+digit_count_within (suc n) (suc d) = 1 + digit_count_within n (suc d / 256)
+
+-- how many base-256 digits a number below 2^128 has, none for zero
+unfoldable pub digit_count : ℕ → ℕ
+digit_count d = digit_count_within 16 d
+
+-- a whole number of n bytes: up to n bytes, the lowest first, missing ones 0
+unfoldable pub whole_at : ℕ → List ℕ → ℕ × List ℕ
+whole_at n bytes = (little_endian (take n bytes), drop n bytes)
+
+-- a bool: one byte, of which the lowest bit counts
+unfoldable pub bool_at : List ℕ → Bool × List ℕ
+bool_at bytes = (slice_index bytes 0 % 2 == 1, drop 1 bytes)
+
+-- a number of lo to hi: as many bytes as hi - lo has digits, the highest first
+unfoldable pub range_at : ℕ → ℕ → List ℕ → ℕ × List ℕ
+range_at lo hi bytes =
+    let n = digit_count (hi - lo) in
+    (lo + big_endian (take n bytes) % (hi - lo + 1), drop n bytes)
+
+-- true n times of m: a number of 1 to m is at most n
+unfoldable pub ratio_at : ℕ → ℕ → List ℕ → Bool × List ℕ
+ratio_at n m bytes = let drawn = range_at 1 m bytes in (nat_le drawn.0 n, drawn.1)
