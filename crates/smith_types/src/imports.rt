@@ -21,7 +21,10 @@ pub struct ImportItem {
 pub enum Imports {
     Single(Import),
     /// Imports of one module.
-    Compact1 { module: Name, items: Items<ImportItem> },
+    Compact1 {
+        module: Name,
+        items: Items<ImportItem>,
+    },
     /// Imports of one module that have one type.
     Compact2 {
         module: Name,

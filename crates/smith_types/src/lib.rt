@@ -7,13 +7,16 @@ mod const_instr;
 mod entity_type;
 mod imports;
 mod list;
+mod type_space;
 mod value_type;
 
 pub use composite_type::{
-    ArrayType, CompositeInnerType, CompositeType, FieldType, FuncType, StorageType, StructType, SubType,
+    ArrayType, CompositeInnerType, CompositeType, FieldType, FuncType, StorageType, StructType,
+    SubType,
 };
 pub use const_instr::ConstInstr;
 pub use entity_type::{EntityType, ExportKind, GlobalType, MemoryType, TableType};
 pub use imports::{Import, ImportItem, Imports};
 pub use list::{Items, Name};
+pub use type_space::TypeSpace;
 pub use value_type::{AbstractHeapType, HeapType, RefType, ValType};

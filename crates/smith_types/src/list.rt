@@ -1,5 +1,17 @@
 ghost use Rattle.std.specs.Prelude.{
-    ◌≡◌, ◌++◌, ℕ, List, [], ◌∷◌, length, IsTrue, ◌↔◌, IsErrOf, OnOk, OnErr, string_bytes
+  ◌≡◌,
+  ◌++◌,
+  ℕ,
+  List,
+  [],
+  ◌∷◌,
+  length,
+  IsTrue,
+  ◌↔◌,
+  IsErrOf,
+  OnOk,
+  OnErr,
+  string_bytes,
 };
 
 use smith_bytes::Error;

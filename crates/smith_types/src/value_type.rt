@@ -19,10 +19,7 @@ pub enum AbstractHeapType {
 /// descriptors proposal, shared types those of the shared-everything-threads proposal.
 #[derive(Clone, Copy, Debug)]
 pub enum HeapType {
-    Abstract {
-        shared: bool,
-        ty: AbstractHeapType,
-    },
+    Abstract { shared: bool, ty: AbstractHeapType },
     /// The type of this index, and those below it.
     Concrete(u32),
     /// The type of this index alone.
