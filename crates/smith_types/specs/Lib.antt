@@ -1,0 +1,4 @@
+pub mod Kinds
+pub mod Types
+pub mod Space
+pub mod Entities
