@@ -1,6 +1,7 @@
 //! What may be asked of a generated module.
 #![tactic(auto)]
 
+mod check;
 mod config;
 mod sanitize;
 

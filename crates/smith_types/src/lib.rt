@@ -1,0 +1,2 @@
+//! The types of WebAssembly, as plain data.
+#![tactic(auto)]
