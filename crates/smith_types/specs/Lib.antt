@@ -1,3 +1,4 @@
+pub mod Features
 pub mod Kinds
 pub mod Types
 pub mod Space
