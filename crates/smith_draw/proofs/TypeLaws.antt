@@ -64,3 +64,56 @@ sub_type_valid config types end bytes sanitized off =
       shared = may;
       shareable = λ on. absurd (unshared config sanitized off (may on));
     }
+
+pub rec_group_valid : (config : Config) (space : Space) (bytes : List ℕ) → IsSanitized config → config.gc_enabled ≡ false → AreTypesValid (features_of config) space → AreTypesValid (features_of config) (rec_group_at config space bytes).0
+unfolding rec_group_at
+rec_group_valid config space bytes sanitized off now =
+    let drawn = sub_type_at config bytes in
+    AreTypesValid-single (features_of config) space.types space.groups drawn.0 now (sub_type_valid config (space.types ++ drawn.0 ∷ []) (length space.types + 1) bytes sanitized off)
+
+rec_groups_valid : (config : Config) (most : ℕ) (space : Space) (bytes : List ℕ) → IsSanitized config → config.gc_enabled ≡ false → AreTypesValid (features_of config) space → AreTypesValid (features_of config) (rec_groups_at config most space bytes).0
+unfolding rec_groups_at
+rec_groups_valid config zero space bytes sanitized off now = now
+rec_groups_valid config (suc most) space bytes sanitized off now =
+    let go = goes_at (nat_lt (length space.types) config.min_types) bytes in
+    let grown = rec_group_at config space go.1 in
+    cond_both (λ (r : Space × List ℕ). AreTypesValid (features_of config) r.0) go.0 (rec_groups_at config most grown.0 grown.1) (space, go.1)
+    (rec_groups_valid config most grown.0 grown.1 sanitized off (rec_group_valid config space go.1 sanitized off now)) now
+
+pub types_valid : (config : Config) (space : Space) (bytes : List ℕ) → IsSanitized config → config.gc_enabled ≡ false → AreTypesValid (features_of config) space → AreTypesValid (features_of config) (types_at config space bytes).0
+unfolding types_at
+types_valid config space bytes = rec_groups_valid config (config.max_types - length space.types) space bytes
+
+rec_groups_most : (config : Config) (most top : ℕ) (space : Space) (bytes : List ℕ) → length space.types + most ≤ top → length (rec_groups_at config most space bytes).0.types ≤ top
+unfolding rec_groups_at rec_group_at
+rec_groups_most config zero top space bytes le = omega arith
+rec_groups_most config (suc most) top space bytes le =
+    let go = goes_at (nat_lt (length space.types) config.min_types) bytes in
+    let grown = rec_group_at config space go.1 in
+    cond_both (λ (r : Space × List ℕ). length r.0.types ≤ top) go.0 (rec_groups_at config most grown.0 grown.1) (space, go.1)
+    (rec_groups_most config most top grown.0 grown.1 (omega (arith, length-append space.types ((sub_type_at config go.1).0 ∷ [])))) (omega arith)
+
+pub types_most : (config : Config) (space : Space) (bytes : List ℕ) → length space.types ≤ config.max_types → length (types_at config space bytes).0.types ≤ config.max_types
+unfolding types_at
+types_most config space bytes le = rec_groups_most config (config.max_types - length space.types) config.max_types space bytes (omega arith)
+
+-- by the test whether there are too few
+least_turn : (least n : ℕ) (space : Space) (bytes : List ℕ) (next : List ℕ → Space × List ℕ) (b : Bool) → nat_lt n least ≡ b → n ≡ length space.types → ((mid : List ℕ) → least ≤ length (next mid).0.types)
+    → least ≤ length (cond (goes_at b bytes).0 (next (goes_at b bytes).1) (space, (goes_at b bytes).1)).0.types
+least_turn least n space bytes next true e len more = more bytes
+least_turn least n space bytes next false e len more =
+    let enough = ltb-false n least e in
+    cond_both (λ (r : Space × List ℕ). least ≤ length r.0.types) (bool_at bytes).0 (next (bool_at bytes).1) (space, (bool_at bytes).1) (more (bool_at bytes).1) (omega arith)
+
+rec_groups_least : (config : Config) (most : ℕ) (space : Space) (bytes : List ℕ) → config.min_types ≤ length space.types + most → config.min_types ≤ length (rec_groups_at config most space bytes).0.types
+unfolding rec_groups_at rec_group_at
+rec_groups_least config zero space bytes le = omega arith
+rec_groups_least config (suc most) space bytes le =
+    least_turn config.min_types (length space.types) space bytes (λ mid. let grown = rec_group_at config space mid in rec_groups_at config most grown.0 grown.1) (nat_lt (length space.types) config.min_types) refl refl
+    (λ mid.
+        let grown = rec_group_at config space mid in
+        rec_groups_least config most grown.0 grown.1 (omega (arith, length-append space.types ((sub_type_at config mid).0 ∷ []))))
+
+pub types_least : (config : Config) (space : Space) (bytes : List ℕ) → config.min_types ≤ config.max_types → config.min_types ≤ length (types_at config space bytes).0.types
+unfolding types_at
+types_least config space bytes le = rec_groups_least config (config.max_types - length space.types) space bytes (omega arith)

@@ -13,7 +13,7 @@ mod value_type;
 pub use composite_type::arbitrary_func_type;
 pub use entity_type::arbitrary_memtype;
 pub use limits::{arbitrary_limits64, gradually_grow};
-pub use rec_group::add_type;
+pub use rec_group::{add_type, arbitrary_rec_group, arbitrary_types};
 pub use spaces::{Entities, Spaces};
 pub use sub_type::arbitrary_sub_type;
 pub use value_type::{arbitrary_heap_type, arbitrary_ref_type, arbitrary_valtype};

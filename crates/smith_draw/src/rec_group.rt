@@ -27,7 +27,7 @@ pub fn add_type(types: &mut TypeSpace, added: SubType) -> Result<u32, Error>
     types.push_type(added)
 }
 
-/// A group of one type.
+// A group of one type.
 #[tactic(auto, unfolding(crate::specs::SubTypes::rec_group_at))]
 fn rec_group(
     alloc: Global,
@@ -47,7 +47,7 @@ fn rec_group(
     Ok(())
 }
 
-/// Adds groups while a bool asks for them, and as many as the least number of types asks for.
+// Adds groups while a bool asks for them, and as many as the least number of types asks for.
 #[tactic(auto, unfolding(crate::specs::SubTypes::types_at))]
 fn rec_groups(
     alloc: Global,
@@ -68,4 +68,50 @@ fn rec_groups(
         rec_group(alloc, config, types, u)?;
     }
     Ok(())
+}
+
+/// Adds one group, of at least a type where it may not be empty. Until types of garbage collection are drawn, it takes a
+/// configuration without them, and a group is one type.
+pub fn arbitrary_rec_group(
+    alloc: Global,
+    config: &Config,
+    types: &mut TypeSpace,
+    _entities: &Entities<'_>,
+    _allow_empty: bool,
+    u: &mut Unstructured<'_>,
+) -> Result<(), Error>
+    requires passes { Passes config.now }
+    requires sanitized { IsSanitized config.now }
+    requires without_gc { config.now.gc_enabled ≡ false }
+    requires valid { AreTypesValid (features_of config.now) types.old }
+    requires room { length types.old.types < config.now.max_types }
+    ensures exact { OnOk result (rec_group_at config.now types.old u.old ≡ (types.new, u.new)) }
+    ensures valid { OnOk result (AreTypesValid (features_of config.now) types.new) }
+    ensures memory { IfErr result (λ e. e ≡ Error.Memory) }
+    ensures left { KeepsPieces u.old u.new }
+{
+    rec_group(alloc, config, types, u)
+}
+
+/// Adds groups: at least as many types as are asked for, and at most as many as may be. Until types of garbage collection
+/// are drawn, it takes a configuration without them.
+pub fn arbitrary_types(
+    alloc: Global,
+    config: &Config,
+    types: &mut TypeSpace,
+    _entities: &Entities<'_>,
+    u: &mut Unstructured<'_>,
+) -> Result<(), Error>
+    requires passes { Passes config.now }
+    requires sanitized { IsSanitized config.now }
+    requires without_gc { config.now.gc_enabled ≡ false }
+    requires valid { AreTypesValid (features_of config.now) types.old }
+    ensures exact { OnOk result (types_at config.now types.old u.old ≡ (types.new, u.new)) }
+    ensures valid { OnOk result (AreTypesValid (features_of config.now) types.new) }
+    ensures most { OnOk result (length types.old.types ≤ config.now.max_types → length types.new.types ≤ config.now.max_types) }
+    ensures least { OnOk result (config.now.min_types ≤ length types.new.types) }
+    ensures memory { IfErr result (λ e. e ≡ Error.Memory) }
+    ensures left { KeepsPieces u.old u.new }
+{
+    rec_groups(alloc, config, types, u)
 }
