@@ -1,0 +1,2 @@
+/// A module.
+pub struct Module {}
