@@ -1,9 +1,9 @@
 -- What is valid stays valid when types are added, and one more group of one type is valid where its type is.
-use Rattle.std.proofs.Common.{◌≡◌, ◌⊎◌, ℕ, ◌+◌, ◌<◌, ◌≤◌, false, List, [], ◌∷◌, ◌++◌, Some, length, refl, sym, ◌∙◌, subst, arith, length-append, inl, inr}
+use Rattle.std.proofs.Common.{◌≡◌, ◌⊎◌, ℕ, zero, suc, ◌+◌, ◌<◌, ◌≤◌, false, List, [], ◌∷◌, ◌++◌, Some, length, refl, sym, ◌∙◌, subst, arith, length-append, inl, inr}
 use Rattle.std.specs.Prelude.{slice_get, slice_index_or, All, IsTrue}
 use Rattle.std.specs.List.{AllByRecursion as ByRecursion}
 use Rattle.std.specs.declared.ops.Range.{Range}
-use Rattle.std.proofs.lemmas.List.Elements.{All-weaker, All-push, All-from_recursion}
+use Rattle.std.proofs.lemmas.List.Elements.{All-nil, All-weaker, All-push, All-from_recursion, recursion_from_All}
 use Rattle.std.proofs.lemmas.Option.{slice_get_within}
 use Rattle.smith_types.specs.Features.{Features}
 use Rattle.smith_types.specs.Space.{Space}
@@ -86,3 +86,29 @@ AreTypesValid-single features types groups t now h =
       };
       groups = All-push (IsGroupValid features more) groups group old (IsGroupValid-single features types t group begins longer h);
     }
+
+-- a space without types
+pub AreTypesValid-none : (features : Features) → AreTypesValid features (record { types = []; groups = [] })
+AreTypesValid-none features = record { covered = record { consecutive = tt; whole = refl }; groups = All-nil (IsGroupValid features []) }
+
+before_or_not : (a b : ℕ) → (a < b) ⊎ (b ≤ a)
+before_or_not a zero = inr (omega arith)
+before_or_not zero (suc b) = inl (omega arith)
+before_or_not (suc a) (suc b) = elim (before_or_not a b) [ inl lt ↦ inl (omega arith) | inr le ↦ inr (omega arith) ]
+
+-- what holds of each of consecutive groups holds of one that an index is in
+group_at : (P : Range ℕ → Type 0) (start : ℕ) (groups : List (Range ℕ)) (i : ℕ) → AreConsecutive start groups → ByRecursion P groups → start ≤ i → i < end_from start groups → (group : Range ℕ) × P group × (group.start ≤ i) × (i < group.end)
+group_at P start [] i c each low high = absurd (omega arith)
+group_at P start (group ∷ groups) i (begins, ordered, rest) (h, more) low high =
+    elim (before_or_not i group.end) [
+      | inl inside ↦ (group, h, omega arith, inside)
+      | inr behind ↦ group_at P group.end groups i rest more behind high
+    ]
+
+-- each type is valid against the end of its group
+pub AreTypesValid-at : (features : Features) (space : Space) → AreTypesValid features space → (i : ℕ) (t : SubType) → slice_get space.types i ≡ Some t → (end : ℕ) × IsTypeValid features space.types end t
+AreTypesValid-at features space valid i t at =
+    let inside : i < length space.types = slice_get_within space.types i t at in
+    let each = recursion_from_All (IsGroupValid features space.types) space.groups valid.groups in
+    let (group, h, low, high) = group_at (IsGroupValid features space.types) 0 space.groups i valid.covered.consecutive each (omega arith) (let whole = valid.covered.whole in omega arith) in
+    (group.end, h.members i t low high at)

@@ -1,5 +1,5 @@
 -- What each step of building a module reads from the bytes, and what it leaves. No public contract cites it.
-use Rattle.std.specs.Prelude.{◌≡◌, ℕ, suc, Bool, true, false, ◌&&◌, not, List, [], ◌∷◌, length, Result, Ok, Err, ◌==◌, if◌then◌else◌}
+use Rattle.std.specs.Prelude.{◌≡◌, ℕ, suc, Bool, true, false, ◌&&◌, not, Option, None, List, [], ◌∷◌, length, replicate, Result, Ok, Err, ◌==◌, if◌then◌else◌}
 use Rattle.std.specs.List.{list_any}
 use Rattle.smith_bytes.specs.declared.error.Error.{Error}
 use Rattle.smith_bytes.specs.declared.error.Error.TheVariants as errors
@@ -14,7 +14,9 @@ use Rattle.smith_types.specs.declared.composite_type.SubType.{SubType}
 use Rattle.smith_types.specs.declared.entity_type.MemoryType.{MemoryType}
 use Rattle.smith_config.specs.declared.config.Config.{Config}
 use Rattle.smith_draw.specs.Choices.{chosen_at}
+use Rattle.smith_draw.specs.SubTypes.{types_at}
 use Rattle.smith_draw.specs.Memories.{memtype_at}
+use Rattle.wasm_smith.specs.Module.{Parts}
 use Rattle.wasm_smith.specs.declared.code.Code.{Code}
 use Rattle.wasm_smith.specs.declared.code.Instructions.TheVariants.{Unreachable}
 
@@ -85,3 +87,51 @@ type_flag_at types bytes = if types == 0 then bool_at bytes else (true, bytes)
 -- a body that only traps
 abbrev pub trap : Code
 trap = record { locals = []; instructions = Unreachable }
+
+infixl 10 ◌>>=◌
+abbrev pub ◌>>=◌ : {A B : Type 0} → Result A Count → (A → Result B Count) → Result B Count
+(Ok x) >>= f = f x
+(Err count) >>= f = Err count
+
+-- the module that the bytes give, step by step, and what they leave
+unfoldable pub module_at : Config → List ℕ → Result (Parts × List ℕ) Count
+module_at config bytes = do
+  let types = types_at config (record { types = []; groups = [] }) bytes
+  imports ← passed_at counts.Imports config.min_imports config.max_imports types.1
+  let import_flag = bool_at imports
+  tags ← tags_at config types.0.types import_flag.1
+  funcs ← funcs_at config types.0.types tags
+  tables ← passed_at counts.Tables config.min_tables config.max_tables funcs.1
+  let memories = memories_at config tables
+  globals ← passed_at counts.Globals config.min_globals config.max_globals memories.1
+  exports ← passed_at counts.Exports config.min_exports 0 globals
+  let type_flag = type_flag_at (length types.0.types) exports
+  segments ← passed_at counts.ElementSegments config.min_element_segments 0 type_flag.1
+  elements ← passed_at counts.Elements config.min_elements 0 segments
+  rest ← passed_at counts.DataSegments config.min_data_segments 0 elements
+  Ok (record {
+    config = config;
+    types = types.0.types;
+    groups = types.0.groups;
+    imports = [];
+    num_imports = 0;
+    tags = [];
+    funcs = funcs.0;
+    tables = [];
+    defined_tables = [];
+    memories = memories.0;
+    globals = [];
+    defined_globals = [];
+    num_defined_tags = 0;
+    num_defined_funcs = length funcs.0;
+    num_defined_memories = length memories.0;
+    exports = [];
+    start = None;
+    elems = [];
+    segments = [];
+    code = replicate (length funcs.0) trap;
+    fuel_globals = [];
+    encodes_types = type_flag.0;
+    encodes_imports = import_flag.0;
+    type_size = 0;
+  }, rest)

@@ -1,1 +1,3 @@
+pub mod Module
+pub mod Refusals
 pub mod Build
