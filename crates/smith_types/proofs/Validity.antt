@@ -88,8 +88,8 @@ AreTypesValid-single features types groups t now h =
     }
 
 -- a space without types
-pub AreTypesValid-none : (features : Features) → AreTypesValid features (record { types = []; groups = [] })
-AreTypesValid-none features = record { covered = record { consecutive = tt; whole = refl }; groups = All-nil (IsGroupValid features []) }
+pub no_types : (features : Features) → AreTypesValid features (record { types = []; groups = [] })
+no_types features = record { covered = record { consecutive = tt; whole = refl }; groups = All-nil (IsGroupValid features []) }
 
 before_or_not : (a b : ℕ) → (a < b) ⊎ (b ≤ a)
 before_or_not a zero = inr (omega arith)

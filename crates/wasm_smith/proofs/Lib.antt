@@ -1,1 +1,2 @@
 pub mod FuncLaws
+pub mod MemoryCounts

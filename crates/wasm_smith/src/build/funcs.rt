@@ -1,11 +1,17 @@
-ghost use Rattle.std.specs.Prelude.{◌≡◌, ◌<◌, ◌+◌, ◌^◌, length, slice_index_or, IfOk, IfErr};
+ghost use Rattle.std.specs.Prelude.{◌≡◌, ◌≤◌, ◌<◌, ◌+◌, ◌^◌, ◌⊎◌, false, length, slice_index_or, IfOk, IfErr, All};
 ghost use Rattle.smith_bytes.specs.Source.{KeepsPieces};
+ghost use Rattle.smith_types.specs.ValidTypes.{AreTypesValid};
+ghost use Rattle.smith_config.specs.Faults.{Passes};
+ghost use Rattle.smith_config.specs.Features.{features_of};
+ghost use Rattle.smith_config.specs.Sanitized.{IsSanitized};
+ghost use Rattle.wasm_smith.specs.Module.{IsFuncIndex};
+ghost use Rattle.wasm_smith.specs.Refusals.{MayRefuse};
 ghost use Rattle.smith_draw.specs.Choices.{chosen_at};
 ghost use Rattle.wasm_smith.specs.Build.{Gives, is_function, is_unshared_function, func_types, chosen_funcs_at, funcs_at};
 
 use smith_bytes::{Count, Error, Unstructured, Why, goes_on};
 use smith_config::Config;
-use smith_types::{CompositeInnerType, Items, SubType};
+use smith_types::{CompositeInnerType, Items, SubType, TypeSpace};
 use std::alloc::Global;
 
 fn is_function(inner: &CompositeInnerType) -> bool
@@ -88,9 +94,9 @@ fn chosen_funcs(
     Ok(funcs)
 }
 
-/// The index of the type of each function: none where no type is that of an unshared function.
+// The index of the type of each function: none where no type is that of an unshared function.
 #[tactic(auto, unfolding(crate::specs::Build::funcs_at))]
-pub(crate) fn funcs(
+fn drawn_funcs(
     alloc: Global,
     config: &Config,
     types: &[SubType],
@@ -98,6 +104,8 @@ pub(crate) fn funcs(
 ) -> Result<Items<u32>, Error>
     requires few { length types.now < 2 ^ 32 }
     ensures exact { Gives (λ funcs. (funcs, u.new)) result (funcs_at config.now types.now u.old) }
+    ensures refusal { IfErr result (λ e. (e ≡ Error.Memory)
+        ⊎ ((e ≡ Error.IncorrectFormat (Why.Unmet Count.Funcs)) × (0 < config.now.min_funcs) × (length (func_types types.now) ≡ 0))) }
     ensures left { KeepsPieces u.old u.new }
 {
     let count = count_func_types(types);
@@ -108,4 +116,26 @@ pub(crate) fn funcs(
         return Err(Error::IncorrectFormat(Why::Unmet(Count::Funcs)));
     }
     Ok(Items::new(alloc))
+}
+
+/// As many functions as are asked for, and no more than may be.
+pub(crate) fn funcs(
+    alloc: Global,
+    config: &Config,
+    types: &TypeSpace,
+    u: &mut Unstructured<'_>,
+) -> Result<Items<u32>, Error>
+    requires passes { Passes config.now }
+    requires sanitized { IsSanitized config.now }
+    requires without_gc { config.now.gc_enabled ≡ false }
+    requires valid { AreTypesValid (features_of config.now) types.now }
+    requires least { config.now.min_types ≤ length types.now.types }
+    ensures exact { Gives (λ funcs. (funcs, u.new)) result (funcs_at config.now types.now.types u.old) }
+    ensures valid { IfOk result (All (IsFuncIndex types.now.types)) }
+    ensures most { IfOk result (λ funcs. length funcs ≤ config.now.max_funcs) }
+    ensures least { IfOk result (λ funcs. config.now.min_funcs ≤ length funcs) }
+    ensures refusal { IfErr result (MayRefuse config.now) }
+    ensures left { KeepsPieces u.old u.new }
+{
+    drawn_funcs(alloc, config, types.types(), u)
 }
