@@ -1,12 +1,17 @@
-ghost use Rattle.std.specs.Prelude.{◌≡◌, []};
+ghost use Rattle.std.specs.Prelude.{◌≡◌, [], IfOk, IfErr};
+ghost use Rattle.smith_bytes.specs.Source.{IsPiece};
+ghost use Rattle.smith_config.specs.Faults.{Passes};
 
+use crate::build::build;
 use crate::code::Code;
 use crate::segments::{DataSegment, ElementSegment};
+use smith_bytes::{Error, Unstructured};
 use smith_config::Config;
 use smith_types::{
     ConstInstr, ExportKind, GlobalType, Imports, Items, MemoryType, Name, SubType, TableType,
     TypeSpace,
 };
+use std::alloc::Global;
 use std::marker::Model;
 use std::ops::Range;
 
@@ -75,6 +80,36 @@ impl Model for Module {
 }
 
 impl Module {
+    ghost use Rattle.wasm_smith.specs.Module.{accepted, IsValid, KeepsBounds, MeetsMinimums, WritesSections};
+    ghost use Rattle.wasm_smith.specs.Refusals.{HasNoMinimums, MayRefuse};
+
+    /// Draws a module from the bytes. The configuration is sanitised and checked first; until types of garbage collection
+    /// are drawn, it is taken without them.
+    ///
+    /// It refuses a configuration that fails its check, a minimum that can't be met, and want of memory.
+    pub fn new(
+        alloc: Global,
+        mut config: Config,
+        u: &mut Unstructured<'_>,
+    ) -> Result<Module, Error>
+        ensures config { IfOk result (λ m. m.config ≡ accepted config) }
+        ensures passes { IfOk result (λ m. Passes m.config) }
+        ensures valid { IfOk result IsValid }
+        ensures bounds { IfOk result KeepsBounds }
+        ensures minimums { IfOk result MeetsMinimums }
+        ensures sections { IfOk result WritesSections }
+        ensures refusals { IfErr result (MayRefuse (accepted config)) }
+        ensures needless { Passes (accepted config) → HasNoMinimums (accepted config) → IfErr result (λ e. e ≡ Error.Memory) }
+        ensures source { IsPiece u.old u.new }
+    {
+        config.gc_enabled = false;
+        config.sanitize();
+        if let Err(fault) = config.check() {
+            return Err(Error::Config(fault));
+        }
+        build(alloc, config, u)
+    }
+
     /// The configuration that the module was drawn for, sanitised.
     pub fn config(&self) -> &Config
         ensures { result.now ≡ self.now.config }

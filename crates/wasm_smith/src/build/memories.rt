@@ -49,6 +49,7 @@ pub(crate) fn memories(
     ensures within { IfOk result (All (IsMemoryWithin config.now)) }
     ensures most { IfOk result (λ memories. length memories ≤ config.now.max_memories) }
     ensures least { IfOk result (λ memories. config.now.min_memories ≤ length memories) }
+    ensures several { IfOk result (λ memories. 1 < length memories → IsTrue (features_of config.now).multi_memory) }
     ensures memory { IfErr result (λ e. e ≡ Error.Memory) }
     ensures left { KeepsPieces u.old u.new }
 {

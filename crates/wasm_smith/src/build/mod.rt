@@ -32,6 +32,10 @@ pub(crate) fn build(
     requires without_gc { config.gc_enabled ≡ false }
     ensures exact { Gives (λ m. (m, u.new)) result (module_at config u.old) }
     ensures config { IfOk result (λ m. m.config ≡ config) }
+    ensures valid { IfOk result IsValid }
+    ensures bounds { IfOk result KeepsBounds }
+    ensures minimums { IfOk result MeetsMinimums }
+    ensures sections { IfOk result WritesSections }
     ensures refusal { IfErr result (MayRefuse config) }
     ensures left { KeepsPieces u.old u.new }
 {
