@@ -1,13 +1,13 @@
 -- What is valid stays valid when types are added, and one more group of one type is valid where its type is.
-use Rattle.std.proofs.Common.{◌≡◌, ◌⊎◌, ℕ, zero, suc, ◌+◌, ◌<◌, ◌≤◌, false, List, [], ◌∷◌, ◌++◌, Some, length, refl, sym, ◌∙◌, subst, arith, length-append, inl, inr}
-use Rattle.std.specs.Prelude.{slice_get, slice_index_or, All, IsTrue}
+use Rattle.std.proofs.Common.{◌≡◌, ◌⊎◌, ℕ, zero, suc, ◌+◌, ◌<◌, ◌≤◌, List, [], ◌∷◌, ◌++◌, Some, length, refl, sym, subst, arith, length-append, inl, inr}
+use Rattle.std.specs.Prelude.{slice_get, slice_index_or, All}
 use Rattle.std.specs.List.{AllByRecursion as ByRecursion}
 use Rattle.std.specs.declared.ops.Range.{Range}
 use Rattle.std.proofs.lemmas.List.Elements.{All-nil, All-weaker, All-push, All-from_recursion, recursion_from_All}
 use Rattle.std.proofs.lemmas.Option.{slice_get_within}
 use Rattle.smith_types.specs.Features.{Features}
 use Rattle.smith_types.specs.Space.{Space}
-use Rattle.smith_types.specs.Types.{AreCovered, AreConsecutive, end_from, next_start, next_group}
+use Rattle.smith_types.specs.Types.{AreConsecutive, end_from, next_start, next_group}
 use Rattle.smith_types.specs.ValidTypes.{IsHeapTypeShared, IsShareable, IsTypeValid, IsGroupValid, AreTypesValid, values_of}
 use Rattle.smith_types.specs.declared.composite_type.SubType.{SubType}
 use Rattle.smith_types.specs.declared.value_type.ValType.{ValType}
@@ -78,7 +78,7 @@ AreTypesValid-single features types groups t now h =
     let begins : next_start groups ≡ length types = now.covered.whole in
     let ends = All-from_recursion (λ (g : Range ℕ). g.end ≤ next_start groups) groups (ends_within 0 groups now.covered.consecutive).1 in
     let old : All (IsGroupValid features more) groups =
-        λ k d lt. IsGroupValid-grown features types t (slice_index_or groups k d) (let inside = ends k d lt in omega arith) (now.groups k d lt) in
+    λ k d lt. IsGroupValid-grown features types t (slice_index_or groups k d) (let inside = ends k d lt in omega arith) (now.groups k d lt) in
     record {
       covered = record {
         consecutive = AreConsecutive-push 0 groups group now.covered.consecutive refl (omega arith);

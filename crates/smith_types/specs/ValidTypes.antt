@@ -1,6 +1,6 @@
 -- Valid types. Type validation, in the section Validation, Types, of the WebAssembly Core Specification 3.0; which
 -- feature a construct needs, and what sharedness asks, are rules of this project.
-use Rattle.std.specs.Prelude.{◌≡◌, ℕ, ◌+◌, ◌<◌, ◌≤◌, ◌⊎◌, true, false, IsTrue, IsSome, List, [], ◌∷◌, ◌++◌, length, slice_get, Option, Some, All}
+use Rattle.std.specs.Prelude.{◌≡◌, ℕ, ◌+◌, ◌<◌, ◌≤◌, false, IsTrue, IsSome, List, [], ◌∷◌, ◌++◌, length, slice_get, Some, All}
 use Rattle.std.specs.List.{flat_map}
 use Rattle.std.specs.declared.ops.Range.{Range}
 use Rattle.smith_types.specs.Features.{Features}
