@@ -1,10 +1,11 @@
-ghost use Rattle.std.specs.Prelude.{◌≡◌, ◌≤◌, ◌<◌, ◌^◌, ◌↔◌, IsTrue, length, take, drop};
+ghost use Rattle.std.specs.Prelude.{◌≡◌, ◌≤◌, ◌<◌, ◌^◌, ◌↔◌, IsTrue, IsErr, IfOk, IfErr, OnErr, Some, length, take, drop};
 ghost use Rattle.std.specs.Range.{range_inclusive_start, range_inclusive_end};
 ghost use Rattle.smith_bytes.specs.Source.{KeepsPieces};
-ghost use Rattle.smith_bytes.specs.Draws.{whole_at, range_at, ratio_at};
+ghost use Rattle.smith_bytes.specs.Draws.{whole_at, range_at, ratio_at, choose_at};
 
 use crate::arbitrary::{Arbitrary, Int};
 use crate::digits::{count_digits, read_big_endian, read_little_endian};
+use crate::error::Error;
 use std::marker::Model;
 use std::ops::RangeInclusive;
 
@@ -78,6 +79,21 @@ impl<'a> Unstructured<'a> {
         ensures left { KeepsPieces self.old self.new }
     {
         1 + self.offset(m.widen() - 1) <= n.widen()
+    }
+
+    /// An item of the list, at a drawn place. Only an empty list is refused, by `EmptyChoose`.
+    #[tactic(auto, unfolding(crate::specs::Draws::choose_at))]
+    pub fn choose<'b, T>(&mut self, items: &'b [T]) -> Result<&'b T, Error>
+        ensures exact { IfOk result (λ item. choose_at items.now self.old ≡ (Some item.now, self.new)) }
+        ensures empty { IsErr result ↔ (length items.now ≡ 0) }
+        ensures error { IfErr result (λ e. e ≡ Error.EmptyChoose) }
+        ensures fault { OnErr result (self.new ≡ self.old) }
+        ensures left { KeepsPieces self.old self.new }
+    {
+        if items.is_empty() {
+            return Err(Error::EmptyChoose);
+        }
+        Ok(&items[self.int_in_range(0..=items.len() - 1)])
     }
 
     /// The first `n` bytes, or all that are left where there are fewer.
