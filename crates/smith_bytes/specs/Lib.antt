@@ -1,3 +1,4 @@
 pub mod Source
 pub mod Draws
 pub mod Growth
+pub mod Names

@@ -5,9 +5,11 @@ mod arbitrary;
 mod digits;
 mod error;
 mod growth;
+mod text;
 mod unstructured;
 
 pub use arbitrary::{Arbitrary, Int};
 pub use error::{ConfigFault, Count, Error, ShapeFault, Which, Why};
 pub use growth::goes_on;
+pub use text::{limited_str, limited_string};
 pub use unstructured::Unstructured;

@@ -136,7 +136,7 @@ impl<'a> Unstructured<'a> {
 
     /// The first `n` bytes, or all that are left where there are fewer.
     #[tactic(auto, using(crate::proofs::Pieces::keeps_drop))]
-    fn up_to(&mut self, n: usize) -> &'a [u8]
+    pub(crate) fn up_to(&mut self, n: usize) -> &'a [u8]
         ensures taken { result.now ≡ take n self.old }
         ensures rest { self.new ≡ drop n self.old }
         ensures left { KeepsPieces self.old self.new }
