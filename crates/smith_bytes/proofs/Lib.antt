@@ -3,3 +3,4 @@ pub mod Endian
 pub mod Drawn
 pub mod Growing
 pub mod Grown
+pub mod MadeNew

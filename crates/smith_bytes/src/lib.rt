@@ -5,11 +5,13 @@ mod arbitrary;
 mod digits;
 mod error;
 mod growth;
+mod names;
 mod text;
 mod unstructured;
 
 pub use arbitrary::{Arbitrary, Int};
 pub use error::{ConfigFault, Count, Error, ShapeFault, Which, Why};
 pub use growth::goes_on;
+pub use names::unique_string;
 pub use text::{limited_str, limited_string};
 pub use unstructured::Unstructured;

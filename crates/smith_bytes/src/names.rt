@@ -1,0 +1,53 @@
+ghost use Rattle.std.specs.Prelude.{◌≡◌, string_bytes, IfOk, IfErr, OnOk, OnErr};
+ghost use Rattle.std.specs.HashSet.{IsUnchanged};
+ghost use Rattle.smith_bytes.specs.Source.{KeepsPieces};
+ghost use Rattle.smith_bytes.specs.Names.{text_at, IsMadeNew, AddsName};
+
+use crate::error::Error;
+use crate::text::limited_string;
+use crate::unstructured::Unstructured;
+use std::alloc::Global;
+use std::collections::HashSet;
+use std::fmt::Write;
+
+/// A text that is not among the names, and is added to them. It has at most `max_size` bytes and
+/// what makes it new.
+pub fn unique_string(
+    alloc: Global,
+    max_size: usize,
+    names: &mut HashSet<String>,
+    u: &mut Unstructured<'_>,
+) -> Result<String, Error>
+    ensures made { IfOk result (λ name. IsMadeNew names.old (text_at max_size u.old).0 (string_bytes name)) }
+    ensures added { IfOk result (λ name. AddsName names.old names.new (string_bytes name)) }
+    ensures kept { OnErr result (IsUnchanged names.old names.new) }
+    ensures memory { IfErr result (λ e. e ≡ Error.Memory) }
+    ensures rest { OnOk result (u.new ≡ (text_at max_size u.old).1) }
+    ensures left { KeepsPieces u.old u.new }
+{
+    unique(names, limited_string(alloc, max_size, u)?)
+}
+
+/// The text made new, and added to the names.
+fn unique(names: &mut HashSet<String>, text: String) -> Result<String, Error>
+    ensures made { IfOk result (λ name. IsMadeNew names.old (string_bytes text) (string_bytes name)) }
+    ensures added { IfOk result (λ name. AddsName names.old names.new (string_bytes name)) }
+    ensures kept { OnErr result (IsUnchanged names.old names.new) }
+    ensures memory { IfErr result (λ e. e ≡ Error.Memory) }
+{
+    let name = made_new(names, text)?;
+    names.insert(name.clone()?)?;
+    Ok(name)
+}
+
+/// The text, and behind it the number of names as often as it takes until it is new.
+fn made_new(names: &HashSet<String>, text: String) -> Result<String, Error>
+    ensures made { IfOk result (λ name. IsMadeNew names.now (string_bytes text) (string_bytes name)) }
+    ensures memory { IfErr result (λ e. e ≡ Error.Memory) }
+{
+    let mut name = text;
+    while names.contains(&name) {
+        write!(name, "{}", names.len())?;
+    }
+    Ok(name)
+}
