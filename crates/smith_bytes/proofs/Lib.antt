@@ -4,3 +4,4 @@ pub mod Drawn
 pub mod Growing
 pub mod Grown
 pub mod MadeNew
+pub mod KebabShape

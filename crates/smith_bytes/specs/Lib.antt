@@ -2,3 +2,4 @@ pub mod Source
 pub mod Draws
 pub mod Growth
 pub mod Names
+pub mod Kebab

@@ -1,5 +1,5 @@
 -- Texts and names that are drawn, and names that are made new.
-use Rattle.std.specs.Prelude.{◌≡◌, ◌<◌, ℕ, zero, suc, true, false, List, ◌++◌, take, drop, min, codes, if◌then◌else◌}
+use Rattle.std.specs.Prelude.{◌≡◌, ◌<◌, ℕ, zero, suc, true, false, List, ◌++◌, take, drop, length, min, codes, if◌then◌else◌}
 use Rattle.std.specs.Str.{bytes_eq}
 use Rattle.std.specs.Str.Lossy.{utf8_valid_len}
 use Rattle.std.specs.Fmt.{decimal}
@@ -35,3 +35,7 @@ module _ {S : Type 0} where
 -- what stands before the path of an address
 abbrev pub url_front : List ℕ
 url_front = codes "https://example.com/"
+
+-- the path of an address, behind its front
+abbrev pub url_path : List ℕ → List ℕ
+url_path url = drop (length url_front) url
