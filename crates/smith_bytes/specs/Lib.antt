@@ -3,3 +3,4 @@ pub mod Draws
 pub mod Growth
 pub mod Names
 pub mod Kebab
+pub mod Loop

@@ -7,6 +7,7 @@ mod error;
 mod growth;
 mod kebab;
 mod names;
+mod repeat;
 mod text;
 mod unstructured;
 
@@ -14,5 +15,6 @@ pub use arbitrary::{Arbitrary, Int};
 pub use error::{ConfigFault, Count, Error, ShapeFault, Which, Why};
 pub use growth::goes_on;
 pub use names::{unique_kebab_string, unique_string, unique_url};
+pub use repeat::arbitrary_loop;
 pub use text::{limited_str, limited_string};
 pub use unstructured::Unstructured;
