@@ -8,6 +8,8 @@ mod growth;
 mod kebab;
 mod names;
 mod repeat;
+#[cfg(test)]
+mod rows;
 mod text;
 mod unstructured;
 
