@@ -1,4 +1,6 @@
 pub mod Kinds
 pub mod Types
 pub mod Space
+pub mod Subtyping
+pub mod Matching
 pub mod Entities
