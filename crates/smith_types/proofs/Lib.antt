@@ -1,3 +1,4 @@
 pub mod Lists
 pub mod Growth
 pub mod Spaces
+pub mod Walk

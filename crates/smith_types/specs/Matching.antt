@@ -1,5 +1,5 @@
 -- Matching of storage, field and composite types.
-use Rattle.std.specs.Prelude.{◌≡◌, ℕ, ◌<◌, Bool, true, false, IsTrue, List, [], ◌∷◌}
+use Rattle.std.specs.Prelude.{◌≡◌, IsTrue, List, [], ◌∷◌}
 use Rattle.smith_types.specs.declared.value_type.ValType.{ValType}
 use Rattle.smith_types.specs.declared.composite_type.StorageType.{StorageType}
 use Rattle.smith_types.specs.declared.composite_type.StorageType.TheVariants.{I8, I16, Val}

@@ -1,5 +1,5 @@
 -- Subtyping of heap, reference and value types.
-use Rattle.std.specs.Prelude.{◌≡◌, ℕ, ◌<◌, Bool, true, false, IsTrue, List, length, Some, slice_get}
+use Rattle.std.specs.Prelude.{◌≡◌, ◌<◌, Bool, true, false, IsTrue, List, length, Some, slice_get}
 use Rattle.smith_types.specs.declared.value_type.AbstractHeapType.{AbstractHeapType}
 use Rattle.smith_types.specs.declared.value_type.AbstractHeapType.TheVariants.{Func, Extern, Any, None, NoExtern, NoFunc, Eq, Struct, Array, I31, Exn, NoExn}
 use Rattle.smith_types.specs.declared.value_type.HeapType.{HeapType}
@@ -69,3 +69,34 @@ IsInRange types (Exact i) = i < length types
 abbrev pub IsValInRange : List SubType → ValType → Type 0
 IsValInRange types (Ref r) = IsInRange types r.heap_type
 IsValInRange types _ = Unit {0}
+
+-- whether one abstract heap type is below another: the closure of the table of steps, as a table
+abbrev pub is_abstract_below : AbstractHeapType → AbstractHeapType → Bool
+is_abstract_below Func Func = true
+is_abstract_below Extern Extern = true
+is_abstract_below Any Any = true
+is_abstract_below None None = true
+is_abstract_below NoExtern NoExtern = true
+is_abstract_below NoFunc NoFunc = true
+is_abstract_below Eq Eq = true
+is_abstract_below Struct Struct = true
+is_abstract_below Array Array = true
+is_abstract_below I31 I31 = true
+is_abstract_below Exn Exn = true
+is_abstract_below NoExn NoExn = true
+is_abstract_below Eq Any = true
+is_abstract_below I31 Eq = true
+is_abstract_below I31 Any = true
+is_abstract_below Struct Eq = true
+is_abstract_below Struct Any = true
+is_abstract_below Array Eq = true
+is_abstract_below Array Any = true
+is_abstract_below None I31 = true
+is_abstract_below None Struct = true
+is_abstract_below None Array = true
+is_abstract_below None Eq = true
+is_abstract_below None Any = true
+is_abstract_below NoFunc Func = true
+is_abstract_below NoExtern Extern = true
+is_abstract_below NoExn Exn = true
+is_abstract_below _ _ = false

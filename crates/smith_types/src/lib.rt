@@ -7,6 +7,7 @@ mod const_instr;
 mod entity_type;
 mod imports;
 mod list;
+mod subtyping;
 mod type_space;
 mod value_type;
 

@@ -132,3 +132,29 @@ impl Name {
         self.text.is_empty()
     }
 }
+
+impl<T: PartialEq> PartialEq for Items<T> {
+    ghost use Rattle.std.specs.Cmp.Lexicographic.{pointwise, lists_per};
+
+    ghost eq = { pointwise T.eq };
+
+    ghost laws = { lists_per T.laws };
+
+    fn eq(&self, other: &Items<T>) -> bool {
+        self.items.as_slice() == other.items.as_slice()
+    }
+}
+
+impl PartialEq for Name {
+    ghost use Rattle.std.specs.Str.{bytes_eq};
+    ghost use Rattle.std.specs.Cmp.{partial_equiv_from_equiv};
+    ghost use Rattle.std.proofs.lemmas.Cmp.{nat_list_eq_equiv};
+
+    ghost eq = { bytes_eq };
+
+    ghost laws = { partial_equiv_from_equiv nat_list_eq_equiv };
+
+    fn eq(&self, other: &Name) -> bool {
+        self.text.as_str() == other.text.as_str()
+    }
+}
