@@ -4,3 +4,4 @@ pub mod Space
 pub mod Subtyping
 pub mod Matching
 pub mod Entities
+pub mod Same

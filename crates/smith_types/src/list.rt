@@ -8,7 +8,7 @@ ghost use Rattle.std.specs.Prelude.{
   length,
   IsTrue,
   ◌↔◌,
-  IsErrOf,
+  IfErr,
   OnOk,
   OnErr,
   string_bytes,
@@ -79,7 +79,7 @@ impl<T: Drop> Items<T> {
     pub fn push(&mut self, item: T) -> Result<(), Error>
         ensures ok { OnOk result (self.new ≡ self.old ++ item ∷ []) }
         ensures err { OnErr result (self.new ≡ self.old) }
-        ensures memory { OnErr result (IsErrOf result Error.Memory) }
+        ensures memory { IfErr result (λ e. e ≡ Error.Memory) }
     {
         Ok(self.items.push(item)?)
     }

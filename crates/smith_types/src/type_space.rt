@@ -13,7 +13,7 @@ ghost use Rattle.std.specs.Prelude.{
   IsTrue,
   ◌↔◌,
   IfOk,
-  IsErrOf,
+  IfErr,
   OnOk,
   OnErr,
   slice_get,
@@ -106,7 +106,7 @@ impl TypeSpace {
         ensures index { IfOk result (λ index. index ≡ length self.old.types) }
         ensures stands { IfOk result (λ index. slice_get self.new.types index ≡ Some added) }
         ensures err { OnErr result (self.new ≡ self.old) }
-        ensures memory { OnErr result (IsErrOf result Error.Memory) }
+        ensures memory { IfErr result (λ e. e ≡ Error.Memory) }
     {
         let index = self.types.len() as u32;
         let depth = depth_after(self.types.as_slice(), self.depths.as_slice(), &added);
@@ -127,7 +127,7 @@ impl TypeSpace {
         }) }
         ensures covered { OnOk result (AreCovered self.new.types self.new.groups) }
         ensures err { OnErr result (self.new ≡ self.old) }
-        ensures memory { OnErr result (IsErrOf result Error.Memory) }
+        ensures memory { IfErr result (λ e. e ≡ Error.Memory) }
     {
         let start = start_after(self.groups.as_slice());
         let end = self.types.len();
