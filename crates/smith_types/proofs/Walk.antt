@@ -234,3 +234,25 @@ below_above types o i s j d inside sup other =
 pub below_alone : (types : List SubType) → IsOrderly types → (i j : ℕ) (d : SubType) → i < length types → (get_or types i d).supertype ≡ None → (i ≡ j → ⊥) → IsBelow types (Concrete i) (Concrete j) → ⊥
 below_alone types o i j d inside none other below =
     reaches_alone types i j (get_or types i d) (slice_get-get_or types i d inside) none other (by_cases_from_below types o (Concrete i) (Concrete j) below)
+
+-- neither exact nor a bottom
+abbrev IsOverExact : HeapType → Type 0
+IsOverExact (Abstract s a) = (x : CompositeInnerType) → a ≡ bottom_of x → ⊥
+IsOverExact (Concrete i) = Unit {0}
+IsOverExact (Exact i) = ⊥
+
+-- no step leads back under an exact type
+over_step : (types : List SubType) (a b : HeapType) → IsStep types a b → IsOverExact a → IsOverExact b
+over_step types (Abstract s a) (Abstract r b) (p, step) over = λ x same. no_step_to_bottom x a (subst (λ y. IsTrue (is_abstract_step a y)) same step)
+over_step types (Abstract s a) (Concrete j) step over = tt
+over_step types (Abstract s a) (Exact j) (t, at, p, bottoms) over = over t.composite_type.inner bottoms
+over_step types (Concrete i) (Abstract r b) (t, at, p, kinds) over = λ x same. kind_not_bottom t.composite_type.inner x (kinds ∙ same)
+over_step types (Concrete i) (Concrete j) step over = tt
+over_step types a b step over = search rules
+
+over_along : (types : List SubType) (a b : HeapType) → IsBelow types a b → IsOverExact a → IsOverExact b
+over_along types a b itself over = over
+over_along types a c (by_step {b = b} step below) over = over_along types b c below (over_step types a b step over)
+
+pub concrete_not_below_exact : (types : List SubType) (i j : ℕ) → ¬ IsBelow types (Concrete i) (Exact j)
+concrete_not_below_exact types i j below = over_along types (Concrete i) (Exact j) below tt

@@ -3,5 +3,6 @@ pub mod Types
 pub mod Space
 pub mod Subtyping
 pub mod Matching
+pub mod Laws
 pub mod Entities
 pub mod Same

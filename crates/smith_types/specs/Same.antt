@@ -1,5 +1,5 @@
 -- What `==` of plain data says: yes exactly for equal contents.
-use Rattle.std.proofs.Common.{rules, ◌≡◌, ℕ, Bool, List, Some, None, ap, refl}
+use Rattle.std.proofs.Common.{rules, ◌≡◌, ℕ, Bool, List, Some, ap, refl}
 use Rattle.std.specs.Bool.{Decides}
 use Rattle.std.specs.Option.{option_eq}
 use Rattle.std.specs.Prelude.{Option, nat_eq}
