@@ -1,4 +1,5 @@
 pub mod Lists
 pub mod Growth
+pub mod Lengths
 pub mod Spaces
 pub mod Walk

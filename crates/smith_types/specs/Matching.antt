@@ -1,5 +1,5 @@
 -- Matching of storage, field and composite types.
-use Rattle.std.specs.Prelude.{◌≡◌, IsTrue, List, [], ◌∷◌}
+use Rattle.std.specs.Prelude.{◌≡◌, IsTrue, List, [], ◌∷◌, All}
 use Rattle.smith_types.specs.declared.value_type.ValType.{ValType}
 use Rattle.smith_types.specs.declared.composite_type.StorageType.{StorageType}
 use Rattle.smith_types.specs.declared.composite_type.StorageType.TheVariants.{I8, I16, Val}
@@ -9,7 +9,7 @@ use Rattle.smith_types.specs.declared.composite_type.CompositeInnerType.{Composi
 use Rattle.smith_types.specs.declared.composite_type.CompositeInnerType.TheVariants.{Array, Func, Struct}
 use Rattle.smith_types.specs.declared.composite_type.CompositeType.{CompositeType}
 use Rattle.smith_types.specs.declared.composite_type.SubType.{SubType}
-use Rattle.smith_types.specs.Subtyping.{IsValBelow}
+use Rattle.smith_types.specs.Subtyping.{IsValBelow, IsValInRange}
 
 -- one storage type matches another: packed types match themselves alone; Validation, Matching, Field Types
 abbrev pub IsStorageMatch : List SubType → StorageType → StorageType → Type 0
@@ -52,3 +52,23 @@ IsInnerMatch types _ _ = ⊥
 pub record IsCompositeMatch (types : List SubType) (a b : CompositeType) : Type 0 where
   pub inner : IsInnerMatch types a.inner b.inner
   pub shared : a.shared ≡ b.shared
+
+-- the type that a storage type refers to stands
+abbrev pub IsStorageInRange : List SubType → StorageType → Type 0
+IsStorageInRange types (Val v) = IsValInRange types v
+IsStorageInRange types _ = Unit {0}
+
+-- the type that a field refers to stands
+abbrev pub IsFieldInRange : List SubType → FieldType → Type 0
+IsFieldInRange types f = IsStorageInRange types f.element_type
+
+-- the types that a function's parameters and results refer to stand
+pub record IsFuncInRange (types : List SubType) (f : FuncType) : Type 0 where
+  pub params : All (IsValInRange types) f.params
+  pub results : All (IsValInRange types) f.results
+
+-- the types that a composite type refers to stand
+abbrev pub IsInnerInRange : List SubType → CompositeInnerType → Type 0
+IsInnerInRange types (Array a) = IsFieldInRange types a.0
+IsInnerInRange types (Func f) = IsFuncInRange types f
+IsInnerInRange types (Struct s) = All (IsFieldInRange types) s.fields

@@ -10,6 +10,7 @@ mod exact;
 mod imports;
 pub mod laws;
 mod list;
+mod matching;
 mod subtyping;
 mod type_space;
 mod value_type;

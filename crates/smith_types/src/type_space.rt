@@ -23,10 +23,12 @@ ghost use Rattle.smith_types.specs.Kinds.{kind_of};
 ghost use Rattle.smith_types.specs.Types.{IsAlike, IsOrderly, next_start, next_group};
 ghost use Rattle.smith_types.specs.Space.{AreDepths, HasDepth, MayFollow};
 ghost use Rattle.smith_types.specs.Entities.{value_count};
+ghost use Rattle.smith_types.specs.Matching.{IsCompositeMatch, IsInnerInRange};
 ghost use Rattle.smith_types.specs.Subtyping.{IsBelow, IsRefBelow, IsValBelow, IsInRange, IsValInRange};
 
-use crate::composite_type::{CompositeInnerType, SubType};
+use crate::composite_type::{CompositeInnerType, CompositeType, SubType};
 use crate::entity_type::EntityType;
+use crate::matching::composite_type_is_match;
 use crate::subtyping::{heap_type_is_below, ref_type_is_below, val_type_is_below};
 use crate::value_type::{HeapType, RefType, ValType};
 use smith_bytes::Error;
@@ -159,6 +161,15 @@ impl TypeSpace {
         ensures { IsTrue result ↔ IsValBelow self.now.types a b }
     {
         val_type_is_below(self.types.as_slice(), a, b)
+    }
+
+    /// Whether one composite type matches another: Validation, Matching, Composite Types.
+    pub fn composite_type_matches(&self, a: &CompositeType, b: &CompositeType) -> bool
+        requires lower { IsInnerInRange self.now.types a.now.inner }
+        requires upper { IsInnerInRange self.now.types b.now.inner }
+        ensures { IsTrue result ↔ IsCompositeMatch self.now.types a.now b.now }
+    {
+        composite_type_is_match(self.types.as_slice(), a, b)
     }
 
     /// The size of an entity, which counts towards the type size of a module.
