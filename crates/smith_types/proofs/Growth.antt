@@ -92,10 +92,10 @@ module _ (types more : List SubType) where
 
   pub IsFieldMatch-grown : (f g : FieldType) → IsFieldMatch types f g → IsFieldMatch (types ++ more) f g
   IsFieldMatch-grown f g p = record {
-      same = p.same;
-      below = IsStorageMatch-grown f.element_type g.element_type p.below;
-      above = λ is. IsStorageMatch-grown g.element_type f.element_type (p.above is)
-    }
+    same = p.same;
+    below = IsStorageMatch-grown f.element_type g.element_type p.below;
+    above = λ is. IsStorageMatch-grown g.element_type f.element_type (p.above is);
+  }
 
   pub AreFieldsMatched-grown : (fs gs : List FieldType) → AreFieldsMatched types fs gs → AreFieldsMatched (types ++ more) fs gs
   AreFieldsMatched-grown fs [] p = tt

@@ -3,7 +3,6 @@ use Rattle.std.proofs.Common.{rules, ◌≡◌, ◌<◌, ℕ, Bool, List, Some, 
 use Rattle.std.specs.Prelude.{slice_get}
 use Rattle.std.proofs.lemmas.Option.{same_Some, none-some, slice_get_within, slice_get-get_or, slice_get_read}
 use Rattle.smith_types.specs.declared.value_type.AbstractHeapType.{AbstractHeapType}
-use Rattle.smith_types.specs.declared.value_type.AbstractHeapType.TheVariants as heap
 use Rattle.smith_types.specs.declared.value_type.HeapType.{HeapType}
 use Rattle.smith_types.specs.declared.value_type.HeapType.TheVariants.{Abstract, Concrete, Exact}
 use Rattle.smith_types.specs.declared.composite_type.CompositeInnerType.{CompositeInnerType}
@@ -12,6 +11,7 @@ use Rattle.smith_types.specs.Kinds.{kind, bottom, shared, kind_of, bottom_of}
 use Rattle.smith_types.specs.Types.{IsOrderly}
 use Rattle.smith_types.specs.Subtyping.{IsStep, is_abstract_step, is_abstract_below, IsBelow, itself, by_step, IsInRange}
 use Rattle.smith_types.proofs.Growth.{IsBelow-trans}
+use Rattle.smith_types.proofs.Paths.{below_abstract, below_declared, below_kind, above_bottom, exact_above_bottom, exact_below}
 
 -- a type is reached from another by going from type to declared supertype
 pub data Reaches (types : List SubType) : ℕ → ℕ → Type 0 where
@@ -78,10 +78,11 @@ bottom_along types orderly s x j k (t, at, shares, bottoms) reach =
 -- a bottom below a type is below what that type is under
 bottom_under : (types : List SubType) (s q : Bool) (x z : AbstractHeapType) (j : ℕ) → IsBottomAt types s x j → IsUnder types j q z → (s ≡ q) × IsTrue (is_abstract_below x z)
 bottom_under types s q x z j (t, at, shares, bottoms) (u, at', alike, below) =
-    let same : t ≡ u = same_Some t u (sym at ∙ at') in
-    (shares ∙ ap shared same ∙ alike,
+    let same : t ≡ u = same_Some t u (sym at ∙ at') in (
+      shares ∙ ap shared same ∙ alike,
       subst (λ y. IsTrue (is_abstract_below y z)) (sym (bottoms ∙ ap bottom same))
-        (bottom_below_kind u.composite_type.inner z below))
+          (bottom_below_kind u.composite_type.inner z below),
+    )
 
 -- a type is under what its declared supertype is under
 under_above : (types : List SubType) → IsOrderly types → (i j : ℕ) (q : Bool) (z : AbstractHeapType) (t : SubType) → slice_get types i ≡ Some t → t.supertype ≡ Some j → IsUnder types j q z → IsUnder types i q z
@@ -124,57 +125,23 @@ pub by_cases_from_below : (types : List SubType) → IsOrderly types → (a b : 
 by_cases_from_below types o a b itself = by_cases_itself types a
 by_cases_from_below types o a c (by_step {b = b} step below) = by_cases_step types o a b c step (by_cases_from_below types o b c below)
 
--- one step, as a path
-one_step : (types : List SubType) (s : Bool) (a b : AbstractHeapType) → IsTrue (is_abstract_step a b) → IsBelow types (Abstract s a) (Abstract s b)
-one_step types s a b step = by_step {a = Abstract s a} {b = Abstract s b} (refl, step) itself
-
-abstract_path : (types : List SubType) (s : Bool) (a b : AbstractHeapType) → IsTrue (is_abstract_below a b) → IsBelow types (Abstract s a) (Abstract s b)
-abstract_path types s heap.Func heap.Func below = itself
-abstract_path types s heap.Extern heap.Extern below = itself
-abstract_path types s heap.Any heap.Any below = itself
-abstract_path types s heap.None heap.None below = itself
-abstract_path types s heap.NoExtern heap.NoExtern below = itself
-abstract_path types s heap.NoFunc heap.NoFunc below = itself
-abstract_path types s heap.Eq heap.Eq below = itself
-abstract_path types s heap.Struct heap.Struct below = itself
-abstract_path types s heap.Array heap.Array below = itself
-abstract_path types s heap.I31 heap.I31 below = itself
-abstract_path types s heap.Exn heap.Exn below = itself
-abstract_path types s heap.NoExn heap.NoExn below = itself
-abstract_path types s heap.Eq heap.Any below = one_step types s heap.Eq heap.Any refl
-abstract_path types s heap.I31 heap.Eq below = one_step types s heap.I31 heap.Eq refl
-abstract_path types s heap.Struct heap.Eq below = one_step types s heap.Struct heap.Eq refl
-abstract_path types s heap.Array heap.Eq below = one_step types s heap.Array heap.Eq refl
-abstract_path types s heap.None heap.I31 below = one_step types s heap.None heap.I31 refl
-abstract_path types s heap.None heap.Struct below = one_step types s heap.None heap.Struct refl
-abstract_path types s heap.None heap.Array below = one_step types s heap.None heap.Array refl
-abstract_path types s heap.NoFunc heap.Func below = one_step types s heap.NoFunc heap.Func refl
-abstract_path types s heap.NoExtern heap.Extern below = one_step types s heap.NoExtern heap.Extern refl
-abstract_path types s heap.NoExn heap.Exn below = one_step types s heap.NoExn heap.Exn refl
-abstract_path types s heap.I31 heap.Any below = IsBelow-trans types (one_step types s heap.I31 heap.Eq refl) (one_step types s heap.Eq heap.Any refl)
-abstract_path types s heap.Struct heap.Any below = IsBelow-trans types (one_step types s heap.Struct heap.Eq refl) (one_step types s heap.Eq heap.Any refl)
-abstract_path types s heap.Array heap.Any below = IsBelow-trans types (one_step types s heap.Array heap.Eq refl) (one_step types s heap.Eq heap.Any refl)
-abstract_path types s heap.None heap.Eq below = IsBelow-trans types (one_step types s heap.None heap.I31 refl) (one_step types s heap.I31 heap.Eq refl)
-abstract_path types s heap.None heap.Any below = IsBelow-trans types (one_step types s heap.None heap.I31 refl) (IsBelow-trans types (one_step types s heap.I31 heap.Eq refl) (one_step types s heap.Eq heap.Any refl))
-abstract_path types s a b below = search rules
-
 path_along : (types : List SubType) {i j : ℕ} → Reaches types i j → IsBelow types (Concrete i) (Concrete j)
 path_along types here = itself
-path_along types (up {i = i} {s = s} {t = t} at sup reach) = by_step {a = Concrete i} {b = Concrete s} (t, at, sup) (path_along types reach)
+path_along types (up {i = i} {s = s} {t = t} at sup reach) = IsBelow-trans types (below_declared types i s t at sup) (path_along types reach)
 
 path_under : (types : List SubType) (i : ℕ) (r : Bool) (b : AbstractHeapType) → IsUnder types i r b → IsBelow types (Concrete i) (Abstract r b)
-path_under types i r b (t, at, shares, below) = by_step {a = Concrete i} {b = Abstract r (kind t)} (t, at, shares, refl) (abstract_path types r (kind t) b below)
+path_under types i r b (t, at, shares, below) = subst (λ q. IsBelow types (Concrete i) (Abstract q b)) shares (IsBelow-trans types (below_kind types i t at) (below_abstract types (shared t) (kind t) b below))
 
 -- the cases, as a path
 pub below_from_by_cases : (types : List SubType) (a b : HeapType) → IsBelowByCases types a b → IsBelow types a b
-below_from_by_cases types (Abstract s x) (Abstract r y) (same, below) = subst (λ q. IsBelow types (Abstract s x) (Abstract q y)) same (abstract_path types s x y below)
-below_from_by_cases types (Abstract s x) (Concrete j) bottoms = by_step {a = Abstract s x} {b = Concrete j} bottoms itself
-below_from_by_cases types (Abstract s x) (Exact j) bottoms = by_step {a = Abstract s x} {b = Exact j} bottoms itself
+below_from_by_cases types (Abstract s x) (Abstract r y) (same, below) = subst (λ q. IsBelow types (Abstract s x) (Abstract q y)) same (below_abstract types s x y below)
+below_from_by_cases types (Abstract s x) (Concrete j) (t, at, shares, bottoms) = above_bottom types s x j t at shares bottoms
+below_from_by_cases types (Abstract s x) (Exact j) (t, at, shares, bottoms) = exact_above_bottom types s x j t at shares bottoms
 below_from_by_cases types (Concrete i) (Abstract r b) under = path_under types i r b under
 below_from_by_cases types (Concrete i) (Concrete j) reach = path_along types reach
 below_from_by_cases types (Concrete i) (Exact j) never = absurd never
-below_from_by_cases types (Exact i) (Abstract r b) under = by_step {a = Exact i} {b = Concrete i} refl (path_under types i r b under)
-below_from_by_cases types (Exact i) (Concrete j) reach = by_step {a = Exact i} {b = Concrete i} refl (path_along types reach)
+below_from_by_cases types (Exact i) (Abstract r b) under = IsBelow-trans types (exact_below types i) (path_under types i r b under)
+below_from_by_cases types (Exact i) (Concrete j) reach = IsBelow-trans types (exact_below types i) (path_along types reach)
 below_from_by_cases types (Exact i) (Exact j) same = subst (λ n. IsBelow types (Exact i) (Exact n)) same itself
 
 -- what decides the cases decides the closure
@@ -186,24 +153,26 @@ pub decides_at : (types : List SubType) → IsOrderly types → (a b x y : HeapT
 decides_at types o a b x y is_x is_y in_a in_b r decides =
     let cases = decides (subst (IsInRange types) is_x in_a) (subst (IsInRange types) is_y in_b) in
     subst (λ v. IsTrue r ↔ IsBelow types v b) (sym is_x)
-      (subst (λ v. IsTrue r ↔ IsBelow types x v) (sym is_y) (decides_below types o x y r cases))
+    (subst (λ v. IsTrue r ↔ IsBelow types x v) (sym is_y) (decides_below types o x y r cases))
 
 -- what is decided of the type that code reads at an index
 pub bottom_read : (types : List SubType) (s : Bool) (x : AbstractHeapType) (j : ℕ) (t : SubType) (r : Bool) → j < length types → t ≡ get_or types j t → IsTrue r ↔ ((s ≡ shared t) × (x ≡ bottom t)) → IsTrue r ↔ IsBottomAt types s x j
 bottom_read types s x j t r inside read decides =
-    let stands = slice_get_read types (length types) j t refl inside read in
-    (λ yes. (t, stands, (decides.0 yes).0, (decides.0 yes).1),
+    let stands = slice_get_read types (length types) j t refl inside read in (
+      λ yes. (t, stands, (decides.0 yes).0, (decides.0 yes).1),
       λ (u, at, shares, bottoms).
-        let same : u ≡ t = same_Some u t (sym at ∙ stands) in
-        decides.1 (shares ∙ ap shared same, bottoms ∙ ap bottom same))
+          let same : u ≡ t = same_Some u t (sym at ∙ stands) in
+          decides.1 (shares ∙ ap shared same, bottoms ∙ ap bottom same),
+    )
 
 pub under_read : (types : List SubType) (i : ℕ) (q : Bool) (z : AbstractHeapType) (t : SubType) (r : Bool) → i < length types → t ≡ get_or types i t → IsTrue r ↔ ((shared t ≡ q) × IsTrue (is_abstract_below (kind t) z)) → IsTrue r ↔ IsUnder types i q z
 under_read types i q z t r inside read decides =
-    let stands = slice_get_read types (length types) i t refl inside read in
-    (λ yes. (t, stands, (decides.0 yes).0, (decides.0 yes).1),
+    let stands = slice_get_read types (length types) i t refl inside read in (
+      λ yes. (t, stands, (decides.0 yes).0, (decides.0 yes).1),
       λ (u, at, shares, below).
-        let same : t ≡ u = same_Some t u (sym stands ∙ at) in
-        decides.1 (ap shared same ∙ shares, subst (λ y. IsTrue (is_abstract_below y z)) (sym (ap kind same)) below))
+          let same : t ≡ u = same_Some t u (sym stands ∙ at) in
+          decides.1 (ap shared same ∙ shares, subst (λ y. IsTrue (is_abstract_below y z)) (sym (ap kind same)) below),
+    )
 
 -- going on from a type to another by declared supertypes is subtyping of the two
 pub reaches_read : (types : List SubType) → IsOrderly types → (i j : ℕ) (r : Bool) → IsTrue r ↔ IsBelow types (Concrete i) (Concrete j) → IsTrue r ↔ Reaches types i j
@@ -225,10 +194,13 @@ reaches_alone types i j t at none other (up {s = s'} {t = t'} at' sup' reach) =
 pub below_above : (types : List SubType) → IsOrderly types → (i s j : ℕ) (d : SubType) → i < length types → (get_or types i d).supertype ≡ Some s → (i ≡ j → ⊥) → (s < i) × (IsBelow types (Concrete s) (Concrete j) ↔ IsBelow types (Concrete i) (Concrete j))
 below_above types o i s j d inside sup other =
     let t = get_or types i d in
-    let at = slice_get-get_or types i d inside in
-    ((o.under i s t at sup).0,
-      (λ below. by_step {a = Concrete i} {b = Concrete s} (t, at, sup) below,
-        λ below. path_along types (reaches_above types i s j t at sup other (by_cases_from_below types o (Concrete i) (Concrete j) below))))
+    let at = slice_get-get_or types i d inside in (
+      (o.under i s t at sup).0,
+      (
+        λ below. IsBelow-trans types (below_declared types i s t at sup) below,
+        λ below. path_along types (reaches_above types i s j t at sup other (by_cases_from_below types o (Concrete i) (Concrete j) below)),
+      ),
+    )
 
 -- a type without supertype is below no other
 pub below_alone : (types : List SubType) → IsOrderly types → (i j : ℕ) (d : SubType) → i < length types → (get_or types i d).supertype ≡ None → (i ≡ j → ⊥) → IsBelow types (Concrete i) (Concrete j) → ⊥

@@ -2,7 +2,7 @@
 use Rattle.std.proofs.Common.{rules, ◌≡◌, ℕ, Bool, List, Some, ap, refl}
 use Rattle.std.specs.Bool.{Decides}
 use Rattle.std.specs.Option.{option_eq}
-use Rattle.std.specs.Prelude.{Option, nat_eq}
+use Rattle.std.specs.Prelude.{Option, nat_eq, bytes_eq, ◌&&◌}
 use Rattle.std.specs.Cmp.{unsigned_Decides, signed_Decides, booleans_Decides}
 use Rattle.std.specs.Cmp.Lexicographic.{pointwise}
 use Rattle.std.proofs.lemmas.Bool.Decides.{Decides-like, Decides-and}
@@ -136,6 +136,10 @@ exact_entity a b = search rules
 
 pub exact_kind : (a b : ExportKind) → Decides (kind_same.eq a b) (a ≡ b)
 exact_kind a b = search rules
+
+pub exact_export : (a b : List ℕ × ExportKind × ℕ) → Decides ((bytes_eq a.0 b.0 && kind_same.eq a.1 b.1) && nat_eq a.2 b.2) (a ≡ b)
+exact_export a b = Decides-like _ (λ ((p, q), r). λ i. (p i, q i, r i)) (λ e. ((ap (λ x. x.0) e, ap (λ x. x.1) e), ap (λ x. x.2) e))
+    (Decides-and _ _ (Decides-and _ _ (bytes_eq-Decides a.0 b.0) (exact_kind a.1 b.1)) (unsigned_Decides a.2 b.2))
 
 pub exact_import : (a b : Import) → Decides (import_same.eq a b) (a ≡ b)
 exact_import a b = Decides-like _ (λ (p, (q, r)). λ i. record { «module» = p i; name = q i; entity_type = r i }) (λ e. (ap (λ x. x.«module») e, (ap (λ x. x.name) e, ap (λ x. x.entity_type) e)))

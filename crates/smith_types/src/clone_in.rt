@@ -1,6 +1,7 @@
 ghost use Rattle.std.specs.Prelude.{◌≡◌, IfOk, IfErr};
 
 use crate::composite_type::{CompositeInnerType, CompositeType, FuncType, StructType, SubType};
+use crate::entity_type::ExportKind;
 use crate::imports::{Import, ImportItem, Imports};
 use crate::list::{Items, Name};
 use smith_bytes::Error;
@@ -39,6 +40,12 @@ impl CloneIn for Name {
     }
 }
 
+impl CloneIn for (Name, ExportKind, u32) {
+    fn clone_in(&self, alloc: Global) -> Result<(Name, ExportKind, u32), Error> {
+        Ok((self.0.clone_in(alloc)?, self.1, self.2))
+    }
+}
+
 impl CloneIn for StructType {
     fn clone_in(&self, alloc: Global) -> Result<StructType, Error> {
         Ok(StructType {
@@ -61,7 +68,9 @@ impl CloneIn for CompositeInnerType {
         Ok(match self {
             CompositeInnerType::Array(array) => CompositeInnerType::Array(*array),
             CompositeInnerType::Func(func) => CompositeInnerType::Func(func.clone_in(alloc)?),
-            CompositeInnerType::Struct(fields) => CompositeInnerType::Struct(fields.clone_in(alloc)?),
+            CompositeInnerType::Struct(fields) => CompositeInnerType::Struct(fields.clone_in(
+                alloc,
+            )?),
         })
     }
 }

@@ -1,11 +1,34 @@
 ghost use Rattle.std.specs.Prelude.{◌≡◌, IsTrue, ◌↔◌};
 ghost use Rattle.std.specs.Bool.{Decides};
 ghost use Rattle.smith_types.specs.Same.{
-    exact_items, exact_abstract, exact_heap, exact_ref, exact_val, exact_storage, exact_field, exact_array, exact_struct, exact_func, exact_inner, exact_composite, exact_sub, exact_table, exact_memory, exact_global, exact_entity, exact_kind, exact_import, exact_item, exact_imports, exact_instr
+  exact_items,
+  exact_abstract,
+  exact_heap,
+  exact_ref,
+  exact_val,
+  exact_storage,
+  exact_field,
+  exact_array,
+  exact_struct,
+  exact_func,
+  exact_inner,
+  exact_composite,
+  exact_sub,
+  exact_table,
+  exact_memory,
+  exact_global,
+  exact_entity,
+  exact_kind,
+  exact_export,
+  exact_import,
+  exact_item,
+  exact_imports,
+  exact_instr,
 };
 
 use crate::composite_type::{
-    ArrayType, CompositeInnerType, CompositeType, FieldType, FuncType, StorageType, StructType, SubType,
+    ArrayType, CompositeInnerType, CompositeType, FieldType, FuncType, StorageType, StructType,
+    SubType,
 };
 use crate::const_instr::ConstInstr;
 use crate::entity_type::{EntityType, ExportKind, GlobalType, MemoryType, TableType};
@@ -116,6 +139,10 @@ impl Exact for u32 {
     ghost use Rattle.std.specs.Cmp.{unsigned_Decides};
 
     ghost exact = { unsigned_Decides };
+}
+
+impl Exact for (Name, ExportKind, u32) {
+    ghost exact = { exact_export };
 }
 
 /// Whether two values have equal contents.

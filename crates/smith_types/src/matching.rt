@@ -2,16 +2,31 @@ ghost use Rattle.std.specs.Prelude.{IsTrue, ◌↔◌, All};
 ghost use Rattle.smith_types.specs.Types.{IsOrderly};
 ghost use Rattle.smith_types.specs.Subtyping.{IsValInRange};
 ghost use Rattle.smith_types.specs.Matching.{
-    IsStorageMatch, IsFieldMatch, AreFieldsMatched, AreBelow, IsFuncMatch, IsInnerMatch, IsCompositeMatch,
-    IsStorageInRange, IsFieldInRange, IsFuncInRange, IsInnerInRange
+  IsStorageMatch,
+  IsFieldMatch,
+  AreFieldsMatched,
+  AreBelow,
+  IsFuncMatch,
+  IsInnerMatch,
+  IsCompositeMatch,
+  IsStorageInRange,
+  IsFieldInRange,
+  IsFuncInRange,
+  IsInnerInRange,
 };
 
-use crate::composite_type::{CompositeInnerType, CompositeType, FieldType, FuncType, StorageType, SubType};
+use crate::composite_type::{
+    CompositeInnerType, CompositeType, FieldType, FuncType, StorageType, SubType,
+};
 use crate::subtyping::val_type_is_below;
 use crate::value_type::ValType;
 
 // Whether one composite type matches another.
-pub(crate) fn composite_type_is_match(types: &[SubType], a: &CompositeType, b: &CompositeType) -> bool
+pub(crate) fn composite_type_is_match(
+    types: &[SubType],
+    a: &CompositeType,
+    b: &CompositeType,
+) -> bool
     requires orderly { IsOrderly types.now }
     requires lower { IsInnerInRange types.now a.now.inner }
     requires upper { IsInnerInRange types.now b.now.inner }
@@ -36,7 +51,11 @@ fn inner_type_is_match(types: &[SubType], a: &CompositeInnerType, b: &CompositeI
             _ => false,
         },
         CompositeInnerType::Struct(a) => match b {
-            CompositeInnerType::Struct(b) => fields_are_matched(types, a.fields.as_slice(), b.fields.as_slice()),
+            CompositeInnerType::Struct(b) => fields_are_matched(
+                types,
+                a.fields.as_slice(),
+                b.fields.as_slice(),
+            ),
             _ => false,
         },
     }

@@ -3,7 +3,12 @@ ghost use Rattle.smith_types.specs.declared.value_type.HeapType.TheVariants.{Abs
 ghost use Rattle.smith_types.specs.Kinds.{kind, kind_of, bottom, bottom_of, shared};
 ghost use Rattle.smith_types.specs.Types.{IsOrderly};
 ghost use Rattle.smith_types.specs.Subtyping.{
-    is_abstract_below, IsBelow, IsRefBelow, IsValBelow, IsInRange, IsValInRange
+  is_abstract_below,
+  IsBelow,
+  IsRefBelow,
+  IsValBelow,
+  IsInRange,
+  IsValInRange,
 };
 
 use crate::composite_type::{CompositeInnerType, SubType};
@@ -48,7 +53,10 @@ pub(crate) fn heap_type_is_below(types: &[SubType], a: HeapType, b: HeapType) ->
 {
     match a {
         HeapType::Abstract { shared, ty } => match b {
-            HeapType::Abstract { shared: wanted, ty: upper } => shared == wanted && abstract_type_is_below(ty, upper),
+            HeapType::Abstract {
+                shared: wanted,
+                ty: upper,
+            } => shared == wanted && abstract_type_is_below(ty, upper),
             HeapType::Concrete(j) => is_bottom_of(&types[j as usize], shared, ty),
             HeapType::Exact(j) => is_bottom_of(&types[j as usize], shared, ty),
         },
@@ -57,10 +65,10 @@ pub(crate) fn heap_type_is_below(types: &[SubType], a: HeapType, b: HeapType) ->
             HeapType::Concrete(j) => reaches(types, i, j),
             HeapType::Exact(_) => false,
         },
-        HeapType::Exact(i) => match b {
-            HeapType::Abstract { shared, ty } => is_under(&types[i as usize], shared, ty),
-            HeapType::Concrete(j) => reaches(types, i, j),
-            HeapType::Exact(j) => i == j,
+        HeapType::Exact(own) => match b {
+            HeapType::Abstract { shared, ty } => is_under(&types[own as usize], shared, ty),
+            HeapType::Concrete(j) => reaches(types, own, j),
+            HeapType::Exact(j) => own == j,
         },
     }
 }
@@ -83,9 +91,7 @@ fn reaches(types: &[SubType], from: u32, to: u32) -> bool
 
 // Whether a type is below an abstract type of this sharedness.
 fn is_under(ty: &SubType, is_shared: bool, upper: AbstractHeapType) -> bool
-    ensures {
-        IsTrue result ↔ ((shared ty.now ≡ is_shared) × IsTrue (is_abstract_below (kind ty.now) upper))
-    }
+    ensures { IsTrue result ↔ ((shared ty.now ≡ is_shared) × IsTrue (is_abstract_below (kind ty.now) upper)) }
 {
     ty.composite_type.shared == is_shared
         && abstract_type_is_below(kind_of_inner(&ty.composite_type.inner), upper)
@@ -121,7 +127,9 @@ fn bottom_of_inner(inner: &CompositeInnerType) -> AbstractHeapType
 fn abstract_type_is_below(a: AbstractHeapType, b: AbstractHeapType) -> bool
     ensures { result ≡ is_abstract_below a b }
 {
-    use AbstractHeapType::{Any, Array, Eq, Exn, Extern, Func, I31, NoExn, NoExtern, NoFunc, None, Struct};
+    use AbstractHeapType::{
+        Any, Array, Eq, Exn, Extern, Func, I31, NoExn, NoExtern, NoFunc, None, Struct,
+    };
     match (a, b) {
         (Eq, Any)
         | (I31 | Struct | Array, Eq | Any)

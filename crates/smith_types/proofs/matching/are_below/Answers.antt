@@ -1,4 +1,3 @@
-use Rattle.std.proofs.Common.{arith}
 use Rattle.smith_types.proofs.Lengths.{AreBelow-length}
 use Rattle.smith_types.proofs.matching.are_below.Goals as goal
 

@@ -21,7 +21,7 @@ pub returns-in-Exact-b-2 : goal.returns-in-Exact-b-2
 returns-in-Exact-b-2 c = decides_at _ c.requires.orderly _ _ _ _ c.in-Concrete.is c.in-Exact-b-2.is c.requires.lower c.requires.upper _ (λ _ _. search rules)
 
 pub returns-in-Abstract-b-3 : goal.returns-in-Abstract-b-3
-returns-in-Abstract-b-3 c = decides_at _ c.requires.orderly _ _ _ _ c.in-Exact.is c.in-Abstract-b-3.is c.requires.lower c.requires.upper _ (λ inside _. under_read _ _ _ _ _ _ inside c.index-types-i-in-Abstract-b-3.is c.is_under-in-Abstract-b-3.ensures)
+returns-in-Abstract-b-3 c = decides_at _ c.requires.orderly _ _ _ _ c.in-Exact.is c.in-Abstract-b-3.is c.requires.lower c.requires.upper _ (λ inside _. under_read _ _ _ _ _ _ inside c.index-types-own.is c.is_under-in-Abstract-b-3.ensures)
 
 pub returns-in-Concrete-b-3 : goal.returns-in-Concrete-b-3
 returns-in-Concrete-b-3 c = decides_at _ c.requires.orderly _ _ _ _ c.in-Exact.is c.in-Concrete-b-3.is c.requires.lower c.requires.upper _ (λ _ _. reaches_read _ c.requires.orderly _ _ _ c.reaches-in-Concrete-b-3.ensures)

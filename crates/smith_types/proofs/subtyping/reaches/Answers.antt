@@ -10,7 +10,7 @@ loop-at-preserved c =
     let (before, above) = below_above _ c.requires.orderly _ _ c.args.to _ c.loop-at.invariant.inside c.in-Some.is c.loop-at-test.true in
     record {
       inside = omega arith;
-      same = (λ below. same.0 (above.0 below), λ below. above.1 (same.1 below))
+      same = (λ below. same.0 (above.0 below), λ below. above.1 (same.1 below));
     }
 
 pub returns-in-None : goal.returns-in-None
