@@ -2,6 +2,10 @@ pub mod Features
 pub mod Kinds
 pub mod Types
 pub mod Space
+pub mod Subtyping
+pub mod Matching
+pub mod Laws
 pub mod Entities
 pub mod ValidTypes
 pub mod ValidEntities
+pub mod Same
