@@ -1,1 +1,5 @@
+pub mod Kinds
+pub mod Types
+pub mod Space
+pub mod Entities
 pub mod Features
