@@ -1,2 +1,4 @@
 pub mod Lists
 pub mod Spaces
+pub mod FeatureBits
+pub mod KindLemmas

@@ -3,3 +3,5 @@ pub mod Types
 pub mod Space
 pub mod Entities
 pub mod Features
+pub mod Flags
+pub mod Instructions

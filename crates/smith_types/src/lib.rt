@@ -5,7 +5,9 @@
 mod composite_type;
 mod const_instr;
 mod entity_type;
+mod features;
 mod imports;
+mod instruction_kind;
 mod list;
 mod type_space;
 mod value_type;
@@ -16,7 +18,9 @@ pub use composite_type::{
 };
 pub use const_instr::ConstInstr;
 pub use entity_type::{EntityType, ExportKind, GlobalType, MemoryType, TableType};
+pub use features::WasmFeatures;
 pub use imports::{Import, ImportItem, Imports};
+pub use instruction_kind::{InstructionKind, InstructionKinds, UnknownKind};
 pub use list::{Items, Name};
 pub use type_space::TypeSpace;
 pub use value_type::{AbstractHeapType, HeapType, RefType, ValType};
