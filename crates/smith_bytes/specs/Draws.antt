@@ -1,5 +1,5 @@
 -- What each draw gives, and the bytes that it leaves. Past the end of the source a draw reads zeros.
-use Rattle.std.specs.Prelude.{ℕ, zero, suc, ◌+◌, ◌-◌, ◌*◌, ◌/◌, ◌%◌, ◌==◌, Bool, List, [], ◌∷◌, take, drop, fold, nat_le, slice_index}
+use Rattle.std.specs.Prelude.{ℕ, zero, suc, ◌+◌, ◌-◌, ◌*◌, ◌/◌, ◌%◌, ◌==◌, Bool, List, [], ◌∷◌, take, drop, fold, length, nat_le, slice_index, slice_get, Option}
 
 -- the number whose base-256 digits these are, the lowest first
 abbrev pub little_endian : List ℕ → ℕ
@@ -37,3 +37,7 @@ range_at lo hi bytes =
 -- true n times of m: a number of 1 to m is at most n
 unfoldable pub ratio_at : ℕ → ℕ → List ℕ → Bool × List ℕ
 ratio_at n m bytes = let drawn = range_at 1 m bytes in (nat_le drawn.0 n, drawn.1)
+
+-- the item at a drawn place, none of an empty list
+unfoldable pub choose_at : {A : Type 0} → List A → List ℕ → Option A × List ℕ
+choose_at items bytes = let place = range_at 0 (length items - 1) bytes in (slice_get items place.0, place.1)
