@@ -3,6 +3,7 @@
 
 mod check;
 mod config;
+mod features;
 mod sanitize;
 
 pub use config::Config;

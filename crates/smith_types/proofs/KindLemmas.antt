@@ -1,9 +1,10 @@
 -- Texts that name kinds, one more at a time.
-use Rattle.std.proofs.Common.{◌≡◌, ℕ, ◌+◌, ◌<◌, List, [], ◌∷◌, ◌++◌, length, take, get_or, sym, subst, bit_or, ap, ◌∙◌}
+use Rattle.std.proofs.Common.{◌≡◌, ℕ, ◌+◌, ◌<◌, List, [], ◌∷◌, ◌++◌, length, true, take, get_or, sym, subst, bit_or, ap, ◌∙◌}
 use Rattle.std.proofs.lemmas.List.{take_more}
 use Rattle.std.proofs.lemmas.List.Sums.{fold-append}
 use Rattle.smith_types.specs.declared.instruction_kind.InstructionKind.{InstructionKind}
-use Rattle.smith_types.specs.Instructions.{IsNamed, AreNamed, kind_bits, union_of}
+use Rattle.smith_types.specs.declared.instruction_kind.InstructionKinds.{InstructionKinds}
+use Rattle.smith_types.specs.Instructions.{IsNamed, AreNamed, kind_bits, kinds_bits, with_kind, union_of}
 
 AreNamed-push : (texts : List (List ℕ)) (kinds : List InstructionKind) (text : List ℕ) (kind : InstructionKind)
     → AreNamed texts kinds → IsNamed text kind → AreNamed (texts ++ text ∷ []) (kinds ++ kind ∷ [])
@@ -20,6 +21,8 @@ AreNamed-next parts place kinds text kind lt at before named =
     take_more parts place text lt ∙ ap (λ t. take place parts ++ t ∷ []) (sym at) in
     subst (λ ts. AreNamed ts (kinds ++ kind ∷ [])) (sym e) (AreNamed-push (take place parts) kinds text kind before named)
 
-pub union_of-push : (kinds : List InstructionKind) (kind : InstructionKind)
-    → bit_or (union_of kinds) (kind_bits kind) ≡ union_of (kinds ++ kind ∷ [])
-union_of-push kinds kind = sym (fold-append (λ bits kind. bit_or bits (kind_bits kind)) 0 kinds (kind ∷ []))
+pub union_of-push : (set : InstructionKinds) (kinds : List InstructionKind) (kind : InstructionKind)
+    → kinds_bits set ≡ union_of kinds → kinds_bits (with_kind set true kind) ≡ union_of (kinds ++ kind ∷ [])
+unfolding with_kind
+union_of-push set kinds kind e =
+    ap (λ bits. bit_or bits (kind_bits kind)) e ∙ sym (fold-append (λ bits kind. bit_or bits (kind_bits kind)) 0 kinds (kind ∷ []))

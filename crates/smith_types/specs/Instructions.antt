@@ -1,5 +1,5 @@
 -- Kinds of instructions, sets of them as bits, and their names.
-use Rattle.std.specs.Prelude.{◌≡◌, ℕ, ◌<◌, ◌+◌, ◌^◌, List, [], ◌∷◌, ◌++◌, length, take, codes, bit_or, fold, map, Result, Ok, Err, ◌==◌, slice_get, Some}
+use Rattle.std.specs.Prelude.{Bool, ◌-◌, if◌then◌else◌, ◌≡◌, ℕ, ◌<◌, ◌+◌, ◌^◌, List, [], ◌∷◌, ◌++◌, length, take, codes, bit_or, fold, map, Result, Ok, Err, ◌==◌, slice_get, Some}
 use Rattle.std.specs.List.{slice_split}
 use Rattle.std.specs.Char.{to_ascii_lowercase}
 use Rattle.smith_types.specs.declared.instruction_kind.InstructionKind.{InstructionKind}
@@ -42,6 +42,17 @@ float_bits = 2 ^ 1 + 2 ^ 3 + 2 ^ 9
 -- the bits of a set of kinds
 abbrev pub kinds_bits : InstructionKinds → ℕ
 kinds_bits kinds = kinds.0
+
+-- every kind, and none
+abbrev pub every_kind : InstructionKinds
+every_kind = record { 0 = 2 ^ 12 - 1 }
+
+abbrev pub no_kind : InstructionKinds
+no_kind = record { 0 = 0 }
+
+-- a set, with a kind where it is wanted
+unfoldable pub with_kind : InstructionKinds → Bool → InstructionKind → InstructionKinds
+with_kind kinds wanted kind = record { 0 = if wanted then bit_or kinds.0 (kind_bits kind) else kinds.0 }
 
 -- the bits of several kinds
 abbrev pub union_of : List InstructionKind → ℕ

@@ -1,15 +1,7 @@
-ghost use Rattle.std.specs.Prelude.{◌≡◌, ◌↔◌, ◌^◌, ◌-◌, ⊤, IsTrue, bit_and, bit_or};
+ghost use Rattle.std.specs.Prelude.{◌≡◌, ◌↔◌, ⊤, IsTrue, bit_and};
 ghost use Rattle.bitflags.specs.Sets.{without};
 ghost use Rattle.smith_types.specs.Instructions.{
-  kind_bits,
-  kind_name,
-  kind_table,
-  kinds_bits,
-  union_of,
-  IsReadKind,
-  AreReadKinds,
-  float_bits,
-};
+    kind_bits, kind_name, kind_table, kinds_bits, every_kind, no_kind, with_kind, union_of, float_bits, IsReadKind, AreReadKinds};
 
 use bitflags::{Flag, Flags, bitflag_items};
 use std::str::FromStr;
@@ -155,26 +147,27 @@ impl Flags for InstructionKinds {
 
 impl InstructionKinds {
     /// The set of these kinds.
+    #[tactic(auto, unfolding(crate::specs::Instructions::with_kind))]
     pub fn new(kinds: &[InstructionKind]) -> InstructionKinds
         ensures { kinds_bits result ≡ union_of kinds.now }
     {
         let mut all = InstructionKinds::none();
         for kind in kinds {
-            all = all.with(*kind);
+            all = all.with(true, *kind);
         }
         all
     }
 
     /// The set of every kind.
     pub fn all() -> InstructionKinds
-        ensures { kinds_bits result ≡ 2 ^ 12 - 1 }
+        ensures { result ≡ every_kind }
     {
         InstructionKinds(4095)
     }
 
     /// The empty set.
     pub fn none() -> InstructionKinds
-        ensures { kinds_bits result ≡ 0 }
+        ensures { result ≡ no_kind }
     {
         InstructionKinds(0)
     }
@@ -193,15 +186,21 @@ impl InstructionKinds {
         InstructionKinds(self.0 & !522)
     }
 
-    fn with(self, kind: InstructionKind) -> InstructionKinds
-        ensures { kinds_bits result ≡ bit_or (kinds_bits self) (kind_bits kind) }
+    /// This set, with the kind where it is wanted.
+    #[tactic(auto, unfolding(crate::specs::Instructions::with_kind))]
+    pub fn with(self, wanted: bool, kind: InstructionKind) -> InstructionKinds
+        ensures { result ≡ with_kind self wanted kind }
     {
-        InstructionKinds(self.0 | kind.bits())
+        if wanted {
+            InstructionKinds(self.0 | kind.bits())
+        } else {
+            self
+        }
     }
 }
 
 impl Default for InstructionKinds {
-    ghost is_default = { λ kinds. kinds_bits kinds ≡ 0 };
+    ghost is_default = { λ kinds. kinds ≡ no_kind };
 
     fn default() -> InstructionKinds {
         InstructionKinds::none()
@@ -218,7 +217,7 @@ impl FromStr for InstructionKinds {
         let mut place = 0;
         for part in s.split(',') {
             match InstructionKind::from_str(part) {
-                Ok(kind) => all = all.with(kind),
+                Ok(kind) => all = all.with(true, kind),
                 Err(_) => return Err(UnknownKind { part: place }),
             }
             place += 1;

@@ -3,7 +3,7 @@ use Rattle.std.proofs.lemmas.Iterator.Consumers.{YieldsList-at, YieldsList-turn,
 use Rattle.std.proofs.lemmas.Iterator.Splits.{YieldsList-from_str_split}
 use Rattle.std.proofs.lemmas.Option.{slice_get_read}
 use Rattle.std.proofs.lemmas.Grind.{common_steps}
-use Rattle.smith_types.specs.Instructions.{parts_of, AreNamed, kind_bits}
+use Rattle.smith_types.specs.Instructions.{parts_of, AreNamed, kinds_bits}
 use Rattle.smith_types.proofs.KindLemmas.{AreNamed-next, union_of-push}
 use Rattle.smith_types.proofs.instruction_kind.InstructionKindsFromStr.from_str.Goals as goal
 
@@ -40,7 +40,7 @@ loop-part-preserved c =
       named = (
         named.0 ++ c.in-Ok.kind ∷ [],
         AreNamed-next parts c.loop-part.place named.0 text c.in-Ok.kind at.0 at.1 named.1 c.in-Ok.ensures,
-        c.with-all.ensures ∙ ap (λ bits. bit_or bits (kind_bits c.in-Ok.kind)) named.2 ∙ union_of-push named.0 c.in-Ok.kind,
+        ap kinds_bits c.with-all.ensures ∙ union_of-push c.loop-part.all named.0 c.in-Ok.kind named.2,
       );
     }
 
