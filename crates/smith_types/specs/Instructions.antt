@@ -1,6 +1,7 @@
 -- Kinds of instructions, sets of them as bits, and their names.
 use Rattle.std.specs.Prelude.{Bool, ◌-◌, if◌then◌else◌, ◌≡◌, ℕ, ◌<◌, ◌+◌, ◌^◌, List, [], ◌∷◌, ◌++◌, length, take, codes, bit_or, fold, map, Result, Ok, Err, ◌==◌, slice_get, Some}
-use Rattle.std.specs.List.{slice_split}
+use Rattle.std.specs.List.{AllZip}
+use Rattle.smith_types.specs.Parts.{parts_of}
 use Rattle.std.specs.Char.{to_ascii_lowercase}
 use Rattle.smith_types.specs.declared.instruction_kind.InstructionKind.{InstructionKind}
 use Rattle.smith_types.specs.declared.instruction_kind.InstructionKind.TheVariants.{
@@ -99,25 +100,15 @@ abbrev pub IsReadKind : List ℕ → Result InstructionKind UnknownKind → Type
 IsReadKind text (Ok kind) = IsNamed text kind
 IsReadKind text (Err e) = ((kind : InstructionKind) → ¬ IsNamed text kind) × (e.part ≡ 0)
 
--- the parts of a text between its commas
-abbrev pub parts_of : List ℕ → List (List ℕ)
-parts_of text = slice_split (λ b. b == 44) text
-
--- texts name these kinds, one by one
-abbrev pub AreNamed : List (List ℕ) → List InstructionKind → Type 0
-AreNamed [] [] = Unit {0}
-AreNamed (text ∷ texts) (kind ∷ kinds) = IsNamed text kind × AreNamed texts kinds
-AreNamed _ _ = ⊥
-
 -- the part at a place names no kind, and each part before it names one
 pub record IsFirstUnknown (parts : List (List ℕ)) (place : ℕ) : Type 0 where
   pub text : List ℕ
   pub there : slice_get parts place ≡ Some text
   pub unknown : (kind : InstructionKind) → ¬ IsNamed text kind
   pub kinds : List InstructionKind
-  pub before : AreNamed (take place parts) kinds
+  pub before : AllZip IsNamed (take place parts) kinds
 
 -- the set of the kinds that the parts of a text name, or the place of the first part that names none
 abbrev pub AreReadKinds : List ℕ → Result InstructionKinds UnknownKind → Type 0
-AreReadKinds text (Ok all) = (kinds : List InstructionKind) × AreNamed (parts_of text) kinds × (kinds_bits all ≡ union_of kinds)
+AreReadKinds text (Ok all) = (kinds : List InstructionKind) × AllZip IsNamed (parts_of text) kinds × (kinds_bits all ≡ union_of kinds)
 AreReadKinds text (Err e) = IsFirstUnknown (parts_of text) e.part

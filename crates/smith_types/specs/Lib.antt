@@ -4,4 +4,5 @@ pub mod Space
 pub mod Entities
 pub mod Features
 pub mod Flags
+pub mod Parts
 pub mod Instructions

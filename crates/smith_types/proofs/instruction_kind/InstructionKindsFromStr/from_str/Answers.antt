@@ -3,8 +3,11 @@ use Rattle.std.proofs.lemmas.Iterator.Consumers.{YieldsList-at, YieldsList-turn,
 use Rattle.std.proofs.lemmas.Iterator.Splits.{YieldsList-from_str_split}
 use Rattle.std.proofs.lemmas.Option.{slice_get_read}
 use Rattle.std.proofs.lemmas.Grind.{common_steps}
-use Rattle.smith_types.specs.Instructions.{parts_of, AreNamed, kinds_bits}
-use Rattle.smith_types.proofs.KindLemmas.{AreNamed-next, union_of-push}
+use Rattle.smith_types.specs.Instructions.{IsNamed, kinds_bits}
+use Rattle.smith_types.specs.Parts.{parts_of}
+use Rattle.std.specs.List.{AllZip}
+use Rattle.smith_types.proofs.KindLemmas.{union_of-push}
+use Rattle.smith_types.proofs.Parts.{AllZip-next}
 use Rattle.smith_types.proofs.instruction_kind.InstructionKindsFromStr.from_str.Goals as goal
 
 pub returns-in-Err : goal.returns-in-Err
@@ -39,7 +42,7 @@ loop-part-preserved c =
       count = let before = c.loop-part.invariant.count in grind (arith, common_steps);
       named = (
         named.0 ++ c.in-Ok.kind ∷ [],
-        AreNamed-next parts c.loop-part.place named.0 text c.in-Ok.kind at.0 at.1 named.1 c.in-Ok.ensures,
+        AllZip-next IsNamed parts c.loop-part.place named.0 text c.in-Ok.kind at.0 at.1 named.1 c.in-Ok.ensures,
         ap kinds_bits c.with-all.ensures ∙ union_of-push c.loop-part.all named.0 c.in-Ok.kind named.2,
       );
     }
@@ -52,4 +55,4 @@ returns c =
     let end = YieldsList-end e c.loop-part.yielded _ c.loop-part.yielded_by _ _ c.in-None.is c.next.ensures.steps in
     let named = c.loop-part.invariant.named in
     let all : take c.loop-part.place parts ≡ parts = take_all _ parts (let count = c.loop-part.invariant.count in let long = end.1 in omega arith) in
-    (named.0, subst (λ texts. AreNamed texts named.0) all named.1, named.2)
+    (named.0, subst (λ texts. AllZip IsNamed texts named.0) all named.1, named.2)
