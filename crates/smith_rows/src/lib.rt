@@ -1,0 +1,7 @@
+//! Worked examples across the crates of the generator, each with the result that it must have.
+#![tactic(auto)]
+
+#[cfg(test)]
+mod configuration;
+#[cfg(test)]
+mod kinds;
