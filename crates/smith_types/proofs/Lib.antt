@@ -5,3 +5,6 @@ pub mod Paths
 pub mod Spaces
 pub mod Validity
 pub mod Walk
+pub mod FeatureBits
+pub mod Parts
+pub mod KindLemmas

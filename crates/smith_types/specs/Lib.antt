@@ -9,3 +9,6 @@ pub mod Entities
 pub mod ValidTypes
 pub mod ValidEntities
 pub mod Same
+pub mod Flags
+pub mod Parts
+pub mod Instructions
