@@ -1,0 +1,71 @@
+ghost use Rattle.std.specs.Prelude.{◌≡◌, ◌<◌, ℕ, List, Bool, false, ◌||◌, Option, None, is_err, IfOk, OnOk, length};
+ghost use Rattle.std.specs.Io.{ReadsAtMost};
+ghost use Rattle.std.specs.Io.KnownBytes.{ReadConsumes, IsAtEnd};
+ghost use Rattle.smith_run.specs.Run.{AreKnown};
+
+use std::alloc::{AllocError, Global};
+use std::io::Read;
+
+/// A read or a write went wrong. Why isn't kept.
+#[derive(Clone, Copy, Debug, PartialEq, Eq)]
+pub struct Failed;
+
+/// Where the program's input comes from.
+pub trait Source {
+    // The bytes that reads will give from here on, where the source tells them.
+    ghost left: { Self → Option (List ℕ) } = { λ _. None };
+
+    // Whether a read has failed.
+    ghost failed: { Self → Bool };
+
+    /// Puts bytes into the front of the buffer and says how many. None for a buffer that isn't
+    /// empty is the end of the input.
+    fn read(&mut self, buffer: &mut [u8]) -> Result<usize, Failed>
+        ensures bound { ReadsAtMost result buffer.new }
+        ensures bytes { ReadConsumes (left self.old) (left self.new) result buffer.new }
+        ensures fault { failed self.new ≡ (failed self.old || is_err result) };
+
+    /// Whether a read has failed. It stays so.
+    fn has_failed(&self) -> bool
+        ensures { result ≡ failed self.now };
+}
+
+/// A source that reads from any reader. Every error is a failure, an interruption too.
+#[derive(Drop)]
+pub struct FromRead<R> {
+    reader: R,
+    failed: bool,
+}
+
+impl<R: Read> FromRead<R> {
+    /// A source of what the reader has left. Takes no memory.
+    pub fn new(reader: R) -> Self
+        ensures left { ⟦<FromRead<R> as Source>⟧.left result ≡ R.remaining reader }
+        ensures fresh { ⟦<FromRead<R> as Source>⟧.failed result ≡ false }
+    {
+        FromRead {
+            reader,
+            failed: false,
+        }
+    }
+}
+
+impl<R: Read> Source for FromRead<R> {
+    ghost left = { λ source. R.remaining source.reader };
+
+    ghost failed = { λ source. source.failed };
+
+    fn read(&mut self, buffer: &mut [u8]) -> Result<usize, Failed> {
+        match self.reader.read(buffer) {
+            Ok(count) => Ok(count),
+            Err(_) => {
+                self.failed = true;
+                Err(Failed)
+            }
+        }
+    }
+
+    fn has_failed(&self) -> bool {
+        self.failed
+    }
+}
