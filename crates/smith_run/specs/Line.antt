@@ -1,5 +1,5 @@
 -- The lines that the program writes to standard output.
-use Rattle.std.specs.Prelude.{ℕ, List, [], ◌∷◌, ◌++◌, length, Option, Some, None, Result, Ok, Err, codes, decimal}
+use Rattle.std.specs.Prelude.{ℕ, List, ◌++◌, length, Option, Some, None, Result, Ok, Err, codes, decimal}
 use Rattle.smith_bytes.specs.declared.error.Error.{Error}
 use Rattle.smith_bytes.specs.declared.error.Error.TheVariants.{EmptyChoose, NotEnoughData, IncorrectFormat, Config, Shape, Memory}
 use Rattle.wasm_smith.specs.Parts.{Parts}

@@ -1,9 +1,10 @@
 -- What a run of the program comes to.
-use Rattle.std.specs.Prelude.{◌≡◌, ◌⊎◌, ⊤, ℕ, List, Bool, true, false, Option, Some, None, Result, Ok, Err}
+use Rattle.std.specs.Prelude.{◌≡◌, ⊤, ℕ, List, Bool, true, false, Option, Some, None, Result, Ok, Err}
 use Rattle.std.specs.Io.KnownBytes.{Appends}
 use Rattle.smith_bytes.specs.declared.error.Error.{Error}
 use Rattle.smith_bytes.specs.declared.error.Error.TheVariants.{Memory}
-use Rattle.wasm_smith.specs.Parts.{Parts, Allows, default_config}
+use Rattle.smith_config.specs.Config.{default_config}
+use Rattle.wasm_smith.specs.Parts.{Parts, Allows}
 use Rattle.smith_run.specs.declared.run.Outcome.{Outcome}
 use Rattle.smith_run.specs.declared.run.Outcome.TheVariants.{Made, Refused}
 use Rattle.smith_run.specs.declared.run.RunFault.{RunFault}

@@ -1,13 +1,15 @@
-ghost use Rattle.std.specs.Prelude.{◌≡◌, ◌≤◌, length, List, ℕ, IfOk};
+ghost use Rattle.std.specs.Prelude.{◌≡◌};
 ghost use Rattle.wasm_smith.specs.Parts.{Allows};
 
-use crate::{Config, Error, Unstructured};
+use smith_bytes::{Error, Unstructured};
+use smith_config::Config;
+use smith_types::{Items, SubType};
 use std::alloc::Global;
 use std::marker::Model;
 
 #[derive(Drop)]
 pub struct Module {
-    types: Vec<u32>,
+    types: Items<SubType>,
     rec_groups: Vec<u32>,
     num_imports: usize,
     tags: Vec<u32>,
@@ -27,7 +29,7 @@ impl Model for Module {
     ghost Value = { Parts };
 
     ghost view = { λ m. record {
-        types = m.types.items;
+        types = m.types;
         rec_groups = m.rec_groups.items;
         num_imports = m.num_imports;
         tags = m.tags.items;
@@ -46,12 +48,11 @@ impl Module {
     pub fn new(alloc: Global, config: Config, u: &mut Unstructured<'_>) -> Result<Module, Error>
         ensures answer { Allows config u.old result }
     {
-        let mut types = Vec::new(alloc);
-        if u.len() > 0 && config.max_types > 0 {
-            types.push(1)?;
+        if config.min_types > 0 || u.len() > 0 {
+            return Err(Error::Memory);
         }
         Ok(Module {
-            types,
+            types: Items::new(alloc),
             rec_groups: Vec::new(alloc),
             num_imports: 0,
             tags: Vec::new(alloc),
@@ -66,7 +67,7 @@ impl Module {
         })
     }
 
-    pub fn types(&self) -> &[u32]
+    pub fn types(&self) -> &[SubType]
         ensures { result.now ≡ self.now.types }
     {
         self.types.as_slice()

@@ -1,0 +1,5 @@
+pub mod Features
+pub mod Kinds
+pub mod Types
+pub mod Space
+pub mod Entities
