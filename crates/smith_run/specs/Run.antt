@@ -1,5 +1,5 @@
 -- What a run of the program comes to.
-use Rattle.std.specs.Prelude.{◌≡◌, ⊤, ℕ, List, Bool, true, false, Option, Some, None, Result, Ok, Err}
+use Rattle.std.specs.Prelude.{◌≡◌, ⊤, ℕ, List, Bool, true, false, Option, Result, Ok, Err}
 use Rattle.std.specs.Io.KnownBytes.{Appends}
 use Rattle.smith_bytes.specs.declared.error.Error.{Error}
 use Rattle.smith_bytes.specs.declared.error.Error.TheVariants.{Memory}
@@ -8,12 +8,8 @@ use Rattle.wasm_smith.specs.Parts.{Parts, Allows}
 use Rattle.smith_run.specs.declared.run.Outcome.{Outcome}
 use Rattle.smith_run.specs.declared.run.Outcome.TheVariants.{Made, Refused}
 use Rattle.smith_run.specs.declared.run.RunFault.{RunFault}
+use Rattle.smith_run.specs.Input.{AreKnown}
 use Rattle.smith_run.specs.Line.{line_of}
-
--- these bytes are the known ones, where some are known
-abbrev pub AreKnown : Option (List ℕ) → List ℕ → Type 0
-AreKnown None bytes = ⊤
-AreKnown (Some known) bytes = known ≡ bytes
 
 -- the generator may answer this for the input, with the default configuration where none is drawn from it
 abbrev pub MayAnswer : Bool → List ℕ → Result Parts Error → Type 0

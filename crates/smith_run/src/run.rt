@@ -3,10 +3,9 @@ ghost use Rattle.std.specs.Io.KnownBytes.{Appends};
 ghost use Rattle.smith_run.specs.Line.{line_of};
 ghost use Rattle.smith_run.specs.Run.{MayAnswer, IsAnswered, IsUnread, outcome_of};
 
-use crate::input::{InputFault, read_whole};
 use crate::line::line;
 use crate::sink::{Sink, write_whole};
-use crate::source::{Failed, Source};
+use crate::source::{Failed, InputFault, Source, read_whole};
 use std::alloc::Global;
 use wasm_smith::{Config, Error, Module, Unstructured};
 
