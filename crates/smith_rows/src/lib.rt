@@ -6,4 +6,6 @@ mod configuration;
 #[cfg(test)]
 mod kinds;
 #[cfg(test)]
+mod modules;
+#[cfg(test)]
 mod type_space;
