@@ -1,7 +1,9 @@
-//! Worked examples across the crates of the generator, each with the result that it must have.
+//! Worked cases across the crates of the generator, each with the result that it must have.
 #![tactic(auto)]
 
 #[cfg(test)]
 mod configuration;
 #[cfg(test)]
 mod kinds;
+#[cfg(test)]
+mod type_space;

@@ -1,5 +1,10 @@
 pub mod Lists
+pub mod Growth
+pub mod Lengths
+pub mod Paths
 pub mod Spaces
+pub mod Validity
+pub mod Walk
 pub mod FeatureBits
 pub mod Parts
 pub mod KindLemmas

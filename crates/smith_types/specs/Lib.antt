@@ -1,8 +1,14 @@
+pub mod Features
 pub mod Kinds
 pub mod Types
 pub mod Space
+pub mod Subtyping
+pub mod Matching
+pub mod Laws
 pub mod Entities
-pub mod Features
+pub mod ValidTypes
+pub mod ValidEntities
+pub mod Same
 pub mod Flags
 pub mod Parts
 pub mod Instructions

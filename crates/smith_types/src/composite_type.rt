@@ -2,7 +2,7 @@ use crate::list::Items;
 use crate::value_type::ValType;
 
 /// What a field stores: a packed integer or a value. The standard's section Structure, Composite Types.
-#[derive(Clone, Copy, Debug)]
+#[derive(Clone, Copy, Debug, PartialEq)]
 pub enum StorageType {
     I8,
     I16,
@@ -10,31 +10,31 @@ pub enum StorageType {
 }
 
 /// A field of a struct, or the element of an array. The standard's section Structure, Composite Types.
-#[derive(Clone, Copy, Debug)]
+#[derive(Clone, Copy, Debug, PartialEq)]
 pub struct FieldType {
     pub element_type: StorageType,
     pub mutable: bool,
 }
 
 /// An array type. The standard's section Structure, Composite Types.
-#[derive(Clone, Copy, Debug)]
+#[derive(Clone, Copy, Debug, PartialEq)]
 pub struct ArrayType(pub FieldType);
 
 /// A struct type. The standard's section Structure, Composite Types.
-#[derive(Debug, Drop)]
+#[derive(Debug, Drop, PartialEq)]
 pub struct StructType {
     pub fields: Items<FieldType>,
 }
 
 /// A function type. The standard's section Structure, Composite Types.
-#[derive(Debug, Drop)]
+#[derive(Debug, Drop, PartialEq)]
 pub struct FuncType {
     pub params: Items<ValType>,
     pub results: Items<ValType>,
 }
 
 /// A composite type without its sharedness. The standard's section Structure, Composite Types.
-#[derive(Debug, Drop)]
+#[derive(Debug, Drop, PartialEq)]
 pub enum CompositeInnerType {
     Array(ArrayType),
     Func(FuncType),
@@ -43,14 +43,14 @@ pub enum CompositeInnerType {
 
 /// A composite type. The standard's section Structure, Composite Types; sharedness is that of the
 /// shared-everything-threads proposal.
-#[derive(Debug, Drop)]
+#[derive(Debug, Drop, PartialEq)]
 pub struct CompositeType {
     pub inner: CompositeInnerType,
     pub shared: bool,
 }
 
 /// One type of a recursive group. The standard's section Structure, Recursive Types.
-#[derive(Debug, Drop)]
+#[derive(Debug, Drop, PartialEq)]
 pub struct SubType {
     pub is_final: bool,
     /// The index of the declared supertype.

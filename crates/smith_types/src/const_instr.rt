@@ -2,7 +2,7 @@ use crate::value_type::HeapType;
 
 /// An instruction of a constant expression: the standard's section Validation, Constant Expressions. Floats are given
 /// by their bits; indices are of globals, functions and types.
-#[derive(Clone, Copy, Debug)]
+#[derive(Clone, Copy, Debug, PartialEq)]
 pub enum ConstInstr {
     I32Const(i32),
     I64Const(i64),

@@ -1,7 +1,7 @@
 use crate::value_type::{RefType, ValType};
 
 /// A table type: the standard's section Structure, Table Types. Limits are in elements.
-#[derive(Clone, Copy, Debug)]
+#[derive(Clone, Copy, Debug, PartialEq)]
 pub struct TableType {
     pub element_type: RefType,
     pub minimum: u64,
@@ -12,7 +12,7 @@ pub struct TableType {
 }
 
 /// A memory type: the standard's section Structure, Memory Types. Limits are in pages.
-#[derive(Clone, Copy, Debug)]
+#[derive(Clone, Copy, Debug, PartialEq)]
 pub struct MemoryType {
     pub minimum: u64,
     pub maximum: Option<u64>,
@@ -24,7 +24,7 @@ pub struct MemoryType {
 }
 
 /// A global type: the standard's section Structure, Global Types.
-#[derive(Clone, Copy, Debug)]
+#[derive(Clone, Copy, Debug, PartialEq)]
 pub struct GlobalType {
     pub val_type: ValType,
     pub mutable: bool,
@@ -32,7 +32,7 @@ pub struct GlobalType {
 }
 
 /// What an import or an export is of: the standard's section Structure, External Types.
-#[derive(Clone, Copy, Debug)]
+#[derive(Clone, Copy, Debug, PartialEq)]
 pub enum EntityType {
     Global(GlobalType),
     Table(TableType),
@@ -44,7 +44,7 @@ pub enum EntityType {
 }
 
 /// The index space that an export names an entity of: the standard's section Structure, Exports.
-#[derive(Clone, Copy, Debug)]
+#[derive(Clone, Copy, Debug, PartialEq)]
 pub enum ExportKind {
     Func,
     Table,

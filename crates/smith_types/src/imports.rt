@@ -2,7 +2,7 @@ use crate::entity_type::EntityType;
 use crate::list::{Items, Name};
 
 /// One import: the standard's section Structure, Imports.
-#[derive(Debug, Drop)]
+#[derive(Debug, Drop, PartialEq)]
 pub struct Import {
     pub module: Name,
     pub name: Name,
@@ -10,14 +10,14 @@ pub struct Import {
 }
 
 /// An import of a group, which has the group's module name.
-#[derive(Debug, Drop)]
+#[derive(Debug, Drop, PartialEq)]
 pub struct ImportItem {
     pub name: Name,
     pub entity_type: EntityType,
 }
 
 /// A group of imports, as the compact imports proposal has them.
-#[derive(Debug, Drop)]
+#[derive(Debug, Drop, PartialEq)]
 pub enum Imports {
     Single(Import),
     /// Imports of one module.

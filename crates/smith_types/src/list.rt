@@ -8,7 +8,7 @@ ghost use Rattle.std.specs.Prelude.{
   length,
   IsTrue,
   ◌↔◌,
-  IsErrOf,
+  IfErr,
   OnOk,
   OnErr,
   string_bytes,
@@ -79,7 +79,7 @@ impl<T: Drop> Items<T> {
     pub fn push(&mut self, item: T) -> Result<(), Error>
         ensures ok { OnOk result (self.new ≡ self.old ++ item ∷ []) }
         ensures err { OnErr result (self.new ≡ self.old) }
-        ensures memory { OnErr result (IsErrOf result Error.Memory) }
+        ensures memory { IfErr result (λ e. e ≡ Error.Memory) }
     {
         Ok(self.items.push(item)?)
     }
@@ -130,5 +130,31 @@ impl Name {
         ensures { IsTrue result ↔ (length self.now ≡ 0) }
     {
         self.text.is_empty()
+    }
+}
+
+impl<T: PartialEq> PartialEq for Items<T> {
+    ghost use Rattle.std.specs.Cmp.Lexicographic.{pointwise, lists_per};
+
+    ghost eq = { pointwise T.eq };
+
+    ghost laws = { lists_per T.laws };
+
+    fn eq(&self, other: &Items<T>) -> bool {
+        self.items.as_slice() == other.items.as_slice()
+    }
+}
+
+impl PartialEq for Name {
+    ghost use Rattle.std.specs.Str.{bytes_eq};
+    ghost use Rattle.std.specs.Cmp.{partial_equiv_from_equiv};
+    ghost use Rattle.std.proofs.lemmas.Cmp.{nat_list_eq_equiv};
+
+    ghost eq = { bytes_eq };
+
+    ghost laws = { partial_equiv_from_equiv nat_list_eq_equiv };
+
+    fn eq(&self, other: &Name) -> bool {
+        self.text.as_str() == other.text.as_str()
     }
 }

@@ -13,7 +13,7 @@ ghost use Rattle.std.specs.Prelude.{
   IsTrue,
   ◌↔◌,
   IfOk,
-  IsErrOf,
+  IfErr,
   OnOk,
   OnErr,
   slice_get,
@@ -23,9 +23,14 @@ ghost use Rattle.smith_types.specs.Kinds.{kind_of};
 ghost use Rattle.smith_types.specs.Types.{IsAlike, IsOrderly, next_start, next_group};
 ghost use Rattle.smith_types.specs.Space.{AreDepths, HasDepth, MayFollow};
 ghost use Rattle.smith_types.specs.Entities.{value_count};
+ghost use Rattle.smith_types.specs.Matching.{IsCompositeMatch, IsInnerInRange};
+ghost use Rattle.smith_types.specs.Subtyping.{IsBelow, IsRefBelow, IsValBelow, IsInRange, IsValInRange};
 
-use crate::composite_type::{CompositeInnerType, SubType};
+use crate::composite_type::{CompositeInnerType, CompositeType, SubType};
 use crate::entity_type::EntityType;
+use crate::matching::composite_type_is_match;
+use crate::subtyping::{heap_type_is_below, ref_type_is_below, val_type_is_below};
+use crate::value_type::{HeapType, RefType, ValType};
 use smith_bytes::Error;
 use std::alloc::Global;
 use std::marker::Model;
@@ -103,7 +108,7 @@ impl TypeSpace {
         ensures index { IfOk result (λ index. index ≡ length self.old.types) }
         ensures stands { IfOk result (λ index. slice_get self.new.types index ≡ Some added) }
         ensures err { OnErr result (self.new ≡ self.old) }
-        ensures memory { OnErr result (IsErrOf result Error.Memory) }
+        ensures memory { IfErr result (λ e. e ≡ Error.Memory) }
     {
         let index = self.types.len() as u32;
         let depth = depth_after(self.types.as_slice(), self.depths.as_slice(), &added);
@@ -124,11 +129,47 @@ impl TypeSpace {
         }) }
         ensures covered { OnOk result (AreCovered self.new.types self.new.groups) }
         ensures err { OnErr result (self.new ≡ self.old) }
-        ensures memory { OnErr result (IsErrOf result Error.Memory) }
+        ensures memory { IfErr result (λ e. e ≡ Error.Memory) }
     {
         let start = start_after(self.groups.as_slice());
         let end = self.types.len();
         Ok(self.groups.push(start..end)?)
+    }
+
+    /// Whether one heap type is below another: Validation, Matching, Heap Types.
+    pub fn heap_type_is_sub_type(&self, a: HeapType, b: HeapType) -> bool
+        requires lower { IsInRange self.now.types a }
+        requires upper { IsInRange self.now.types b }
+        ensures { IsTrue result ↔ IsBelow self.now.types a b }
+    {
+        heap_type_is_below(self.types.as_slice(), a, b)
+    }
+
+    /// Whether one reference type is below another: Validation, Matching, Reference Types.
+    pub fn ref_type_is_sub_type(&self, a: RefType, b: RefType) -> bool
+        requires lower { IsInRange self.now.types a.heap_type }
+        requires upper { IsInRange self.now.types b.heap_type }
+        ensures { IsTrue result ↔ IsRefBelow self.now.types a b }
+    {
+        ref_type_is_below(self.types.as_slice(), a, b)
+    }
+
+    /// Whether one value type is below another: Validation, Matching, Value Types.
+    pub fn val_type_is_sub_type(&self, a: ValType, b: ValType) -> bool
+        requires lower { IsValInRange self.now.types a }
+        requires upper { IsValInRange self.now.types b }
+        ensures { IsTrue result ↔ IsValBelow self.now.types a b }
+    {
+        val_type_is_below(self.types.as_slice(), a, b)
+    }
+
+    /// Whether one composite type matches another: Validation, Matching, Composite Types.
+    pub fn composite_type_matches(&self, a: &CompositeType, b: &CompositeType) -> bool
+        requires lower { IsInnerInRange self.now.types a.now.inner }
+        requires upper { IsInnerInRange self.now.types b.now.inner }
+        ensures { IsTrue result ↔ IsCompositeMatch self.now.types a.now b.now }
+    {
+        composite_type_is_match(self.types.as_slice(), a, b)
     }
 
     /// The size of an entity, which counts towards the type size of a module.

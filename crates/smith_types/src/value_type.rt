@@ -1,5 +1,5 @@
 /// The abstract heap types, without sharedness: the standard's section Structure, Heap Types.
-#[derive(Clone, Copy, Debug)]
+#[derive(Clone, Copy, Debug, PartialEq)]
 pub enum AbstractHeapType {
     Func,
     Extern,
@@ -17,7 +17,7 @@ pub enum AbstractHeapType {
 
 /// What a reference refers to: the standard's section Structure, Heap Types. Exact types are those of the custom
 /// descriptors proposal, shared types those of the shared-everything-threads proposal.
-#[derive(Clone, Copy, Debug)]
+#[derive(Clone, Copy, Debug, PartialEq)]
 pub enum HeapType {
     Abstract { shared: bool, ty: AbstractHeapType },
     /// The type of this index, and those below it.
@@ -27,14 +27,14 @@ pub enum HeapType {
 }
 
 /// A reference type: the standard's section Structure, Reference Types.
-#[derive(Clone, Copy, Debug)]
+#[derive(Clone, Copy, Debug, PartialEq)]
 pub struct RefType {
     pub nullable: bool,
     pub heap_type: HeapType,
 }
 
 /// A value type: the standard's section Structure, Value Types.
-#[derive(Clone, Copy, Debug)]
+#[derive(Clone, Copy, Debug, PartialEq)]
 pub enum ValType {
     I32,
     I64,

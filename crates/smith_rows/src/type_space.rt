@@ -1,0 +1,135 @@
+ghost use Rattle.std.specs.Prelude.{◌≡◌};
+ghost use Rattle.smith_types.specs.declared.value_type.HeapType.TheVariants.{Concrete};
+
+use smith_types::{
+    AbstractHeapType, CompositeInnerType, CompositeType, EntityType, FuncType, HeapType, Import,
+    ImportItem, Imports, Items, MemoryType, Name, RefType, StructType, SubType, TypeSpace, ValType,
+};
+use std::alloc::Global;
+use std::test::Fail;
+
+// A struct type without fields.
+fn empty_struct(alloc: Global, supertype: Option<u32>) -> SubType
+    ensures { result.supertype ≡ supertype }
+{
+    SubType {
+        is_final: false,
+        supertype,
+        composite_type: CompositeType {
+            inner: CompositeInnerType::Struct(StructType {
+                fields: Items::new(alloc),
+            }),
+            shared: false,
+        },
+    }
+}
+
+const NONE: HeapType = HeapType::Abstract {
+    shared: false,
+    ty: AbstractHeapType::None,
+};
+
+// A reference to what stands at an index.
+fn reference(nullable: bool, index: u32) -> RefType
+    ensures { result ≡ record { nullable = nullable; heap_type = Concrete index } }
+{
+    RefType {
+        nullable,
+        heap_type: HeapType::Concrete(index),
+    }
+}
+
+#[test]
+fn a_struct_and_one_below_it(rt: HostRuntime) -> Result<(), Fail> {
+    let alloc = rt.alloc();
+    let mut space = TypeSpace::new(alloc);
+    let first = empty_struct(alloc, None);
+    assert!(rt; space.may_follow(&first));
+    let zero = space.push_type(first)?;
+    let second = empty_struct(alloc, Some(zero));
+    assert!(rt; space.may_follow(&second));
+    let one = space.push_type(second)?;
+    space.push_group()?;
+
+    assert_eq!(rt; zero, 0);
+    assert_eq!(rt; one, 1);
+    assert_eq!(rt; space.types().len(), 2);
+    assert_eq!(rt; space.rec_groups().len(), 1);
+    assert_eq!(rt; space.depth(zero), 1);
+    assert_eq!(rt; space.depth(one), 2);
+
+    assert!(rt; space.heap_type_is_sub_type(HeapType::Concrete(one), HeapType::Concrete(zero)));
+    assert!(rt; !space.heap_type_is_sub_type(HeapType::Concrete(zero), HeapType::Exact(zero)));
+    assert!(rt; space.heap_type_is_sub_type(HeapType::Exact(zero), HeapType::Concrete(zero)));
+    assert!(rt; space.heap_type_is_sub_type(NONE, HeapType::Exact(zero)));
+    assert!(rt; !space.ref_type_is_sub_type(reference(true, one), reference(false, zero)));
+    assert!(rt;
+        space.val_type_is_sub_type(
+            ValType::Ref(reference(false, one)),
+            ValType::Ref(reference(true, zero))
+        )
+    );
+    Ok(())
+}
+
+// A text as a name.
+fn name(alloc: Global, text: &str) -> Result<Name, Fail> {
+    Ok(Name::from_string(String::from_str(alloc, text)?))
+}
+
+#[test]
+fn a_compact_group_is_cloned(rt: HostRuntime) -> Result<(), Fail> {
+    let alloc = rt.alloc();
+    let memory = EntityType::Memory(MemoryType {
+        minimum: 1,
+        maximum: None,
+        memory64: false,
+        shared: false,
+        page_size_log2: None,
+    });
+    let mut items = Items::new(alloc);
+    items.push(ImportItem {
+        name: name(alloc, "memory")?,
+        entity_type: memory,
+    })?;
+    let group = Imports::Compact1 {
+        module: name(alloc, "env")?,
+        items,
+    };
+    let single = Imports::Single(Import {
+        module: name(alloc, "env")?,
+        name: name(alloc, "memory")?,
+        entity_type: memory,
+    });
+    assert!(rt; group.clone(alloc)? == group);
+    assert!(rt; single.clone(alloc)? == single);
+    assert!(rt; group != single);
+    Ok(())
+}
+
+#[test]
+fn a_function_counts_what_it_takes_and_gives(rt: HostRuntime) -> Result<(), Fail> {
+    let alloc = rt.alloc();
+    let mut params = Items::new(alloc);
+    params.push(ValType::I32)?;
+    params.push(ValType::F64)?;
+    let mut results = Items::new(alloc);
+    results.push(ValType::I64)?;
+    let ty = SubType {
+        is_final: true,
+        supertype: None,
+        composite_type: CompositeType {
+            inner: CompositeInnerType::Func(FuncType { params, results }),
+            shared: false,
+        },
+    };
+    let copy = ty.clone(alloc)?;
+    assert!(rt; copy == ty);
+    let mut space = TypeSpace::new(alloc);
+    assert!(rt; space.may_follow(&ty));
+    let index = space.push_type(ty)?;
+    assert_eq!(rt; space.size_of(&EntityType::Func(index)), 4);
+    assert_eq!(rt; space.size_of(&EntityType::Tag(index)), 1);
+    assert!(rt; space.composite_type_matches(&copy.composite_type, &copy.composite_type));
+    Ok(())
+}

@@ -1,0 +1,26 @@
+ghost use Rattle.std.specs.Prelude.{◌≡◌, map, string_bytes};
+ghost use Rattle.smith_run.specs.Run.{status_of};
+ghost use Rattle.smith_run.specs.Words.{drawn_by};
+
+use crate::run::{Outcome, RunFault};
+
+/// Whether the configuration is to be drawn from the input, by the words after the program's name.
+/// `None` where the program has no use for them.
+pub fn words(words: &[String]) -> Option<bool>
+    ensures { result ≡ drawn_by (map string_bytes words.now) }
+{
+    match words {
+        [] => Some(false),
+        _ => None,
+    }
+}
+
+/// The status that the program ends with.
+pub fn status(ended: &Result<Outcome, RunFault>) -> u8
+    ensures { result ≡ status_of ended.now }
+{
+    match ended {
+        Ok(Outcome::Made) => 0,
+        _ => 1,
+    }
+}

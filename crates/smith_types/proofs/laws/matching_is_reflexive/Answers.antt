@@ -1,0 +1,5 @@
+use Rattle.smith_types.proofs.Growth.{IsCompositeMatch-refl}
+use Rattle.smith_types.proofs.laws.matching_is_reflexive.Goals as goal
+
+pub returns : goal.returns
+returns c = IsCompositeMatch-refl

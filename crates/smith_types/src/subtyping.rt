@@ -1,0 +1,142 @@
+ghost use Rattle.std.specs.Prelude.{◌≡◌, ◌<◌, length, IsTrue, ◌↔◌};
+ghost use Rattle.smith_types.specs.declared.value_type.HeapType.TheVariants.{Abstract, Concrete};
+ghost use Rattle.smith_types.specs.Kinds.{kind, kind_of, bottom, bottom_of, shared};
+ghost use Rattle.smith_types.specs.Types.{IsOrderly};
+ghost use Rattle.smith_types.specs.Subtyping.{
+  is_abstract_below,
+  IsBelow,
+  IsRefBelow,
+  IsValBelow,
+  IsInRange,
+  IsValInRange,
+};
+
+use crate::composite_type::{CompositeInnerType, SubType};
+use crate::value_type::{AbstractHeapType, HeapType, RefType, ValType};
+
+// Whether one value type is below another.
+pub(crate) fn val_type_is_below(types: &[SubType], a: ValType, b: ValType) -> bool
+    requires orderly { IsOrderly types.now }
+    requires lower { IsValInRange types.now a }
+    requires upper { IsValInRange types.now b }
+    ensures { IsTrue result ↔ IsValBelow types.now a b }
+{
+    match a {
+        ValType::I32 => matches!(b, ValType::I32),
+        ValType::I64 => matches!(b, ValType::I64),
+        ValType::F32 => matches!(b, ValType::F32),
+        ValType::F64 => matches!(b, ValType::F64),
+        ValType::V128 => matches!(b, ValType::V128),
+        ValType::Ref(a) => match b {
+            ValType::Ref(b) => ref_type_is_below(types, a, b),
+            _ => false,
+        },
+    }
+}
+
+// Whether one reference type is below another.
+pub(crate) fn ref_type_is_below(types: &[SubType], a: RefType, b: RefType) -> bool
+    requires orderly { IsOrderly types.now }
+    requires lower { IsInRange types.now a.heap_type }
+    requires upper { IsInRange types.now b.heap_type }
+    ensures { IsTrue result ↔ IsRefBelow types.now a b }
+{
+    (!a.nullable || b.nullable) && heap_type_is_below(types, a.heap_type, b.heap_type)
+}
+
+// Whether one heap type is below another.
+pub(crate) fn heap_type_is_below(types: &[SubType], a: HeapType, b: HeapType) -> bool
+    requires orderly { IsOrderly types.now }
+    requires lower { IsInRange types.now a }
+    requires upper { IsInRange types.now b }
+    ensures { IsTrue result ↔ IsBelow types.now a b }
+{
+    match a {
+        HeapType::Abstract { shared, ty } => match b {
+            HeapType::Abstract {
+                shared: wanted,
+                ty: upper,
+            } => shared == wanted && abstract_type_is_below(ty, upper),
+            HeapType::Concrete(j) => is_bottom_of(&types[j as usize], shared, ty),
+            HeapType::Exact(j) => is_bottom_of(&types[j as usize], shared, ty),
+        },
+        HeapType::Concrete(i) => match b {
+            HeapType::Abstract { shared, ty } => is_under(&types[i as usize], shared, ty),
+            HeapType::Concrete(j) => reaches(types, i, j),
+            HeapType::Exact(_) => false,
+        },
+        HeapType::Exact(own) => match b {
+            HeapType::Abstract { shared, ty } => is_under(&types[own as usize], shared, ty),
+            HeapType::Concrete(j) => reaches(types, own, j),
+            HeapType::Exact(j) => own == j,
+        },
+    }
+}
+
+// Whether a type is another one, or some declared supertype of it is.
+fn reaches(types: &[SubType], from: u32, to: u32) -> bool
+    requires orderly { IsOrderly types.now }
+    requires lower { from < length types.now }
+    ensures { IsTrue result ↔ IsBelow types.now (Concrete from) (Concrete to) }
+{
+    let mut at = from;
+    while at != to {
+        match types[at as usize].supertype {
+            Some(supertype) => at = supertype,
+            None => return false,
+        }
+    }
+    true
+}
+
+// Whether a type is below an abstract type of this sharedness.
+fn is_under(ty: &SubType, is_shared: bool, upper: AbstractHeapType) -> bool
+    ensures { IsTrue result ↔ ((shared ty.now ≡ is_shared) × IsTrue (is_abstract_below (kind ty.now) upper)) }
+{
+    ty.composite_type.shared == is_shared
+        && abstract_type_is_below(kind_of_inner(&ty.composite_type.inner), upper)
+}
+
+// Whether an abstract type of this sharedness is the one that is below all of the type's kind.
+fn is_bottom_of(ty: &SubType, is_shared: bool, lower: AbstractHeapType) -> bool
+    ensures { IsTrue result ↔ ((is_shared ≡ shared ty.now) × (lower ≡ bottom ty.now)) }
+{
+    is_shared == ty.composite_type.shared && lower == bottom_of_inner(&ty.composite_type.inner)
+}
+
+fn kind_of_inner(inner: &CompositeInnerType) -> AbstractHeapType
+    ensures { result ≡ kind_of inner.now }
+{
+    match inner {
+        CompositeInnerType::Array(_) => AbstractHeapType::Array,
+        CompositeInnerType::Func(_) => AbstractHeapType::Func,
+        CompositeInnerType::Struct(_) => AbstractHeapType::Struct,
+    }
+}
+
+fn bottom_of_inner(inner: &CompositeInnerType) -> AbstractHeapType
+    ensures { result ≡ bottom_of inner.now }
+{
+    match inner {
+        CompositeInnerType::Func(_) => AbstractHeapType::NoFunc,
+        _ => AbstractHeapType::None,
+    }
+}
+
+// Whether one abstract type is below another of the same sharedness.
+fn abstract_type_is_below(a: AbstractHeapType, b: AbstractHeapType) -> bool
+    ensures { result ≡ is_abstract_below a b }
+{
+    use AbstractHeapType::{
+        Any, Array, Eq, Exn, Extern, Func, I31, NoExn, NoExtern, NoFunc, None, Struct,
+    };
+    match (a, b) {
+        (Eq, Any)
+        | (I31 | Struct | Array, Eq | Any)
+        | (None, I31 | Struct | Array | Eq | Any)
+        | (NoFunc, Func)
+        | (NoExtern, Extern)
+        | (NoExn, Exn) => true,
+        _ => a == b,
+    }
+}
