@@ -2,7 +2,7 @@
 use Rattle.std.specs.Prelude.{ℕ, List, ◌++◌, length, Option, Some, None, Result, Ok, Err, codes, decimal}
 use Rattle.smith_bytes.specs.declared.error.Error.{Error}
 use Rattle.smith_bytes.specs.declared.error.Error.TheVariants.{EmptyChoose, NotEnoughData, IncorrectFormat, Config, Shape, Memory}
-use Rattle.wasm_smith.specs.Parts.{Parts}
+use Rattle.wasm_smith.specs.Module.{Parts}
 
 -- an index in decimal digits, or the word for none
 abbrev pub index_or_none : Option ℕ → List ℕ
@@ -13,7 +13,7 @@ index_or_none None = codes "none"
 unfoldable pub counts_line : Parts → List ℕ
 counts_line parts =
     codes "types " ++ decimal (length parts.types)
-    ++ codes " groups " ++ decimal (length parts.rec_groups)
+    ++ codes " groups " ++ decimal (length parts.groups)
     ++ codes " imports " ++ decimal parts.num_imports
     ++ codes " tags " ++ decimal (length parts.tags)
     ++ codes " funcs " ++ decimal (length parts.funcs)
@@ -23,7 +23,7 @@ counts_line parts =
     ++ codes " exports " ++ decimal (length parts.exports)
     ++ codes " start " ++ index_or_none parts.start
     ++ codes " elems " ++ decimal (length parts.elems)
-    ++ codes " data " ++ decimal (length parts.«data»)
+    ++ codes " data " ++ decimal (length parts.segments)
     ++ codes "\n"
 
 -- the name of a kind of refusal

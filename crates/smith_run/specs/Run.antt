@@ -4,7 +4,8 @@ use Rattle.std.specs.Io.KnownBytes.{Appends}
 use Rattle.smith_bytes.specs.declared.error.Error.{Error}
 use Rattle.smith_bytes.specs.declared.error.Error.TheVariants.{Memory}
 use Rattle.smith_config.specs.Config.{default_config}
-use Rattle.wasm_smith.specs.Parts.{Parts, Allows}
+use Rattle.wasm_smith.specs.Module.{Parts}
+use Rattle.wasm_smith.specs.Refusals.{Allows}
 use Rattle.smith_run.specs.declared.run.Outcome.{Outcome}
 use Rattle.smith_run.specs.declared.run.Outcome.TheVariants.{Made, Refused}
 use Rattle.smith_run.specs.declared.run.RunFault.{RunFault}
@@ -13,7 +14,7 @@ use Rattle.smith_run.specs.Line.{line_of}
 
 -- the generator may answer this for the input with the default configuration; of a drawn one nothing is said
 abbrev pub MayAnswer : Bool → List ℕ → Result Parts Error → Type 0
-MayAnswer false input answer = Allows default_config input answer
+MayAnswer false input answer = Allows default_config answer
 MayAnswer true input answer = ⊤
 
 -- the outcome that says which answer it was
