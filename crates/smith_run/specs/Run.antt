@@ -12,7 +12,7 @@ use Rattle.smith_run.specs.declared.run.RunFault.{RunFault}
 use Rattle.smith_run.specs.Input.{AreKnown}
 use Rattle.smith_run.specs.Line.{line_of}
 
--- the generator may answer this for the input, with the default configuration where none is drawn from it
+-- the generator may answer this for the input with the default configuration; of a drawn one nothing is said
 abbrev pub MayAnswer : Bool → List ℕ → Result Parts Error → Type 0
 MayAnswer false input answer = Allows default_config answer
 MayAnswer true input answer = ⊤

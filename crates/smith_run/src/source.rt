@@ -8,7 +8,7 @@ use std::alloc::{AllocError, Global};
 use std::io::Read;
 
 /// A read or a write went wrong. Why isn't kept.
-#[derive(Clone, Copy, Debug, PartialEq, Eq)]
+#[derive(Clone, Copy, Debug)]
 pub struct Failed;
 
 /// Where the program's input comes from.
@@ -72,7 +72,7 @@ impl<R: Read> Source for FromRead<R> {
 }
 
 /// Why an input wasn't read whole.
-#[derive(Clone, Copy, Debug, PartialEq, Eq)]
+#[derive(Clone, Copy, Debug)]
 pub enum InputFault {
     /// A read failed.
     Read,
