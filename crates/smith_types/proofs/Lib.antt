@@ -4,3 +4,4 @@ pub mod Lengths
 pub mod Paths
 pub mod Spaces
 pub mod Walk
+pub mod Validity

@@ -71,7 +71,7 @@ end_from-push : (start : ℕ) (groups : List (Range ℕ)) (group : Range ℕ) �
 end_from-push start [] group = refl
 end_from-push start (g ∷ groups) group = end_from-push g.end groups group
 
-AreConsecutive-push : (start : ℕ) (groups : List (Range ℕ)) (group : Range ℕ) → AreConsecutive start groups → group.start ≡ end_from start groups → group.start ≤ group.end → AreConsecutive start (groups ++ group ∷ [])
+pub AreConsecutive-push : (start : ℕ) (groups : List (Range ℕ)) (group : Range ℕ) → AreConsecutive start groups → group.start ≡ end_from start groups → group.start ≤ group.end → AreConsecutive start (groups ++ group ∷ [])
 AreConsecutive-push start [] group c begins ends = (begins, omega arith, tt)
 AreConsecutive-push start (g ∷ groups) group (p, q, r) begins ends = (p, q, AreConsecutive-push g.end groups group r begins ends)
 

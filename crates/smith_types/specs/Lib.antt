@@ -1,3 +1,4 @@
+pub mod Features
 pub mod Kinds
 pub mod Types
 pub mod Space
@@ -6,3 +7,5 @@ pub mod Matching
 pub mod Laws
 pub mod Entities
 pub mod Same
+pub mod ValidTypes
+pub mod ValidEntities

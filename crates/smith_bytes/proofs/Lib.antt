@@ -1,0 +1,5 @@
+pub mod Pieces
+pub mod Endian
+pub mod Drawn
+pub mod Growing
+pub mod Grown

@@ -1,0 +1,198 @@
+ghost use Rattle.std.specs.Prelude.{◌≡◌, ◌≤◌};
+ghost use Rattle.smith_bytes.specs.Source.{KeepsPieces};
+
+use crate::unstructured::Unstructured;
+
+/// A whole number type without a sign, of which a range can be drawn.
+pub trait Int: Copy {
+    ghost use Rattle.std.specs.Prelude.{ℕ};
+
+    ghost number: { Self → ℕ };
+
+    /// The same number in the widest type.
+    fn widen(self) -> u128
+        ensures { result ≡ number self };
+
+    /// The same number in this type, which holds the greater number `most`.
+    fn narrow(wide: u128, most: Self) -> Self
+        requires { wide ≤ number most }
+        ensures { number result ≡ wide };
+}
+
+impl Int for u8 {
+    ghost number = { λ n. n };
+
+    fn widen(self) -> u128 {
+        self as u128
+    }
+
+    fn narrow(wide: u128, _most: u8) -> u8 {
+        wide as u8
+    }
+}
+
+impl Int for u16 {
+    ghost number = { λ n. n };
+
+    fn widen(self) -> u128 {
+        self as u128
+    }
+
+    fn narrow(wide: u128, _most: u16) -> u16 {
+        wide as u16
+    }
+}
+
+impl Int for u32 {
+    ghost number = { λ n. n };
+
+    fn widen(self) -> u128 {
+        self as u128
+    }
+
+    fn narrow(wide: u128, _most: u32) -> u32 {
+        wide as u32
+    }
+}
+
+impl Int for u64 {
+    ghost number = { λ n. n };
+
+    fn widen(self) -> u128 {
+        self as u128
+    }
+
+    fn narrow(wide: u128, _most: u64) -> u64 {
+        wide as u64
+    }
+}
+
+impl Int for u128 {
+    ghost number = { λ n. n };
+
+    fn widen(self) -> u128 {
+        self
+    }
+
+    fn narrow(wide: u128, _most: u128) -> u128 {
+        wide
+    }
+}
+
+impl Int for usize {
+    ghost number = { λ n. n };
+
+    fn widen(self) -> u128 {
+        self as u128
+    }
+
+    fn narrow(wide: u128, _most: usize) -> usize {
+        wide as usize
+    }
+}
+
+/// A type of which a value can be drawn.
+pub trait Arbitrary: Drop {
+    ghost use Rattle.std.specs.Prelude.{ℕ, List};
+
+    ghost drawn: { List ℕ → Self × List ℕ };
+
+    /// A value from the front of the source.
+    fn arbitrary(u: &mut Unstructured<'_>) -> Self
+        ensures exact { drawn u.old ≡ (result, u.new) }
+        ensures left { KeepsPieces u.old u.new };
+}
+
+impl Arbitrary for bool {
+    ghost use Rattle.smith_bytes.specs.Draws.{bool_at};
+
+    ghost drawn = { bool_at };
+
+    #[tactic(auto, unfolding(crate::specs::Draws::bool_at, crate::specs::Draws::whole_at))]
+    fn arbitrary(u: &mut Unstructured<'_>) -> bool {
+        u.whole(1) % 2 == 1
+    }
+}
+
+impl Arbitrary for u8 {
+    ghost use Rattle.smith_bytes.specs.Draws.{whole_at};
+
+    ghost drawn = { whole_at 1 };
+
+    fn arbitrary(u: &mut Unstructured<'_>) -> u8 {
+        u.whole(1) as u8
+    }
+}
+
+impl Arbitrary for u16 {
+    ghost use Rattle.smith_bytes.specs.Draws.{whole_at};
+
+    ghost drawn = { whole_at 2 };
+
+    fn arbitrary(u: &mut Unstructured<'_>) -> u16 {
+        u.whole(2) as u16
+    }
+}
+
+impl Arbitrary for u32 {
+    ghost use Rattle.smith_bytes.specs.Draws.{whole_at};
+
+    ghost drawn = { whole_at 4 };
+
+    fn arbitrary(u: &mut Unstructured<'_>) -> u32 {
+        u.whole(4) as u32
+    }
+}
+
+impl Arbitrary for u64 {
+    ghost use Rattle.smith_bytes.specs.Draws.{whole_at};
+
+    ghost drawn = { whole_at 8 };
+
+    fn arbitrary(u: &mut Unstructured<'_>) -> u64 {
+        u.whole(8) as u64
+    }
+}
+
+impl Arbitrary for u128 {
+    ghost use Rattle.smith_bytes.specs.Draws.{whole_at};
+
+    ghost drawn = { whole_at 16 };
+
+    fn arbitrary(u: &mut Unstructured<'_>) -> u128 {
+        u.whole(16)
+    }
+}
+
+impl Arbitrary for i32 {
+    ghost use Rattle.smith_bytes.specs.Draws.{whole_at};
+    ghost use Rattle.std.specs.Int.{cast_signed, w32};
+
+    ghost drawn = { λ bytes. (cast_signed w32 (whole_at 4 bytes).0, (whole_at 4 bytes).1) };
+
+    fn arbitrary(u: &mut Unstructured<'_>) -> i32 {
+        (u.whole(4) as u32).cast_signed()
+    }
+}
+
+impl Arbitrary for i64 {
+    ghost use Rattle.smith_bytes.specs.Draws.{whole_at};
+    ghost use Rattle.std.specs.Int.{cast_signed, w64};
+
+    ghost drawn = { λ bytes. (cast_signed w64 (whole_at 8 bytes).0, (whole_at 8 bytes).1) };
+
+    fn arbitrary(u: &mut Unstructured<'_>) -> i64 {
+        (u.whole(8) as u64).cast_signed()
+    }
+}
+
+impl Arbitrary for i128 {
+    ghost use Rattle.smith_bytes.specs.Draws.{whole_at};
+    ghost use Rattle.std.specs.Int.{cast_signed, w128};
+
+    ghost drawn = { λ bytes. (cast_signed w128 (whole_at 16 bytes).0, (whole_at 16 bytes).1) };
+
+    fn arbitrary(u: &mut Unstructured<'_>) -> i128 {
+        u.whole(16).cast_signed()
+    }
+}

@@ -1,0 +1,16 @@
+ghost use Rattle.std.specs.Prelude.{◌≡◌, nat_lt};
+ghost use Rattle.smith_bytes.specs.Source.{KeepsPieces};
+ghost use Rattle.smith_bytes.specs.Growth.{goes_at};
+
+use crate::unstructured::Unstructured;
+
+/// Whether one more is drawn where `made` are there: always below `least`, else a drawn bool.
+pub fn goes_on(u: &mut Unstructured<'_>, made: usize, least: usize) -> bool
+    ensures exact { goes_at (nat_lt made least) u.old ≡ (result, u.new) }
+    ensures left { KeepsPieces u.old u.new }
+{
+    if made < least {
+        return true;
+    }
+    u.arbitrary()
+}

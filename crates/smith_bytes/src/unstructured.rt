@@ -1,0 +1,120 @@
+ghost use Rattle.std.specs.Prelude.{◌≡◌, ◌≤◌, ◌<◌, ◌^◌, ◌↔◌, IsTrue, length, take, drop};
+ghost use Rattle.std.specs.Range.{range_inclusive_start, range_inclusive_end};
+ghost use Rattle.smith_bytes.specs.Source.{KeepsPieces};
+ghost use Rattle.smith_bytes.specs.Draws.{whole_at, range_at, ratio_at};
+
+use crate::arbitrary::{Arbitrary, Int};
+use crate::digits::{count_digits, read_big_endian, read_little_endian};
+use std::marker::Model;
+use std::ops::RangeInclusive;
+
+/// A source of bytes, from which values are drawn. A clause sees the bytes that are left.
+///
+/// Past the end of the bytes a draw reads zeros, so that it always gives a value.
+#[derive(Drop)]
+pub struct Unstructured<'a> {
+    bytes: &'a [u8],
+}
+
+impl<'a> Model for Unstructured<'a> {
+    ghost use Rattle.std.specs.Prelude.{List, ℕ};
+
+    ghost Value = { List ℕ };
+
+    ghost view = { λ u. u.bytes.now };
+}
+
+impl<'a> Unstructured<'a> {
+    /// A source of these bytes.
+    pub fn new(bytes: &'a [u8]) -> Self
+        ensures { result ≡ bytes.now }
+    {
+        Unstructured { bytes }
+    }
+
+    /// How many bytes are left.
+    pub fn len(&self) -> usize
+        ensures { result ≡ length self.now }
+    {
+        self.bytes.len()
+    }
+
+    /// Whether no byte is left.
+    pub fn is_empty(&self) -> bool
+        ensures { IsTrue result ↔ (length self.now ≡ 0) }
+    {
+        self.bytes.is_empty()
+    }
+
+    /// A value of any type that can be drawn.
+    pub fn arbitrary<T: Arbitrary>(&mut self) -> T
+        ensures exact { T.drawn self.old ≡ (result, self.new) }
+        ensures left { KeepsPieces self.old self.new }
+    {
+        T::arbitrary(self)
+    }
+
+    /// A number of the range.
+    #[tactic(auto, unfolding(crate::specs::Draws::range_at))]
+    pub fn int_in_range<T: Int>(&mut self, range: RangeInclusive<T>) -> T
+        requires ordered { T.number (range_inclusive_start range) ≤ T.number (range_inclusive_end range) }
+        ensures exact { range_at (T.number (range_inclusive_start range)) (T.number (range_inclusive_end range)) self.old
+            ≡ (T.number result, self.new) }
+        ensures above { T.number (range_inclusive_start range) ≤ T.number result }
+        ensures within { T.number result ≤ T.number (range_inclusive_end range) }
+        ensures left { KeepsPieces self.old self.new }
+    {
+        let (start, end) = range.into_inner();
+        let lowest = start.widen();
+        T::narrow(lowest + self.offset(end.widen() - lowest), end)
+    }
+
+    /// True in `n` of `m` cases.
+    #[tactic(auto, unfolding(crate::specs::Draws::range_at, crate::specs::Draws::ratio_at))]
+    pub fn ratio<T: Int>(&mut self, n: T, m: T) -> bool
+        requires some { 0 < T.number n }
+        requires ordered { T.number n ≤ T.number m }
+        ensures exact { ratio_at (T.number n) (T.number m) self.old ≡ (result, self.new) }
+        ensures left { KeepsPieces self.old self.new }
+    {
+        1 + self.offset(m.widen() - 1) <= n.widen()
+    }
+
+    /// The first `n` bytes, or all that are left where there are fewer.
+    #[tactic(auto, using(crate::proofs::Pieces::keeps_drop))]
+    fn up_to(&mut self, n: usize) -> &'a [u8]
+        ensures taken { result.now ≡ take n self.old }
+        ensures rest { self.new ≡ drop n self.old }
+        ensures left { KeepsPieces self.old self.new }
+    {
+        let (piece, rest) = self.bytes.split_at(n.min(self.bytes.len()));
+        self.bytes = rest;
+        piece
+    }
+
+    /// A whole number of `n` bytes.
+    #[tactic(auto, using(crate::proofs::Endian::front_fits), unfolding(crate::specs::Draws::whole_at))]
+    pub(crate) fn whole(&mut self, n: usize) -> u128
+        requires { n ≤ 16 }
+        ensures exact { whole_at n self.old ≡ (result, self.new) }
+        ensures fits { result < 256 ^ n }
+        ensures left { KeepsPieces self.old self.new }
+    {
+        read_little_endian(self.up_to(n))
+    }
+
+    /// A number of at most `most`.
+    #[tactic(auto, unfolding(crate::specs::Draws::range_at))]
+    fn offset(&mut self, most: u128) -> u128
+        ensures exact { range_at 0 most self.old ≡ (result, self.new) }
+        ensures within { result ≤ most }
+        ensures left { KeepsPieces self.old self.new }
+    {
+        let drawn = read_big_endian(self.up_to(count_digits(most)));
+        if most == u128::MAX {
+            drawn
+        } else {
+            drawn % (most + 1)
+        }
+    }
+}
