@@ -12,7 +12,7 @@ abbrev pub value_count : CompositeInnerType → ℕ
 value_count (inner.Func f) = length f.params + length f.results
 value_count _ = 0
 
--- the size of an entity, to which a type size adds up: 1, and of a function also what its type takes and gives; own rule
+-- the size of an entity, to which a type size adds up: 1, and of a function also what its type takes and gives (own rule)
 abbrev pub size_in : List SubType → EntityType → ℕ
 size_in types (Func i) = 1 + unwrap_or (option_map (λ t. value_count t.composite_type.inner) (slice_get types i)) 0
 size_in types _ = 1

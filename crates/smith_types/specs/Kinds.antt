@@ -1,4 +1,4 @@
--- Kinds and sharedness of types.
+-- Kinds and sharedness of types. Sections are those of the WebAssembly Core Specification 3.0.
 use Rattle.std.specs.Prelude.{Bool}
 use Rattle.smith_types.specs.declared.value_type.AbstractHeapType.{AbstractHeapType}
 use Rattle.smith_types.specs.declared.value_type.AbstractHeapType.TheVariants as heap
@@ -6,13 +6,13 @@ use Rattle.smith_types.specs.declared.composite_type.CompositeInnerType.{Composi
 use Rattle.smith_types.specs.declared.composite_type.CompositeInnerType.TheVariants.{Array, Func, Struct}
 use Rattle.smith_types.specs.declared.composite_type.SubType.{SubType}
 
--- the abstract heap type above every composite type of its kind; Validation, Matching, Heap Types
+-- the abstract heap type above every composite type of its kind (Validation, Matching, Heap Types)
 abbrev pub kind_of : CompositeInnerType → AbstractHeapType
 kind_of (Array a) = heap.Array
 kind_of (Func f) = heap.Func
 kind_of (Struct s) = heap.Struct
 
--- the abstract heap type below every composite type of its kind; Validation, Matching, Heap Types
+-- the abstract heap type below every composite type of its kind (Validation, Matching, Heap Types)
 abbrev pub bottom_of : CompositeInnerType → AbstractHeapType
 bottom_of (Array a) = heap.None
 bottom_of (Func f) = heap.NoFunc
@@ -26,6 +26,6 @@ kind t = kind_of t.composite_type.inner
 abbrev pub bottom : SubType → AbstractHeapType
 bottom t = bottom_of t.composite_type.inner
 
--- whether a subtype's composite type is shared; own rule
+-- whether a subtype's composite type is shared (own rule)
 abbrev pub shared : SubType → Bool
 shared t = t.composite_type.shared

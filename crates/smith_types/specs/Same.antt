@@ -1,4 +1,5 @@
--- What `==` of plain data says: yes exactly for equal contents.
+-- What `==` of plain data says: yes exactly for equal contents. These are proofs; they stand here since the laws of the
+-- trait `Exact` cite them.
 use Rattle.std.proofs.Common.{rules, ◌≡◌, ℕ, Bool, List, Some, ap, refl}
 use Rattle.std.specs.Bool.{Decides}
 use Rattle.std.specs.Option.{option_eq}

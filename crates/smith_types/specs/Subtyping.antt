@@ -1,4 +1,4 @@
--- Subtyping of heap, reference and value types.
+-- Subtyping of heap, reference and value types. Sections are those of the WebAssembly Core Specification 3.0.
 use Rattle.std.specs.Prelude.{◌≡◌, ◌<◌, Bool, true, false, IsTrue, List, length, Some, slice_get}
 use Rattle.smith_types.specs.declared.value_type.AbstractHeapType.{AbstractHeapType}
 use Rattle.smith_types.specs.declared.value_type.AbstractHeapType.TheVariants.{Func, Extern, Any, None, NoExtern, NoFunc, Eq, Struct, Array, I31, Exn, NoExn}
@@ -10,7 +10,7 @@ use Rattle.smith_types.specs.declared.value_type.ValType.TheVariants.{I32, I64, 
 use Rattle.smith_types.specs.declared.composite_type.SubType.{SubType}
 use Rattle.smith_types.specs.Kinds.{kind, bottom, shared}
 
--- one abstract heap type stands directly below another; Validation, Matching, Heap Types
+-- one abstract heap type stands directly below another (Validation, Matching, Heap Types)
 abbrev pub is_abstract_step : AbstractHeapType → AbstractHeapType → Bool
 is_abstract_step Eq Any = true
 is_abstract_step I31 Eq = true
@@ -24,10 +24,9 @@ is_abstract_step NoExtern Extern = true
 is_abstract_step NoExn Exn = true
 is_abstract_step _ _ = false
 
--- one heap type stands directly below another: among abstract types by the table, a type below its declared
--- supertype and its kind, the bottom of a kind below each type of the kind, all only where they are alike in
--- sharedness; Validation, Matching, Heap Types. An exact type stands below its type, and nothing but a bottom
--- stands below it; own rule, as is sharedness
+-- one heap type stands directly below another (Validation, Matching, Heap Types): among abstract types by the table;
+-- a type below its declared supertype and below its kind, and above the bottom of its kind; own rules: only where they are
+-- alike in sharedness, and an exact type below its type and above nothing but the bottom of its kind
 abbrev pub IsStep : List SubType → HeapType → HeapType → Type 0
 IsStep types (Abstract s a) (Abstract r b) = (s ≡ r) × IsTrue (is_abstract_step a b)
 IsStep types (Abstract s a) (Concrete j) = (t : SubType) × (slice_get types j ≡ Some t) × (s ≡ shared t) × (a ≡ bottom t)
@@ -39,17 +38,17 @@ IsStep types (Exact i) (Abstract r b) = ⊥
 IsStep types (Exact i) (Concrete j) = i ≡ j
 IsStep types (Exact i) (Exact j) = ⊥
 
--- one heap type is below another: the reflexive transitive closure of the direct steps; Validation, Matching, Heap Types
+-- one heap type is below another: the reflexive transitive closure of the direct steps (Validation, Matching, Heap Types)
 pub data IsBelow (types : List SubType) : HeapType → HeapType → Type 0 where
   itself : {a : HeapType} → IsBelow types a a
   by_step : {a b c : HeapType} → IsStep types a b → IsBelow types b c → IsBelow types a c
 
--- one reference type is below another; Validation, Matching, Reference Types
+-- one reference type is below another (Validation, Matching, Reference Types)
 pub record IsRefBelow (types : List SubType) (a b : RefType) : Type 0 where
   pub heap : IsBelow types a.heap_type b.heap_type
   pub nullable : IsTrue a.nullable → IsTrue b.nullable
 
--- one value type is below another: numbers and vectors below themselves alone; Validation, Matching, Value Types
+-- one value type is below another: numbers and vectors below themselves alone (Validation, Matching, Value Types)
 abbrev pub IsValBelow : List SubType → ValType → ValType → Type 0
 IsValBelow types I32 I32 = Unit {0}
 IsValBelow types I64 I64 = Unit {0}

@@ -1,15 +1,15 @@
--- Lists of types, and their groups.
+-- Lists of types, and their groups. Sections are those of the WebAssembly Core Specification 3.0.
 use Rattle.std.specs.Prelude.{◌≡◌, ℕ, ◌<◌, ◌≤◌, List, [], ◌∷◌, Some, length, slice_get}
 use Rattle.std.specs.declared.ops.Range.{Range}
 use Rattle.smith_types.specs.declared.composite_type.SubType.{SubType}
 use Rattle.smith_types.specs.Kinds.{kind, shared}
 
--- two types have one kind, and are shared both or neither; own rule for sharedness
+-- two types have one kind, and are shared both or neither (sharedness: own rule)
 pub record IsAlike (t u : SubType) : Type 0 where
   pub kind : kind t ≡ kind u
   pub shared : shared t ≡ shared u
 
--- each declared supertype stands before its subtype and is like it; Validation, Types, Sub Types
+-- each declared supertype stands before its subtype and is like it (Validation, Types, Sub Types)
 pub record IsOrderly (types : List SubType) : Type 0 where
   pub under : (i s : ℕ) (t : SubType) → slice_get types i ≡ Some t → t.supertype ≡ Some s → (s < i) × ((u : SubType) → slice_get types s ≡ Some u → IsAlike t u)
 
@@ -31,7 +31,7 @@ AreConsecutive start (group ∷ groups) = (group.start ≡ start) × (start ≤ 
 abbrev pub next_group : List SubType → List (Range ℕ) → Range ℕ
 next_group types groups = record { start = next_start groups; end = length types }
 
--- the groups cover the types as consecutive ranges; Structure, Types, Recursive Types
+-- the groups cover the types as consecutive ranges (Structure, Types, Recursive Types)
 pub record AreCovered (types : List SubType) (groups : List (Range ℕ)) : Type 0 where
   pub consecutive : AreConsecutive 0 groups
   pub whole : next_start groups ≡ length types
