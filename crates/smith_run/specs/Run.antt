@@ -1,8 +1,9 @@
 -- What a run of the program comes to.
-use Rattle.std.specs.Prelude.{◌≡◌, ⊤, ℕ, List, Bool, true, false, Option, Result, Ok, Err}
+use Rattle.std.specs.Prelude.{◌≡◌, ℕ, List, Bool, true, false, Option, Result, Ok, Err}
 use Rattle.std.specs.Io.KnownBytes.{Appends}
 use Rattle.smith_bytes.specs.declared.error.Error.{Error}
 use Rattle.smith_bytes.specs.declared.error.Error.TheVariants.{Memory}
+use Rattle.smith_config.specs.Arbitrary.{config_at}
 use Rattle.smith_config.specs.Config.{default_config}
 use Rattle.wasm_smith.specs.Module.{Parts}
 use Rattle.wasm_smith.specs.Refusals.{Allows}
@@ -12,10 +13,10 @@ use Rattle.smith_run.specs.declared.run.RunFault.{RunFault}
 use Rattle.smith_run.specs.Input.{AreKnown}
 use Rattle.smith_run.specs.Line.{line_of}
 
--- the generator may answer this for the input with the default configuration; of a drawn one nothing is said
+-- the generator may answer this for the input: with the default configuration, or with the one that the input gives first
 abbrev pub MayAnswer : Bool → List ℕ → Result Parts Error → Type 0
 MayAnswer false input answer = Allows default_config answer
-MayAnswer true input answer = ⊤
+MayAnswer true input answer = Allows (config_at input).0 answer
 
 -- the outcome that says which answer it was
 abbrev pub outcome_of : Result Parts Error → Outcome

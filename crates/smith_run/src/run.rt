@@ -58,7 +58,12 @@ pub fn run<R: Source, W: Sink>(
 fn generated(alloc: Global, drawn: bool, input: &[u8]) -> Result<Module, Error>
     ensures { MayAnswer drawn input.now result }
 {
-    Module::new(alloc, Config::default(), &mut Unstructured::new(input))
+    let mut u = Unstructured::new(input);
+    if drawn {
+        let config = Config::arbitrary(&mut u)?;
+        return Module::new(alloc, config, &mut u);
+    }
+    Module::new(alloc, Config::default(), &mut u)
 }
 
 fn tell<W: Sink>(w: &mut W, answer: &Result<Module, Error>) -> Result<Outcome, RunFault>

@@ -109,12 +109,14 @@ impl ByteWriter {
 
 #[test]
 fn empty_input_makes_the_empty_module(rt: HostRuntime) -> Result<(), Fail> {
-    let mut out = Vec::new(rt.alloc());
-    let mut source = FromRead::new(b"".as_slice());
-    let mut sink = FromWrite::new(&mut out);
-    let ended = run(rt.alloc(), false, &mut source, &mut sink);
-    assert_eq!(rt; ended, Ok(Outcome::Made));
-    assert_eq!(rt; out.as_slice(), EMPTY.as_bytes());
+    for drawn in [false, true] {
+        let mut out = Vec::new(rt.alloc());
+        let mut source = FromRead::new(b"".as_slice());
+        let mut sink = FromWrite::new(&mut out);
+        let ended = run(rt.alloc(), drawn, &mut source, &mut sink);
+        assert_eq!(rt; ended, Ok(Outcome::Made));
+        assert_eq!(rt; out.as_slice(), EMPTY.as_bytes());
+    }
     Ok(())
 }
 
@@ -197,9 +199,17 @@ fn faults_and_statuses(rt: HostRuntime) -> Result<(), Fail> {
 }
 
 #[test]
-fn no_word_asks_for_the_default(rt: HostRuntime) -> Result<(), Fail> {
-    let word = String::from_str(rt.alloc(), "words")?;
+fn one_word_asks_for_a_drawn_configuration(rt: HostRuntime) -> Result<(), Fail> {
+    let alloc = rt.alloc();
     assert_eq!(rt; words(&[]), Some(false));
-    assert_eq!(rt; words(&[word]), None);
+    for (word, want) in [("arbitrary", Some(true)), ("Arbitrary", None), ("", None)] {
+        let word = String::from_str(alloc, word)?;
+        assert_eq!(rt; words(&[word]), want);
+    }
+    let twice = [
+        String::from_str(alloc, "arbitrary")?,
+        String::from_str(alloc, "arbitrary")?,
+    ];
+    assert_eq!(rt; words(&twice), None);
     Ok(())
 }

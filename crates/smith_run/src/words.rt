@@ -1,4 +1,5 @@
-ghost use Rattle.std.specs.Prelude.{◌≡◌, map, string_bytes};
+ghost use Rattle.std.specs.Prelude.{◌≡◌, map, string_bytes, codes};
+ghost use Rattle.std.specs.Str.{bytes_eq};
 ghost use Rattle.smith_run.specs.Run.{status_of};
 ghost use Rattle.smith_run.specs.Words.{drawn_by};
 
@@ -11,8 +12,15 @@ pub fn words(words: &[String]) -> Option<bool>
 {
     match words {
         [] => Some(false),
+        [word] => is_arbitrary(word).then_some(true),
         _ => None,
     }
+}
+
+fn is_arbitrary(word: &String) -> bool
+    ensures { result ≡ bytes_eq (string_bytes word.now) (codes "arbitrary") }
+{
+    word.as_str() == "arbitrary"
 }
 
 /// The status that the program ends with.
