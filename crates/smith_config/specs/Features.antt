@@ -1,0 +1,34 @@
+-- The features that a configuration turns on.
+use Rattle.std.specs.Prelude.{true, nat_lt}
+use Rattle.smith_types.specs.Features.{Features}
+use Rattle.smith_config.specs.declared.config.Config.{Config}
+
+-- mutable globals and what was there from the start always, two memories where there may be two, each other feature as its
+-- field says
+abbrev pub features_of : Config → Features
+features_of config = record {
+  mutable_global = true;
+  wasm1 = true;
+  saturating_float_to_int = config.saturating_float_to_int_enabled;
+  sign_extension = config.sign_extension_ops_enabled;
+  reference_types = config.reference_types_enabled;
+  multi_value = config.multi_value_enabled;
+  bulk_memory = config.bulk_memory_enabled;
+  simd = config.simd_enabled;
+  relaxed_simd = config.relaxed_simd_enabled;
+  multi_memory = nat_lt 1 config.max_memories;
+  exceptions = config.exceptions_enabled;
+  memory64 = config.memory64_enabled;
+  tail_call = config.tail_call_enabled;
+  function_references = config.gc_enabled;
+  gc = config.gc_enabled;
+  compact_imports = config.compact_imports_enabled;
+  threads = config.threads_enabled;
+  shared_everything_threads = config.shared_everything_threads_enabled;
+  custom_page_sizes = config.custom_page_sizes_enabled;
+  extended_const = config.extended_const_enabled;
+  wide_arithmetic = config.wide_arithmetic_enabled;
+  acquire_release_atomics = config.acquire_release_atomics_enabled;
+  multibyte_array_access = config.multibyte_array_access_enabled;
+  custom_descriptors = config.custom_descriptors_enabled;
+}

@@ -1,0 +1,4 @@
+pub mod Config
+pub mod Sanitized
+pub mod Faults
+pub mod Features

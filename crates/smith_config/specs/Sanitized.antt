@@ -1,0 +1,47 @@
+-- Configurations whose fields agree with one another.
+use Rattle.std.specs.Prelude.{◌≡◌, ◌≤◌, false, ◌&&◌, IsTrue, min, if◌then◌else◌}
+use Rattle.smith_config.specs.declared.config.Config.{Config}
+
+-- each field that needs others is on only where these are
+abbrev pub sanitized : Config → Config
+sanitized config =
+    let gc = config.reference_types_enabled && config.gc_enabled in
+    record config {
+      max_tables = if config.reference_types_enabled then config.max_tables else min config.max_tables 1;
+      gc_enabled = gc;
+      shared_everything_threads_enabled = gc && config.threads_enabled && config.shared_everything_threads_enabled;
+      custom_descriptors_enabled = gc && config.custom_descriptors_enabled;
+      multibyte_array_access_enabled = gc && config.multibyte_array_access_enabled;
+      relaxed_simd_enabled = config.simd_enabled && config.relaxed_simd_enabled;
+      acquire_release_atomics_enabled = config.threads_enabled && config.acquire_release_atomics_enabled;
+    }
+
+-- nothing is on that needs what is off
+pub record IsSanitized (config : Config) : Type 0 where
+  pub one_table : config.reference_types_enabled ≡ false → config.max_tables ≤ 1
+  pub gc : IsTrue config.gc_enabled → IsTrue config.reference_types_enabled
+  pub shared_gc : IsTrue config.shared_everything_threads_enabled → IsTrue config.gc_enabled
+  pub shared_threads : IsTrue config.shared_everything_threads_enabled → IsTrue config.threads_enabled
+  pub descriptors : IsTrue config.custom_descriptors_enabled → IsTrue config.gc_enabled
+  pub multibyte : IsTrue config.multibyte_array_access_enabled → IsTrue config.gc_enabled
+  pub relaxed : IsTrue config.relaxed_simd_enabled → IsTrue config.simd_enabled
+  pub atomics : IsTrue config.acquire_release_atomics_enabled → IsTrue config.threads_enabled
+
+-- new is old with these seven fields turned off, lowered or as they were
+pub record IsLowered (old new : Config) : Type 0 where
+  pub tables : new.max_tables ≤ old.max_tables
+  pub gc : IsTrue new.gc_enabled → IsTrue old.gc_enabled
+  pub shared : IsTrue new.shared_everything_threads_enabled → IsTrue old.shared_everything_threads_enabled
+  pub descriptors : IsTrue new.custom_descriptors_enabled → IsTrue old.custom_descriptors_enabled
+  pub multibyte : IsTrue new.multibyte_array_access_enabled → IsTrue old.multibyte_array_access_enabled
+  pub relaxed : IsTrue new.relaxed_simd_enabled → IsTrue old.relaxed_simd_enabled
+  pub atomics : IsTrue new.acquire_release_atomics_enabled → IsTrue old.acquire_release_atomics_enabled
+  pub others : new ≡ record old {
+    max_tables = new.max_tables;
+    gc_enabled = new.gc_enabled;
+    shared_everything_threads_enabled = new.shared_everything_threads_enabled;
+    custom_descriptors_enabled = new.custom_descriptors_enabled;
+    multibyte_array_access_enabled = new.multibyte_array_access_enabled;
+    relaxed_simd_enabled = new.relaxed_simd_enabled;
+    acquire_release_atomics_enabled = new.acquire_release_atomics_enabled;
+  }

@@ -1,0 +1,109 @@
+ghost use Rattle.std.specs.Prelude.{◌≡◌, ◌↔◌, IsTrue, IsOk, IfErr};
+ghost use Rattle.smith_config.specs.Faults.{minimum_of, maximum_of, HasFault, IsFirstFault, Passes};
+
+use crate::Config;
+use smith_bytes::{ConfigFault, Count};
+
+/// Every fault, in the order in which they are looked for.
+const FAULTS: [ConfigFault; 24] = [
+    ConfigFault::MinAboveMax(Count::Types),
+    ConfigFault::MinAboveMax(Count::Imports),
+    ConfigFault::MinAboveMax(Count::Tags),
+    ConfigFault::MinAboveMax(Count::Funcs),
+    ConfigFault::MinAboveMax(Count::Globals),
+    ConfigFault::MinAboveMax(Count::Exports),
+    ConfigFault::MinAboveMax(Count::ElementSegments),
+    ConfigFault::MinAboveMax(Count::Elements),
+    ConfigFault::MinAboveMax(Count::DataSegments),
+    ConfigFault::MinAboveMax(Count::Memories),
+    ConfigFault::MinAboveMax(Count::Tables),
+    ConfigFault::MaxTooLarge(Count::Types),
+    ConfigFault::MaxTooLarge(Count::Imports),
+    ConfigFault::MaxTooLarge(Count::Tags),
+    ConfigFault::MaxTooLarge(Count::Funcs),
+    ConfigFault::MaxTooLarge(Count::Globals),
+    ConfigFault::MaxTooLarge(Count::Exports),
+    ConfigFault::MaxTooLarge(Count::ElementSegments),
+    ConfigFault::MaxTooLarge(Count::Elements),
+    ConfigFault::MaxTooLarge(Count::DataSegments),
+    ConfigFault::MaxTooLarge(Count::Memories),
+    ConfigFault::MaxTooLarge(Count::Tables),
+    ConfigFault::Memory32Bytes,
+    ConfigFault::Memory64Bytes,
+];
+
+/// The greatest maximum of a count.
+const MOST: usize = 1 << 31;
+
+/// The bytes that a 32-bit address reaches.
+const MEMORY32_BYTES: u64 = 1 << 32;
+
+/// The bytes that a 64-bit address reaches.
+const MEMORY64_BYTES: u128 = 1 << 64;
+
+impl Config {
+    /// Looks for what is out of range or contradicts itself: first over all pairs of a minimum and
+    /// a maximum, then over the maximums, each in the order of [`Count`], then over the bytes of
+    /// memories.
+    pub fn check(&self) -> Result<(), ConfigFault>
+        ensures passes { IsOk result ↔ Passes self.now }
+        ensures fault { IfErr result (λ fault. IsFirstFault self.now fault) }
+    {
+        for fault in FAULTS {
+            if self.has_fault(fault) {
+                return Err(fault);
+            }
+        }
+        Ok(())
+    }
+
+    fn has_fault(&self, fault: ConfigFault) -> bool
+        ensures { IsTrue result ↔ HasFault self.now fault }
+    {
+        match fault {
+            ConfigFault::MinAboveMax(Count::Exports) => {
+                !self.export_everything && self.min_exports > self.max_exports
+            }
+            ConfigFault::MinAboveMax(count) => self.minimum(count) > self.maximum(count),
+            ConfigFault::MaxTooLarge(count) => self.maximum(count) > MOST,
+            ConfigFault::Memory32Bytes => self.max_memory32_bytes > MEMORY32_BYTES,
+            ConfigFault::Memory64Bytes => self.max_memory64_bytes > MEMORY64_BYTES,
+        }
+    }
+
+    fn minimum(&self, count: Count) -> usize
+        ensures { result ≡ minimum_of self.now count }
+    {
+        match count {
+            Count::Types => self.min_types,
+            Count::Imports => self.min_imports,
+            Count::Tags => self.min_tags,
+            Count::Funcs => self.min_funcs,
+            Count::Globals => self.min_globals,
+            Count::Exports => self.min_exports,
+            Count::ElementSegments => self.min_element_segments,
+            Count::Elements => self.min_elements,
+            Count::DataSegments => self.min_data_segments,
+            Count::Memories => self.min_memories as usize,
+            Count::Tables => self.min_tables as usize,
+        }
+    }
+
+    fn maximum(&self, count: Count) -> usize
+        ensures { result ≡ maximum_of self.now count }
+    {
+        match count {
+            Count::Types => self.max_types,
+            Count::Imports => self.max_imports,
+            Count::Tags => self.max_tags,
+            Count::Funcs => self.max_funcs,
+            Count::Globals => self.max_globals,
+            Count::Exports => self.max_exports,
+            Count::ElementSegments => self.max_element_segments,
+            Count::Elements => self.max_elements,
+            Count::DataSegments => self.max_data_segments,
+            Count::Memories => self.max_memories,
+            Count::Tables => self.max_tables,
+        }
+    }
+}

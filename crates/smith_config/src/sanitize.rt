@@ -1,0 +1,32 @@
+ghost use Rattle.std.specs.Prelude.{◌≡◌};
+ghost use Rattle.smith_config.specs.Sanitized.{sanitized, IsSanitized, IsLowered};
+
+use crate::Config;
+
+impl Config {
+    /// Turns off what other fields rule out, and lowers `max_tables` to 1 without reference types.
+    pub fn sanitize(&mut self)
+        ensures exact { self.new ≡ sanitized self.old }
+        ensures sound { IsSanitized self.new }
+        ensures lowered { IsLowered self.old self.new }
+        ensures once { sanitized self.new ≡ self.new }
+        ensures kept { IsSanitized self.old → self.new ≡ self.old }
+    {
+        if !self.reference_types_enabled {
+            self.max_tables = self.max_tables.min(1);
+            self.gc_enabled = false;
+        }
+        if !self.gc_enabled {
+            self.shared_everything_threads_enabled = false;
+            self.custom_descriptors_enabled = false;
+            self.multibyte_array_access_enabled = false;
+        }
+        if !self.simd_enabled {
+            self.relaxed_simd_enabled = false;
+        }
+        if !self.threads_enabled {
+            self.shared_everything_threads_enabled = false;
+            self.acquire_release_atomics_enabled = false;
+        }
+    }
+}

@@ -1,0 +1,5 @@
+pub mod Enabled
+pub mod ValueTypeLaws
+pub mod TypeLaws
+pub mod Groups
+pub mod MemoryLaws

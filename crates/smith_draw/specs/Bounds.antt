@@ -1,0 +1,21 @@
+-- The bounds that a configuration sets to drawn entities.
+use Rattle.std.specs.Prelude.{ℕ, ◌*◌, ◌^◌, ◌≤◌, ◌⊎◌, Bool, IsTrue, IsSome, IfSome, Option, if◌then◌else◌}
+use Rattle.smith_types.specs.ValidEntities.{page_log2}
+use Rattle.smith_types.specs.declared.entity_type.MemoryType.{MemoryType}
+use Rattle.smith_config.specs.declared.config.Config.{Config}
+
+-- the configured bytes of a memory, by the width of its addresses
+abbrev pub memory_bytes : Config → Bool → ℕ
+memory_bytes config memory64 = if memory64 then config.max_memory64_bytes else config.max_memory32_bytes
+
+-- so many pages take no more than the configured bytes, or are one page at most where nothing may trap
+abbrev pub ArePagesWithin : Config → MemoryType → ℕ → Type 0
+ArePagesWithin config memory pages =
+    (pages * 2 ^ page_log2 memory.page_size_log2 ≤ memory_bytes config memory.memory64)
+    ⊎ (IsTrue config.disallow_traps × (pages ≤ 1))
+
+-- a memory's limits keep the configured bytes, and there is a maximum where one is required
+pub record IsMemoryWithin (config : Config) (memory : MemoryType) : Type 0 where
+  pub minimum : ArePagesWithin config memory memory.minimum
+  pub maximum : IfSome memory.maximum (ArePagesWithin config memory)
+  pub required : IsTrue config.memory_max_size_required → IsSome memory.maximum

@@ -1,0 +1,153 @@
+ghost use Rattle.std.specs.Prelude.{◌≡◌, ◌≤◌, ◌/◌, ◌^◌, ◌⊎◌, ◌||◌, Bool, IsTrue, IfSome, IsOk, IfOk};
+ghost use Rattle.smith_bytes.specs.Source.{KeepsPieces};
+ghost use Rattle.smith_types.specs.ValidEntities.{IsMemoryValid, page_log2};
+ghost use Rattle.smith_config.specs.Features.{features_of};
+ghost use Rattle.smith_config.specs.Faults.{Passes};
+ghost use Rattle.smith_draw.specs.Bounds.{IsMemoryWithin};
+ghost use Rattle.smith_draw.specs.Memories.{shared_memory_at, memory64_at, stated_page_at, page_size_at, least_pages, drawn_pages, likely_pages, memtype_at};
+
+use crate::limits::arbitrary_limits64;
+use smith_bytes::{Error, Unstructured};
+use smith_config::Config;
+use smith_types::MemoryType;
+
+const GIBIBYTE: u64 = 1 << 30;
+
+#[tactic(auto, unfolding(crate::specs::Memories::shared_memory_at))]
+fn shared_memory(config: &Config, u: &mut Unstructured<'_>) -> bool
+    ensures exact { shared_memory_at config.now u.old ≡ (result, u.new) }
+    ensures enabled { IsTrue result → IsTrue config.now.threads_enabled }
+    ensures left { KeepsPieces u.old u.new }
+{
+    if config.threads_enabled {
+        return u.ratio(1u32, 4);
+    }
+    false
+}
+
+#[tactic(auto, unfolding(crate::specs::Memories::memory64_at))]
+fn memory64(config: &Config, u: &mut Unstructured<'_>) -> bool
+    ensures exact { memory64_at config.now u.old ≡ (result, u.new) }
+    ensures enabled { IsTrue result → IsTrue config.now.memory64_enabled }
+    ensures left { KeepsPieces u.old u.new }
+{
+    if config.memory64_enabled {
+        return u.arbitrary();
+    }
+    false
+}
+
+#[tactic(auto, unfolding(crate::specs::Memories::stated_page_at))]
+fn stated_page(u: &mut Unstructured<'_>) -> Option<u32>
+    ensures exact { stated_page_at u.old ≡ (result, u.new) }
+    ensures sizes { IfSome result (λ log2. (log2 ≡ 0) ⊎ (log2 ≡ 16)) }
+    ensures left { KeepsPieces u.old u.new }
+{
+    if u.arbitrary() {
+        return Some(0);
+    }
+    Some(16)
+}
+
+#[tactic(auto, unfolding(crate::specs::Memories::page_size_at))]
+fn page_size(config: &Config, u: &mut Unstructured<'_>) -> Option<u32>
+    ensures exact { page_size_at config.now u.old ≡ (result, u.new) }
+    ensures small { page_log2 result ≤ 16 }
+    ensures sizes { IfSome result (λ log2. ((log2 ≡ 0) ⊎ (log2 ≡ 16)) × IsTrue config.now.custom_page_sizes_enabled) }
+    ensures left { KeepsPieces u.old u.new }
+{
+    if !config.custom_page_sizes_enabled {
+        return None;
+    }
+    if !u.arbitrary::<bool>() {
+        return None;
+    }
+    stated_page(u)
+}
+
+/// How many pages so many bytes are.
+fn pages_in(bytes: u128, page_size: Option<u32>) -> u128
+    requires { page_log2 page_size ≤ 16 }
+    ensures { result ≡ bytes / 2 ^ page_log2 page_size }
+{
+    bytes / (1 << page_size.unwrap_or(16))
+}
+
+/// The most pages that are drawn of a memory: within its configured bytes, but at least one where nothing may trap.
+#[tactic(auto, unfolding(crate::specs::Memories::drawn_pages))]
+fn drawn_pages(config: &Config, memory64: bool, page_size: Option<u32>) -> u64
+    requires { page_log2 page_size ≤ 16 }
+    ensures exact { result ≡ drawn_pages config.now memory64 page_size }
+    ensures some { least_pages config.now ≤ result }
+{
+    let least = u128::from(config.disallow_traps);
+    let bytes = if memory64 {
+        config.max_memory64_bytes
+    } else {
+        u128::from(config.max_memory32_bytes)
+    };
+    let last_address = if memory64 {
+        u128::from(u64::MAX)
+    } else {
+        u128::from(u32::MAX)
+    };
+    pages_in(bytes, page_size).max(least).min(last_address) as u64
+}
+
+/// The most pages that are likely: a gibibyte for all memories together.
+#[tactic(auto, unfolding(crate::specs::Memories::likely_pages))]
+fn likely_pages(config: &Config, most: u64, page_size: Option<u32>) -> u64
+    requires size { page_log2 page_size ≤ 16 }
+    requires some { least_pages config.now ≤ most }
+    ensures exact { (memory64 : Bool) → most ≡ drawn_pages config.now memory64 page_size → result ≡ likely_pages config.now memory64 page_size }
+    ensures above { least_pages config.now ≤ result }
+    ensures within { result ≤ most }
+{
+    let share = GIBIBYTE / (config.max_memories.max(1) as u64);
+    let least = u128::from(config.disallow_traps);
+    pages_in(u128::from(share), page_size).max(least).min(u128::from(most)) as u64
+}
+
+/// Whether a memory is drawn a maximum without being asked.
+fn needs_maximum(config: &Config, shared: bool) -> bool
+    ensures { result ≡ (config.now.memory_max_size_required || shared) }
+{
+    config.memory_max_size_required || shared
+}
+
+#[tactic(auto, unfolding(crate::specs::Memories::memtype_at))]
+fn memory_type(config: &Config, u: &mut Unstructured<'_>) -> MemoryType
+    requires { Passes config.now }
+    ensures exact { memtype_at config.now u.old ≡ (result, u.new) }
+    ensures valid { IsMemoryValid (features_of config.now) result }
+    ensures within { IsMemoryWithin config.now result }
+    ensures left { KeepsPieces u.old u.new }
+{
+    let shared = shared_memory(config, u);
+    let memory64 = memory64(config, u);
+    let page_size_log2 = page_size(config, u);
+    let most = drawn_pages(config, memory64, page_size_log2);
+    let inbounds = likely_pages(config, most, page_size_log2);
+    let least = u64::from(config.disallow_traps);
+    let required = needs_maximum(config, shared);
+    let (minimum, maximum) = arbitrary_limits64(least, most, required, inbounds, u);
+    MemoryType {
+        minimum,
+        maximum,
+        memory64,
+        shared,
+        page_size_log2,
+    }
+}
+
+/// A memory type within the configured bytes, which takes no memory. The standard's section Structure, Memory Types.
+pub fn arbitrary_memtype(config: &Config, u: &mut Unstructured<'_>) -> Result<MemoryType, Error>
+    requires { Passes config.now }
+    ensures ok { IsOk result }
+    ensures exact { IfOk result (λ drawn. memtype_at config.now u.old ≡ (drawn, u.new)) }
+    ensures valid { IfOk result (IsMemoryValid (features_of config.now)) }
+    ensures within { IfOk result (IsMemoryWithin config.now) }
+    ensures left { KeepsPieces u.old u.new }
+{
+    Ok(memory_type(config, u))
+}

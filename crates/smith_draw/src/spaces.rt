@@ -1,0 +1,24 @@
+use smith_types::{GlobalType, MemoryType, TableType, TypeSpace};
+
+/// The index spaces that stand so far, but that of types: imported entities come first in each.
+#[derive(Clone, Copy)]
+pub struct Entities<'a> {
+    /// The type indices of the tags.
+    pub tags: &'a [u32],
+    /// The type indices of the functions.
+    pub funcs: &'a [u32],
+    pub tables: &'a [TableType],
+    pub memories: &'a [MemoryType],
+    pub globals: &'a [GlobalType],
+    /// How many of the functions are imported.
+    pub imported_funcs: usize,
+    /// How many of the globals are imported.
+    pub imported_globals: usize,
+}
+
+/// What is drawn may refer to these.
+#[derive(Clone, Copy)]
+pub struct Spaces<'a> {
+    pub types: &'a TypeSpace,
+    pub entities: Entities<'a>,
+}

@@ -1,0 +1,169 @@
+ghost use Rattle.std.specs.Prelude.{◌≡◌, false, IsTrue, IfOk, IfErr};
+ghost use Rattle.smith_bytes.specs.Source.{KeepsPieces};
+ghost use Rattle.smith_types.specs.ValidTypes.{IsHeapTypeValid, IsRefTypeValid, IsValTypeValid};
+ghost use Rattle.smith_config.specs.Features.{features_of};
+ghost use Rattle.smith_config.specs.Sanitized.{IsSanitized};
+ghost use Rattle.smith_draw.specs.ValueTypes.{sharedness_at, heap_type_at, ref_type_at, value_of_class_at, val_type_at};
+
+use crate::choice::choose_enabled;
+use crate::spaces::Spaces;
+use smith_bytes::{Error, Unstructured};
+use smith_config::Config;
+use smith_types::{AbstractHeapType, HeapType, RefType, ValType};
+use std::alloc::Global;
+
+/// What is chosen first of a value type.
+#[derive(Clone, Copy)]
+enum ValueClass {
+    I32,
+    I64,
+    F32,
+    F64,
+    V128,
+    Reference,
+}
+
+#[tactic(auto, unfolding(crate::specs::ValueTypes::sharedness_at))]
+pub(crate) fn sharedness(config: &Config, must_share: bool, u: &mut Unstructured<'_>) -> bool
+    ensures exact { sharedness_at config.now must_share u.old ≡ (result, u.new) }
+    ensures left { KeepsPieces u.old u.new }
+{
+    if must_share {
+        return true;
+    }
+    if config.shared_everything_threads_enabled {
+        return u.ratio(1u32, 4);
+    }
+    false
+}
+
+#[tactic(auto, unfolding(crate::specs::ValueTypes::heap_type_at))]
+fn heap_type(config: &Config, must_share: bool, u: &mut Unstructured<'_>) -> HeapType
+    ensures exact { heap_type_at config.now must_share u.old ≡ (result, u.new) }
+    ensures left { KeepsPieces u.old u.new }
+{
+    let shared = sharedness(config, must_share, u);
+    let table = [
+        (AbstractHeapType::Func, true),
+        (AbstractHeapType::Extern, true),
+        (AbstractHeapType::Exn, config.exceptions_enabled),
+    ];
+    let ty = choose_enabled(&table, AbstractHeapType::Func, u);
+    HeapType::Abstract { shared, ty }
+}
+
+#[tactic(auto, unfolding(crate::specs::ValueTypes::ref_type_at))]
+fn ref_type(config: &Config, must_share: bool, u: &mut Unstructured<'_>) -> RefType
+    ensures exact { ref_type_at config.now must_share u.old ≡ (result, u.new) }
+    ensures left { KeepsPieces u.old u.new }
+{
+    let heap_type = if config.reference_types_enabled {
+        heap_type(config, must_share, u)
+    } else {
+        HeapType::Abstract {
+            shared: false,
+            ty: AbstractHeapType::Func,
+        }
+    };
+    RefType {
+        nullable: true,
+        heap_type,
+    }
+}
+
+fn value_of_class(
+    config: &Config,
+    must_share: bool,
+    class: ValueClass,
+    u: &mut Unstructured<'_>,
+) -> ValType
+    ensures exact { value_of_class_at config.now must_share class u.old ≡ (result, u.new) }
+    ensures left { KeepsPieces u.old u.new }
+{
+    match class {
+        ValueClass::I32 => ValType::I32,
+        ValueClass::I64 => ValType::I64,
+        ValueClass::F32 => ValType::F32,
+        ValueClass::F64 => ValType::F64,
+        ValueClass::V128 => ValType::V128,
+        ValueClass::Reference => ValType::Ref(ref_type(config, must_share, u)),
+    }
+}
+
+#[tactic(auto, unfolding(crate::specs::ValueTypes::val_type_at))]
+pub(crate) fn val_type(config: &Config, must_share: bool, u: &mut Unstructured<'_>) -> ValType
+    ensures exact { val_type_at config.now must_share u.old ≡ (result, u.new) }
+    ensures left { KeepsPieces u.old u.new }
+{
+    let table = [
+        (ValueClass::I32, true),
+        (ValueClass::I64, true),
+        (ValueClass::F32, config.allow_floats),
+        (ValueClass::F64, config.allow_floats),
+        (ValueClass::V128, config.simd_enabled),
+        (ValueClass::Reference, config.reference_types_enabled),
+    ];
+    let class = choose_enabled(&table, ValueClass::I32, u);
+    value_of_class(config, must_share, class, u)
+}
+
+/// A heap type: an abstract one among those that are enabled. Until types of garbage collection are drawn, it takes a
+/// configuration without them. The standard's section Structure, Heap Types.
+pub fn arbitrary_heap_type(
+    _alloc: Global,
+    config: &Config,
+    _spaces: &Spaces<'_>,
+    must_share: bool,
+    limit: u32,
+    u: &mut Unstructured<'_>,
+) -> Result<HeapType, Error>
+    requires sanitized { IsSanitized config.now }
+    requires without_gc { config.now.gc_enabled ≡ false }
+    requires may_share { IsTrue must_share → IsTrue config.now.shared_everything_threads_enabled }
+    ensures exact { IfOk result (λ drawn. heap_type_at config.now must_share u.old ≡ (drawn, u.new)) }
+    ensures valid { IfOk result (IsHeapTypeValid (features_of config.now) limit) }
+    ensures memory { IfErr result (λ e. e ≡ Error.Memory) }
+    ensures left { KeepsPieces u.old u.new }
+{
+    Ok(heap_type(config, must_share, u))
+}
+
+/// A reference type, nullable. The standard's section Structure, Reference Types.
+pub fn arbitrary_ref_type(
+    _alloc: Global,
+    config: &Config,
+    _spaces: &Spaces<'_>,
+    must_share: bool,
+    limit: u32,
+    u: &mut Unstructured<'_>,
+) -> Result<RefType, Error>
+    requires sanitized { IsSanitized config.now }
+    requires without_gc { config.now.gc_enabled ≡ false }
+    requires may_share { IsTrue must_share → IsTrue config.now.shared_everything_threads_enabled }
+    ensures exact { IfOk result (λ drawn. ref_type_at config.now must_share u.old ≡ (drawn, u.new)) }
+    ensures valid { IfOk result (IsRefTypeValid (features_of config.now) limit) }
+    ensures memory { IfErr result (λ e. e ≡ Error.Memory) }
+    ensures left { KeepsPieces u.old u.new }
+{
+    Ok(ref_type(config, must_share, u))
+}
+
+/// A value type among those that are enabled. The standard's section Structure, Value Types.
+pub fn arbitrary_valtype(
+    _alloc: Global,
+    config: &Config,
+    _spaces: &Spaces<'_>,
+    must_share: bool,
+    limit: u32,
+    u: &mut Unstructured<'_>,
+) -> Result<ValType, Error>
+    requires sanitized { IsSanitized config.now }
+    requires without_gc { config.now.gc_enabled ≡ false }
+    requires may_share { IsTrue must_share → IsTrue config.now.shared_everything_threads_enabled }
+    ensures exact { IfOk result (λ drawn. val_type_at config.now must_share u.old ≡ (drawn, u.new)) }
+    ensures valid { IfOk result (IsValTypeValid (features_of config.now) limit) }
+    ensures memory { IfErr result (λ e. e ≡ Error.Memory) }
+    ensures left { KeepsPieces u.old u.new }
+{
+    Ok(val_type(config, must_share, u))
+}

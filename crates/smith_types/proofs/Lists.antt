@@ -1,0 +1,21 @@
+-- Where things stand in a list that grows at its end.
+use Rattle.std.proofs.Common.{◌≡◌, ◌⊎◌, ℕ, suc, zero, List, [], ◌∷◌, ◌++◌, Some, length, refl, inl, inr, ap}
+use Rattle.std.specs.Prelude.{slice_get}
+
+-- what stands in a list stands there when more is added
+pub slice_get-grown : {A : Type 0} (xs more : List A) (i : ℕ) (x : A) → slice_get xs i ≡ Some x → slice_get (xs ++ more) i ≡ Some x
+slice_get-grown [] more i x at = cc
+slice_get-grown (y ∷ xs) more zero x at = at
+slice_get-grown (y ∷ xs) more (suc i) x at = slice_get-grown xs more i x at
+
+-- what is added at the end stands there
+pub slice_get-last : {A : Type 0} (xs : List A) (x : A) → slice_get (xs ++ x ∷ []) (length xs) ≡ Some x
+slice_get-last [] x = refl
+slice_get-last (y ∷ xs) x = slice_get-last xs x
+
+-- what stands in a list with one more was there, or is that one
+pub slice_get-push : {A : Type 0} (xs : List A) (y : A) (i : ℕ) (x : A) → slice_get (xs ++ y ∷ []) i ≡ Some x → (slice_get xs i ≡ Some x) ⊎ ((i ≡ length xs) × (y ≡ x))
+slice_get-push [] y zero x at = inr (refl, cc)
+slice_get-push [] y (suc i) x at = cc
+slice_get-push (z ∷ xs) y zero x at = inl at
+slice_get-push (z ∷ xs) y (suc i) x at = elim (slice_get-push xs y i x at) [ inl old ↦ inl old | inr (is, same) ↦ inr (ap suc is, same) ]

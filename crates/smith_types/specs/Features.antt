@@ -1,0 +1,29 @@
+-- The features of WebAssembly that a module may use.
+use Rattle.std.specs.Prelude.{Bool}
+
+-- which features are on, each named as its flag
+pub record Features : Type 0 where
+  pub mutable_global : Bool
+  pub wasm1 : Bool
+  pub saturating_float_to_int : Bool
+  pub sign_extension : Bool
+  pub reference_types : Bool
+  pub multi_value : Bool
+  pub bulk_memory : Bool
+  pub simd : Bool
+  pub relaxed_simd : Bool
+  pub multi_memory : Bool
+  pub exceptions : Bool
+  pub memory64 : Bool
+  pub tail_call : Bool
+  pub function_references : Bool
+  pub gc : Bool
+  pub compact_imports : Bool
+  pub threads : Bool
+  pub shared_everything_threads : Bool
+  pub custom_page_sizes : Bool
+  pub extended_const : Bool
+  pub wide_arithmetic : Bool
+  pub acquire_release_atomics : Bool
+  pub multibyte_array_access : Bool
+  pub custom_descriptors : Bool

@@ -1,0 +1,37 @@
+-- Lists of types, and their groups.
+use Rattle.std.specs.Prelude.{◌≡◌, ℕ, ◌<◌, ◌≤◌, List, [], ◌∷◌, Some, length, slice_get}
+use Rattle.std.specs.declared.ops.Range.{Range}
+use Rattle.smith_types.specs.declared.composite_type.SubType.{SubType}
+use Rattle.smith_types.specs.Kinds.{kind, shared}
+
+-- two types have one kind, and are shared both or neither; own rule for sharedness
+pub record IsAlike (t u : SubType) : Type 0 where
+  pub kind : kind t ≡ kind u
+  pub shared : shared t ≡ shared u
+
+-- each declared supertype stands before its subtype and is like it; Validation, Types, Sub Types
+pub record IsOrderly (types : List SubType) : Type 0 where
+  pub under : (i s : ℕ) (t : SubType) → slice_get types i ≡ Some t → t.supertype ≡ Some s → (s < i) × ((u : SubType) → slice_get types s ≡ Some u → IsAlike t u)
+
+-- where the next group begins, after one that ended there
+abbrev pub end_from : ℕ → List (Range ℕ) → ℕ
+end_from start [] = start
+end_from start (group ∷ groups) = end_from group.end groups
+
+-- where the group after these begins
+abbrev pub next_start : List (Range ℕ) → ℕ
+next_start groups = end_from 0 groups
+
+-- each group begins where the one before it ended, the first of them there; empty ones are allowed
+abbrev pub AreConsecutive : ℕ → List (Range ℕ) → Type 0
+AreConsecutive start [] = Unit {0}
+AreConsecutive start (group ∷ groups) = (group.start ≡ start) × (start ≤ group.end) × AreConsecutive group.end groups
+
+-- the group of the types that stand behind these groups
+abbrev pub next_group : List SubType → List (Range ℕ) → Range ℕ
+next_group types groups = record { start = next_start groups; end = length types }
+
+-- the groups cover the types as consecutive ranges; Structure, Types, Recursive Types
+pub record AreCovered (types : List SubType) (groups : List (Range ℕ)) : Type 0 where
+  pub consecutive : AreConsecutive 0 groups
+  pub whole : next_start groups ≡ length types

@@ -1,0 +1,22 @@
+//! Types of WebAssembly modules as plain data, the type space, and the subtype test. The standard is
+//! the WebAssembly Core Specification 3.0.
+#![tactic(auto)]
+
+mod composite_type;
+mod const_instr;
+mod entity_type;
+mod imports;
+mod list;
+mod type_space;
+mod value_type;
+
+pub use composite_type::{
+    ArrayType, CompositeInnerType, CompositeType, FieldType, FuncType, StorageType, StructType,
+    SubType,
+};
+pub use const_instr::ConstInstr;
+pub use entity_type::{EntityType, ExportKind, GlobalType, MemoryType, TableType};
+pub use imports::{Import, ImportItem, Imports};
+pub use list::{Items, Name};
+pub use type_space::TypeSpace;
+pub use value_type::{AbstractHeapType, HeapType, RefType, ValType};

@@ -1,0 +1,211 @@
+ghost use Rattle.std.specs.Prelude.{
+  ◌≡◌,
+  ◌+◌,
+  ◌++◌,
+  ◌^◌,
+  ◌<◌,
+  ◌≤◌,
+  ℕ,
+  List,
+  [],
+  ◌∷◌,
+  length,
+  IsTrue,
+  ◌↔◌,
+  IfOk,
+  IsErrOf,
+  OnOk,
+  OnErr,
+  slice_get,
+};
+ghost use Rattle.std.specs.declared.ops.Range.{Range};
+ghost use Rattle.smith_types.specs.Kinds.{kind_of};
+ghost use Rattle.smith_types.specs.Types.{IsAlike, IsOrderly, next_start, next_group};
+ghost use Rattle.smith_types.specs.Space.{AreDepths, HasDepth, MayFollow};
+ghost use Rattle.smith_types.specs.Entities.{value_count};
+
+use crate::composite_type::{CompositeInnerType, SubType};
+use crate::entity_type::EntityType;
+use smith_bytes::Error;
+use std::alloc::Global;
+use std::marker::Model;
+use std::ops::Range;
+
+/// The types of a module in the order of their indices, and the groups that they were added in.
+/// Types only grow: what stands at an index stays there.
+#[derive(Drop)]
+pub struct TypeSpace {
+    types: Vec<SubType>,
+    depths: Vec<u32>,
+    groups: Vec<Range<usize>>,
+}
+
+impl Model for TypeSpace {
+    ghost use Rattle.smith_types.specs.Space.{Space, IsSound, AreDepths};
+
+    ghost Value = { Space };
+
+    ghost view = { λ a. record { types = a.types.items; groups = a.groups.items } };
+
+    ghost invariant = { λ a. IsSound (record { types = a.types.items; groups = a.groups.items })
+        × AreDepths a.types.items a.depths.items };
+}
+
+impl TypeSpace {
+    ghost use Rattle.smith_types.specs.Space.{IsSound};
+    ghost use Rattle.smith_types.specs.Types.{next_group, AreCovered};
+    ghost use Rattle.smith_types.specs.Entities.{size_in, IsTyped};
+
+    /// A space without types and groups, which takes no memory. It grows by this allocator.
+    pub fn new(alloc: Global) -> TypeSpace
+        ensures { result ≡ record { types = []; groups = [] } }
+    {
+        TypeSpace {
+            types: Vec::new(alloc),
+            depths: Vec::new(alloc),
+            groups: Vec::new(alloc),
+        }
+    }
+
+    pub fn types(&self) -> &[SubType]
+        ensures value { result.now ≡ self.now.types }
+        ensures sound { IsSound self.now }
+    {
+        self.types.as_slice()
+    }
+
+    /// The groups so far, each as the indices of its types. Types behind them await `push_group`.
+    pub fn rec_groups(&self) -> &[Range<usize>]
+        ensures { result.now ≡ self.now.groups }
+    {
+        self.groups.as_slice()
+    }
+
+    /// How many types stand on the way up from this one, itself included.
+    pub fn depth(&self, index: u32) -> u32
+        requires { index < length self.now.types }
+        ensures { HasDepth self.now.types index result }
+    {
+        self.depths[index as usize]
+    }
+
+    /// Whether `push_type` may add this type.
+    pub fn may_follow(&self, added: &SubType) -> bool
+        ensures { IsTrue result ↔ MayFollow self.now.types added.now }
+    {
+        self.types.len() < u32::MAX as usize && is_supertype_at(self.types.as_slice(), added)
+    }
+
+    /// Adds a type last and gives its index. It belongs to no group until `push_group`.
+    pub fn push_type(&mut self, added: SubType) -> Result<u32, Error>
+        requires { MayFollow self.old.types added }
+        ensures ok { OnOk result (self.new ≡ record self.old { types = self.old.types ++ added ∷ [] }) }
+        ensures index { IfOk result (λ index. index ≡ length self.old.types) }
+        ensures stands { IfOk result (λ index. slice_get self.new.types index ≡ Some added) }
+        ensures err { OnErr result (self.new ≡ self.old) }
+        ensures memory { OnErr result (IsErrOf result Error.Memory) }
+    {
+        let index = self.types.len() as u32;
+        let depth = depth_after(self.types.as_slice(), self.depths.as_slice(), &added);
+        self.depths.push(depth)?;
+        match self.types.push(added) {
+            Ok(()) => Ok(index),
+            Err(_) => {
+                self.depths.pop();
+                Err(Error::Memory)
+            }
+        }
+    }
+
+    /// Makes one group, maybe empty, of the types behind the last group.
+    pub fn push_group(&mut self) -> Result<(), Error>
+        ensures ok { OnOk result (self.new ≡ record self.old {
+          groups = self.old.groups ++ next_group self.old.types self.old.groups ∷ [];
+        }) }
+        ensures covered { OnOk result (AreCovered self.new.types self.new.groups) }
+        ensures err { OnErr result (self.new ≡ self.old) }
+        ensures memory { OnErr result (IsErrOf result Error.Memory) }
+    {
+        let start = start_after(self.groups.as_slice());
+        let end = self.types.len();
+        Ok(self.groups.push(start..end)?)
+    }
+
+    /// The size of an entity, which counts towards the type size of a module.
+    pub fn size_of(&self, entity: &EntityType) -> u32
+        requires typed { IsTyped self.now.types entity.now }
+        requires fits { size_in self.now.types entity.now < 2 ^ 32 }
+        ensures { result ≡ size_in self.now.types entity.now }
+    {
+        match entity {
+            EntityType::Func(index) => size_of_function(&self.types[*index as usize]),
+            _ => 1,
+        }
+    }
+}
+
+// The size of a function of this type.
+fn size_of_function(ty: &SubType) -> u32
+    requires { 1 + value_count ty.now.composite_type.inner < 2 ^ 32 }
+    ensures { result ≡ 1 + value_count ty.now.composite_type.inner }
+{
+    match &ty.composite_type.inner {
+        CompositeInnerType::Func(f) => 1 + f.params.len() as u32 + f.results.len() as u32,
+        _ => 1,
+    }
+}
+
+// Where the group behind these begins.
+fn start_after(groups: &[Range<usize>]) -> usize
+    ensures { result ≡ next_start groups.now }
+{
+    match groups {
+        [.., last] => last.end,
+        [] => 0,
+    }
+}
+
+// The depth of a type that is to be added.
+fn depth_after(types: &[SubType], depths: &[u32], added: &SubType) -> u32
+    requires orderly { IsOrderly types.now }
+    requires depths { AreDepths types.now depths.now }
+    requires follows { MayFollow types.now added.now }
+    ensures { HasDepth (types.now ++ added.now ∷ []) (length types.now) result }
+{
+    match added.supertype {
+        Some(supertype) => depths[supertype as usize] + 1,
+        None => 1,
+    }
+}
+
+// Whether the supertype that this type declares, if it does, stands and is like it.
+fn is_supertype_at(types: &[SubType], added: &SubType) -> bool
+    ensures { IsTrue result ↔ ((s : ℕ) → added.now.supertype ≡ Some s →
+        (u : SubType) × (slice_get types.now s ≡ Some u) × IsAlike added.now u) }
+{
+    match added.supertype {
+        Some(index) => match types.get(index as usize) {
+            Some(supertype) => is_alike(added, supertype),
+            None => false,
+        },
+        None => true,
+    }
+}
+
+// Whether both are of one kind, and both shared or neither.
+fn is_alike(a: &SubType, b: &SubType) -> bool
+    ensures { IsTrue result ↔ IsAlike a.now b.now }
+{
+    a.composite_type.shared == b.composite_type.shared
+        && is_same_kind(&a.composite_type.inner, &b.composite_type.inner)
+}
+
+fn is_same_kind(a: &CompositeInnerType, b: &CompositeInnerType) -> bool
+    ensures { IsTrue result ↔ (kind_of a.now ≡ kind_of b.now) }
+{
+    match a {
+        CompositeInnerType::Array(_) => matches!(b, CompositeInnerType::Array(_)),
+        CompositeInnerType::Func(_) => matches!(b, CompositeInnerType::Func(_)),
+        CompositeInnerType::Struct(_) => matches!(b, CompositeInnerType::Struct(_)),
+    }
+}

@@ -1,0 +1,4 @@
+pub mod FuncLaws
+pub mod MemoryCounts
+pub mod Needless
+pub mod Bodies

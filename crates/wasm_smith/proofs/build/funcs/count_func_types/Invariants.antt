@@ -1,0 +1,9 @@
+use Rattle.std.proofs.Common.{◌≡◌, ◌+◌, ◌≤◌, length, drop}
+use Rattle.wasm_smith.specs.Build.{is_unshared_function, places_from, func_types}
+use Rattle.wasm_smith.proofs.build.funcs.count_func_types.Given as goal
+
+abbrev pub invariant-loop-t : goal.invariant-loop-t
+invariant-loop-t l = record {
+  few : l.count ≤ l.t-index;
+  so_far : l.count + length (places_from is_unshared_function l.t-index (drop l.t-index l.types)) ≡ length (func_types l.types);
+}

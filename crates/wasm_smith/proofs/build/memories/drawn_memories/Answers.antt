@@ -1,0 +1,21 @@
+use Rattle.smith_types.specs.ValidEntities.{IsMemoryValid}
+use Rattle.smith_config.specs.Features.{features_of}
+use Rattle.smith_draw.specs.Bounds.{IsMemoryWithin}
+use Rattle.std.proofs.lemmas.List.Elements.{All-push}
+use Rattle.smith_bytes.proofs.Growing.{grow_go, grow_stop, grow_full}
+use Rattle.wasm_smith.proofs.build.memories.drawn_memories.Goals as goal
+
+pub returns-then-not-goes_on-clause-exact : goal.returns-then-not-goes_on-clause-exact
+returns-then-not-goes_on-clause-exact c = grow_stop c.loop-made.invariant.growing c.loop-made-test.true c.goes_on.ensures.exact c.if-not-goes_on.true
+
+pub loop-made-preserved : goal.loop-made-preserved
+loop-made-preserved c =
+    let pushed = c.in_ok-push.ensures.ok in
+    record {
+      growing = grow_go c.loop-made.invariant.growing c.loop-made-test.true c.goes_on.ensures.exact c.if-not-goes_on.false c.in_ok-memory.ensures.exact pushed c.goes_on.ensures.left c.in_ok-memory.ensures.left;
+      valid = rw pushed (All-push (IsMemoryValid (features_of c.args.config.now)) _ _ c.loop-made.invariant.valid c.in_ok-memory.ensures.valid);
+      within = rw pushed (All-push (IsMemoryWithin c.args.config.now) _ _ c.loop-made.invariant.within c.in_ok-memory.ensures.within);
+    }
+
+pub returns-clause-exact : goal.returns-clause-exact
+returns-clause-exact c = grow_full c.loop-made.invariant.growing c.loop-made-test.false

@@ -1,0 +1,26 @@
+ghost use Rattle.std.specs.Prelude.{◌≡◌, ℕ, length, replicate, IfOk, IfErr, All};
+ghost use Rattle.smith_types.specs.Features.{Features};
+ghost use Rattle.wasm_smith.specs.Module.{IsBodyValid};
+ghost use Rattle.wasm_smith.specs.Build.{trap};
+
+use crate::code::{Code, Instructions};
+use smith_bytes::Error;
+use smith_types::Items;
+use std::alloc::Global;
+
+/// A body for each of so many functions, which only traps.
+pub(crate) fn code(alloc: Global, funcs: usize) -> Result<Items<Code>, Error>
+    ensures exact { IfOk result (λ code. code ≡ replicate funcs trap) }
+    ensures valid { IfOk result (λ code. (features : Features) (end : ℕ) → All (IsBodyValid features end) code) }
+    ensures each { IfOk result (λ code. length code ≡ funcs) }
+    ensures memory { IfErr result (λ e. e ≡ Error.Memory) }
+{
+    let mut code = Items::new(alloc);
+    for _ in 0..funcs {
+        code.push(Code {
+            locals: Items::new(alloc),
+            instructions: Instructions::Unreachable,
+        })?;
+    }
+    Ok(code)
+}

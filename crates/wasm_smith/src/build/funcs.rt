@@ -1,0 +1,141 @@
+ghost use Rattle.std.specs.Prelude.{◌≡◌, ◌≤◌, ◌<◌, ◌+◌, ◌^◌, ◌⊎◌, false, length, slice_index_or, IfOk, IfErr, All};
+ghost use Rattle.smith_bytes.specs.Source.{KeepsPieces};
+ghost use Rattle.smith_types.specs.ValidTypes.{AreTypesValid};
+ghost use Rattle.smith_config.specs.Faults.{Passes};
+ghost use Rattle.smith_config.specs.Features.{features_of};
+ghost use Rattle.smith_config.specs.Sanitized.{IsSanitized};
+ghost use Rattle.wasm_smith.specs.Module.{IsFuncIndex};
+ghost use Rattle.wasm_smith.specs.Refusals.{MayRefuse};
+ghost use Rattle.smith_draw.specs.Choices.{chosen_at};
+ghost use Rattle.wasm_smith.specs.Build.{Gives, is_function, is_unshared_function, func_types, chosen_funcs_at, funcs_at};
+
+use smith_bytes::{Count, Error, Unstructured, Why, goes_on};
+use smith_config::Config;
+use smith_types::{CompositeInnerType, Items, SubType, TypeSpace};
+use std::alloc::Global;
+
+fn is_function(inner: &CompositeInnerType) -> bool
+    ensures { result ≡ is_function inner.now }
+{
+    matches!(inner, CompositeInnerType::Func(_))
+}
+
+#[tactic(auto, unfolding(crate::specs::Build::is_unshared_function))]
+fn is_unshared_function(t: &SubType) -> bool
+    ensures { result ≡ is_unshared_function t.now }
+{
+    is_function(&t.composite_type.inner) && !t.composite_type.shared
+}
+
+fn count_func_types(types: &[SubType]) -> usize
+    ensures { result ≡ length (func_types types.now) }
+{
+    let mut count = 0;
+    for t in types {
+        if is_unshared_function(t) {
+            count += 1;
+        }
+    }
+    count
+}
+
+/// The index of the type at a place among those of unshared functions.
+fn func_type_at(types: &[SubType], mut place: usize) -> u32
+    requires { length types.now < 2 ^ 32 }
+    ensures { result ≡ slice_index_or (func_types types.now) place 0 }
+{
+    for (index, t) in types.iter().enumerate() {
+        if !is_unshared_function(t) {
+            continue;
+        }
+        if place == 0 {
+            return index as u32;
+        }
+        place -= 1;
+    }
+    0
+}
+
+/// Chooses among the types of unshared functions, by the place of the last of them.
+#[tactic(auto, unfolding(smith_draw::specs::Choices::chosen_at))]
+fn choose_func_type(types: &[SubType], last: usize, u: &mut Unstructured<'_>) -> u32
+    requires few { length types.now < 2 ^ 32 }
+    requires last { length (func_types types.now) ≡ last + 1 }
+    ensures exact { chosen_at 0 (func_types types.now) u.old ≡ (result, u.new) }
+    ensures left { KeepsPieces u.old u.new }
+{
+    let place = u.int_in_range(0..=last);
+    func_type_at(types, place)
+}
+
+/// The type of each function, by the place of the last type that it may have.
+#[tactic(auto, unfolding(crate::specs::Build::chosen_funcs_at))]
+fn chosen_funcs(
+    alloc: Global,
+    config: &Config,
+    types: &[SubType],
+    last: usize,
+    u: &mut Unstructured<'_>,
+) -> Result<Items<u32>, Error>
+    requires few { length types.now < 2 ^ 32 }
+    requires last { length (func_types types.now) ≡ last + 1 }
+    ensures exact { IfOk result (λ funcs. chosen_funcs_at config.now types.now u.old ≡ (funcs, u.new)) }
+    ensures memory { IfErr result (λ e. e ≡ Error.Memory) }
+    ensures left { KeepsPieces u.old u.new }
+{
+    let mut funcs = Items::new(alloc);
+    for made in 0..config.max_funcs {
+        if !goes_on(u, made, config.min_funcs) {
+            return Ok(funcs);
+        }
+        let func = choose_func_type(types, last, u);
+        funcs.push(func)?;
+    }
+    Ok(funcs)
+}
+
+// The index of the type of each function: none where no type is that of an unshared function.
+#[tactic(auto, unfolding(crate::specs::Build::funcs_at))]
+fn drawn_funcs(
+    alloc: Global,
+    config: &Config,
+    types: &[SubType],
+    u: &mut Unstructured<'_>,
+) -> Result<Items<u32>, Error>
+    requires few { length types.now < 2 ^ 32 }
+    ensures exact { Gives (λ funcs. (funcs, u.new)) result (funcs_at config.now types.now u.old) }
+    ensures refusal { IfErr result (λ e. (e ≡ Error.Memory)
+        ⊎ ((e ≡ Error.IncorrectFormat (Why.Unmet Count.Funcs)) × (0 < config.now.min_funcs) × (length (func_types types.now) ≡ 0))) }
+    ensures left { KeepsPieces u.old u.new }
+{
+    let count = count_func_types(types);
+    if count > 0 {
+        return chosen_funcs(alloc, config, types, count - 1, u);
+    }
+    if config.min_funcs > 0 {
+        return Err(Error::IncorrectFormat(Why::Unmet(Count::Funcs)));
+    }
+    Ok(Items::new(alloc))
+}
+
+/// As many functions as are asked for, and no more than may be.
+pub(crate) fn funcs(
+    alloc: Global,
+    config: &Config,
+    types: &TypeSpace,
+    u: &mut Unstructured<'_>,
+) -> Result<Items<u32>, Error>
+    requires passes { Passes config.now }
+    requires sanitized { IsSanitized config.now }
+    requires without_gc { config.now.gc_enabled ≡ false }
+    requires valid { AreTypesValid (features_of config.now) types.now }
+    requires least { config.now.min_types ≤ length types.now.types }
+    ensures exact { Gives (λ funcs. (funcs, u.new)) result (funcs_at config.now types.now.types u.old) }
+    ensures valid { IfOk result (All (IsFuncIndex types.now.types)) }
+    ensures most { IfOk result (λ funcs. length funcs ≤ config.now.max_funcs) }
+    ensures least { IfOk result (λ funcs. config.now.min_funcs ≤ length funcs) }
+    ensures refusal { IfErr result (MayRefuse config.now) }
+    ensures left { KeepsPieces u.old u.new }
+{
+    drawn_funcs(alloc, config, types.types(), u)
+}

@@ -1,0 +1,18 @@
+use smith_types::{Items, ValType};
+
+/// The body of a function that the module defines. The standard's section Structure, Functions.
+#[derive(Debug, Drop)]
+pub struct Code {
+    /// The types of the locals behind the parameters.
+    pub locals: Items<ValType>,
+    pub instructions: Instructions,
+}
+
+/// What a body does.
+#[derive(Debug, Drop)]
+pub enum Instructions {
+    /// It traps at once.
+    Unreachable,
+    /// Raw bytes, which need not be valid.
+    Arbitrary(Items<u8>),
+}

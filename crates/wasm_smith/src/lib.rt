@@ -1,0 +1,25 @@
+//! Modules of WebAssembly from bytes: whatever the bytes are, the module is valid.
+#![tactic(auto)]
+
+mod build;
+mod code;
+mod module;
+mod segments;
+
+pub use code::{Code, Instructions};
+pub use module::Module;
+pub use segments::{DataSegment, DataSegmentKind, ElementKind, ElementSegment, Elements, Offset};
+pub use smith_bytes::{
+    Arbitrary, ConfigFault, Count, Error, Int, ShapeFault, Unstructured, Which, Why,
+};
+pub use smith_config::Config;
+pub use smith_draw::{
+    Entities, Spaces, add_type, arbitrary_func_type, arbitrary_heap_type, arbitrary_limits64,
+    arbitrary_memtype, arbitrary_rec_group, arbitrary_ref_type, arbitrary_sub_type,
+    arbitrary_types, arbitrary_valtype, gradually_grow,
+};
+pub use smith_types::{
+    AbstractHeapType, ArrayType, CompositeInnerType, CompositeType, ConstInstr, EntityType,
+    ExportKind, FieldType, FuncType, GlobalType, HeapType, Import, ImportItem, Imports, Items,
+    MemoryType, Name, RefType, StorageType, StructType, SubType, TableType, TypeSpace, ValType,
+};

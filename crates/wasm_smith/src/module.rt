@@ -1,0 +1,285 @@
+ghost use Rattle.std.specs.Prelude.{◌≡◌, [], IfOk, IfErr};
+ghost use Rattle.smith_bytes.specs.Source.{IsPiece};
+ghost use Rattle.smith_config.specs.Faults.{Passes};
+
+use crate::build::build;
+use crate::code::Code;
+use crate::segments::{DataSegment, ElementSegment};
+use smith_bytes::{Error, Unstructured};
+use smith_config::Config;
+use smith_types::{
+    ConstInstr, ExportKind, GlobalType, Imports, Items, MemoryType, Name, SubType, TableType,
+    TypeSpace,
+};
+use std::alloc::Global;
+use std::marker::Model;
+use std::ops::Range;
+
+/// A module: the types, imports, index spaces, definitions, exports, segments and bodies of the standard's section
+/// Structure, Modules. In each index space imported items come first.
+#[derive(Drop)]
+pub struct Module {
+    pub(crate) config: Config,
+    pub(crate) types: TypeSpace,
+    pub(crate) imports: Items<Imports>,
+    pub(crate) num_imports: usize,
+    pub(crate) tags: Items<u32>,
+    pub(crate) funcs: Items<u32>,
+    pub(crate) tables: Items<TableType>,
+    pub(crate) defined_tables: Items<Option<Items<ConstInstr>>>,
+    pub(crate) memories: Items<MemoryType>,
+    pub(crate) globals: Items<GlobalType>,
+    pub(crate) defined_globals: Items<(u32, Items<ConstInstr>)>,
+    pub(crate) num_defined_tags: usize,
+    pub(crate) num_defined_funcs: usize,
+    pub(crate) num_defined_memories: usize,
+    pub(crate) exports: Items<(Name, ExportKind, u32)>,
+    pub(crate) start: Option<u32>,
+    pub(crate) elems: Items<ElementSegment>,
+    pub(crate) segments: Items<DataSegment>,
+    pub(crate) code: Items<Code>,
+    pub(crate) fuel_globals: Items<u32>,
+    pub(crate) encodes_types: bool,
+    pub(crate) encodes_imports: bool,
+    pub(crate) type_size: u32,
+}
+
+impl Model for Module {
+    ghost use Rattle.wasm_smith.specs.Module.{Parts};
+
+    ghost Value = { Parts };
+
+    ghost view = {
+        λ m. record {
+            config = m.config;
+            types = m.types.types;
+            groups = m.types.groups;
+            imports = m.imports;
+            num_imports = m.num_imports;
+            tags = m.tags;
+            funcs = m.funcs;
+            tables = m.tables;
+            defined_tables = m.defined_tables;
+            memories = m.memories;
+            globals = m.globals;
+            defined_globals = m.defined_globals;
+            num_defined_tags = m.num_defined_tags;
+            num_defined_funcs = m.num_defined_funcs;
+            num_defined_memories = m.num_defined_memories;
+            exports = m.exports;
+            start = m.start;
+            elems = m.elems;
+            segments = m.segments;
+            code = m.code;
+            fuel_globals = m.fuel_globals;
+            encodes_types = m.encodes_types;
+            encodes_imports = m.encodes_imports;
+            type_size = m.type_size
+        }
+    };
+}
+
+impl Module {
+    ghost use Rattle.wasm_smith.specs.Module.{accepted, IsValid, KeepsBounds, MeetsMinimums, WritesSections};
+    ghost use Rattle.wasm_smith.specs.Refusals.{HasNoMinimums, MayRefuse};
+
+    /// Draws a module from the bytes. The configuration is sanitised and checked first; until types of garbage collection
+    /// are drawn, it is taken without them.
+    ///
+    /// It refuses a configuration that fails its check, a minimum that can't be met, and want of memory.
+    pub fn new(
+        alloc: Global,
+        mut config: Config,
+        u: &mut Unstructured<'_>,
+    ) -> Result<Module, Error>
+        ensures config { IfOk result (λ m. m.config ≡ accepted config) }
+        ensures passes { IfOk result (λ m. Passes m.config) }
+        ensures valid { IfOk result IsValid }
+        ensures bounds { IfOk result KeepsBounds }
+        ensures minimums { IfOk result MeetsMinimums }
+        ensures sections { IfOk result WritesSections }
+        ensures refusals { IfErr result (MayRefuse (accepted config)) }
+        ensures needless { Passes (accepted config) → HasNoMinimums (accepted config) → IfErr result (λ e. e ≡ Error.Memory) }
+        ensures source { IsPiece u.old u.new }
+    {
+        config.gc_enabled = false;
+        config.sanitize();
+        if let Err(fault) = config.check() {
+            return Err(Error::Config(fault));
+        }
+        build(alloc, config, u)
+    }
+
+    /// The configuration that the module was drawn for, sanitised.
+    pub fn config(&self) -> &Config
+        ensures { result.now ≡ self.now.config }
+    {
+        &self.config
+    }
+
+    pub fn types(&self) -> &[SubType]
+        ensures { result.now ≡ self.now.types }
+    {
+        self.types.types()
+    }
+
+    /// The recursive groups, each as the indices of its types.
+    pub fn rec_groups(&self) -> &[Range<usize>]
+        ensures { result.now ≡ self.now.groups }
+    {
+        self.types.rec_groups()
+    }
+
+    /// The imports in their groups.
+    pub fn imports(&self) -> &[Imports]
+        ensures { result.now ≡ self.now.imports }
+    {
+        self.imports.as_slice()
+    }
+
+    /// How many imports the groups hold together.
+    pub fn num_imports(&self) -> usize
+        ensures { result ≡ self.now.num_imports }
+    {
+        self.num_imports
+    }
+
+    /// The index of the type of each tag.
+    pub fn tags(&self) -> &[u32]
+        ensures { result.now ≡ self.now.tags }
+    {
+        self.tags.as_slice()
+    }
+
+    /// The index of the type of each function.
+    pub fn funcs(&self) -> &[u32]
+        ensures { result.now ≡ self.now.funcs }
+    {
+        self.funcs.as_slice()
+    }
+
+    pub fn tables(&self) -> &[TableType]
+        ensures { result.now ≡ self.now.tables }
+    {
+        self.tables.as_slice()
+    }
+
+    /// The initialiser of each defined table, where it has one.
+    pub fn defined_tables(&self) -> &[Option<Items<ConstInstr>>]
+        ensures { result.now ≡ self.now.defined_tables }
+    {
+        self.defined_tables.as_slice()
+    }
+
+    pub fn memories(&self) -> &[MemoryType]
+        ensures { result.now ≡ self.now.memories }
+    {
+        self.memories.as_slice()
+    }
+
+    pub fn globals(&self) -> &[GlobalType]
+        ensures { result.now ≡ self.now.globals }
+    {
+        self.globals.as_slice()
+    }
+
+    /// The index and the initialiser of each defined global.
+    pub fn defined_globals(&self) -> &[(u32, Items<ConstInstr>)]
+        ensures { result.now ≡ self.now.defined_globals }
+    {
+        self.defined_globals.as_slice()
+    }
+
+    pub fn num_defined_tags(&self) -> usize
+        ensures { result ≡ self.now.num_defined_tags }
+    {
+        self.num_defined_tags
+    }
+
+    pub fn num_defined_funcs(&self) -> usize
+        ensures { result ≡ self.now.num_defined_funcs }
+    {
+        self.num_defined_funcs
+    }
+
+    pub fn num_defined_memories(&self) -> usize
+        ensures { result ≡ self.now.num_defined_memories }
+    {
+        self.num_defined_memories
+    }
+
+    /// The name, the kind and the index of each export.
+    pub fn exports(&self) -> &[(Name, ExportKind, u32)]
+        ensures { result.now ≡ self.now.exports }
+    {
+        self.exports.as_slice()
+    }
+
+    /// The index of the function that is called first.
+    pub fn start(&self) -> Option<u32>
+        ensures { result ≡ self.now.start }
+    {
+        self.start
+    }
+
+    pub fn elems(&self) -> &[ElementSegment]
+        ensures { result.now ≡ self.now.elems }
+    {
+        self.elems.as_slice()
+    }
+
+    pub fn data(&self) -> &[DataSegment]
+        ensures { result.now ≡ self.now.segments }
+    {
+        self.segments.as_slice()
+    }
+
+    /// The body of each defined function.
+    pub fn code(&self) -> &[Code]
+        ensures { result.now ≡ self.now.code }
+    {
+        self.code.as_slice()
+    }
+
+    /// The globals that count fuel down, in the order in which they were added.
+    pub fn fuel_globals(&self) -> &[u32]
+        ensures { result.now ≡ self.now.fuel_globals }
+    {
+        self.fuel_globals.as_slice()
+    }
+
+    /// Whether an encoder writes a types section, even an empty one.
+    pub fn should_encode_types(&self) -> bool
+        ensures { result ≡ self.now.encodes_types }
+    {
+        self.encodes_types
+    }
+
+    /// Whether an encoder writes an imports section, even an empty one.
+    pub fn should_encode_imports(&self) -> bool
+        ensures { result ≡ self.now.encodes_imports }
+    {
+        self.encodes_imports
+    }
+
+    /// What the drawn imports and exports cost together.
+    pub fn type_size(&self) -> u32
+        ensures { result ≡ self.now.type_size }
+    {
+        self.type_size
+    }
+
+    /// Numbers of 32 bits that tests of this module should try. Until they are collected there are none.
+    pub fn interesting_values32(&self) -> &[u32]
+        ensures { result.now ≡ [] }
+    {
+        &[]
+    }
+
+    /// Numbers of 64 bits that tests of this module should try. Until they are collected there are none.
+    pub fn interesting_values64(&self) -> &[u64]
+        ensures { result.now ≡ [] }
+    {
+        &[]
+    }
+}
