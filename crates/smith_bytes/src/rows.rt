@@ -80,6 +80,15 @@ fn lengths_come_from_the_end(rt: HostRuntime) {
 }
 
 #[test]
+fn a_text_is_the_longest_front(rt: HostRuntime) -> Result<(), Fail> {
+    let mut u = Unstructured::new(b"ab\xff\x03");
+    assert_eq!(rt; limited_str(1000, &mut u), "ab");
+    assert_eq!(rt; u.bytes(1)?, b"\xff".as_slice());
+    assert!(rt; u.is_empty());
+    Ok(())
+}
+
+#[test]
 fn what_is_lent_outlives_later_draws(rt: HostRuntime) -> Result<(), Fail> {
     let mut u = Unstructured::new(b"ab\xff\x09cde\x03");
     let name = limited_str(1000, &mut u);
