@@ -7,5 +7,6 @@ pub mod Matching
 pub mod Laws
 pub mod Entities
 pub mod Same
+pub mod ExampleTypes
 pub mod ValidTypes
 pub mod ValidEntities

@@ -6,6 +6,7 @@ mod clone_in;
 mod composite_type;
 mod const_instr;
 mod entity_type;
+mod examples;
 mod exact;
 mod imports;
 pub mod laws;
