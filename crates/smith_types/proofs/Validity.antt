@@ -78,7 +78,7 @@ AreTypesValid-single features types groups t now h =
     let begins : next_start groups ≡ length types = now.covered.whole in
     let ends = All-from_recursion (λ (g : Range ℕ). g.end ≤ next_start groups) groups (ends_within 0 groups now.covered.consecutive).1 in
     let old : All (IsGroupValid features more) groups =
-        λ k d lt. IsGroupValid-grown features types t (slice_index_or groups k d) (let inside = ends k d lt in omega arith) (now.groups k d lt) in
+    λ k d lt. IsGroupValid-grown features types t (slice_index_or groups k d) (let inside = ends k d lt in omega arith) (now.groups k d lt) in
     record {
       covered = record {
         consecutive = AreConsecutive-push 0 groups group now.covered.consecutive refl (omega arith);

@@ -1,5 +1,6 @@
 -- Types that the examples speak of.
-use Rattle.std.specs.Prelude.{ℕ, Bool, true, false, List, [], ◌∷◌, Option, Some, None}
+use Rattle.std.specs.Prelude.{ℕ, true, false, List, [], ◌∷◌, Option, Some, None}
+use Rattle.std.specs.declared.ops.Range.{Range}
 use Rattle.smith_types.specs.declared.value_type.AbstractHeapType.{AbstractHeapType}
 use Rattle.smith_types.specs.declared.value_type.AbstractHeapType.TheVariants as heap
 use Rattle.smith_types.specs.declared.value_type.HeapType.{HeapType}
@@ -30,6 +31,10 @@ plain_func = Func (record { params = []; results = [] })
 abbrev pub struct_and_below : List SubType
 struct_and_below = open_type None empty_struct ∷ open_type (Some 0) empty_struct ∷ []
 
+-- the indices of a group
+abbrev pub range : ℕ → ℕ → Range ℕ
+range from until = record { start = from; end = until }
+
 -- an abstract type that is not shared
 abbrev pub plain : AbstractHeapType → HeapType
 plain ty = Abstract false ty
@@ -45,12 +50,14 @@ not_null heap_type = record { nullable = false; heap_type = heap_type }
 -- the value types anyref and eqref
 abbrev pub anyref : ValType
 anyref = Ref (nullable (plain heap.Any))
+
 abbrev pub eqref : ValType
 eqref = Ref (nullable (plain heap.Eq))
 
 -- a field that is constant, and one that is not
 abbrev pub constant : StorageType → FieldType
 constant ty = record { element_type = ty; mutable = false }
+
 abbrev pub variable : StorageType → FieldType
 variable ty = record { element_type = ty; mutable = true }
 

@@ -1,4 +1,4 @@
-use Rattle.std.proofs.Common.{rules, arith, lit<, ◌≡◌, ◌∷◌, [], true, false, Some, None, IsTrue, sym, ap, ◌∙◌, subst, refl}
+use Rattle.std.proofs.Common.{rules, arith, lit<, ◌≡◌, [], true, false, Some, None, IsTrue, sym, ap, ◌∙◌, subst, refl}
 use Rattle.std.proofs.lemmas.Option.{same_Some}
 use Rattle.smith_types.specs.declared.value_type.AbstractHeapType.TheVariants as heap
 use Rattle.smith_types.specs.declared.value_type.HeapType.TheVariants.{Abstract, Concrete, Exact}

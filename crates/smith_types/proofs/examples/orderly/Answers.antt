@@ -1,4 +1,4 @@
-use Rattle.std.proofs.Common.{arith, ◌≡◌, Some, None, refl}
+use Rattle.std.proofs.Common.{arith, Some, None, refl}
 use Rattle.smith_types.specs.Types.{IsAlike}
 use Rattle.smith_types.specs.ExampleTypes.{open_type, empty_struct, plain_func}
 use Rattle.smith_types.proofs.examples.orderly.Goals as goal
