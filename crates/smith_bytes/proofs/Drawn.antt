@@ -1,11 +1,7 @@
 -- A number that is drawn is in its range.
-use Rattle.std.proofs.Common.{◌≡◌, ℕ, ◌+◌, ◌-◌, ◌≤◌, List, take, arith}
+use Rattle.std.proofs.Common.{ℕ, ◌+◌, ◌-◌, ◌≤◌, List, take, arith}
 use Rattle.std.proofs.lemmas.Nat.{mod_below}
 use Rattle.smith_bytes.specs.Draws.{range_at, big_endian, digit_count}
-
-pub range_above : (lo hi : ℕ) (bytes : List ℕ) → lo ≤ (range_at lo hi bytes).0
-unfolding range_at
-range_above lo hi bytes = omega arith
 
 pub range_within : (lo hi : ℕ) (bytes : List ℕ) → lo ≤ hi → (range_at lo hi bytes).0 ≤ hi
 unfolding range_at

@@ -3,3 +3,5 @@ pub mod Endian
 pub mod Drawn
 pub mod Growing
 pub mod Grown
+pub mod MadeNew
+pub mod KebabShape

@@ -19,3 +19,9 @@ piece_drop n bytes = record { before = take n bytes; after = []; parts = rw (app
 
 pub keeps_drop : {whole bytes rest : List ℕ} (n : ℕ) → rest ≡ drop n bytes → IsPiece whole bytes → IsPiece whole rest
 keeps_drop {bytes = bytes} n e p = rw e (piece_then p (piece_drop n bytes))
+
+pub piece_take : (n : ℕ) (bytes : List ℕ) → IsPiece bytes (take n bytes)
+piece_take n bytes = record { before = []; after = drop n bytes; parts = sym (take-append-drop n bytes) }
+
+pub keeps_take : {whole bytes rest : List ℕ} (n : ℕ) → rest ≡ take n bytes → IsPiece whole bytes → IsPiece whole rest
+keeps_take {bytes = bytes} n e p = rw e (piece_then p (piece_take n bytes))

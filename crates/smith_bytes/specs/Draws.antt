@@ -1,5 +1,5 @@
 -- What each draw gives, and the bytes that it leaves. Past the end of the source a draw reads zeros.
-use Rattle.std.specs.Prelude.{ℕ, zero, suc, ◌+◌, ◌-◌, ◌*◌, ◌/◌, ◌%◌, ◌==◌, Bool, List, [], ◌∷◌, take, drop, fold, nat_le, slice_index}
+use Rattle.std.specs.Prelude.{ℕ, zero, suc, ◌+◌, ◌-◌, ◌*◌, ◌/◌, ◌%◌, ◌^◌, ◌==◌, Bool, List, [], ◌∷◌, take, drop, fold, length, nat_le, if◌then◌else◌, slice_index, slice_get, Option}
 
 -- the number whose base-256 digits these are, the lowest first
 abbrev pub little_endian : List ℕ → ℕ
@@ -37,3 +37,22 @@ range_at lo hi bytes =
 -- true n times of m: a number of 1 to m is at most n
 unfoldable pub ratio_at : ℕ → ℕ → List ℕ → Bool × List ℕ
 ratio_at n m bytes = let drawn = range_at 1 m bytes in (nat_le drawn.0 n, drawn.1)
+
+-- the item at a drawn place, none of an empty list
+unfoldable pub choose_at : {A : Type 0} → List A → List ℕ → Option A × List ℕ
+choose_at items bytes = let place = range_at 0 (length items - 1) bytes in (slice_get items place.0, place.1)
+
+-- how many bytes at the end of n bytes tell a length
+abbrev pub length_size : ℕ → ℕ
+length_size n =
+    if n == 0 then 0
+    else if nat_le n 256 then 1
+    else if nat_le n 65537 then 2
+    else if nat_le n (2 ^ 32 + 3) then 4
+    else 8
+
+-- a length: it is at most the number of bytes that are left when those that tell it are taken from the end
+unfoldable pub len_at : List ℕ → ℕ × List ℕ
+len_at bytes =
+    let most = length bytes - length_size (length bytes) in
+    ((range_at 0 most (drop most bytes)).0, take most bytes)

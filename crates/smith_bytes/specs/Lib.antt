@@ -1,3 +1,6 @@
 pub mod Source
 pub mod Draws
 pub mod Growth
+pub mod Names
+pub mod Kebab
+pub mod Loop

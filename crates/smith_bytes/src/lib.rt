@@ -5,9 +5,18 @@ mod arbitrary;
 mod digits;
 mod error;
 mod growth;
+mod kebab;
+mod names;
+mod repeat;
+#[cfg(test)]
+mod rows;
+mod text;
 mod unstructured;
 
 pub use arbitrary::{Arbitrary, Int};
 pub use error::{ConfigFault, Count, Error, ShapeFault, Which, Why};
 pub use growth::goes_on;
+pub use names::{unique_kebab_string, unique_string, unique_url};
+pub use repeat::arbitrary_loop;
+pub use text::{limited_str, limited_string};
 pub use unstructured::Unstructured;

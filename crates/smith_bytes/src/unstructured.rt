@@ -1,10 +1,11 @@
-ghost use Rattle.std.specs.Prelude.{◌≡◌, ◌≤◌, ◌<◌, ◌^◌, ◌↔◌, IsTrue, length, take, drop};
+ghost use Rattle.std.specs.Prelude.{◌≡◌, ◌≤◌, ◌<◌, ◌^◌, ◌↔◌, IsTrue, IsOk, IsErr, IfOk, IfErr, OnOk, OnErr, Some, IsSome, IfSome, length, take, drop};
 ghost use Rattle.std.specs.Range.{range_inclusive_start, range_inclusive_end};
 ghost use Rattle.smith_bytes.specs.Source.{KeepsPieces};
-ghost use Rattle.smith_bytes.specs.Draws.{whole_at, range_at, ratio_at};
+ghost use Rattle.smith_bytes.specs.Draws.{whole_at, range_at, ratio_at, choose_at, length_size, len_at};
 
 use crate::arbitrary::{Arbitrary, Int};
 use crate::digits::{count_digits, read_big_endian, read_little_endian};
+use crate::error::Error;
 use std::marker::Model;
 use std::ops::RangeInclusive;
 
@@ -80,9 +81,62 @@ impl<'a> Unstructured<'a> {
         1 + self.offset(m.widen() - 1) <= n.widen()
     }
 
+    /// An item of the list, at a drawn place. Only an empty list is refused, by `EmptyChoose`.
+    #[tactic(auto, unfolding(crate::specs::Draws::choose_at))]
+    pub fn choose<'b, T>(&mut self, items: &'b [T]) -> Result<&'b T, Error>
+        ensures exact { IfOk result (λ item. choose_at items.now self.old ≡ (Some item.now, self.new)) }
+        ensures empty { IsErr result ↔ (length items.now ≡ 0) }
+        ensures error { IfErr result (λ e. e ≡ Error.EmptyChoose) }
+        ensures fault { OnErr result (self.new ≡ self.old) }
+        ensures left { KeepsPieces self.old self.new }
+    {
+        if items.is_empty() {
+            return Err(Error::EmptyChoose);
+        }
+        Ok(&items[self.int_in_range(0..=items.len() - 1)])
+    }
+
+    /// The first `n` bytes. Where fewer are left: `NotEnoughData`.
+    ///
+    /// What is lent lives as long as the input, not as long as this loan of the source.
+    pub fn bytes(&mut self, n: usize) -> Result<&'a [u8], Error>
+        ensures enough { IsOk result ↔ (n ≤ length self.old) }
+        ensures lent { IfOk result (λ piece. piece.now ≡ take n self.old) }
+        ensures rest { OnOk result (self.new ≡ drop n self.old) }
+        ensures error { IfErr result (λ e. e ≡ Error.NotEnoughData) }
+        ensures fault { OnErr result (self.new ≡ self.old) }
+        ensures left { KeepsPieces self.old self.new }
+    {
+        if self.bytes.len() < n {
+            return Err(Error::NotEnoughData);
+        }
+        Ok(self.up_to(n))
+    }
+
+    /// The first `n` bytes, which are left in the source. None where fewer are left.
+    pub fn peek_bytes(&self, n: usize) -> Option<&'a [u8]>
+        ensures enough { IsSome result ↔ (n ≤ length self.now) }
+        ensures lent { IfSome result (λ piece. piece.now ≡ take n self.now) }
+    {
+        self.bytes.get(..n)
+    }
+
+    /// A length that what is left can hold, told by the bytes at its end.
+    #[tactic(auto, using(crate::proofs::Pieces::keeps_take), unfolding(crate::specs::Draws::len_at))]
+    pub fn arbitrary_len(&mut self) -> usize
+        ensures exact { len_at self.old ≡ (result, self.new) }
+        ensures within { result ≤ length self.new }
+        ensures left { KeepsPieces self.old self.new }
+    {
+        let most = self.bytes.len() - size_of_length(self.bytes.len());
+        let (rest, end) = self.bytes.split_at(most);
+        self.bytes = rest;
+        Unstructured { bytes: end }.int_in_range(0..=most)
+    }
+
     /// The first `n` bytes, or all that are left where there are fewer.
     #[tactic(auto, using(crate::proofs::Pieces::keeps_drop))]
-    fn up_to(&mut self, n: usize) -> &'a [u8]
+    pub(crate) fn up_to(&mut self, n: usize) -> &'a [u8]
         ensures taken { result.now ≡ take n self.old }
         ensures rest { self.new ≡ drop n self.old }
         ensures left { KeepsPieces self.old self.new }
@@ -116,5 +170,19 @@ impl<'a> Unstructured<'a> {
         } else {
             drawn % (most + 1)
         }
+    }
+}
+
+/// How many bytes at the end of `n` bytes tell a length.
+fn size_of_length(n: usize) -> usize
+    ensures exact { result ≡ length_size n }
+    ensures within { result ≤ n }
+{
+    match n {
+        0 => 0,
+        1..=256 => 1,
+        257..=65_537 => 2,
+        65_538..=4_294_967_299 => 4,
+        _ => 8,
     }
 }

@@ -1,5 +1,7 @@
 -- The configuration that is asked for where nothing else is said.
 use Rattle.std.specs.Prelude.{true, false, ◌^◌}
+use Rattle.smith_types.specs.Instructions.{every_kind}
+use Rattle.smith_config.specs.OffsetChoices.{default_choices}
 use Rattle.smith_config.specs.declared.config.Config.{Config}
 
 -- every field has the value that its documentation states
@@ -60,6 +62,8 @@ default_config = record {
   wide_arithmetic_enabled = true;
   acquire_release_atomics_enabled = false;
   multibyte_array_access_enabled = false;
+  allowed_instructions = every_kind;
+  memory_offset_choices = default_choices;
   max_instructions = 100;
   canonicalize_nans = false;
   generate_custom_sections = false;

@@ -2,3 +2,5 @@ pub mod Config
 pub mod Sanitized
 pub mod Faults
 pub mod Features
+pub mod OffsetChoices
+pub mod Arbitrary

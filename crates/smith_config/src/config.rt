@@ -1,6 +1,9 @@
 ghost use Rattle.std.specs.Prelude.{◌≡◌};
 ghost use Rattle.smith_config.specs.Config.{default_config};
 
+use crate::MemoryOffsetChoices;
+use smith_types::InstructionKinds;
+
 /// What may be asked of a module: how much of each kind, which proposals, and which further rules.
 ///
 /// `Config::default()` asks for a module of moderate size with the finished proposals on. A field
@@ -201,6 +204,14 @@ pub struct Config {
     /// on the module but its features.
     pub multibyte_array_access_enabled: bool,
 
+    /// The kinds of instructions that bodies may hold. Default all. Kept without effect: bodies
+    /// hold no drawn instruction.
+    pub allowed_instructions: InstructionKinds,
+
+    /// How often the offset of a memory access lies inside the memory. Kept without effect: bodies
+    /// hold no drawn instruction.
+    pub memory_offset_choices: MemoryOffsetChoices,
+
     /// The greatest number of instructions in a body. Default 100. Kept without effect: bodies
     /// hold no drawn instruction.
     pub max_instructions: usize,
@@ -302,6 +313,8 @@ impl Default for Config {
             wide_arithmetic_enabled: true,
             acquire_release_atomics_enabled: false,
             multibyte_array_access_enabled: false,
+            allowed_instructions: InstructionKinds::all(),
+            memory_offset_choices: MemoryOffsetChoices::default(),
             max_instructions: 100,
             canonicalize_nans: false,
             generate_custom_sections: false,

@@ -1,8 +1,12 @@
 //! What may be asked of a generated module.
 #![tactic(auto)]
 
+mod arbitrary;
 mod check;
 mod config;
+mod features;
+mod offset_choices;
 mod sanitize;
 
 pub use config::Config;
+pub use offset_choices::{MemoryOffsetChoices, OffsetChoicesFault};

@@ -1,13 +1,12 @@
 -- One turn of the loop that adds groups.
-use Rattle.std.proofs.Common.{◌≡◌, ℕ, suc, ◌-◌, ◌+◌, ◌≤◌, ◌<◌, Bool, true, false, List, [], ◌∷◌, ◌++◌, length, refl, sym, ap, ◌∙◌, arith, length-append, nat_lt}
+use Rattle.std.proofs.Common.{◌≡◌, ℕ, suc, ◌-◌, ◌+◌, ◌≤◌, ◌<◌, Bool, true, false, List, length, refl, sym, ap, ◌∙◌, arith, length-append, nat_lt}
 use Rattle.smith_bytes.specs.Source.{KeepsPieces}
 use Rattle.smith_bytes.specs.Growth.{goes_at}
 use Rattle.smith_types.specs.Space.{Space}
 use Rattle.smith_types.specs.Types.{next_start}
-use Rattle.smith_types.specs.declared.composite_type.SubType.{SubType}
 use Rattle.smith_types.proofs.Spaces.{next_start-push}
 use Rattle.smith_config.specs.declared.config.Config.{Config}
-use Rattle.smith_draw.specs.SubTypes.{with_single, rec_group_at, rec_groups_at}
+use Rattle.smith_draw.specs.SubTypes.{rec_group_at, rec_groups_at}
 use Rattle.smith_draw.proofs.ValueTypeLaws.{drawn_is}
 
 -- n types stand in groups, and what is drawn on from here is all that is drawn

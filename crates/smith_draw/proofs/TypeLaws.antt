@@ -5,12 +5,10 @@ use Rattle.std.specs.List.{All}
 use Rattle.std.proofs.lemmas.Bool.{ltb-false}
 use Rattle.std.proofs.lemmas.List.Elements.{All-nil, All-append}
 use Rattle.smith_bytes.specs.Draws.{bool_at}
-use Rattle.smith_bytes.specs.Growth.{goes_at, grow_at}
+use Rattle.smith_bytes.specs.Growth.{goes_at}
 use Rattle.smith_bytes.proofs.Grown.{cond_both, grow_most, grow_all}
 use Rattle.smith_types.specs.Space.{Space}
-use Rattle.smith_types.specs.ValidTypes.{IsValTypeValid, IsFuncTypeValid, IsInnerEnabled, IsTypeValid, AreTypesValid}
-use Rattle.smith_types.specs.declared.composite_type.FuncType.{FuncType}
-use Rattle.smith_types.specs.declared.composite_type.CompositeInnerType.TheVariants as inners
+use Rattle.smith_types.specs.ValidTypes.{IsValTypeValid, IsFuncTypeValid, IsTypeValid, AreTypesValid}
 use Rattle.smith_types.specs.declared.composite_type.SubType.{SubType}
 use Rattle.smith_types.specs.declared.value_type.ValType.{ValType}
 use Rattle.smith_types.proofs.Validity.{AreTypesValid-single}
@@ -111,8 +109,8 @@ rec_groups_least config zero space bytes le = omega arith
 rec_groups_least config (suc most) space bytes le =
     least_turn config.min_types (length space.types) space bytes (λ mid. let grown = rec_group_at config space mid in rec_groups_at config most grown.0 grown.1) (nat_lt (length space.types) config.min_types) refl refl
     (λ mid.
-        let grown = rec_group_at config space mid in
-        rec_groups_least config most grown.0 grown.1 (omega (arith, length-append space.types ((sub_type_at config mid).0 ∷ []))))
+    let grown = rec_group_at config space mid in
+    rec_groups_least config most grown.0 grown.1 (omega (arith, length-append space.types ((sub_type_at config mid).0 ∷ []))))
 
 pub types_least : (config : Config) (space : Space) (bytes : List ℕ) → config.min_types ≤ config.max_types → config.min_types ≤ length (types_at config space bytes).0.types
 unfolding types_at

@@ -1,7 +1,7 @@
 -- Drawn value types are valid, over every list of types.
-use Rattle.std.proofs.Common.{◌≡◌, ℕ, Bool, true, false, cond, List, [], ◌∷◌, refl, subst}
+use Rattle.std.proofs.Common.{◌≡◌, ℕ, Bool, true, false, cond, List, refl, subst}
 use Rattle.std.specs.Prelude.{IsTrue}
-use Rattle.std.specs.List.{All, AllByRecursion as ByRecursion}
+use Rattle.std.specs.List.{AllByRecursion as ByRecursion}
 use Rattle.std.proofs.lemmas.List.Elements.{All-from_recursion}
 use Rattle.smith_bytes.proofs.Grown.{cond_both}
 use Rattle.smith_types.specs.ValidTypes.{IsAbstractEnabled, IsHeapTypeValid, IsRefTypeValid, IsValTypeValid}

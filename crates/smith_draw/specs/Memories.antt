@@ -1,5 +1,5 @@
 -- Drawn memory types.
-use Rattle.std.specs.Prelude.{ℕ, ◌+◌, ◌-◌, ◌*◌, ◌/◌, ◌^◌, min, max, Bool, true, false, ◌||◌, Option, Some, None, List, if◌then◌else◌}
+use Rattle.std.specs.Prelude.{ℕ, ◌-◌, ◌/◌, ◌^◌, min, max, Bool, false, ◌||◌, Option, Some, None, List, if◌then◌else◌}
 use Rattle.smith_types.specs.ValidEntities.{page_log2, addresses}
 use Rattle.smith_types.specs.declared.entity_type.MemoryType.{MemoryType}
 use Rattle.smith_config.specs.declared.config.Config.{Config}
@@ -45,12 +45,14 @@ memtype_at config bytes =
     let memory64 = memory64_at config shared.1 in
     let page_size = page_size_at config memory64.1 in
     let limits =
-        limits64_at (least_pages config) (drawn_pages config memory64.0 page_size.0)
-        (config.memory_max_size_required || shared.0) (likely_pages config memory64.0 page_size.0) page_size.1 in
-    (record {
-      minimum = limits.0.0;
-      maximum = limits.0.1;
-      memory64 = memory64.0;
-      shared = shared.0;
-      page_size_log2 = page_size.0;
-    }, limits.1)
+    limits64_at (least_pages config) (drawn_pages config memory64.0 page_size.0)
+    (config.memory_max_size_required || shared.0) (likely_pages config memory64.0 page_size.0) page_size.1 in (
+      record {
+        minimum = limits.0.0;
+        maximum = limits.0.1;
+        memory64 = memory64.0;
+        shared = shared.0;
+        page_size_log2 = page_size.0;
+      },
+      limits.1,
+    )

@@ -1,9 +1,8 @@
 -- Drawn function types, subtypes and groups, of a module without garbage collection.
-use Rattle.std.specs.Prelude.{ℕ, zero, suc, ◌-◌, Bool, true, false, Option, None, List, [], ◌∷◌, ◌++◌, length, nat_lt, if◌then◌else◌}
+use Rattle.std.specs.Prelude.{ℕ, zero, suc, ◌-◌, Bool, true, false, None, List, [], ◌∷◌, ◌++◌, length, nat_lt, if◌then◌else◌}
 use Rattle.smith_types.specs.declared.value_type.ValType.{ValType}
 use Rattle.smith_types.specs.declared.composite_type.FuncType.{FuncType}
 use Rattle.smith_types.specs.declared.composite_type.CompositeInnerType.TheVariants as inners
-use Rattle.smith_types.specs.declared.composite_type.CompositeType.{CompositeType}
 use Rattle.smith_types.specs.declared.composite_type.SubType.{SubType}
 use Rattle.smith_types.specs.Space.{Space}
 use Rattle.smith_types.specs.Types.{next_group}
@@ -29,12 +28,14 @@ func_type_at config must_share bytes =
 unfoldable pub sub_type_at : Config → List ℕ → SubType × List ℕ
 sub_type_at config bytes =
     let shared = sharedness_at config false bytes in
-    let function = func_type_at config shared.0 shared.1 in
-    (record {
-      is_final = true;
-      supertype = None;
-      composite_type = record { inner = inners.Func function.0; shared = shared.0 };
-    }, function.1)
+    let function = func_type_at config shared.0 shared.1 in (
+      record {
+        is_final = true;
+        supertype = None;
+        composite_type = record { inner = inners.Func function.0; shared = shared.0 };
+      },
+      function.1,
+    )
 
 -- the types with one more, in a group of its own
 abbrev pub with_single : Space → SubType → Space

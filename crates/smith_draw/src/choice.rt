@@ -28,11 +28,7 @@ fn count_enabled<T: Copy>(table: &[(T, bool)]) -> usize
 
 /// Chooses among the enabled items of a table, each as likely as the others.
 #[tactic(auto, using(crate::proofs::Enabled::length_enabled), unfolding(crate::specs::Choices::chosen_at))]
-pub(crate) fn choose_enabled<T: Copy>(
-    table: &[(T, bool)],
-    other: T,
-    u: &mut Unstructured<'_>,
-) -> T
+pub(crate) fn choose_enabled<T: Copy>(table: &[(T, bool)], other: T, u: &mut Unstructured<'_>) -> T
     requires { 0 < length (enabled table.now) }
     ensures exact { chosen_at other (enabled table.now) u.old ≡ (result, u.new) }
     ensures left { KeepsPieces u.old u.new }

@@ -105,7 +105,9 @@ fn likely_pages(config: &Config, most: u64, page_size: Option<u32>) -> u64
 {
     let share = GIBIBYTE / (config.max_memories.max(1) as u64);
     let least = u128::from(config.disallow_traps);
-    pages_in(u128::from(share), page_size).max(least).min(u128::from(most)) as u64
+    pages_in(u128::from(share), page_size)
+        .max(least)
+        .min(u128::from(most)) as u64
 }
 
 /// Whether a memory is drawn a maximum without being asked.

@@ -1,5 +1,11 @@
-//! Worked cases that cross the crates, each with its expected values from outside.
+//! Worked cases across the crates of the generator, each with the result that it must have.
 #![tactic(auto)]
 
+#[cfg(test)]
+mod configuration;
+#[cfg(test)]
+mod kinds;
+#[cfg(test)]
+mod modules;
 #[cfg(test)]
 mod type_space;

@@ -3,5 +3,8 @@ pub mod Growth
 pub mod Lengths
 pub mod Paths
 pub mod Spaces
-pub mod Walk
 pub mod Validity
+pub mod Walk
+pub mod FeatureBits
+pub mod Parts
+pub mod KindLemmas

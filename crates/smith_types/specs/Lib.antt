@@ -6,7 +6,10 @@ pub mod Subtyping
 pub mod Matching
 pub mod Laws
 pub mod Entities
-pub mod Same
-pub mod ExampleTypes
 pub mod ValidTypes
 pub mod ValidEntities
+pub mod Same
+pub mod Flags
+pub mod Parts
+pub mod Instructions
+pub mod ExampleTypes

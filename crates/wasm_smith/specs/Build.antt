@@ -1,5 +1,5 @@
 -- What each step of building a module reads from the bytes, and what it leaves. No public contract cites it.
-use Rattle.std.specs.Prelude.{◌≡◌, ℕ, suc, Bool, true, false, ◌&&◌, not, Option, None, List, [], ◌∷◌, length, replicate, Result, Ok, Err, ◌==◌, if◌then◌else◌}
+use Rattle.std.specs.Prelude.{◌≡◌, ℕ, suc, Bool, true, false, ◌&&◌, not, None, List, [], ◌∷◌, length, replicate, Result, Ok, Err, ◌==◌, if◌then◌else◌}
 use Rattle.std.specs.List.{list_any}
 use Rattle.smith_bytes.specs.declared.error.Error.{Error}
 use Rattle.smith_bytes.specs.declared.error.Error.TheVariants as errors
@@ -109,29 +109,32 @@ module_at config bytes = do
   segments ← passed_at counts.ElementSegments config.min_element_segments 0 type_flag.1
   elements ← passed_at counts.Elements config.min_elements 0 segments
   rest ← passed_at counts.DataSegments config.min_data_segments 0 elements
-  Ok (record {
-    config = config;
-    types = types.0.types;
-    groups = types.0.groups;
-    imports = [];
-    num_imports = 0;
-    tags = [];
-    funcs = funcs.0;
-    tables = [];
-    defined_tables = [];
-    memories = memories.0;
-    globals = [];
-    defined_globals = [];
-    num_defined_tags = 0;
-    num_defined_funcs = length funcs.0;
-    num_defined_memories = length memories.0;
-    exports = [];
-    start = None;
-    elems = [];
-    segments = [];
-    code = replicate (length funcs.0) trap;
-    fuel_globals = [];
-    encodes_types = type_flag.0;
-    encodes_imports = import_flag.0;
-    type_size = 0;
-  }, rest)
+  Ok (
+    record {
+      config = config;
+      types = types.0.types;
+      groups = types.0.groups;
+      imports = [];
+      num_imports = 0;
+      tags = [];
+      funcs = funcs.0;
+      tables = [];
+      defined_tables = [];
+      memories = memories.0;
+      globals = [];
+      defined_globals = [];
+      num_defined_tags = 0;
+      num_defined_funcs = length funcs.0;
+      num_defined_memories = length memories.0;
+      exports = [];
+      start = None;
+      elems = [];
+      segments = [];
+      code = replicate (length funcs.0) trap;
+      fuel_globals = [];
+      encodes_types = type_flag.0;
+      encodes_imports = import_flag.0;
+      type_size = 0;
+    },
+    rest,
+  )

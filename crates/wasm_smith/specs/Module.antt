@@ -1,10 +1,9 @@
 -- The parts of a module, when it is valid, and which bounds and minimums it keeps.
-use Rattle.std.specs.Prelude.{◌≡◌, ℕ, ◌+◌, ◌<◌, ◌≤◌, Bool, false, IsTrue, Option, Some, None, List, [], ◌∷◌, length, slice_get}
+use Rattle.std.specs.Prelude.{◌≡◌, ℕ, ◌<◌, ◌≤◌, Bool, false, IsTrue, Option, Some, None, List, [], length, slice_get}
 use Rattle.std.specs.List.{All}
 use Rattle.std.specs.declared.ops.Range.{Range}
 use Rattle.smith_types.specs.Features.{Features}
 use Rattle.smith_types.specs.Kinds.{kind}
-use Rattle.smith_types.specs.Space.{Space}
 use Rattle.smith_types.specs.ValidTypes.{IsValTypeValid, AreTypesValid}
 use Rattle.smith_types.specs.ValidEntities.{IsMemoryValid}
 use Rattle.smith_types.specs.declared.value_type.AbstractHeapType.TheVariants.{Func}

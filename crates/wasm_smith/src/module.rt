@@ -49,34 +49,32 @@ impl Model for Module {
 
     ghost Value = { Parts };
 
-    ghost view = {
-        λ m. record {
-            config = m.config;
-            types = m.types.types;
-            groups = m.types.groups;
-            imports = m.imports;
-            num_imports = m.num_imports;
-            tags = m.tags;
-            funcs = m.funcs;
-            tables = m.tables;
-            defined_tables = m.defined_tables;
-            memories = m.memories;
-            globals = m.globals;
-            defined_globals = m.defined_globals;
-            num_defined_tags = m.num_defined_tags;
-            num_defined_funcs = m.num_defined_funcs;
-            num_defined_memories = m.num_defined_memories;
-            exports = m.exports;
-            start = m.start;
-            elems = m.elems;
-            segments = m.segments;
-            code = m.code;
-            fuel_globals = m.fuel_globals;
-            encodes_types = m.encodes_types;
-            encodes_imports = m.encodes_imports;
-            type_size = m.type_size
-        }
-    };
+    ghost view = { λ m. record {
+      config = m.config;
+      types = m.types.types;
+      groups = m.types.groups;
+      imports = m.imports;
+      num_imports = m.num_imports;
+      tags = m.tags;
+      funcs = m.funcs;
+      tables = m.tables;
+      defined_tables = m.defined_tables;
+      memories = m.memories;
+      globals = m.globals;
+      defined_globals = m.defined_globals;
+      num_defined_tags = m.num_defined_tags;
+      num_defined_funcs = m.num_defined_funcs;
+      num_defined_memories = m.num_defined_memories;
+      exports = m.exports;
+      start = m.start;
+      elems = m.elems;
+      segments = m.segments;
+      code = m.code;
+      fuel_globals = m.fuel_globals;
+      encodes_types = m.encodes_types;
+      encodes_imports = m.encodes_imports;
+      type_size = m.type_size;
+    } };
 }
 
 impl Module {
@@ -87,11 +85,7 @@ impl Module {
     /// are drawn, it is taken without them.
     ///
     /// It refuses a configuration that fails its check, a minimum that can't be met, and want of memory.
-    pub fn new(
-        alloc: Global,
-        mut config: Config,
-        u: &mut Unstructured<'_>,
-    ) -> Result<Module, Error>
+    pub fn new(alloc: Global, mut config: Config, u: &mut Unstructured<'_>) -> Result<Module, Error>
         ensures config { IfOk result (λ m. m.config ≡ accepted config) }
         ensures passes { IfOk result (λ m. Passes m.config) }
         ensures valid { IfOk result IsValid }

@@ -15,10 +15,7 @@ pub enum ElementKind {
     Passive,
     Declared,
     /// It is copied into a table, the first one where none is named.
-    Active {
-        table: Option<u32>,
-        offset: Offset,
-    },
+    Active { table: Option<u32>, offset: Offset },
 }
 
 /// The items of an element segment: indices of functions, or constant expressions.
@@ -40,10 +37,7 @@ pub struct DataSegment {
 pub enum DataSegmentKind {
     Passive,
     /// It is copied into a memory.
-    Active {
-        memory_index: u32,
-        offset: Offset,
-    },
+    Active { memory_index: u32, offset: Offset },
 }
 
 /// Where an active segment begins, in elements or bytes. Constants are read without sign.

@@ -97,7 +97,12 @@ pub(crate) fn tables(config: &Config, u: &mut Unstructured<'_>) -> Result<(), Er
     ensures refusal { IfErr result (MayRefuse config.now) }
     ensures left { KeepsPieces u.old u.new }
 {
-    pass(Count::Tables, config.min_tables as usize, config.max_tables, u)
+    pass(
+        Count::Tables,
+        config.min_tables as usize,
+        config.max_tables,
+        u,
+    )
 }
 
 /// Globals.

@@ -1,0 +1,75 @@
+ghost use Rattle.std.specs.Prelude.{◌≡◌, ◌<◌, ◌≤◌, [], string_bytes, IfOk, IfErr};
+ghost use Rattle.smith_bytes.specs.Source.{KeepsPieces};
+ghost use Rattle.smith_bytes.specs.Kebab.{is_open, character, character_at, characters_at, kebab_at};
+
+use crate::error::Error;
+use crate::unstructured::Unstructured;
+use std::alloc::Global;
+
+/// A kebab name of at most `max_size` characters, and one that lets it end.
+#[tactic(auto, unfolding(crate::specs::Kebab::kebab_at))]
+pub(crate) fn kebab_string(
+    alloc: Global,
+    max_size: usize,
+    u: &mut Unstructured<'_>,
+) -> Result<String, Error>
+    ensures exact { IfOk result (λ name. kebab_at max_size u.old ≡ (string_bytes name, u.new)) }
+    ensures memory { IfErr result (λ e. e ≡ Error.Memory) }
+    ensures left { KeepsPieces u.old u.new }
+{
+    let size = u.arbitrary_len().min(max_size);
+    let mut name = characters(alloc, size, u)?;
+    if is_open_name(&name) {
+        name.push('a')?;
+    }
+    Ok(name)
+}
+
+/// The first `size` characters of a kebab name.
+fn characters(alloc: Global, size: usize, u: &mut Unstructured<'_>) -> Result<String, Error>
+    ensures exact { IfOk result (λ name. characters_at size [] u.old ≡ (string_bytes name, u.new)) }
+    ensures memory { IfErr result (λ e. e ≡ Error.Memory) }
+    ensures left { KeepsPieces u.old u.new }
+{
+    let mut name = String::new(alloc);
+    for _ in 0..size {
+        let next = next_character(&name, u);
+        name.push(char::from(next))?;
+    }
+    Ok(name)
+}
+
+/// One character more behind the name so far.
+#[tactic(auto, unfolding(crate::specs::Kebab::character_at))]
+fn next_character(name: &str, u: &mut Unstructured<'_>) -> u8
+    ensures exact { character_at name.now u.old ≡ (result, u.new) }
+    ensures ascii { result < 128 }
+    ensures left { KeepsPieces u.old u.new }
+{
+    character_of(name, u.int_in_range(0..=36u8))
+}
+
+/// The character that a number of 0 to 36 stands for, behind the name so far.
+fn character_of(name: &str, number: u8) -> u8
+    requires few { number ≤ 36 }
+    ensures exact { result ≡ character name.now number }
+    ensures ascii { result < 128 }
+{
+    match number {
+        0..=25 => b'a' + number,
+        26..=35 if name.is_empty() => b'a' + (number - 26),
+        26..=35 => b'0' + (number - 26),
+        _ if is_open_name(name) => b'a',
+        _ => b'-',
+    }
+}
+
+/// Whether a name can't end here: it is empty, or ends in a dash.
+fn is_open_name(name: &str) -> bool
+    ensures { result ≡ is_open name.now }
+{
+    match name.as_bytes() {
+        [] => true,
+        [.., last] => *last == b'-',
+    }
+}

@@ -1,0 +1,46 @@
+ghost use Rattle.std.specs.Prelude.{◌≡◌, ◌≤◌, length, take, string_bytes, IfOk, IfErr};
+ghost use Rattle.std.specs.Str.Lossy.{utf8_valid_len};
+ghost use Rattle.smith_bytes.specs.Source.{KeepsPieces};
+ghost use Rattle.smith_bytes.specs.Names.{text_at};
+
+use crate::error::Error;
+use crate::unstructured::Unstructured;
+use std::alloc::Global;
+
+/// A text of at most `max_size` bytes. It lives as long as the input, not as long as this loan of
+/// the source.
+#[tactic(auto, unfolding(crate::specs::Names::text_at))]
+pub fn limited_str<'a>(max_size: usize, u: &mut Unstructured<'a>) -> &'a str
+    ensures exact { text_at max_size u.old ≡ (result.now, u.new) }
+    ensures left { KeepsPieces u.old u.new }
+{
+    let size = u.arbitrary_len().min(max_size);
+    let text = utf8_front(u.peek_bytes(size).unwrap());
+    let _text = u.up_to(text.len());
+    text
+}
+
+/// A text of at most `max_size` bytes, as an owned string.
+pub fn limited_string(
+    alloc: Global,
+    max_size: usize,
+    u: &mut Unstructured<'_>,
+) -> Result<String, Error>
+    ensures exact { IfOk result (λ text. text_at max_size u.old ≡ (string_bytes text, u.new)) }
+    ensures memory { IfErr result (λ e. e ≡ Error.Memory) }
+    ensures left { KeepsPieces u.old u.new }
+{
+    Ok(limited_str(max_size, u).to_string(alloc)?)
+}
+
+/// The longest front that is UTF-8.
+fn utf8_front(bytes: &[u8]) -> &str
+    ensures exact { result.now ≡ take (utf8_valid_len bytes.now) bytes.now }
+    ensures size { length result.now ≡ utf8_valid_len bytes.now }
+    ensures within { utf8_valid_len bytes.now ≤ length bytes.now }
+{
+    match simdutf8::compat::from_utf8(bytes) {
+        Ok(text) => text,
+        Err(e) => simdutf8::compat::from_utf8(&bytes[..e.valid_up_to()]).unwrap(),
+    }
+}

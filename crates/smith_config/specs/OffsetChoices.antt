@@ -1,0 +1,41 @@
+-- How often an offset is inside a memory, and how that is written.
+use Rattle.std.specs.Prelude.{◌≡◌, ℕ, ◌<◌, ◌==◌, ◌≢◌, List, [], ◌∷◌, length, take, map, Result, Ok, Err, slice_get, Some}
+use Rattle.std.specs.List.{AllZip}
+use Rattle.smith_types.specs.Parts.{parts_of}
+use Rattle.std.specs.Str.Parse.{ParsesUnsigned}
+use Rattle.smith_config.specs.declared.offset_choices.MemoryOffsetChoices.{MemoryOffsetChoices}
+use Rattle.smith_config.specs.declared.offset_choices.OffsetChoicesFault.{OffsetChoicesFault}
+use Rattle.smith_config.specs.declared.offset_choices.OffsetChoicesFault.TheVariants.{NeedThree, Number, TooMany, AllZero}
+
+-- ninety of a hundred inside, nine where a growth may reach, one outside
+abbrev pub default_choices : MemoryOffsetChoices
+default_choices = record { 0 = 90; 1 = 9; 2 = 1 }
+
+-- no weight at all
+abbrev pub zero_choices : MemoryOffsetChoices
+zero_choices = record { 0 = 0; 1 = 0; 2 = 0 }
+
+-- a text is a number of 32 bits: a plus sign or none, and decimal digits
+abbrev pub IsNumber : List ℕ → ℕ → Type 0
+IsNumber text number = ParsesUnsigned {E = Unit {0}} 32 10 text (Ok number)
+
+-- each of the texts is a number
+abbrev pub AllNumbers : List (List ℕ) → Type 0
+AllNumbers texts = (numbers : List ℕ) × AllZip IsNumber texts numbers
+
+-- the part at a place is no number, and each part before it is one
+pub record IsFirstWrong (parts : List (List ℕ)) (place : ℕ) : Type 0 where
+  pub early : place < 3
+  pub text : List ℕ
+  pub there : slice_get parts place ≡ Some text
+  pub wrong : (number : ℕ) → ¬ IsNumber text number
+  pub before : AllNumbers (take place parts)
+
+-- three numbers, not all zero, or what is wrong first, from the left
+abbrev pub AreReadChoices : List ℕ → Result MemoryOffsetChoices OffsetChoicesFault → Type 0
+AreReadChoices text (Ok choices) =
+    AllZip IsNumber (parts_of text) (choices.0 ∷ choices.1 ∷ choices.2 ∷ []) × (choices ≢ zero_choices)
+AreReadChoices text (Err NeedThree) = (length (parts_of text) < 3) × AllNumbers (parts_of text)
+AreReadChoices text (Err (Number place)) = IsFirstWrong (parts_of text) place
+AreReadChoices text (Err TooMany) = (3 < length (parts_of text)) × AllNumbers (take 3 (parts_of text))
+AreReadChoices text (Err AllZero) = AllZip IsNumber (parts_of text) (0 ∷ 0 ∷ 0 ∷ [])

@@ -1,0 +1,51 @@
+use smith_types::{InstructionKind, InstructionKinds, UnknownKind};
+use std::alloc::AllocError;
+use std::str::FromStr;
+
+#[test]
+fn a_kind_with_floats_holds_the_kind_without(rt: HostRuntime) {
+    let whole_numbers = InstructionKinds::new(&[InstructionKind::NumericInt]);
+    let numbers = InstructionKinds::new(&[InstructionKind::Numeric]);
+    assert!(rt; !whole_numbers.contains(InstructionKind::Numeric));
+    assert!(rt; numbers.contains(InstructionKind::NumericInt));
+    assert_eq!(rt; InstructionKinds::default(), InstructionKinds::none());
+    assert!(rt; InstructionKinds::all().contains(InstructionKind::Aggregate));
+}
+
+#[test]
+fn floats_are_taken_away(rt: HostRuntime) {
+    let kinds = InstructionKinds::new(&[InstructionKind::Numeric, InstructionKind::Control]);
+    let kept = kinds.without_floats();
+    assert!(rt; kept.contains(InstructionKind::NumericInt));
+    assert!(rt; kept.contains(InstructionKind::Control));
+    assert!(rt; !kept.contains(InstructionKind::Numeric));
+}
+
+#[test]
+fn names_between_commas(rt: HostRuntime) {
+    let both = InstructionKinds::new(&[InstructionKind::Numeric, InstructionKind::Memory]);
+    let cases = [
+        ("Numeric,memory", Ok(both)),
+        ("numeric, memory", Err(UnknownKind { part: 1 })),
+        ("", Err(UnknownKind { part: 0 })),
+    ];
+    for (text, want) in cases {
+        assert_eq!(rt; InstructionKinds::from_str(text), want, "at {text}");
+    }
+}
+
+#[test]
+fn one_name_alone(rt: HostRuntime) -> Result<(), AllocError> {
+    assert_eq!(rt;
+        InstructionKind::from_str("AGGREGATE"),
+        Ok(InstructionKind::Aggregate)
+    );
+    let unknown = UnknownKind { part: 0 };
+    assert_eq!(rt;
+        InstructionKind::from_str("aggregate,control"),
+        Err(unknown)
+    );
+    let text = format!(in rt.alloc(); "{unknown}")?;
+    assert_eq!(rt; text.as_str(), "part 0 names no kind of instructions");
+    Ok(())
+}

@@ -1,0 +1,4 @@
+pub mod Input
+pub mod Line
+pub mod Run
+pub mod Words

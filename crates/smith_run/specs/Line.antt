@@ -1,0 +1,41 @@
+-- The lines that the program writes to standard output.
+use Rattle.std.specs.Prelude.{ℕ, List, ◌++◌, length, Option, Some, None, Result, Ok, Err, codes, decimal}
+use Rattle.smith_bytes.specs.declared.error.Error.{Error}
+use Rattle.smith_bytes.specs.declared.error.Error.TheVariants.{EmptyChoose, NotEnoughData, IncorrectFormat, Config, Shape, Memory}
+use Rattle.wasm_smith.specs.Module.{Parts}
+
+-- an index in decimal digits, or the word for none
+abbrev pub index_or_none : Option ℕ → List ℕ
+index_or_none (Some index) = decimal index
+index_or_none None = codes "none"
+
+-- how many of each kind a module has, and which function starts it
+unfoldable pub counts_line : Parts → List ℕ
+counts_line parts =
+    codes "types " ++ decimal (length parts.types)
+    ++ codes " groups " ++ decimal (length parts.groups)
+    ++ codes " imports " ++ decimal parts.num_imports
+    ++ codes " tags " ++ decimal (length parts.tags)
+    ++ codes " funcs " ++ decimal (length parts.funcs)
+    ++ codes " tables " ++ decimal (length parts.tables)
+    ++ codes " memories " ++ decimal (length parts.memories)
+    ++ codes " globals " ++ decimal (length parts.globals)
+    ++ codes " exports " ++ decimal (length parts.exports)
+    ++ codes " start " ++ index_or_none parts.start
+    ++ codes " elems " ++ decimal (length parts.elems)
+    ++ codes " data " ++ decimal (length parts.segments)
+    ++ codes "\n"
+
+-- the name of a kind of refusal
+abbrev pub kind_name : Error → List ℕ
+kind_name EmptyChoose = codes "EmptyChoose"
+kind_name NotEnoughData = codes "NotEnoughData"
+kind_name (IncorrectFormat _) = codes "IncorrectFormat"
+kind_name (Config _) = codes "Config"
+kind_name (Shape _ _) = codes "Shape"
+kind_name Memory = codes "Memory"
+
+-- the line that tells a module or a refusal
+abbrev pub line_of : Result Parts Error → List ℕ
+line_of (Ok parts) = counts_line parts
+line_of (Err refusal) = codes "refused: " ++ kind_name refusal ++ codes "\n"

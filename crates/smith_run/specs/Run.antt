@@ -1,0 +1,44 @@
+-- What a run of the program comes to.
+use Rattle.std.specs.Prelude.{◌≡◌, ℕ, List, Bool, true, false, Option, Result, Ok, Err}
+use Rattle.std.specs.Io.KnownBytes.{Appends}
+use Rattle.smith_bytes.specs.declared.error.Error.{Error}
+use Rattle.smith_bytes.specs.declared.error.Error.TheVariants.{Memory}
+use Rattle.smith_config.specs.Arbitrary.{config_at}
+use Rattle.smith_config.specs.Config.{default_config}
+use Rattle.wasm_smith.specs.Module.{Parts}
+use Rattle.wasm_smith.specs.Refusals.{Allows}
+use Rattle.smith_run.specs.declared.run.Outcome.{Outcome}
+use Rattle.smith_run.specs.declared.run.Outcome.TheVariants.{Made, Refused}
+use Rattle.smith_run.specs.declared.run.RunFault.{RunFault}
+use Rattle.smith_run.specs.Input.{AreKnown}
+use Rattle.smith_run.specs.Line.{line_of}
+
+-- the generator may answer this for the input: with the default configuration, or with the one that the input gives first
+abbrev pub MayAnswer : Bool → List ℕ → Result Parts Error → Type 0
+MayAnswer false input answer = Allows default_config answer
+MayAnswer true input answer = Allows (config_at input).0 answer
+
+-- the outcome that says which answer it was
+abbrev pub outcome_of : Result Parts Error → Outcome
+outcome_of (Ok _) = Made
+outcome_of (Err refusal) = Refused refusal
+
+-- the reader's bytes were answered, and the answer's line was written
+pub record IsAnswered (drawn : Bool) (left : Option (List ℕ)) (before after : Option (List ℕ)) (outcome : Outcome) : Type 0 where
+  pub input : List ℕ
+  pub answer : Result Parts Error
+  pub read : AreKnown left input
+  pub allowed : MayAnswer drawn input answer
+  pub written : Appends before after (line_of answer)
+  pub told : outcome ≡ outcome_of answer
+
+-- there was no memory for the reader's bytes, and the line of that refusal was written
+pub record IsUnread (before after : Option (List ℕ)) (outcome : Outcome) : Type 0 where
+  pub written : Appends before after (line_of (Err Memory))
+  pub told : outcome ≡ Refused Memory
+
+-- the status that the program ends with
+abbrev pub status_of : Result Outcome RunFault → ℕ
+status_of (Ok Made) = 0
+status_of (Ok (Refused refusal)) = 1
+status_of (Err fault) = 1

@@ -1,0 +1,42 @@
+//! Reads bytes from standard input, makes a WebAssembly module of them, and tells on one line of
+//! standard output how much of each kind it has.
+#![tactic(auto)]
+
+mod line;
+mod run;
+mod sink;
+mod source;
+#[cfg(test)]
+mod tests;
+mod words;
+
+use crate::run::{RunFault, run};
+use crate::sink::FromWrite;
+use crate::source::FromRead;
+use crate::words::{status, words};
+use std::process::ExitCode;
+use std::{env, io};
+
+fn main(rt: HostRuntime) -> ExitCode {
+    let Ok(asked) = read_words(&rt) else {
+        let _ = eprintln!(rt; "{}", RunFault::Read);
+        return ExitCode::FAILURE;
+    };
+    let Some(drawn) = words(asked.as_slice()) else {
+        let _ = eprintln!(rt; "usage: smith_run [arbitrary]");
+        return ExitCode::from(2);
+    };
+    let mut source = FromRead::new(rt.stdin());
+    let mut sink = FromWrite::new(rt.stdout());
+    let ended = run(rt.alloc(), drawn, &mut source, &mut sink);
+    if let Err(fault) = ended {
+        let _ = eprintln!(rt; "{fault}");
+    }
+    ExitCode::from(status(&ended))
+}
+
+/// The words after the program's name. One that isn't UTF-8 is a failure.
+fn read_words(rt: &HostRuntime) -> io::Result<Vec<String>> {
+    let words = env::args(rt)?.skip(1).collect(rt.alloc())?;
+    Ok(words)
+}

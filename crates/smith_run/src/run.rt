@@ -1,0 +1,88 @@
+ghost use Rattle.std.specs.Prelude.{◌≡◌, ◌⊎◌, ◌↔◌, ◌||◌, true, false, IfOk, IfErr, OnOk, IsErrOf, is_err};
+ghost use Rattle.std.specs.Io.KnownBytes.{Appends};
+ghost use Rattle.smith_run.specs.Line.{line_of};
+ghost use Rattle.smith_run.specs.Run.{MayAnswer, IsAnswered, IsUnread, outcome_of};
+
+use crate::line::line;
+use crate::sink::{Sink, write_whole};
+use crate::source::{Failed, InputFault, Source, read_whole};
+use std::alloc::Global;
+use wasm_smith::{Config, Error, Module, Unstructured};
+
+/// What the written line tells.
+#[derive(Clone, Copy, Debug, PartialEq, Eq)]
+pub enum Outcome {
+    /// A module was made.
+    Made,
+    /// No module was made.
+    Refused(Error),
+}
+
+/// Why no whole line was written.
+#[derive(Clone, Copy, Debug, PartialEq, Eq, thiserror::Error)]
+pub enum RunFault {
+    /// The input wasn't read to its end. Nothing was written.
+    #[error("read failed")]
+    Read,
+    /// The line wasn't written to its end. How much of it was is open.
+    #[error("write failed")]
+    Write,
+}
+
+/// Reads the input to its end, makes a module of it, and writes one line that tells the module or
+/// the refusal. With `drawn` the configuration comes from the input too, else it is the default.
+///
+/// Nothing was written where the answer is `RunFault::Read`. Neither line takes memory.
+pub fn run<R: Source, W: Sink>(
+    alloc: Global,
+    drawn: bool,
+    r: &mut R,
+    w: &mut W,
+) -> Result<Outcome, RunFault>
+    requires source { R.failed r.old ≡ false }
+    requires sink { W.failed w.old ≡ false }
+    ensures line { IfOk result (λ outcome.
+        IsAnswered drawn (R.left r.old) (W.written w.old) (W.written w.new) outcome
+        ⊎ IsUnread (W.written w.old) (W.written w.new) outcome) }
+    ensures read { IsErrOf result RunFault.Read ↔ (R.failed r.new ≡ true) }
+    ensures write { IsErrOf result RunFault.Write ↔ (W.failed w.new ≡ true) }
+    ensures unwritten { IsErrOf result RunFault.Read → w.new ≡ w.old }
+{
+    match read_whole(alloc, r) {
+        Ok(input) => tell(w, &generated(alloc, drawn, &input)),
+        Err(InputFault::Memory) => tell(w, &Err(Error::Memory)),
+        Err(InputFault::Read) => Err(RunFault::Read),
+    }
+}
+
+fn generated(alloc: Global, drawn: bool, input: &[u8]) -> Result<Module, Error>
+    ensures { MayAnswer drawn input.now result }
+{
+    let mut u = Unstructured::new(input);
+    if drawn {
+        let config = Config::arbitrary(&mut u)?;
+        return Module::new(alloc, config, &mut u);
+    }
+    Module::new(alloc, Config::default(), &mut u)
+}
+
+fn tell<W: Sink>(w: &mut W, answer: &Result<Module, Error>) -> Result<Outcome, RunFault>
+    ensures written { OnOk result (Appends (W.written w.old) (W.written w.new) (line_of answer.now)) }
+    ensures told { IfOk result (λ outcome. outcome ≡ outcome_of answer.now) }
+    ensures fault { IfErr result (λ fault. fault ≡ RunFault.Write) }
+    ensures failed { W.failed w.new ≡ (W.failed w.old || is_err result) }
+{
+    match write_whole(w, line(answer).as_str().as_bytes()) {
+        Ok(()) => Ok(outcome_for(answer)),
+        Err(Failed) => Err(RunFault::Write),
+    }
+}
+
+fn outcome_for(answer: &Result<Module, Error>) -> Outcome
+    ensures { result ≡ outcome_of answer.now }
+{
+    match answer {
+        Ok(_) => Outcome::Made,
+        Err(refusal) => Outcome::Refused(*refusal),
+    }
+}

@@ -1,0 +1,114 @@
+ghost use Rattle.std.specs.Prelude.{◌≡◌, ℕ, List, Bool, false, ◌||◌, Option, None, is_err, IfOk, OnOk};
+ghost use Rattle.std.specs.Io.{ReadsAtMost};
+ghost use Rattle.std.specs.Io.KnownBytes.{ReadConsumes, IsAtEnd};
+ghost use Rattle.smith_run.specs.Input.{AreKnown, is_read_fault};
+ghost use Rattle.smith_run.specs.declared.source.InputFault.TheVariants.{Read, Memory};
+
+use std::alloc::{AllocError, Global};
+use std::io::Read;
+
+/// A read or a write went wrong. Why isn't kept.
+#[derive(Clone, Copy, Debug)]
+pub struct Failed;
+
+/// Where the program's input comes from.
+pub trait Source {
+    // The bytes that reads will give from here on, where the source tells them.
+    ghost left: { Self → Option (List ℕ) } = { λ _. None };
+
+    // Whether a read has failed.
+    ghost failed: { Self → Bool };
+
+    /// Puts bytes into the front of the buffer and says how many. None for a buffer that isn't
+    /// empty is the end of the input.
+    fn read(&mut self, buffer: &mut [u8]) -> Result<usize, Failed>
+        ensures bound { ReadsAtMost result buffer.new }
+        ensures bytes { ReadConsumes (left self.old) (left self.new) result buffer.new }
+        ensures fault { failed self.new ≡ (failed self.old || is_err result) };
+
+    /// Whether a read has failed. It stays so.
+    fn has_failed(&self) -> bool
+        ensures { result ≡ failed self.now };
+}
+
+/// A source that reads from any reader. Every error is a failure, an interruption too.
+#[derive(Drop)]
+pub struct FromRead<R> {
+    reader: R,
+    failed: bool,
+}
+
+impl<R: Read> FromRead<R> {
+    /// A source of what the reader has left. Takes no memory.
+    pub fn new(reader: R) -> Self
+        ensures left { ⟦<FromRead<R> as Source>⟧.left result ≡ R.remaining reader }
+        ensures fresh { ⟦<FromRead<R> as Source>⟧.failed result ≡ false }
+    {
+        FromRead {
+            reader,
+            failed: false,
+        }
+    }
+}
+
+impl<R: Read> Source for FromRead<R> {
+    ghost left = { λ source. R.remaining source.reader };
+
+    ghost failed = { λ source. source.failed };
+
+    fn read(&mut self, buffer: &mut [u8]) -> Result<usize, Failed> {
+        match self.reader.read(buffer) {
+            Ok(count) => Ok(count),
+            Err(_) => {
+                self.failed = true;
+                Err(Failed)
+            }
+        }
+    }
+
+    fn has_failed(&self) -> bool {
+        self.failed
+    }
+}
+
+/// Why an input wasn't read whole.
+#[derive(Clone, Copy, Debug)]
+pub enum InputFault {
+    /// A read failed.
+    Read,
+    /// A growth was refused.
+    Memory,
+}
+
+impl From<Failed> for InputFault {
+    ghost from_gives = { λ _ fault. fault ≡ Read };
+
+    fn from(_failed: Failed) -> InputFault {
+        InputFault::Read
+    }
+}
+
+impl From<AllocError> for InputFault {
+    ghost from_gives = { λ _ fault. fault ≡ Memory };
+
+    fn from(_refused: AllocError) -> InputFault {
+        InputFault::Memory
+    }
+}
+
+/// Reads a source to its end.
+pub fn read_whole<R: Source>(alloc: Global, source: &mut R) -> Result<Vec<u8>, InputFault>
+    ensures whole { IfOk result (λ input. AreKnown (R.left source.old) input.items) }
+    ensures end { OnOk result (IsAtEnd (R.left source.new)) }
+    ensures fault { R.failed source.new ≡ (R.failed source.old || is_read_fault result) }
+{
+    let mut input = Vec::new(alloc);
+    let mut buffer = [0; 4096];
+    loop {
+        let count = source.read(&mut buffer)?;
+        if count == 0 {
+            return Ok(input);
+        }
+        input.extend_from_slice(&buffer[..count])?;
+    }
+}

@@ -1,0 +1,34 @@
+ghost use Rattle.std.specs.Prelude.{◌≡◌, map, string_bytes, codes};
+ghost use Rattle.std.specs.Str.{bytes_eq};
+ghost use Rattle.smith_run.specs.Run.{status_of};
+ghost use Rattle.smith_run.specs.Words.{drawn_by};
+
+use crate::run::{Outcome, RunFault};
+
+/// Whether the configuration is to be drawn from the input, by the words after the program's name.
+/// `None` where the program has no use for them.
+pub fn words(words: &[String]) -> Option<bool>
+    ensures { result ≡ drawn_by (map string_bytes words.now) }
+{
+    match words {
+        [] => Some(false),
+        [word] => is_arbitrary(word).then_some(true),
+        _ => None,
+    }
+}
+
+fn is_arbitrary(word: &String) -> bool
+    ensures { result ≡ bytes_eq (string_bytes word.now) (codes "arbitrary") }
+{
+    word.as_str() == "arbitrary"
+}
+
+/// The status that the program ends with.
+pub fn status(ended: &Result<Outcome, RunFault>) -> u8
+    ensures { result ≡ status_of ended.now }
+{
+    match ended {
+        Ok(Outcome::Made) => 0,
+        _ => 1,
+    }
+}
