@@ -2,8 +2,9 @@ ghost use Rattle.std.specs.Prelude.{◌≡◌};
 ghost use Rattle.smith_types.specs.declared.value_type.HeapType.TheVariants.{Concrete};
 
 use smith_types::{
-    AbstractHeapType, CompositeInnerType, CompositeType, EntityType, FuncType, HeapType, Import,
-    ImportItem, Imports, Items, MemoryType, Name, RefType, StructType, SubType, TypeSpace, ValType,
+    AbstractHeapType, CompositeInnerType, CompositeType, EntityType, FieldType, FuncType, HeapType,
+    Import, ImportItem, Imports, Items, Name, RefType, StorageType, StructType, SubType, TypeSpace,
+    ValType,
 };
 use std::alloc::Global;
 use std::test::Fail;
@@ -77,33 +78,62 @@ fn name(alloc: Global, text: &str) -> Result<Name, Fail> {
     Ok(Name::from_string(String::from_str(alloc, text)?))
 }
 
-#[test]
-fn a_compact_group_is_cloned(rt: HostRuntime) -> Result<(), Fail> {
-    let alloc = rt.alloc();
-    let memory = EntityType::Memory(MemoryType {
-        minimum: 1,
-        maximum: None,
-        memory64: false,
-        shared: false,
-        page_size_log2: None,
-    });
+// One memory, imported in a compact group.
+fn compact_group(alloc: Global) -> Result<Imports, Fail> {
     let mut items = Items::new(alloc);
     items.push(ImportItem {
         name: name(alloc, "memory")?,
-        entity_type: memory,
+        entity_type: EntityType::Tag(3),
     })?;
-    let group = Imports::Compact1 {
+    Ok(Imports::Compact1 {
         module: name(alloc, "env")?,
         items,
-    };
-    let single = Imports::Single(Import {
-        module: name(alloc, "env")?,
-        name: name(alloc, "memory")?,
-        entity_type: memory,
-    });
+    })
+}
+
+#[test]
+fn a_compact_group_is_cloned(rt: HostRuntime) -> Result<(), Fail> {
+    let alloc = rt.alloc();
+    let group = compact_group(alloc)?;
     assert!(rt; group.clone(alloc)? == group);
-    assert!(rt; single.clone(alloc)? == single);
-    assert!(rt; group != single);
+    assert_eq!(rt;
+        format!(in alloc; "{group:?}")?.as_str(),
+        "Compact1 { module: \"env\", items: [ImportItem { name: \"memory\", entity_type: Tag(3) }] }"
+    );
+    Ok(())
+}
+
+#[test]
+fn a_single_import_is_cloned(rt: HostRuntime) -> Result<(), Fail> {
+    let alloc = rt.alloc();
+    let import = Import {
+        module: name(alloc, "env")?,
+        name: name(alloc, "tag")?,
+        entity_type: EntityType::Tag(3),
+    };
+    assert!(rt; import.clone(alloc)? == import);
+    Ok(())
+}
+
+#[test]
+fn a_list_of_names_is_cloned(rt: HostRuntime) -> Result<(), Fail> {
+    let alloc = rt.alloc();
+    let mut names = Items::new(alloc);
+    names.push(name(alloc, "a")?)?;
+    assert!(rt; names.clone(alloc)? == names);
+    Ok(())
+}
+
+#[test]
+fn a_struct_type_is_cloned(rt: HostRuntime) -> Result<(), Fail> {
+    let alloc = rt.alloc();
+    let mut fields = Items::new(alloc);
+    fields.push(FieldType {
+        element_type: StorageType::I8,
+        mutable: true,
+    })?;
+    let structure = StructType { fields };
+    assert!(rt; structure.clone(alloc)? == structure);
     Ok(())
 }
 

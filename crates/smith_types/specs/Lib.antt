@@ -12,3 +12,4 @@ pub mod Same
 pub mod Flags
 pub mod Parts
 pub mod Instructions
+pub mod ExampleTypes

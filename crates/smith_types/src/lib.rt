@@ -7,6 +7,7 @@ mod composite_type;
 mod const_instr;
 mod entity_type;
 mod exact;
+mod examples;
 mod features;
 mod imports;
 mod instruction_kind;

@@ -16,10 +16,11 @@ ghost use Rattle.std.specs.Prelude.{
 
 use smith_bytes::Error;
 use std::alloc::Global;
+use std::fmt;
 use std::marker::Model;
 
 /// A list in plain data, which contracts see as the list itself.
-#[derive(Drop, Debug)]
+#[derive(Drop)]
 pub struct Items<T> {
     items: Vec<T>,
 }
@@ -86,7 +87,7 @@ impl<T: Drop> Items<T> {
 }
 
 /// A text in plain data, which contracts see as its bytes.
-#[derive(Drop, Debug)]
+#[derive(Drop)]
 pub struct Name {
     text: String,
 }
@@ -156,5 +157,19 @@ impl PartialEq for Name {
 
     fn eq(&self, other: &Name) -> bool {
         self.text.as_str() == other.text.as_str()
+    }
+}
+
+/// Prints as the list itself.
+impl<T: fmt::Debug> fmt::Debug for Items<T> {
+    fn fmt<W: fmt::Write>(&self, f: &mut fmt::Formatter<W>) -> fmt::Result {
+        self.items.fmt(f)
+    }
+}
+
+/// Prints as the text itself.
+impl fmt::Debug for Name {
+    fn fmt<W: fmt::Write>(&self, f: &mut fmt::Formatter<W>) -> fmt::Result {
+        self.text.fmt(f)
     }
 }
