@@ -1,5 +1,5 @@
 -- The bits of the features that are on show these features and no other.
-use Rattle.std.proofs.Common.{◌≡◌, ◌==◌, ◌≢◌, ℕ, ◌+◌, ◌<◌, Bool, true, false, List, [], ◌∷◌, ◌++◌, refl, ap, sym, ◌∙◌, bit_and, bit_or, arith, eq-eqb, ne_eqb, lit<}
+use Rattle.std.proofs.Common.{◌≡◌, ◌==◌, ◌≢◌, ℕ, ◌+◌, ◌<◌, Bool, true, false, List, [], ◌∷◌, ◌++◌, refl, ap, ◌∙◌, bit_and, arith, eq-eqb, ne_eqb, lit<}
 use Rattle.std.specs.Prelude.{fold, ◌&&◌, take, drop}
 use Rattle.std.proofs.lemmas.Nat.{and_or_self, and_or_apart}
 use Rattle.std.proofs.lemmas.Bool.{eqb-true}

@@ -10,5 +10,5 @@ pub AllZip-next : {A B : Type 0} (R : A → B → Type 0) (parts : List A) (plac
     → AllZip R (take (place + 1) parts) (read ++ y ∷ [])
 AllZip-next R parts place read part y lt at before here =
     let e : take (place + 1) parts ≡ take place parts ++ part ∷ [] =
-        take_more parts place part lt ∙ ap (λ p. take place parts ++ p ∷ []) (sym at) in
+    take_more parts place part lt ∙ ap (λ p. take place parts ++ p ∷ []) (sym at) in
     subst (λ ps. AllZip R ps (read ++ y ∷ [])) (sym e) (all_zipped_more R (take place parts) read part y before here)

@@ -1,5 +1,5 @@
 -- Kinds of instructions, sets of them as bits, and their names.
-use Rattle.std.specs.Prelude.{Bool, ◌-◌, if◌then◌else◌, ◌≡◌, ℕ, ◌<◌, ◌+◌, ◌^◌, List, [], ◌∷◌, ◌++◌, length, take, codes, bit_or, fold, map, Result, Ok, Err, ◌==◌, slice_get, Some}
+use Rattle.std.specs.Prelude.{Bool, ◌-◌, if◌then◌else◌, ◌≡◌, ℕ, ◌+◌, ◌^◌, List, [], ◌∷◌, take, codes, bit_or, fold, map, Result, Ok, Err, slice_get, Some}
 use Rattle.std.specs.List.{AllZip}
 use Rattle.smith_types.specs.Parts.{parts_of}
 use Rattle.std.specs.Char.{to_ascii_lowercase}

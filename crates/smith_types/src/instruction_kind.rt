@@ -1,7 +1,18 @@
 ghost use Rattle.std.specs.Prelude.{◌≡◌, ◌↔◌, ⊤, IsTrue, bit_and};
 ghost use Rattle.bitflags.specs.Sets.{without};
 ghost use Rattle.smith_types.specs.Instructions.{
-    kind_bits, kind_name, kind_table, kinds_bits, every_kind, no_kind, with_kind, union_of, float_bits, IsReadKind, AreReadKinds};
+  kind_bits,
+  kind_name,
+  kind_table,
+  kinds_bits,
+  every_kind,
+  no_kind,
+  with_kind,
+  union_of,
+  float_bits,
+  IsReadKind,
+  AreReadKinds,
+};
 
 use bitflags::{Flag, Flags, bitflag_items};
 use std::str::FromStr;
