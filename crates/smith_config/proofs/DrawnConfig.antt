@@ -2,12 +2,10 @@
 use Rattle.std.proofs.Common.{◌≡◌, ℕ, ◌≤◌, ◌^◌, List, Bool, true, false, min, arith, refl, if◌then◌else◌}
 use Rattle.smith_bytes.specs.Draws.{range_at}
 use Rattle.smith_bytes.specs.declared.error.Count.{Count}
-use Rattle.smith_bytes.specs.declared.error.Count.TheVariants.{
-    Types, Imports, Tags, Funcs, Globals, Exports, ElementSegments, Elements, DataSegments, Memories, Tables}
+use Rattle.smith_bytes.specs.declared.error.Count.TheVariants.{Types, Memories, Tables}
 use Rattle.smith_bytes.proofs.Drawn.{range_within}
-use Rattle.smith_config.specs.declared.config.Config.{Config}
 use Rattle.smith_config.specs.Arbitrary.{config_at, counts_at, sizes_at, proposals_at, kinds_at, rules_at}
-use Rattle.smith_config.specs.Faults.{Passes, IsBounded, minimum_of, maximum_of}
+use Rattle.smith_config.specs.Faults.{Passes, minimum_of, maximum_of}
 
 few : (most : ℕ) (bytes : List ℕ) → most ≤ 1000 → (range_at 0 most bytes).0 ≤ 2 ^ 31
 few most bytes small = let le = range_within 0 most bytes (omega arith) in omega arith
@@ -38,7 +36,8 @@ small_memory64 bytes = range_within 0 (2 ^ 64) _ (omega arith)
 
 pub config_at-passes : (bytes : List ℕ) → Passes (config_at bytes).0
 config_at-passes bytes = record {
-    ordered = λ count used. let zero = no_minimum bytes count in omega arith;
-    few = small_maximum bytes;
-    memory32 = small_memory32 bytes;
-    memory64 = small_memory64 bytes }
+  ordered = λ count used. let zero = no_minimum bytes count in omega arith;
+  few = small_maximum bytes;
+  memory32 = small_memory32 bytes;
+  memory64 = small_memory64 bytes;
+}

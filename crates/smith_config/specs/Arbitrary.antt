@@ -1,9 +1,21 @@
 -- The configuration that bytes give.
-use Rattle.std.specs.Prelude.{ℕ, ◌^◌, Bool, true, false, List, [], ◌∷◌}
+use Rattle.std.specs.Prelude.{ℕ, ◌^◌, Bool, false, List, [], ◌∷◌}
 use Rattle.smith_bytes.specs.Draws.{range_at, bool_at}
 use Rattle.smith_types.specs.Instructions.{no_kind, with_kind}
 use Rattle.smith_types.specs.declared.instruction_kind.InstructionKind.TheVariants.{
-    NumericInt, Numeric, VectorInt, Vector, Reference, Parametric, Variable, Table, MemoryInt, Memory, Control, Aggregate}
+  NumericInt,
+  Numeric,
+  VectorInt,
+  Vector,
+  Reference,
+  Parametric,
+  Variable,
+  Table,
+  MemoryInt,
+  Memory,
+  Control,
+  Aggregate,
+}
 use Rattle.smith_config.specs.Config.{default_config}
 use Rattle.smith_config.specs.Sanitized.{sanitized}
 use Rattle.smith_config.specs.declared.config.Config.{Config}
@@ -98,12 +110,13 @@ rules_at config bytes = in_turn (
 -- what isn't drawn: nothing is asked for at least, and what few engines have is off
 abbrev pub undrawn_config : Config
 undrawn_config = record default_config {
-    max_components = 0;
-    max_instances = 0;
-    max_modules = 0;
-    max_values = 0;
-    allowed_instructions = no_kind;
-    wide_arithmetic_enabled = false }
+  max_components = 0;
+  max_instances = 0;
+  max_modules = 0;
+  max_values = 0;
+  allowed_instructions = no_kind;
+  wide_arithmetic_enabled = false;
+}
 
 -- the configuration that bytes give, and the bytes that it leaves
 unfoldable pub config_at : List ℕ → Config × List ℕ

@@ -1,5 +1,5 @@
 -- How often an offset is inside a memory, and how that is written.
-use Rattle.std.specs.Prelude.{◌≡◌, ℕ, ◌<◌, ◌==◌, ◌≢◌, List, [], ◌∷◌, length, take, map, Result, Ok, Err, slice_get, Some}
+use Rattle.std.specs.Prelude.{◌≡◌, ℕ, ◌<◌, ◌≢◌, List, [], ◌∷◌, length, take, Result, Ok, Err, slice_get, Some}
 use Rattle.std.specs.List.{AllZip}
 use Rattle.smith_types.specs.Parts.{parts_of}
 use Rattle.std.specs.Str.Parse.{ParsesUnsigned}

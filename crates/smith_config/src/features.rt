@@ -16,7 +16,10 @@ impl Config {
                 self.saturating_float_to_int_enabled,
                 WasmFeatures::SATURATING_FLOAT_TO_INT,
             )
-            .with(self.sign_extension_ops_enabled, WasmFeatures::SIGN_EXTENSION)
+            .with(
+                self.sign_extension_ops_enabled,
+                WasmFeatures::SIGN_EXTENSION,
+            )
             .with(self.reference_types_enabled, WasmFeatures::REFERENCE_TYPES)
             .with(self.multi_value_enabled, WasmFeatures::MULTI_VALUE)
             .with(self.bulk_memory_enabled, WasmFeatures::BULK_MEMORY)
@@ -34,7 +37,10 @@ impl Config {
                 self.shared_everything_threads_enabled,
                 WasmFeatures::SHARED_EVERYTHING_THREADS,
             )
-            .with(self.custom_page_sizes_enabled, WasmFeatures::CUSTOM_PAGE_SIZES)
+            .with(
+                self.custom_page_sizes_enabled,
+                WasmFeatures::CUSTOM_PAGE_SIZES,
+            )
             .with(self.extended_const_enabled, WasmFeatures::EXTENDED_CONST)
             .with(self.wide_arithmetic_enabled, WasmFeatures::WIDE_ARITHMETIC)
             .with(
@@ -45,6 +51,9 @@ impl Config {
                 self.multibyte_array_access_enabled,
                 WasmFeatures::MULTIBYTE_ARRAY_ACCESS,
             )
-            .with(self.custom_descriptors_enabled, WasmFeatures::CUSTOM_DESCRIPTORS)
+            .with(
+                self.custom_descriptors_enabled,
+                WasmFeatures::CUSTOM_DESCRIPTORS,
+            )
     }
 }

@@ -6,7 +6,8 @@ use Rattle.smith_config.proofs.offset_choices.MemoryOffsetChoicesFromStr.from_st
 
 abbrev pub invariant-loop-part : goal.invariant-loop-part
 invariant-loop-part l = record {
-    count : l.place ≡ length l.yielded;
-    long : length l.numbers ≡ 3;
-    few : l.place ≤ 3;
-    read : AllZip IsNumber (take l.place (parts_of l.s)) (take l.place l.numbers) }
+  count : l.place ≡ length l.yielded;
+  long : length l.numbers ≡ 3;
+  few : l.place ≤ 3;
+  read : AllZip IsNumber (take l.place (parts_of l.s)) (take l.place l.numbers);
+}
