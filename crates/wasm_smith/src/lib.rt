@@ -11,8 +11,9 @@ pub use module::Module;
 pub use segments::{DataSegment, DataSegmentKind, ElementKind, ElementSegment, Elements, Offset};
 pub use smith_bytes::{
     Arbitrary, ConfigFault, Count, Error, Int, ShapeFault, Unstructured, Which, Why,
+    arbitrary_loop, limited_str, limited_string, unique_kebab_string, unique_string, unique_url,
 };
-pub use smith_config::Config;
+pub use smith_config::{Config, MemoryOffsetChoices, OffsetChoicesFault};
 pub use smith_draw::{
     Entities, Spaces, add_type, arbitrary_func_type, arbitrary_heap_type, arbitrary_limits64,
     arbitrary_memtype, arbitrary_rec_group, arbitrary_ref_type, arbitrary_sub_type,
@@ -20,6 +21,7 @@ pub use smith_draw::{
 };
 pub use smith_types::{
     AbstractHeapType, ArrayType, CompositeInnerType, CompositeType, ConstInstr, EntityType,
-    ExportKind, FieldType, FuncType, GlobalType, HeapType, Import, ImportItem, Imports, Items,
-    MemoryType, Name, RefType, StorageType, StructType, SubType, TableType, TypeSpace, ValType,
+    ExportKind, FieldType, FuncType, GlobalType, HeapType, Import, ImportItem, Imports,
+    InstructionKind, InstructionKinds, Items, MemoryType, Name, RefType, StorageType, StructType,
+    SubType, TableType, TypeSpace, UnknownKind, ValType, WasmFeatures,
 };
