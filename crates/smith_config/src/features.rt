@@ -1,5 +1,5 @@
 ghost use Rattle.std.specs.Prelude.{◌≡◌};
-ghost use Rattle.smith_types.specs.Flags.{features_in};
+ghost use Rattle.smith_types.specs.FeatureBits.{features_in};
 ghost use Rattle.smith_config.specs.Features.{features_of};
 
 use crate::Config;

@@ -11,6 +11,7 @@ use Rattle.smith_types.specs.Space.{Space}
 use Rattle.smith_types.specs.ValidTypes.{IsValTypeValid, IsFuncTypeValid, IsTypeValid, AreTypesValid}
 use Rattle.smith_types.specs.declared.composite_type.SubType.{SubType}
 use Rattle.smith_types.specs.declared.value_type.ValType.{ValType}
+use Rattle.smith_types.proofs.Spaces.{IsOrderly-push}
 use Rattle.smith_types.proofs.Validity.{AreTypesValid-single}
 use Rattle.smith_config.specs.declared.config.Config.{Config}
 use Rattle.smith_config.specs.Features.{features_of}
@@ -55,19 +56,17 @@ sub_type_valid config types end bytes sanitized off =
     let function = func_type_at config shared.0 shared.1 in
     let valid = func_type_valid config shared.0 end shared.1 may in
     record {
-      inner = valid.results;
+      enabled = record { inner = valid.results; not_final = λ e. cc; supertype = λ no. cc; shared = may };
       values = All-append (IsValTypeValid (features_of config) end) function.0.params function.0.results valid.params_valid valid.results_valid;
-      not_final = λ e. cc;
-      supertype = λ no. cc;
-      shared = may;
+      declared = λ s up. cc;
       shareable = λ on. absurd (unshared config sanitized off (may on));
     }
 
 pub rec_group_valid : (config : Config) (space : Space) (bytes : List ℕ) → IsSanitized config → config.gc_enabled ≡ false → AreTypesValid (features_of config) space → AreTypesValid (features_of config) (rec_group_at config space bytes).0
-unfolding rec_group_at
+unfolding rec_group_at sub_type_at
 rec_group_valid config space bytes sanitized off now =
     let drawn = sub_type_at config bytes in
-    AreTypesValid-single (features_of config) space.types space.groups drawn.0 now (sub_type_valid config (space.types ++ drawn.0 ∷ []) (length space.types + 1) bytes sanitized off)
+    AreTypesValid-single (features_of config) space.types space.groups drawn.0 (IsOrderly-push space.types drawn.0 now.orderly (λ s up. cc)) now (sub_type_valid config (space.types ++ drawn.0 ∷ []) (length space.types + 1) bytes sanitized off)
 
 rec_groups_valid : (config : Config) (most : ℕ) (space : Space) (bytes : List ℕ) → IsSanitized config → config.gc_enabled ≡ false → AreTypesValid (features_of config) space → AreTypesValid (features_of config) (rec_groups_at config most space bytes).0
 unfolding rec_groups_at

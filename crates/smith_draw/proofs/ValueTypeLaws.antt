@@ -4,7 +4,8 @@ use Rattle.std.specs.Prelude.{IsTrue}
 use Rattle.std.specs.List.{AllByRecursion as ByRecursion}
 use Rattle.std.proofs.lemmas.List.Elements.{All-from_recursion}
 use Rattle.smith_bytes.proofs.Grown.{cond_both}
-use Rattle.smith_types.specs.ValidTypes.{IsAbstractEnabled, IsHeapTypeValid, IsRefTypeValid, IsValTypeValid}
+use Rattle.smith_types.specs.Flags.{IsAbstractEnabled}
+use Rattle.smith_types.specs.ValidTypes.{IsHeapTypeValid, IsRefTypeValid, IsValTypeValid}
 use Rattle.smith_types.specs.declared.value_type.AbstractHeapType.{AbstractHeapType}
 use Rattle.smith_types.specs.declared.value_type.AbstractHeapType.TheVariants.{Func}
 use Rattle.smith_types.specs.declared.value_type.HeapType.TheVariants.{Abstract}

@@ -1,6 +1,6 @@
 -- The bounds that a configuration sets to drawn entities.
 use Rattle.std.specs.Prelude.{ℕ, ◌*◌, ◌^◌, ◌≤◌, ◌⊎◌, Bool, IsTrue, IsSome, IfSome, if◌then◌else◌}
-use Rattle.smith_types.specs.ValidEntities.{page_log2}
+use Rattle.smith_types.specs.Entities.{page_log2}
 use Rattle.smith_types.specs.declared.entity_type.MemoryType.{MemoryType}
 use Rattle.smith_config.specs.declared.config.Config.{Config}
 

@@ -1,6 +1,6 @@
 ghost use Rattle.std.specs.Prelude.{◌≡◌, ◌≤◌, ◌/◌, ◌^◌, ◌⊎◌, ◌||◌, Bool, IsTrue, IfSome, IsOk, IfOk};
 ghost use Rattle.smith_bytes.specs.Source.{KeepsPieces};
-ghost use Rattle.smith_types.specs.ValidEntities.{IsMemoryValid, page_log2};
+ghost use Rattle.smith_types.specs.Entities.{IsMemoryValid, page_log2};
 ghost use Rattle.smith_config.specs.Features.{features_of};
 ghost use Rattle.smith_config.specs.Faults.{Passes};
 ghost use Rattle.smith_draw.specs.Bounds.{IsMemoryWithin};

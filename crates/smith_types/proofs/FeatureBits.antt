@@ -6,7 +6,7 @@ use Rattle.std.proofs.lemmas.Bool.{eqb-true}
 use Rattle.std.proofs.lemmas.List.Sums.{fold-append}
 use Rattle.smith_types.specs.declared.features.WasmFeatures.{WasmFeatures}
 use Rattle.smith_types.specs.Features.{Features}
-use Rattle.smith_types.specs.Flags.{has, joined, features_in}
+use Rattle.smith_types.specs.FeatureBits.{has, joined, features_in}
 
 -- each feature and its bit
 abbrev pub feature_rows : Features → List (Bool × ℕ)

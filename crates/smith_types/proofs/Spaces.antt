@@ -14,15 +14,15 @@ use Rattle.smith_types.proofs.Lists.{slice_get-grown, slice_get-last, slice_get-
 slice_get-shrunk : {A : Type 0} (xs : List A) (y : A) (i : ℕ) (x : A) → i < length xs → slice_get (xs ++ y ∷ []) i ≡ Some x → slice_get xs i ≡ Some x
 slice_get-shrunk xs y i x inside at = elim (slice_get-push xs y i x at) [ inl old ↦ old | inr (is, same) ↦ absurd (omega arith) ]
 
-pub IsOrderly-push : (types : List SubType) (t : SubType) → IsOrderly types → MayFollow types t → IsOrderly (types ++ t ∷ [])
-IsOrderly-push types t orderly follows = record {
+pub IsOrderly-push : (types : List SubType) (t : SubType) → IsOrderly types → ((s : ℕ) → t.supertype ≡ Some s → (u : SubType) × (slice_get types s ≡ Some u) × IsAlike t u) → IsOrderly (types ++ t ∷ [])
+IsOrderly-push types t orderly below = record {
   under = λ i s u at sup. elim (slice_get-push types t i u at) [
     | inl old ↦
         let (before, alike) = orderly.under i s u old sup in
         let inside : i < length types = slice_get_within types i u old in
         (before, λ v stands. alike v (slice_get-shrunk types t s v (omega arith) stands))
     | inr (is, same) ↦
-        let (w, stands_at, alike) = follows.below s (ap (λ x. x.supertype) same ∙ sup) in
+        let (w, stands_at, alike) = below s (ap (λ x. x.supertype) same ∙ sup) in
         let inside : s < length types = slice_get_within types s w stands_at in (
           omega arith,
           λ v stands.
@@ -81,7 +81,7 @@ next_start-push types groups = end_from-push 0 groups (next_group types groups)
 
 pub IsSound-type : (types : List SubType) (groups : List (Range ℕ)) (t : SubType) → IsSound (record { types = types; groups = groups }) → MayFollow types t → IsSound (record { types = types ++ t ∷ []; groups = groups })
 IsSound-type types groups t sound follows = record {
-  orderly = IsOrderly-push types t sound.orderly follows;
+  orderly = IsOrderly-push types t sound.orderly follows.below;
   consecutive = sound.consecutive;
   within = simp length-append (let w : next_start groups ≤ length types = sound.within in omega arith);
   few = simp length-append (let r : length types + 1 < 2 ^ 32 = follows.room in omega arith);

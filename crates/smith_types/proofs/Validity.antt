@@ -7,13 +7,14 @@ use Rattle.std.proofs.lemmas.List.Elements.{All-nil, All-weaker, All-push, All-f
 use Rattle.std.proofs.lemmas.Option.{slice_get_within}
 use Rattle.smith_types.specs.Features.{Features}
 use Rattle.smith_types.specs.Space.{Space}
-use Rattle.smith_types.specs.Types.{AreConsecutive, end_from, next_start, next_group}
+use Rattle.smith_types.specs.Types.{IsOrderly, AreConsecutive, end_from, next_start, next_group}
 use Rattle.smith_types.specs.ValidTypes.{IsHeapTypeShared, IsShareable, IsTypeValid, IsGroupValid, AreTypesValid, values_of}
 use Rattle.smith_types.specs.declared.composite_type.SubType.{SubType}
 use Rattle.smith_types.specs.declared.value_type.ValType.{ValType}
 use Rattle.smith_types.specs.declared.value_type.ValType.TheVariants.{I32, I64, F32, F64, V128, Ref}
 use Rattle.smith_types.specs.declared.value_type.HeapType.{HeapType}
 use Rattle.smith_types.specs.declared.value_type.HeapType.TheVariants.{Abstract, Concrete, Exact}
+use Rattle.smith_types.proofs.Growth.{IsCompositeMatch-grown}
 use Rattle.smith_types.proofs.Lists.{slice_get-grown, slice_get-push}
 use Rattle.smith_types.proofs.Spaces.{AreConsecutive-push, next_start-push}
 
@@ -33,11 +34,11 @@ module _ (features : Features) (types more : List SubType) where
 
   pub IsTypeValid-grown : (end : ℕ) (t : SubType) → IsTypeValid features types end t → IsTypeValid features (types ++ more) end t
   IsTypeValid-grown end t h = record {
-    inner = h.inner;
+    enabled = h.enabled;
     values = h.values;
-    not_final = h.not_final;
-    supertype = h.supertype;
-    shared = h.shared;
+    declared = λ s up.
+        let (u, at, valid) = h.declared s up in
+        (u, slice_get-grown types more s u at, record { not_final = valid.not_final; matched = IsCompositeMatch-grown types more t.composite_type u.composite_type valid.matched });
     shareable = λ shared. All-weaker (IsShareable types) (IsShareable (types ++ more)) IsShareable-grown (values_of t.composite_type.inner) (h.shareable shared);
   }
 
@@ -69,9 +70,9 @@ IsGroupValid-single features types t group begins ends h = record {
 }
 
 -- one more type, in a group of its own
-pub AreTypesValid-single : (features : Features) (types : List SubType) (groups : List (Range ℕ)) (t : SubType) → AreTypesValid features (record { types = types; groups = groups }) → IsTypeValid features (types ++ t ∷ []) (length types + 1) t
+pub AreTypesValid-single : (features : Features) (types : List SubType) (groups : List (Range ℕ)) (t : SubType) → IsOrderly (types ++ t ∷ []) → AreTypesValid features (record { types = types; groups = groups }) → IsTypeValid features (types ++ t ∷ []) (length types + 1) t
     → AreTypesValid features (record { types = types ++ t ∷ []; groups = groups ++ next_group (types ++ t ∷ []) groups ∷ [] })
-AreTypesValid-single features types groups t now h =
+AreTypesValid-single features types groups t orderly now h =
     let more = types ++ t ∷ [] in
     let group = next_group more groups in
     let longer : length more ≡ length types + 1 = simp length-append refl in
@@ -84,12 +85,13 @@ AreTypesValid-single features types groups t now h =
         consecutive = AreConsecutive-push 0 groups group now.covered.consecutive refl (omega arith);
         whole = next_start-push more groups;
       };
+      orderly = orderly;
       groups = All-push (IsGroupValid features more) groups group old (IsGroupValid-single features types t group begins longer h);
     }
 
 -- a space without types
 pub no_types : (features : Features) → AreTypesValid features (record { types = []; groups = [] })
-no_types features = record { covered = record { consecutive = tt; whole = refl }; groups = All-nil (IsGroupValid features []) }
+no_types features = record { covered = record { consecutive = tt; whole = refl }; orderly = record { under = λ i s t at up. cc }; groups = All-nil (IsGroupValid features []) }
 
 before_or_not : (a b : ℕ) → (a < b) ⊎ (b ≤ a)
 before_or_not a zero = inr (omega arith)

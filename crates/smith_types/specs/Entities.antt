@@ -1,23 +1,77 @@
--- Entities that a module imports, defines and exports.
-use Rattle.std.specs.Prelude.{ℕ, ◌+◌, ◌<◌, List, length, slice_get}
-use Rattle.std.specs.Option.{option_map, unwrap_or}
-use Rattle.smith_types.specs.declared.composite_type.CompositeInnerType.{CompositeInnerType}
-use Rattle.smith_types.specs.declared.composite_type.CompositeInnerType.TheVariants as inner
+-- Valid entities: the section Validation, Types, of the WebAssembly Core Specification 3.0. Stated page sizes, sharedness,
+-- tags without results, and which feature a construct needs, are rules of this project.
+use Rattle.std.specs.Prelude.{◌≡◌, ℕ, ◌-◌, ◌/◌, ◌^◌, ◌≤◌, ◌⊎◌, min, Bool, IsTrue, IsSome, IfSome, List, [], Option, Some, None, length, slice_get, if◌then◌else◌}
+use Rattle.smith_types.specs.Features.{Features}
+use Rattle.smith_types.specs.Flags.{IsElementEnabled}
+use Rattle.smith_types.specs.ValidTypes.{IsRefTypeValid, IsValTypeValid, IsShareable}
+use Rattle.smith_types.specs.declared.value_type.ValType.TheVariants.{Ref}
+use Rattle.smith_types.specs.declared.composite_type.CompositeInnerType.TheVariants.{Func}
+use Rattle.smith_types.specs.declared.composite_type.FuncType.{FuncType}
 use Rattle.smith_types.specs.declared.composite_type.SubType.{SubType}
 use Rattle.smith_types.specs.declared.entity_type.EntityType.{EntityType}
-use Rattle.smith_types.specs.declared.entity_type.EntityType.TheVariants.{Func}
+use Rattle.smith_types.specs.declared.entity_type.EntityType.TheVariants as entity
+use Rattle.smith_types.specs.declared.entity_type.GlobalType.{GlobalType}
+use Rattle.smith_types.specs.declared.entity_type.MemoryType.{MemoryType}
+use Rattle.smith_types.specs.declared.entity_type.TableType.{TableType}
 
--- how many values a type takes and gives, if it is a function type
-abbrev pub value_count : CompositeInnerType → ℕ
-value_count (inner.Func f) = length f.params + length f.results
-value_count _ = 0
+-- the minimum is at most the maximum, and neither is above `most` (Validation, Limits)
+pub record AreLimitsValid (most minimum : ℕ) (maximum : Option ℕ) : Type 0 where
+  pub minimum_fits : minimum ≤ most
+  pub maximum_fits : IfSome maximum (λ n. (minimum ≤ n) × (n ≤ most))
 
--- the size of an entity, to which a type size adds up: 1, and of a function also what its type takes and gives (own rule)
-abbrev pub size_in : List SubType → EntityType → ℕ
-size_in types (Func i) = 1 + unwrap_or (option_map (λ t. value_count t.composite_type.inner) (slice_get types i)) 0
-size_in types _ = 1
+-- the binary logarithm of a page's bytes: 64 KiB where it is not stated
+abbrev pub page_log2 : Option ℕ → ℕ
+page_log2 (Some stated) = stated
+page_log2 None = 16
 
--- the type of a function is there
-abbrev pub IsTyped : List SubType → EntityType → Type 0
-IsTyped types (Func i) = i < length types
-IsTyped types _ = Unit {0}
+-- how many bytes a memory can address
+abbrev pub addresses : Bool → ℕ
+addresses memory64 = if memory64 then 2 ^ 64 else 2 ^ 32
+
+-- the most pages of a memory (Validation, Memory Types): those that it can address, and at least one less than its addresses (own rule)
+abbrev pub most_pages : Bool → Option ℕ → ℕ
+most_pages memory64 stated = min (addresses memory64 / 2 ^ page_log2 stated) (addresses memory64 - 1)
+
+-- a memory type (Validation, Memory Types); a shared one has a maximum, and a stated page is of one byte or of 64 KiB (own rules)
+pub record IsMemoryValid (features : Features) (memory : MemoryType) : Type 0 where
+  pub limits : AreLimitsValid (most_pages memory.memory64 memory.page_size_log2) memory.minimum memory.maximum
+  pub page_size : IfSome memory.page_size_log2 (λ log2. ((log2 ≡ 0) ⊎ (log2 ≡ 16)) × IsTrue features.custom_page_sizes)
+  pub memory64 : IsTrue memory.memory64 → IsTrue features.memory64
+  pub shared : IsTrue memory.shared → IsTrue features.threads × IsSome memory.maximum
+
+-- the most elements of a table (Validation, Table Types)
+abbrev pub most_elements : Bool → ℕ
+most_elements table64 = if table64 then 2 ^ 64 - 1 else 2 ^ 32 - 1
+
+-- a table type over so many types (Validation, Table Types); a shared one holds shared references (own rule)
+pub record IsTableValid (features : Features) (types : List SubType) (table : TableType) : Type 0 where
+  pub limits : AreLimitsValid (most_elements table.table64) table.minimum table.maximum
+  pub element : IsRefTypeValid features (length types) table.element_type
+  pub element_enabled : IsElementEnabled features table.element_type
+  pub table64 : IsTrue table.table64 → IsTrue features.memory64
+  pub shared : IsTrue table.shared → IsTrue features.shared_everything_threads × IsShareable types (Ref table.element_type)
+
+-- a global type over so many types (Validation, Global Types); a shared one holds what may be shared (own rule)
+pub record IsGlobalValid (features : Features) (types : List SubType) (global : GlobalType) : Type 0 where
+  pub value : IsValTypeValid features (length types) global.val_type
+  pub shared : IsTrue global.shared → IsTrue features.shared_everything_threads × IsShareable types global.val_type
+
+-- the type of this index is this function type
+abbrev pub IsFuncAt : List SubType → ℕ → FuncType → Type 0
+IsFuncAt types index function = (t : SubType) × (slice_get types index ≡ Some t) × (t.composite_type.inner ≡ Func function)
+
+-- a function of the type of this index (Validation, Functions)
+abbrev pub IsFuncValid : List SubType → ℕ → Type 0
+IsFuncValid types index = (function : FuncType) × IsFuncAt types index function
+
+-- a tag of the type of this index, a function type (Validation, Tag Types), which has no results (own rule)
+abbrev pub IsTagValid : Features → List SubType → ℕ → Type 0
+IsTagValid features types index = IsTrue features.exceptions × (function : FuncType) × IsFuncAt types index function × (function.results ≡ [])
+
+-- what is imported (Validation, External Types)
+abbrev pub IsEntityValid : Features → List SubType → EntityType → Type 0
+IsEntityValid features types (entity.Global global) = IsGlobalValid features types global
+IsEntityValid features types (entity.Table table) = IsTableValid features types table
+IsEntityValid features types (entity.Memory memory) = IsMemoryValid features memory
+IsEntityValid features types (entity.Tag index) = IsTagValid features types index
+IsEntityValid features types (entity.Func index) = IsFuncValid types index

@@ -1,74 +1,76 @@
--- Sets of features as bits.
-use Rattle.std.specs.Prelude.{ℕ, Bool, List, [], ◌∷◌, codes, ◌==◌, bit_and, bit_or, if◌then◌else◌}
-use Rattle.smith_types.specs.declared.features.WasmFeatures.{WasmFeatures}
+-- The features that each construct needs. That a module may use a construct only where its feature is on is a rule of this
+-- project; the standard has one language.
+use Rattle.std.specs.Prelude.{◌≡◌, ℕ, ◌<◌, ◌≤◌, true, false, IsTrue, IsSome, length}
 use Rattle.smith_types.specs.Features.{Features}
+use Rattle.smith_types.specs.declared.value_type.AbstractHeapType.{AbstractHeapType}
+use Rattle.smith_types.specs.declared.value_type.AbstractHeapType.TheVariants as abstract
+use Rattle.smith_types.specs.declared.value_type.HeapType.{HeapType}
+use Rattle.smith_types.specs.declared.value_type.HeapType.TheVariants.{Abstract, Concrete, Exact}
+use Rattle.smith_types.specs.declared.value_type.RefType.{RefType}
+use Rattle.smith_types.specs.declared.composite_type.CompositeInnerType.{CompositeInnerType}
+use Rattle.smith_types.specs.declared.composite_type.CompositeInnerType.TheVariants.{Array, Func, Struct}
+use Rattle.smith_types.specs.declared.composite_type.SubType.{SubType}
+use Rattle.smith_types.specs.declared.imports.Imports.{Imports}
+use Rattle.smith_types.specs.declared.imports.Imports.TheVariants.{Single, Compact1, Compact2}
+use Rattle.smith_types.specs.declared.const_instr.ConstInstr.{ConstInstr}
+use Rattle.smith_types.specs.declared.const_instr.ConstInstr.TheVariants as instr
 
--- the bits of a set
-abbrev pub bits_of : WasmFeatures → ℕ
-bits_of set = set.0
+-- an abstract heap type (own rule)
+abbrev pub IsAbstractEnabled : Features → AbstractHeapType → Type 0
+IsAbstractEnabled features abstract.Func = Unit {0}
+IsAbstractEnabled features abstract.Extern = Unit {0}
+IsAbstractEnabled features abstract.Exn = IsTrue features.exceptions
+IsAbstractEnabled features abstract.NoExn = IsTrue features.exceptions × IsTrue features.gc
+IsAbstractEnabled features _ = IsTrue features.gc
 
--- the name and the bit of each feature
-abbrev pub feature_table : List (List ℕ × ℕ)
-feature_table =
-    (codes "MUTABLE_GLOBAL", 1) ∷
-    (codes "WASM1", 2) ∷
-    (codes "SATURATING_FLOAT_TO_INT", 4) ∷
-    (codes "SIGN_EXTENSION", 8) ∷
-    (codes "REFERENCE_TYPES", 16) ∷
-    (codes "MULTI_VALUE", 32) ∷
-    (codes "BULK_MEMORY", 64) ∷
-    (codes "SIMD", 128) ∷
-    (codes "RELAXED_SIMD", 256) ∷
-    (codes "MULTI_MEMORY", 512) ∷
-    (codes "EXCEPTIONS", 1024) ∷
-    (codes "MEMORY64", 2048) ∷
-    (codes "TAIL_CALL", 4096) ∷
-    (codes "FUNCTION_REFERENCES", 8192) ∷
-    (codes "GC", 16384) ∷
-    (codes "COMPACT_IMPORTS", 32768) ∷
-    (codes "THREADS", 65536) ∷
-    (codes "SHARED_EVERYTHING_THREADS", 131072) ∷
-    (codes "CUSTOM_PAGE_SIZES", 262144) ∷
-    (codes "EXTENDED_CONST", 524288) ∷
-    (codes "WIDE_ARITHMETIC", 1048576) ∷
-    (codes "ACQUIRE_RELEASE_ATOMICS", 2097152) ∷
-    (codes "MULTIBYTE_ARRAY_ACCESS", 4194304) ∷
-    (codes "CUSTOM_DESCRIPTORS", 8388608) ∷
-    []
+-- a heap type: shared, concrete and exact ones have features of their own (own rule)
+abbrev pub IsHeapTypeEnabled : Features → HeapType → Type 0
+IsHeapTypeEnabled features (Abstract shared ty) = IsAbstractEnabled features ty × (IsTrue shared → IsTrue features.shared_everything_threads)
+IsHeapTypeEnabled features (Concrete index) = IsTrue features.gc
+IsHeapTypeEnabled features (Exact index) = IsTrue features.custom_descriptors
 
--- whether these bits are all among those
-abbrev pub has : ℕ → ℕ → Bool
-has bits wanted = bit_and bits wanted == wanted
+-- a composite type: arrays and structs, and functions of several results (own rule)
+abbrev pub IsInnerEnabled : Features → CompositeInnerType → Type 0
+IsInnerEnabled features (Array array) = IsTrue features.gc
+IsInnerEnabled features (Func function) = 1 < length function.results → IsTrue features.multi_value
+IsInnerEnabled features (Struct structure) = IsTrue features.gc
 
--- bits joined with others where these are wanted
-unfoldable pub joined : ℕ → Bool → ℕ → ℕ
-joined bits wanted others = if wanted then bit_or bits others else bits
+-- a subtype: one that is not final, has a supertype, or is shared (own rule)
+pub record IsSubTypeEnabled (features : Features) (t : SubType) : Type 0 where
+  pub inner : IsInnerEnabled features t.composite_type.inner
+  pub not_final : t.is_final ≡ false → IsTrue features.gc
+  pub supertype : IsSome t.supertype → IsTrue features.gc
+  pub shared : IsTrue t.composite_type.shared → IsTrue features.shared_everything_threads
 
--- the features whose bits are in a set
-abbrev pub features_in : WasmFeatures → Features
-features_in set = record {
-  mutable_global = has set.0 1;
-  wasm1 = has set.0 2;
-  saturating_float_to_int = has set.0 4;
-  sign_extension = has set.0 8;
-  reference_types = has set.0 16;
-  multi_value = has set.0 32;
-  bulk_memory = has set.0 64;
-  simd = has set.0 128;
-  relaxed_simd = has set.0 256;
-  multi_memory = has set.0 512;
-  exceptions = has set.0 1024;
-  memory64 = has set.0 2048;
-  tail_call = has set.0 4096;
-  function_references = has set.0 8192;
-  gc = has set.0 16384;
-  compact_imports = has set.0 32768;
-  threads = has set.0 65536;
-  shared_everything_threads = has set.0 131072;
-  custom_page_sizes = has set.0 262144;
-  extended_const = has set.0 524288;
-  wide_arithmetic = has set.0 1048576;
-  acquire_release_atomics = has set.0 2097152;
-  multibyte_array_access = has set.0 4194304;
-  custom_descriptors = has set.0 8388608;
-}
+-- the reference type of tables before there were others: nullable, of functions that are not shared
+abbrev pub funcref : RefType
+funcref = record { nullable = true; heap_type = Abstract false abstract.Func }
+
+-- the element type of a table or a segment: other than references to functions only with reference types (own rule)
+abbrev pub IsElementEnabled : Features → RefType → Type 0
+IsElementEnabled features element = (element ≡ funcref → ⊥) → IsTrue features.reference_types
+
+-- a group of imports: compact ones need their feature (own rule)
+abbrev pub IsImportsEnabled : Features → Imports → Type 0
+IsImportsEnabled features (Single imported) = Unit {0}
+IsImportsEnabled features (Compact1 imported_module items) = IsTrue features.compact_imports
+IsImportsEnabled features (Compact2 imported_module entity_type names) = IsTrue features.compact_imports
+
+-- an instruction of a constant expression, where so many globals are imported (own rule)
+abbrev pub IsInstrEnabled : Features → ℕ → ConstInstr → Type 0
+IsInstrEnabled features imported (instr.I32Const value) = Unit {0}
+IsInstrEnabled features imported (instr.I64Const value) = Unit {0}
+IsInstrEnabled features imported (instr.F32Const bits) = Unit {0}
+IsInstrEnabled features imported (instr.F64Const bits) = Unit {0}
+IsInstrEnabled features imported (instr.V128Const bits) = IsTrue features.simd
+IsInstrEnabled features imported (instr.GlobalGet global) = imported ≤ global → IsTrue features.gc
+IsInstrEnabled features imported (instr.RefNull heap_type) = IsTrue features.reference_types
+IsInstrEnabled features imported (instr.RefFunc function) = IsTrue features.reference_types
+IsInstrEnabled features imported instr.I32Add = IsTrue features.extended_const
+IsInstrEnabled features imported instr.I32Sub = IsTrue features.extended_const
+IsInstrEnabled features imported instr.I32Mul = IsTrue features.extended_const
+IsInstrEnabled features imported instr.I64Add = IsTrue features.extended_const
+IsInstrEnabled features imported instr.I64Sub = IsTrue features.extended_const
+IsInstrEnabled features imported instr.I64Mul = IsTrue features.extended_const
+IsInstrEnabled features imported instr.RefI31Shared = IsTrue features.gc × IsTrue features.shared_everything_threads
+IsInstrEnabled features imported _ = IsTrue features.gc

@@ -1,18 +1,18 @@
 -- Valid types. Type validation, in the section Validation, Types, of the WebAssembly Core Specification 3.0; which
 -- feature a construct needs, and what sharedness asks, are rules of this project.
-use Rattle.std.specs.Prelude.{◌≡◌, ℕ, ◌+◌, ◌<◌, ◌≤◌, false, IsTrue, IsSome, List, [], ◌∷◌, ◌++◌, length, slice_get, Some, All}
+use Rattle.std.specs.Prelude.{◌≡◌, ℕ, ◌+◌, ◌<◌, ◌≤◌, false, IsTrue, List, [], ◌∷◌, ◌++◌, slice_get, Some, All}
 use Rattle.std.specs.List.{flat_map}
 use Rattle.std.specs.declared.ops.Range.{Range}
 use Rattle.smith_types.specs.Features.{Features}
 use Rattle.smith_types.specs.Space.{Space}
-use Rattle.smith_types.specs.Types.{AreCovered}
+use Rattle.smith_types.specs.Types.{IsOrderly, AreCovered}
+use Rattle.smith_types.specs.Matching.{IsCompositeMatch}
+use Rattle.smith_types.specs.Flags.{IsHeapTypeEnabled, IsInnerEnabled, IsSubTypeEnabled}
 use Rattle.smith_types.specs.declared.value_type.ValType.{ValType}
 use Rattle.smith_types.specs.declared.value_type.ValType.TheVariants.{I32, I64, F32, F64, V128, Ref}
 use Rattle.smith_types.specs.declared.value_type.RefType.{RefType}
 use Rattle.smith_types.specs.declared.value_type.HeapType.{HeapType}
 use Rattle.smith_types.specs.declared.value_type.HeapType.TheVariants.{Abstract, Concrete, Exact}
-use Rattle.smith_types.specs.declared.value_type.AbstractHeapType.{AbstractHeapType}
-use Rattle.smith_types.specs.declared.value_type.AbstractHeapType.TheVariants as abstract
 use Rattle.smith_types.specs.declared.composite_type.StorageType.{StorageType}
 use Rattle.smith_types.specs.declared.composite_type.StorageType.TheVariants.{I8, I16, Val}
 use Rattle.smith_types.specs.declared.composite_type.FieldType.{FieldType}
@@ -21,19 +21,11 @@ use Rattle.smith_types.specs.declared.composite_type.CompositeInnerType.{Composi
 use Rattle.smith_types.specs.declared.composite_type.CompositeInnerType.TheVariants.{Array, Func, Struct}
 use Rattle.smith_types.specs.declared.composite_type.SubType.{SubType}
 
--- an abstract heap type has its features (own rule)
-abbrev pub IsAbstractEnabled : Features → AbstractHeapType → Type 0
-IsAbstractEnabled features abstract.Func = Unit {0}
-IsAbstractEnabled features abstract.Extern = Unit {0}
-IsAbstractEnabled features abstract.Exn = IsTrue features.exceptions
-IsAbstractEnabled features abstract.NoExn = IsTrue features.exceptions × IsTrue features.gc
-IsAbstractEnabled features _ = IsTrue features.gc
-
--- a heap type has its features, and refers to a type below `end` (Validation, Heap Types)
+-- a heap type, which refers to a type below `end` (Validation, Heap Types)
 abbrev pub IsHeapTypeValid : Features → ℕ → HeapType → Type 0
-IsHeapTypeValid features end (Abstract shared ty) = IsAbstractEnabled features ty × (IsTrue shared → IsTrue features.shared_everything_threads)
-IsHeapTypeValid features end (Concrete index) = IsTrue features.gc × (index < end)
-IsHeapTypeValid features end (Exact index) = IsTrue features.custom_descriptors × (index < end)
+IsHeapTypeValid features end (Abstract shared ty) = IsHeapTypeEnabled features (Abstract shared ty)
+IsHeapTypeValid features end (Concrete index) = IsHeapTypeEnabled features (Concrete index) × (index < end)
+IsHeapTypeValid features end (Exact index) = IsHeapTypeEnabled features (Exact index) × (index < end)
 
 -- a reference type whose heap type is valid (Validation, Reference Types); one that is not nullable needs its feature (own rule)
 pub record IsRefTypeValid (features : Features) (end : ℕ) (reference : RefType) : Type 0 where
@@ -72,25 +64,22 @@ abbrev pub IsShareable : List SubType → ValType → Type 0
 IsShareable types (Ref reference) = IsHeapTypeShared types reference.heap_type
 IsShareable types _ = Unit {0}
 
--- two results need their feature, and so do types other than functions (own rule)
-abbrev pub IsInnerEnabled : Features → CompositeInnerType → Type 0
-IsInnerEnabled features (Array array) = IsTrue features.gc
-IsInnerEnabled features (Func function) = 1 < length function.results → IsTrue features.multi_value
-IsInnerEnabled features (Struct structure) = IsTrue features.gc
-
 -- a function type, of values that are valid (Validation, Composite Types)
 pub record IsFuncTypeValid (features : Features) (end : ℕ) (function : FuncType) : Type 0 where
   pub results : IsInnerEnabled features (Func function)
   pub params_valid : All (IsValTypeValid features end) function.params
   pub results_valid : All (IsValTypeValid features end) function.results
 
--- a type of a group that ends at `end` (Validation, Sub Types), which has no supertype without its feature
+-- a declared supertype is not final, and its subtype matches it (Validation, Sub Types)
+pub record IsSupertypeValid (types : List SubType) (t supertype : SubType) : Type 0 where
+  pub not_final : supertype.is_final ≡ false
+  pub matched : IsCompositeMatch types t.composite_type supertype.composite_type
+
+-- a type of a group that ends at `end` (Validation, Sub Types); a shared one holds what may stand there (own rule)
 pub record IsTypeValid (features : Features) (types : List SubType) (end : ℕ) (t : SubType) : Type 0 where
-  pub inner : IsInnerEnabled features t.composite_type.inner
+  pub enabled : IsSubTypeEnabled features t
   pub values : All (IsValTypeValid features end) (values_of t.composite_type.inner)
-  pub not_final : t.is_final ≡ false → IsTrue features.gc
-  pub supertype : IsSome t.supertype → IsTrue features.gc
-  pub shared : IsTrue t.composite_type.shared → IsTrue features.shared_everything_threads
+  pub declared : (s : ℕ) → t.supertype ≡ Some s → (u : SubType) × (slice_get types s ≡ Some u) × IsSupertypeValid types t u
   pub shareable : IsTrue t.composite_type.shared → All (IsShareable types) (values_of t.composite_type.inner)
 
 -- each type of a group is valid (Validation, Recursive Types); without garbage collection a group is one type (own rule)
@@ -98,7 +87,8 @@ pub record IsGroupValid (features : Features) (types : List SubType) (group : Ra
   pub members : (i : ℕ) (t : SubType) → group.start ≤ i → i < group.end → slice_get types i ≡ Some t → IsTypeValid features types group.end t
   pub single : features.gc ≡ false → group.end ≡ group.start + 1
 
--- valid types, in groups that follow one another and cover them
+-- valid types, in groups that follow one another and cover them, each supertype before its subtypes (Validation, Types)
 pub record AreTypesValid (features : Features) (space : Space) : Type 0 where
   pub covered : AreCovered space.types space.groups
+  pub orderly : IsOrderly space.types
   pub groups : All (IsGroupValid features space.types) space.groups

@@ -1,5 +1,5 @@
 ghost use Rattle.std.specs.Prelude.{◌≡◌, ⊤};
-ghost use Rattle.smith_types.specs.Flags.{bits_of, feature_table, has, joined};
+ghost use Rattle.smith_types.specs.FeatureBits.{bits_of, feature_table, has, joined};
 
 use bitflags::{Flag, Flags, bitflag_items};
 
@@ -67,7 +67,7 @@ impl WasmFeatures {
     }
 
     /// This set, joined with `features` where they are wanted.
-    #[tactic(auto, unfolding(crate::specs::Flags::joined))]
+    #[tactic(auto, unfolding(crate::specs::FeatureBits::joined))]
     pub fn with(self, wanted: bool, features: WasmFeatures) -> WasmFeatures
         ensures { bits_of result ≡ joined (bits_of self) wanted (bits_of features) }
     {

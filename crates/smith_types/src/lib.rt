@@ -3,6 +3,7 @@
 #![tactic(auto)]
 
 mod clone_in;
+mod code;
 mod composite_type;
 mod const_instr;
 mod entity_type;
@@ -14,11 +15,13 @@ mod instruction_kind;
 pub mod laws;
 mod list;
 mod matching;
+mod segments;
 mod subtyping;
 mod type_space;
 mod value_type;
 
 pub use clone_in::CloneIn;
+pub use code::{Code, Instructions};
 pub use composite_type::{
     ArrayType, CompositeInnerType, CompositeType, FieldType, FuncType, StorageType, StructType,
     SubType,
@@ -30,5 +33,6 @@ pub use features::WasmFeatures;
 pub use imports::{Import, ImportItem, Imports};
 pub use instruction_kind::{InstructionKind, InstructionKinds, UnknownKind};
 pub use list::{Items, Name};
+pub use segments::{DataSegment, DataSegmentKind, ElementKind, ElementSegment, Elements, Offset};
 pub use type_space::TypeSpace;
 pub use value_type::{AbstractHeapType, HeapType, RefType, ValType};

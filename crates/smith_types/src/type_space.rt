@@ -22,7 +22,7 @@ ghost use Rattle.std.specs.declared.ops.Range.{Range};
 ghost use Rattle.smith_types.specs.Kinds.{kind_of};
 ghost use Rattle.smith_types.specs.Types.{IsAlike, IsOrderly, next_start, next_group};
 ghost use Rattle.smith_types.specs.Space.{AreDepths, HasDepth, MayFollow};
-ghost use Rattle.smith_types.specs.Entities.{value_count};
+ghost use Rattle.smith_types.specs.Sizes.{value_count};
 ghost use Rattle.smith_types.specs.Matching.{IsCompositeMatch, IsInnerInRange};
 ghost use Rattle.smith_types.specs.Subtyping.{IsBelow, IsRefBelow, IsValBelow, IsInRange, IsValInRange};
 
@@ -59,7 +59,7 @@ impl Model for TypeSpace {
 impl TypeSpace {
     ghost use Rattle.smith_types.specs.Space.{IsSound};
     ghost use Rattle.smith_types.specs.Types.{next_group, AreCovered};
-    ghost use Rattle.smith_types.specs.Entities.{size_in, IsTyped};
+    ghost use Rattle.smith_types.specs.Sizes.{size_in, IsTyped};
 
     /// A space without types and groups, which takes no memory. It grows by this allocator.
     pub fn new(alloc: Global) -> TypeSpace

@@ -9,7 +9,8 @@ use Rattle.smith_bytes.proofs.Drawn.{range_within}
 use Rattle.smith_bytes.proofs.Grown.{grow_all, grow_most, grow_least}
 use Rattle.smith_types.specs.Kinds.{kind_of}
 use Rattle.smith_types.specs.Space.{Space}
-use Rattle.smith_types.specs.ValidTypes.{IsInnerEnabled, IsTypeValid, AreTypesValid}
+use Rattle.smith_types.specs.Flags.{IsInnerEnabled}
+use Rattle.smith_types.specs.ValidTypes.{IsTypeValid, AreTypesValid}
 use Rattle.smith_types.specs.declared.value_type.AbstractHeapType.TheVariants.{Func}
 use Rattle.smith_types.specs.declared.composite_type.CompositeInnerType.{CompositeInnerType}
 use Rattle.smith_types.specs.declared.composite_type.CompositeInnerType.TheVariants as inners
@@ -100,7 +101,7 @@ some_turn false places e = cc
 first_plain : (config : Config) (t : SubType) (types : List SubType) (end : ℕ) → IsSanitized config → config.gc_enabled ≡ false → IsTypeValid (features_of config) types end t → is_unshared_function t ≡ true
 unfolding is_unshared_function
 first_plain config t types end sanitized off h =
-    plain config.gc_enabled t.composite_type.shared t.composite_type.inner (aggregate_gc config t.composite_type.inner h.inner) off (λ shared. unshared config sanitized off (h.shared shared))
+    plain config.gc_enabled t.composite_type.shared t.composite_type.inner (aggregate_gc config t.composite_type.inner h.enabled.inner) off (λ shared. unshared config sanitized off (h.enabled.shared shared))
 
 some_types : (config : Config) (space : Space) (types : List SubType) → IsSanitized config → config.gc_enabled ≡ false → AreTypesValid (features_of config) space → space.types ≡ types → 0 < length types → 0 < length (func_types types)
 some_types config space [] sanitized off valid e some = absurd (omega arith)

@@ -17,8 +17,8 @@ use Rattle.smith_draw.specs.Choices.{chosen_at}
 use Rattle.smith_draw.specs.SubTypes.{types_at}
 use Rattle.smith_draw.specs.Memories.{memtype_at}
 use Rattle.wasm_smith.specs.Module.{Parts}
-use Rattle.wasm_smith.specs.declared.code.Code.{Code}
-use Rattle.wasm_smith.specs.declared.code.Instructions.TheVariants.{Unreachable}
+use Rattle.smith_types.specs.declared.code.Code.{Code}
+use Rattle.smith_types.specs.declared.code.Instructions.TheVariants.{Unreachable}
 
 -- What a step gave, with what it left, is what reading gives, unless memory ran out.
 abbrev pub Gives : {X Y : Type 0} → (X → Y) → Result X Error → Result Y Count → Type 0

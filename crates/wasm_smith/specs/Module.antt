@@ -5,7 +5,7 @@ use Rattle.std.specs.declared.ops.Range.{Range}
 use Rattle.smith_types.specs.Features.{Features}
 use Rattle.smith_types.specs.Kinds.{kind}
 use Rattle.smith_types.specs.ValidTypes.{IsValTypeValid, AreTypesValid}
-use Rattle.smith_types.specs.ValidEntities.{IsMemoryValid}
+use Rattle.smith_types.specs.Entities.{IsMemoryValid}
 use Rattle.smith_types.specs.declared.value_type.AbstractHeapType.TheVariants.{Func}
 use Rattle.smith_types.specs.declared.composite_type.SubType.{SubType}
 use Rattle.smith_types.specs.declared.entity_type.TableType.{TableType}
@@ -18,10 +18,10 @@ use Rattle.smith_config.specs.declared.config.Config.{Config}
 use Rattle.smith_config.specs.Features.{features_of}
 use Rattle.smith_config.specs.Sanitized.{sanitized}
 use Rattle.smith_draw.specs.Bounds.{IsMemoryWithin}
-use Rattle.wasm_smith.specs.declared.segments.ElementSegment.{ElementSegment}
-use Rattle.wasm_smith.specs.declared.segments.DataSegment.{DataSegment}
-use Rattle.wasm_smith.specs.declared.code.Code.{Code}
-use Rattle.wasm_smith.specs.declared.code.Instructions.TheVariants.{Unreachable}
+use Rattle.smith_types.specs.declared.segments.ElementSegment.{ElementSegment}
+use Rattle.smith_types.specs.declared.segments.DataSegment.{DataSegment}
+use Rattle.smith_types.specs.declared.code.Code.{Code}
+use Rattle.smith_types.specs.declared.code.Instructions.TheVariants.{Unreachable}
 
 -- What a module holds. Each index space is that of its kind as a whole, with what is imported first.
 pub record Parts : Type 0 where

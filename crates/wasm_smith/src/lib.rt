@@ -2,13 +2,9 @@
 #![tactic(auto)]
 
 mod build;
-mod code;
 mod module;
-mod segments;
 
-pub use code::{Code, Instructions};
 pub use module::Module;
-pub use segments::{DataSegment, DataSegmentKind, ElementKind, ElementSegment, Elements, Offset};
 pub use smith_bytes::{
     Arbitrary, ConfigFault, Count, Error, Int, ShapeFault, Unstructured, Which, Why,
     arbitrary_loop, limited_str, limited_string, unique_kebab_string, unique_string, unique_url,
@@ -20,8 +16,9 @@ pub use smith_draw::{
     arbitrary_types, arbitrary_valtype, gradually_grow,
 };
 pub use smith_types::{
-    AbstractHeapType, ArrayType, CompositeInnerType, CompositeType, ConstInstr, EntityType,
-    ExportKind, FieldType, FuncType, GlobalType, HeapType, Import, ImportItem, Imports,
-    InstructionKind, InstructionKinds, Items, MemoryType, Name, RefType, StorageType, StructType,
-    SubType, TableType, TypeSpace, UnknownKind, ValType, WasmFeatures,
+    AbstractHeapType, ArrayType, Code, CompositeInnerType, CompositeType, ConstInstr, DataSegment,
+    DataSegmentKind, ElementKind, ElementSegment, Elements, EntityType, ExportKind, FieldType,
+    FuncType, GlobalType, HeapType, Import, ImportItem, Imports, InstructionKind, InstructionKinds,
+    Instructions, Items, MemoryType, Name, Offset, RefType, StorageType, StructType, SubType,
+    TableType, TypeSpace, UnknownKind, ValType, WasmFeatures,
 };

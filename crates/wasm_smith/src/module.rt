@@ -3,13 +3,11 @@ ghost use Rattle.smith_bytes.specs.Source.{IsPiece};
 ghost use Rattle.smith_config.specs.Faults.{Passes};
 
 use crate::build::build;
-use crate::code::Code;
-use crate::segments::{DataSegment, ElementSegment};
 use smith_bytes::{Error, Unstructured};
 use smith_config::Config;
 use smith_types::{
-    ConstInstr, ExportKind, GlobalType, Imports, Items, MemoryType, Name, SubType, TableType,
-    TypeSpace,
+    Code, ConstInstr, DataSegment, ElementSegment, ExportKind, GlobalType, Imports, Items,
+    MemoryType, Name, SubType, TableType, TypeSpace,
 };
 use std::alloc::Global;
 use std::marker::Model;

@@ -3,9 +3,8 @@ ghost use Rattle.smith_types.specs.Features.{Features};
 ghost use Rattle.wasm_smith.specs.Module.{IsBodyValid};
 ghost use Rattle.wasm_smith.specs.Build.{trap};
 
-use crate::code::{Code, Instructions};
 use smith_bytes::Error;
-use smith_types::Items;
+use smith_types::{Code, Instructions, Items};
 use std::alloc::Global;
 
 /// A body for each of so many functions, which only traps.

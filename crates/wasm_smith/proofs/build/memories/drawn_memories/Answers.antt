@@ -1,4 +1,4 @@
-use Rattle.smith_types.specs.ValidEntities.{IsMemoryValid}
+use Rattle.smith_types.specs.Entities.{IsMemoryValid}
 use Rattle.smith_config.specs.Features.{features_of}
 use Rattle.smith_draw.specs.Bounds.{IsMemoryWithin}
 use Rattle.std.proofs.lemmas.List.Elements.{All-push}

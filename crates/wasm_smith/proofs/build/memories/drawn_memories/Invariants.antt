@@ -1,6 +1,6 @@
 use Rattle.std.specs.List.{All}
 use Rattle.smith_bytes.proofs.Growing.{IsGrowing}
-use Rattle.smith_types.specs.ValidEntities.{IsMemoryValid}
+use Rattle.smith_types.specs.Entities.{IsMemoryValid}
 use Rattle.smith_config.specs.Features.{features_of}
 use Rattle.smith_draw.specs.Bounds.{IsMemoryWithin}
 use Rattle.smith_draw.specs.Memories.{memtype_at}

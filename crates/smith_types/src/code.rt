@@ -1,4 +1,5 @@
-use smith_types::{Items, ValType};
+use crate::list::Items;
+use crate::value_type::ValType;
 
 /// The body of a function that the module defines. The standard's section Structure, Functions.
 #[derive(Debug, Drop)]

@@ -1,4 +1,6 @@
-use smith_types::{ConstInstr, Items, RefType};
+use crate::const_instr::ConstInstr;
+use crate::list::Items;
+use crate::value_type::RefType;
 
 /// A list of references to initialise tables with. The standard's section Structure, Element Segments.
 #[derive(Debug, Drop)]

@@ -1,0 +1,25 @@
+-- Bodies of functions: the section Validation, Functions, of the WebAssembly Core Specification 3.0.
+use Rattle.std.specs.Prelude.{◌≡◌, ℕ, ◌≤◌, true, false, IsTrue, Bool, List, Some, length, slice_get, All}
+use Rattle.smith_types.specs.Features.{Features}
+use Rattle.smith_types.specs.ValidTypes.{IsValTypeValid}
+use Rattle.smith_types.specs.declared.value_type.ValType.TheVariants.{I32}
+use Rattle.smith_types.specs.declared.entity_type.GlobalType.{GlobalType}
+use Rattle.smith_types.specs.declared.code.Code.{Code}
+use Rattle.smith_types.specs.declared.code.Instructions.{Instructions}
+use Rattle.smith_types.specs.declared.code.Instructions.TheVariants.{Unreachable, Arbitrary}
+
+-- `unreachable` is valid for every type (Validation, Control Instructions); raw bytes stand only where they may (own rule)
+abbrev pub AreInstructionsValid : Bool → Instructions → Type 0
+AreInstructionsValid raw Unreachable = Unit {0}
+AreInstructionsValid raw (Arbitrary bytes) = IsTrue raw
+
+-- a body over so many types: locals of valid types (Validation, Functions), at most a hundred of them (own rule)
+pub record IsBodyValid (features : Features) (types : ℕ) (raw : Bool) (body : Code) : Type 0 where
+  pub few : length body.locals ≤ 100
+  pub locals : All (IsValTypeValid features types) body.locals
+  pub instructions : AreInstructionsValid raw body.instructions
+
+-- a global that counts fuel: a mutable i32 that is not shared (own rule), defined behind so many imported ones
+pub record IsFuel (globals : List GlobalType) (imported index : ℕ) : Type 0 where
+  pub defined : imported ≤ index
+  pub stands : slice_get globals index ≡ Some (record { val_type = I32; mutable = true; shared = false })

@@ -1,0 +1,43 @@
+-- Exports and the start function: the sections Validation, Exports, and Validation, Start Function, of the WebAssembly Core
+-- Specification 3.0.
+use Rattle.std.specs.Prelude.{◌≡◌, ℕ, List, [], Option, Some, None, slice_get, map, All}
+use Rattle.smith_types.specs.Entities.{IsFuncAt}
+use Rattle.smith_types.specs.declared.composite_type.SubType.{SubType}
+use Rattle.smith_types.specs.declared.entity_type.EntityType.{EntityType}
+use Rattle.smith_types.specs.declared.entity_type.EntityType.TheVariants as entity
+use Rattle.smith_types.specs.declared.entity_type.ExportKind.{ExportKind}
+use Rattle.smith_types.specs.declared.entity_type.ExportKind.TheVariants as kind
+use Rattle.smith_types.specs.declared.entity_type.GlobalType.{GlobalType}
+use Rattle.smith_types.specs.declared.entity_type.MemoryType.{MemoryType}
+use Rattle.smith_types.specs.declared.entity_type.TableType.{TableType}
+
+-- the index spaces that exports are from (Structure, Indices)
+pub record IndexSpaces : Type 0 where
+  pub tags : List ℕ
+  pub funcs : List ℕ
+  pub tables : List TableType
+  pub memories : List MemoryType
+  pub globals : List GlobalType
+
+-- the type of the entity of a kind and an index, where it stands (Validation, Exports)
+abbrev pub IsEntityAt : IndexSpaces → ExportKind → ℕ → EntityType → Type 0
+IsEntityAt spaces kind.Func index ty = (func : ℕ) × (slice_get spaces.funcs index ≡ Some func) × (ty ≡ entity.Func func)
+IsEntityAt spaces kind.Table index ty = (table : TableType) × (slice_get spaces.tables index ≡ Some table) × (ty ≡ entity.Table table)
+IsEntityAt spaces kind.Memory index ty = (memory : MemoryType) × (slice_get spaces.memories index ≡ Some memory) × (ty ≡ entity.Memory memory)
+IsEntityAt spaces kind.Global index ty = (global : GlobalType) × (slice_get spaces.globals index ≡ Some global) × (ty ≡ entity.Global global)
+IsEntityAt spaces kind.Tag index ty = (tag : ℕ) × (slice_get spaces.tags index ≡ Some tag) × (ty ≡ entity.Tag tag)
+
+-- no item of a list stands at two places
+pub record AreDistinct {A : Type 0} (items : List A) : Type 0 where
+  pub once : (i j : ℕ) (item : A) → slice_get items i ≡ Some item → slice_get items j ≡ Some item → i ≡ j
+
+-- each export is of an entity that stands, and no name is used twice (Validation, Modules)
+pub record AreExportsValid (spaces : IndexSpaces) (exports : List (List ℕ × ExportKind × ℕ)) : Type 0 where
+  pub stand : All (λ (one : List ℕ × ExportKind × ℕ). (ty : EntityType) × IsEntityAt spaces one.1 one.2 ty) exports
+  pub distinct : AreDistinct (map (λ (one : List ℕ × ExportKind × ℕ). one.0) exports)
+
+-- the start function takes and gives nothing (Validation, Start Function)
+abbrev pub IsStartValid : List SubType → List ℕ → Option ℕ → Type 0
+IsStartValid types funcs None = Unit {0}
+IsStartValid types funcs (Some function) =
+    (index : ℕ) × (slice_get funcs function ≡ Some index) × IsFuncAt types index (record { params = []; results = [] })

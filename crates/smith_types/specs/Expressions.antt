@@ -1,0 +1,155 @@
+-- Constant expressions: the section Validation, Instructions, Constant Expressions, of the WebAssembly Core Specification
+-- 3.0. Shared references and exact types are rules of this project.
+use Rattle.std.specs.Prelude.{◌≡◌, ℕ, ◌<◌, Bool, true, false, nat_le, IsTrue, List, [], ◌∷◌, ◌++◌, map, replicate, length, slice_get, Some, All, if◌then◌else◌}
+use Rattle.std.specs.List.{AllZip}
+use Rattle.smith_types.specs.Features.{Features}
+use Rattle.smith_types.specs.Flags.{IsInstrEnabled}
+use Rattle.smith_types.specs.Subtyping.{IsValBelow}
+use Rattle.smith_types.specs.ValidTypes.{IsHeapTypeValid}
+use Rattle.smith_types.specs.declared.value_type.AbstractHeapType.TheVariants as abstract
+use Rattle.smith_types.specs.declared.value_type.HeapType.{HeapType}
+use Rattle.smith_types.specs.declared.value_type.HeapType.TheVariants.{Abstract, Concrete, Exact}
+use Rattle.smith_types.specs.declared.value_type.ValType.{ValType}
+use Rattle.smith_types.specs.declared.value_type.ValType.TheVariants.{I32, I64, F32, F64, V128, Ref}
+use Rattle.smith_types.specs.declared.composite_type.StorageType.{StorageType}
+use Rattle.smith_types.specs.declared.composite_type.StorageType.TheVariants as storage
+use Rattle.smith_types.specs.declared.composite_type.FieldType.{FieldType}
+use Rattle.smith_types.specs.declared.composite_type.CompositeInnerType.TheVariants as inner
+use Rattle.smith_types.specs.declared.composite_type.SubType.{SubType}
+use Rattle.smith_types.specs.declared.entity_type.GlobalType.{GlobalType}
+use Rattle.smith_types.specs.declared.const_instr.ConstInstr.{ConstInstr}
+use Rattle.smith_types.specs.declared.const_instr.ConstInstr.TheVariants as instr
+
+-- what an expression may refer to (Validation, Contexts); imported functions and globals come first, and globals below
+-- `visible` alone may be read
+pub record Context : Type 0 where
+  pub features : Features
+  pub types : List SubType
+  pub funcs : List ℕ
+  pub globals : List GlobalType
+  pub imported_funcs : ℕ
+  pub imported_globals : ℕ
+  pub visible : ℕ
+
+-- a reference that is not null
+abbrev pub reference_to : HeapType → ValType
+reference_to heap_type = Ref (record { nullable = false; heap_type = heap_type })
+
+-- the reference that creates a value of a type, or names a defined function: exact with custom descriptors (own rule)
+abbrev pub created : Context → ℕ → ValType
+created context index = reference_to (if context.features.custom_descriptors then Exact index else Concrete index)
+
+-- the reference that names a function whose type has this index: an imported one is not known exactly (own rule)
+abbrev pub function_reference : Context → ℕ → ℕ → ValType
+function_reference context function index =
+    if nat_le context.imported_funcs function then created context index else reference_to (Concrete index)
+
+-- the value that a field takes: a packed integer is unpacked (Structure, Composite Types)
+abbrev pub unpacked : StorageType → ValType
+unpacked storage.I8 = I32
+unpacked storage.I16 = I32
+unpacked (storage.Val value) = value
+
+-- a value type that has a default: all but references that may not be null (Validation, Value Types, Defaultable)
+abbrev pub IsDefaultable : ValType → Type 0
+IsDefaultable (Ref reference) = IsTrue reference.nullable
+IsDefaultable _ = Unit {0}
+
+-- the values that creation takes stand in the fields of a struct (Structure, Composite Types)
+abbrev pub field_values : List FieldType → List ValType
+field_values fields = map (λ (field : FieldType). unpacked field.element_type) fields
+
+-- the type of this index is the struct type of these fields
+abbrev pub IsStructAt : List SubType → ℕ → List FieldType → Type 0
+IsStructAt types index fields = (t : SubType) × (slice_get types index ≡ Some t) × (t.composite_type.inner ≡ inner.Struct (record { fields = fields }))
+
+-- the type of this index is the array type of this element
+abbrev pub IsArrayAt : List SubType → ℕ → FieldType → Type 0
+IsArrayAt types index element = (t : SubType) × (slice_get types index ≡ Some t) × (t.composite_type.inner ≡ inner.Array (record { 0 = element }))
+
+-- a global that is immutable and stands below the visible ones' end (Validation, Constant Expressions)
+abbrev pub IsVisible : Context → ℕ → ValType → Type 0
+IsVisible context index value =
+    (global : GlobalType) × (slice_get context.globals index ≡ Some global) × (index < context.visible) × (global.mutable ≡ false) × (global.val_type ≡ value)
+
+-- a conversion between references of inside and outside, which keeps null and sharedness (Validation, Reference Instructions)
+pub record IsConversion (operands : List ValType) (result : ValType) (from into : Bool → HeapType) : Type 0 where
+  pub shared : Bool
+  pub nullable : Bool
+  pub taken : operands ≡ Ref (record { nullable = nullable; heap_type = from shared }) ∷ []
+  pub given : result ≡ Ref (record { nullable = nullable; heap_type = into shared })
+
+-- an instruction takes operands of these types, the last of them on top, and gives a value of that type (Validation,
+-- Instructions: Numeric, Vector, Variable, Reference and Aggregate Instructions)
+abbrev pub HasType : Context → ConstInstr → List ValType → ValType → Type 0
+HasType context (instr.I32Const value) operands result = (operands ≡ []) × (result ≡ I32)
+HasType context (instr.I64Const value) operands result = (operands ≡ []) × (result ≡ I64)
+HasType context (instr.F32Const bits) operands result = (operands ≡ []) × (result ≡ F32)
+HasType context (instr.F64Const bits) operands result = (operands ≡ []) × (result ≡ F64)
+HasType context (instr.V128Const bits) operands result = (operands ≡ []) × (result ≡ V128)
+HasType context (instr.GlobalGet index) operands result = (operands ≡ []) × IsVisible context index result
+HasType context (instr.RefNull heap_type) operands result =
+    IsHeapTypeValid context.features (length context.types) heap_type × (operands ≡ []) × (result ≡ Ref (record { nullable = true; heap_type = heap_type }))
+HasType context (instr.RefFunc function) operands result =
+    (index : ℕ) × (slice_get context.funcs function ≡ Some index) × (operands ≡ []) × (result ≡ function_reference context function index)
+HasType context instr.I32Add operands result = (operands ≡ I32 ∷ I32 ∷ []) × (result ≡ I32)
+HasType context instr.I32Sub operands result = (operands ≡ I32 ∷ I32 ∷ []) × (result ≡ I32)
+HasType context instr.I32Mul operands result = (operands ≡ I32 ∷ I32 ∷ []) × (result ≡ I32)
+HasType context instr.I64Add operands result = (operands ≡ I64 ∷ I64 ∷ []) × (result ≡ I64)
+HasType context instr.I64Sub operands result = (operands ≡ I64 ∷ I64 ∷ []) × (result ≡ I64)
+HasType context instr.I64Mul operands result = (operands ≡ I64 ∷ I64 ∷ []) × (result ≡ I64)
+HasType context instr.RefI31 operands result = (operands ≡ I32 ∷ []) × (result ≡ reference_to (Abstract false abstract.I31))
+HasType context instr.RefI31Shared operands result = (operands ≡ I32 ∷ []) × (result ≡ reference_to (Abstract true abstract.I31))
+HasType context (instr.StructNew index) operands result =
+    (fields : List FieldType) × IsStructAt context.types index fields × (operands ≡ field_values fields) × (result ≡ created context index)
+HasType context (instr.StructNewDefault index) operands result =
+    (fields : List FieldType) × IsStructAt context.types index fields × All IsDefaultable (field_values fields) × (operands ≡ []) × (result ≡ created context index)
+HasType context (instr.ArrayNew index) operands result =
+    (element : FieldType) × IsArrayAt context.types index element × (operands ≡ unpacked element.element_type ∷ I32 ∷ []) × (result ≡ created context index)
+HasType context (instr.ArrayNewDefault index) operands result =
+    (element : FieldType) × IsArrayAt context.types index element × IsDefaultable (unpacked element.element_type) × (operands ≡ I32 ∷ []) × (result ≡ created context index)
+HasType context (instr.ArrayNewFixed index size) operands result =
+    (element : FieldType) × IsArrayAt context.types index element × (operands ≡ replicate size (unpacked element.element_type)) × (result ≡ created context index)
+HasType context instr.AnyConvertExtern operands result = IsConversion operands result (λ shared. Abstract shared abstract.Extern) (λ shared. Abstract shared abstract.Any)
+HasType context instr.ExternConvertAny operands result = IsConversion operands result (λ shared. Abstract shared abstract.Any) (λ shared. Abstract shared abstract.Extern)
+
+-- one instruction takes a stack, its top last, to another: values below the operands' types are taken from the top, the
+-- result is put there (Validation, Instruction Sequences)
+pub record IsStackStep (context : Context) (instruction : ConstInstr) (before after : List ValType) : Type 0 where
+  pub operands : List ValType
+  pub result : ValType
+  pub typed : HasType context instruction operands result
+  pub rest : List ValType
+  pub taken : List ValType
+  pub on_top : before ≡ rest ++ taken
+  pub accepted : AllZip (IsValBelow context.types) taken operands
+  pub pushed : after ≡ rest ++ result ∷ []
+
+-- instructions take one stack to another, from the first to the last (Validation, Instruction Sequences)
+abbrev pub AreStackSteps : Context → List ConstInstr → List ValType → List ValType → Type 0
+AreStackSteps context [] before after = before ≡ after
+AreStackSteps context (instruction ∷ instructions) before after =
+    (between : List ValType) × IsStackStep context instruction before between × AreStackSteps context instructions between after
+
+-- an expression gives one value below the wanted type (Validation, Constant Expressions), by instructions that are enabled
+pub record IsConstExpr (context : Context) (wanted : ValType) (expression : List ConstInstr) : Type 0 where
+  pub value : ValType
+  pub steps : AreStackSteps context expression [] (value ∷ [])
+  pub below : IsValBelow context.types value wanted
+  pub enabled : All (IsInstrEnabled context.features context.imported_globals) expression
+
+-- where the visible globals end: imported ones for tables (Validation, Modules)
+abbrev pub seen_by_tables : Context → ℕ
+seen_by_tables context = context.imported_globals
+
+-- those before it for a global of this index; without garbage collection, imported ones (Validation, Modules)
+abbrev pub seen_by_global : Context → ℕ → ℕ
+seen_by_global context index = if context.features.gc then index else context.imported_globals
+
+-- all of them for segments; without garbage collection, imported ones (Validation, Modules)
+abbrev pub seen_by_segments : Context → ℕ
+seen_by_segments context = if context.features.gc then length context.globals else context.imported_globals
+
+-- a context in which globals below this end are visible
+abbrev pub seeing : Context → ℕ → Context
+seeing context visible = record context { visible = visible }

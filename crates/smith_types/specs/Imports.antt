@@ -1,0 +1,65 @@
+-- Imports one by one, and the index spaces that they begin: the sections Structure, Imports, and Validation, Imports, of the
+-- WebAssembly Core Specification 3.0. Groups of imports are those of the compact imports proposal.
+use Rattle.std.specs.Prelude.{◌≡◌, ℕ, ◌<◌, List, [], ◌∷◌, ◌++◌, map, length}
+use Rattle.std.specs.List.{flat_map}
+use Rattle.smith_types.specs.Features.{Features}
+use Rattle.smith_types.specs.Flags.{IsImportsEnabled}
+use Rattle.smith_types.specs.declared.entity_type.EntityType.{EntityType}
+use Rattle.smith_types.specs.declared.entity_type.EntityType.TheVariants as entity
+use Rattle.smith_types.specs.declared.entity_type.TableType.{TableType}
+use Rattle.smith_types.specs.declared.entity_type.MemoryType.{MemoryType}
+use Rattle.smith_types.specs.declared.entity_type.GlobalType.{GlobalType}
+use Rattle.smith_types.specs.declared.imports.Import.{Import}
+use Rattle.smith_types.specs.declared.imports.ImportItem.{ImportItem}
+use Rattle.smith_types.specs.declared.imports.Imports.{Imports}
+use Rattle.smith_types.specs.declared.imports.Imports.TheVariants.{Single, Compact1, Compact2}
+
+-- one import of a group
+abbrev pub import_of : List ℕ → List ℕ → EntityType → Import
+import_of from name entity_type = record { «module» = from; name = name; entity_type = entity_type }
+
+-- the imports of a group, one by one (compact imports proposal)
+abbrev pub imports_of : Imports → List Import
+imports_of (Single imported) = imported ∷ []
+imports_of (Compact1 from items) = map (λ (item : ImportItem). import_of from item.name item.entity_type) items
+imports_of (Compact2 from entity_type names) = map (λ name. import_of from name entity_type) names
+
+-- all imports, one by one and in order (Structure, Imports)
+abbrev pub flattened : List Imports → List Import
+flattened groups = flat_map imports_of groups
+
+-- the tags, functions, tables, memories and globals among imported entities, each kind in order (Validation, Modules)
+abbrev pub tag_of : EntityType → List ℕ
+tag_of (entity.Tag index) = index ∷ []
+tag_of _ = []
+
+abbrev pub func_of : EntityType → List ℕ
+func_of (entity.Func index) = index ∷ []
+func_of _ = []
+
+abbrev pub table_of : EntityType → List TableType
+table_of (entity.Table table) = table ∷ []
+table_of _ = []
+
+abbrev pub memory_of : EntityType → List MemoryType
+memory_of (entity.Memory memory) = memory ∷ []
+memory_of _ = []
+
+abbrev pub global_of : EntityType → List GlobalType
+global_of (entity.Global global) = global ∷ []
+global_of _ = []
+
+-- what is imported of one kind, in order
+abbrev pub imported : {A : Type 0} → (EntityType → List A) → List Import → List A
+imported of_kind imports = flat_map (λ (one : Import). of_kind one.entity_type) imports
+
+-- an index space: what is imported, and behind it so many items that are defined (Structure, Indices)
+pub record Defines {A : Type 0} (imports : List A) (count : ℕ) (space : List A) : Type 0 where
+  pub defined : List A
+  pub count_is : length defined ≡ count
+  pub parts : space ≡ imports ++ defined
+
+-- a group of a module is not empty, and has its feature (own rules)
+pub record IsImportsValid (features : Features) (group : Imports) : Type 0 where
+  pub filled : 0 < length (imports_of group)
+  pub enabled : IsImportsEnabled features group

@@ -1,0 +1,111 @@
+-- Element and data segments: the section Validation, Modules, of the WebAssembly Core Specification 3.0.
+use Rattle.std.specs.Prelude.{◌≡◌, ℕ, ◌+◌, ◌*◌, ◌^◌, ◌≤◌, Bool, true, false, IsTrue, List, Option, Some, None, length, slice_get, unwrap_or, All}
+use Rattle.std.specs.Int.{cast_unsigned, w32, w64}
+use Rattle.smith_types.specs.Flags.{IsElementEnabled}
+use Rattle.smith_types.specs.Subtyping.{IsRefBelow, IsValBelow}
+use Rattle.smith_types.specs.ValidTypes.{IsRefTypeValid}
+use Rattle.smith_types.specs.Entities.{page_log2}
+use Rattle.smith_types.specs.Expressions.{Context, IsVisible, IsConstExpr, function_reference}
+use Rattle.smith_types.specs.declared.value_type.RefType.{RefType}
+use Rattle.smith_types.specs.declared.value_type.ValType.{ValType}
+use Rattle.smith_types.specs.declared.value_type.ValType.TheVariants.{I32, I64, Ref}
+use Rattle.smith_types.specs.declared.entity_type.MemoryType.{MemoryType}
+use Rattle.smith_types.specs.declared.entity_type.TableType.{TableType}
+use Rattle.smith_types.specs.declared.segments.Elements.{Elements}
+use Rattle.smith_types.specs.declared.segments.Elements.TheVariants.{Functions, Expressions}
+use Rattle.smith_types.specs.declared.segments.ElementKind.{ElementKind}
+use Rattle.smith_types.specs.declared.segments.ElementKind.TheVariants as element
+use Rattle.smith_types.specs.declared.segments.ElementSegment.{ElementSegment}
+use Rattle.smith_types.specs.declared.segments.DataSegmentKind.{DataSegmentKind}
+use Rattle.smith_types.specs.declared.segments.DataSegmentKind.TheVariants as data_kind
+use Rattle.smith_types.specs.declared.segments.DataSegment.{DataSegment}
+use Rattle.smith_types.specs.declared.segments.Offset.{Offset}
+use Rattle.smith_types.specs.declared.segments.Offset.TheVariants.{Const32, Const64, Global}
+
+-- the address type of a table or a memory (Structure, Address Types)
+abbrev pub address_type : Bool → ValType
+address_type true = I64
+address_type false = I32
+
+-- an offset into what has these addresses: a constant of their type, or a visible global of it (Validation, Modules)
+abbrev pub IsOffsetValid : Context → Bool → Offset → Type 0
+IsOffsetValid context wide (Const32 value) = wide ≡ false
+IsOffsetValid context wide (Const64 value) = wide ≡ true
+IsOffsetValid context wide (Global index) = IsVisible context index (address_type wide)
+
+-- a function whose reference is below the type of the items
+abbrev pub IsItem : Context → RefType → ℕ → Type 0
+IsItem context ty function = (index : ℕ) × (slice_get context.funcs function ≡ Some index) × IsValBelow context.types (function_reference context function index) (Ref ty)
+
+-- each item has the segment's type; items as expressions need reference types (own rule)
+abbrev pub AreItemsValid : Context → RefType → Elements → Type 0
+AreItemsValid context ty (Functions functions) = All (IsItem context ty) functions
+AreItemsValid context ty (Expressions expressions) = IsTrue context.features.reference_types × All (IsConstExpr context (Ref ty)) expressions
+
+-- the table that an active segment is copied into: the first where none is named (Binary Format, Element Section)
+abbrev pub table_index : Option ℕ → ℕ
+table_index table = unwrap_or table 0
+
+-- the segment's type is below that of the table's elements, and the offset is of its addresses (Validation, Modules)
+pub record IsActiveElement (context : Context) (tables : List TableType) (ty : RefType) (index : ℕ) (offset : Offset) : Type 0 where
+  pub table : TableType
+  pub stands : slice_get tables index ≡ Some table
+  pub below : IsRefBelow context.types ty table.element_type
+  pub offset_valid : IsOffsetValid context table.table64 offset
+
+-- what is copied is copied into a table that takes it, the first where none is named; each other form needs bulk memory (own
+-- rule)
+abbrev pub IsElementKindValid : Context → List TableType → RefType → ElementKind → Type 0
+IsElementKindValid context tables ty element.Passive = IsTrue context.features.bulk_memory
+IsElementKindValid context tables ty element.Declared = IsTrue context.features.bulk_memory
+IsElementKindValid context tables ty (element.Active None offset) = IsActiveElement context tables ty 0 offset
+IsElementKindValid context tables ty (element.Active (Some table) offset) = IsTrue context.features.bulk_memory × IsActiveElement context tables ty table offset
+
+-- an element segment (Validation, Element Segments)
+pub record IsElementValid (context : Context) (tables : List TableType) (segment : ElementSegment) : Type 0 where
+  pub ty : IsRefTypeValid context.features (length context.types) segment.ty
+  pub ty_enabled : IsElementEnabled context.features segment.ty
+  pub items : AreItemsValid context segment.ty segment.items
+  pub kind : IsElementKindValid context tables segment.ty segment.kind
+
+-- what a data segment is copied into stands (Validation, Data Segments); passive ones need bulk memory (own rule)
+abbrev pub IsDataKindValid : Context → List MemoryType → DataSegmentKind → Type 0
+IsDataKindValid context memories data_kind.Passive = IsTrue context.features.bulk_memory
+IsDataKindValid context memories (data_kind.Active index offset) =
+    (memory : MemoryType) × (slice_get memories index ≡ Some memory) × IsOffsetValid context memory.memory64 offset
+
+-- a data segment (Validation, Data Segments)
+abbrev pub IsDataValid : Context → List MemoryType → DataSegment → Type 0
+IsDataValid context memories segment = IsDataKindValid context memories segment.kind
+
+-- how many items a segment has
+abbrev pub item_count : Elements → ℕ
+item_count (Functions functions) = length functions
+item_count (Expressions expressions) = length expressions
+
+-- a constant offset, read without sign, from which so many items end within so many (Execution, Instantiation)
+abbrev pub IsOffsetInside : Offset → ℕ → ℕ → Type 0
+IsOffsetInside (Const32 value) count most = cast_unsigned w32 value + count ≤ most
+IsOffsetInside (Const64 value) count most = cast_unsigned w64 value + count ≤ most
+IsOffsetInside (Global index) count most = ⊥
+
+-- so many items that are copied end within the least elements of their table
+abbrev pub AreElementsInside : List TableType → ElementKind → ℕ → Type 0
+AreElementsInside tables element.Passive count = Unit {0}
+AreElementsInside tables element.Declared count = Unit {0}
+AreElementsInside tables (element.Active index offset) count =
+    (table : TableType) × (slice_get tables (table_index index) ≡ Some table) × IsOffsetInside offset count table.minimum
+
+-- so many bytes that are copied end within the least bytes of their memory
+abbrev pub AreBytesInside : List MemoryType → DataSegmentKind → ℕ → Type 0
+AreBytesInside memories data_kind.Passive count = Unit {0}
+AreBytesInside memories (data_kind.Active index offset) count =
+    (memory : MemoryType) × (slice_get memories index ≡ Some memory) × IsOffsetInside offset count (memory.minimum * 2 ^ page_log2 memory.page_size_log2)
+
+-- an element segment that is copied lies within the least elements of its table (own rule: so that nothing traps)
+abbrev pub IsElementInside : List TableType → ElementSegment → Type 0
+IsElementInside tables segment = AreElementsInside tables segment.kind (item_count segment.items)
+
+-- a data segment that is copied lies within the least bytes of its memory (own rule: so that nothing traps)
+abbrev pub IsDataInside : List MemoryType → DataSegment → Type 0
+IsDataInside memories segment = AreBytesInside memories segment.kind (length segment.init)
