@@ -3,4 +3,5 @@ pub mod Sanitized
 pub mod Faults
 pub mod Features
 pub mod OffsetChoices
+pub mod Shapes
 pub mod Arbitrary

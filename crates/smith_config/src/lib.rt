@@ -7,6 +7,8 @@ mod config;
 mod features;
 mod offset_choices;
 mod sanitize;
+mod shape;
 
 pub use config::Config;
 pub use offset_choices::{MemoryOffsetChoices, OffsetChoicesFault};
+pub use shape::Shape;

@@ -1,15 +1,14 @@
 -- Valid entities: the section Validation, Types, of the WebAssembly Core Specification 3.0. Stated page sizes, sharedness,
 -- tags without results, and which feature a construct needs, are rules of this project.
-use Rattle.std.specs.Prelude.{◌≡◌, ℕ, ◌-◌, ◌/◌, ◌^◌, ◌≤◌, ◌⊎◌, min, Bool, IsTrue, IsSome, IfSome, List, [], Option, Some, None, length, slice_get, if◌then◌else◌}
+use Rattle.std.specs.Prelude.{◌≡◌, ℕ, ◌-◌, ◌/◌, ◌^◌, ◌<◌, ◌≤◌, ◌⊎◌, min, Bool, IsTrue, IsSome, IfSome, List, [], Option, Some, None, length, slice_get, All, if◌then◌else◌}
 use Rattle.smith_types.specs.Features.{Features}
 use Rattle.smith_types.specs.Flags.{IsElementEnabled}
+use Rattle.smith_types.specs.Imports.{IndexSpaces}
 use Rattle.smith_types.specs.ValidTypes.{IsRefTypeValid, IsValTypeValid, IsShareable}
 use Rattle.smith_types.specs.declared.value_type.ValType.TheVariants.{Ref}
 use Rattle.smith_types.specs.declared.composite_type.CompositeInnerType.TheVariants.{Func}
 use Rattle.smith_types.specs.declared.composite_type.FuncType.{FuncType}
 use Rattle.smith_types.specs.declared.composite_type.SubType.{SubType}
-use Rattle.smith_types.specs.declared.entity_type.EntityType.{EntityType}
-use Rattle.smith_types.specs.declared.entity_type.EntityType.TheVariants as entity
 use Rattle.smith_types.specs.declared.entity_type.GlobalType.{GlobalType}
 use Rattle.smith_types.specs.declared.entity_type.MemoryType.{MemoryType}
 use Rattle.smith_types.specs.declared.entity_type.TableType.{TableType}
@@ -65,13 +64,19 @@ abbrev pub IsFuncValid : List SubType → ℕ → Type 0
 IsFuncValid types index = (function : FuncType) × IsFuncAt types index function
 
 -- a tag of the type of this index, a function type (Validation, Tag Types), which has no results (own rule)
-abbrev pub IsTagValid : Features → List SubType → ℕ → Type 0
-IsTagValid features types index = IsTrue features.exceptions × (function : FuncType) × IsFuncAt types index function × (function.results ≡ [])
+abbrev pub IsTagValid : List SubType → ℕ → Type 0
+IsTagValid types index = (function : FuncType) × IsFuncAt types index function × (function.results ≡ [])
 
--- what is imported (Validation, External Types)
-abbrev pub IsEntityValid : Features → List SubType → EntityType → Type 0
-IsEntityValid features types (entity.Global global) = IsGlobalValid features types global
-IsEntityValid features types (entity.Table table) = IsTableValid features types table
-IsEntityValid features types (entity.Memory memory) = IsMemoryValid features memory
-IsEntityValid features types (entity.Tag index) = IsTagValid features types index
-IsEntityValid features types (entity.Func index) = IsFuncValid types index
+-- every entity of the index spaces, imported or defined (Validation, External Types)
+pub record AreEntitiesValid (features : Features) (types : List SubType) (spaces : IndexSpaces) : Type 0 where
+  pub tags : All (IsTagValid types) spaces.tags
+  pub funcs : All (IsFuncValid types) spaces.funcs
+  pub tables : All (IsTableValid features types) spaces.tables
+  pub memories : All (IsMemoryValid features) spaces.memories
+  pub globals : All (IsGlobalValid features types) spaces.globals
+
+-- tags, a second table and a second memory need their features (own rule)
+pub record AreCountsEnabled (features : Features) (spaces : IndexSpaces) : Type 0 where
+  pub tags : 0 < length spaces.tags → IsTrue features.exceptions
+  pub several_tables : 1 < length spaces.tables → IsTrue features.reference_types
+  pub several_memories : 1 < length spaces.memories → IsTrue features.multi_memory

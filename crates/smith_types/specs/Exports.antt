@@ -2,6 +2,7 @@
 -- Specification 3.0.
 use Rattle.std.specs.Prelude.{◌≡◌, ℕ, List, [], Option, Some, None, slice_get, map, All}
 use Rattle.smith_types.specs.Entities.{IsFuncAt}
+use Rattle.smith_types.specs.Imports.{IndexSpaces}
 use Rattle.smith_types.specs.declared.composite_type.SubType.{SubType}
 use Rattle.smith_types.specs.declared.entity_type.EntityType.{EntityType}
 use Rattle.smith_types.specs.declared.entity_type.EntityType.TheVariants as entity
@@ -10,14 +11,6 @@ use Rattle.smith_types.specs.declared.entity_type.ExportKind.TheVariants as kind
 use Rattle.smith_types.specs.declared.entity_type.GlobalType.{GlobalType}
 use Rattle.smith_types.specs.declared.entity_type.MemoryType.{MemoryType}
 use Rattle.smith_types.specs.declared.entity_type.TableType.{TableType}
-
--- the index spaces that exports are from (Structure, Indices)
-pub record IndexSpaces : Type 0 where
-  pub tags : List ℕ
-  pub funcs : List ℕ
-  pub tables : List TableType
-  pub memories : List MemoryType
-  pub globals : List GlobalType
 
 -- the type of the entity of a kind and an index, where it stands (Validation, Exports)
 abbrev pub IsEntityAt : IndexSpaces → ExportKind → ℕ → EntityType → Type 0

@@ -53,6 +53,24 @@ global_of _ = []
 abbrev pub imported : {A : Type 0} → (EntityType → List A) → List Import → List A
 imported of_kind imports = flat_map (λ (one : Import). of_kind one.entity_type) imports
 
+-- the index spaces but that of types (Structure, Indices); tags and functions are given by the indices of their types
+pub record IndexSpaces : Type 0 where
+  pub tags : List ℕ
+  pub funcs : List ℕ
+  pub tables : List TableType
+  pub memories : List MemoryType
+  pub globals : List GlobalType
+
+-- the index spaces that imports begin (Validation, Modules)
+abbrev pub imported_spaces : List Import → IndexSpaces
+imported_spaces imports = record {
+  tags = imported tag_of imports;
+  funcs = imported func_of imports;
+  tables = imported table_of imports;
+  memories = imported memory_of imports;
+  globals = imported global_of imports;
+}
+
 -- an index space: what is imported, and behind it so many items that are defined (Structure, Indices)
 pub record Defines {A : Type 0} (imports : List A) (count : ℕ) (space : List A) : Type 0 where
   pub defined : List A

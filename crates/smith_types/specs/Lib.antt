@@ -8,9 +8,9 @@ pub mod Matching
 pub mod Laws
 pub mod Flags
 pub mod ValidTypes
+pub mod Imports
 pub mod Entities
 pub mod Sizes
-pub mod Imports
 pub mod Expressions
 pub mod Segments
 pub mod Exports

@@ -1,0 +1,163 @@
+-- Shapes that a module may be asked to have. What a module must meet is the standard's, by the definitions of validity; which
+-- shapes may be handed in is a rule of this project.
+use Rattle.std.specs.Prelude.{◌≡◌, ℕ, ◌+◌, ◌≤◌, ◌^◌, false, IsTrue, List, [], ◌∷◌, ◌++◌, Option, None, length, map, All}
+use Rattle.std.specs.List.{flat_map}
+use Rattle.std.specs.declared.ops.Range.{Range}
+use Rattle.smith_bytes.specs.declared.error.Which.{Which}
+use Rattle.smith_bytes.specs.declared.error.Which.TheVariants.{AvailableImports, Exports, ModuleShape}
+use Rattle.smith_types.specs.Features.{Features}
+use Rattle.smith_types.specs.Space.{Space, HasDepth}
+use Rattle.smith_types.specs.ValidTypes.{AreTypesValid, values_of}
+use Rattle.smith_types.specs.Imports.{IndexSpaces, flattened, imported_spaces}
+use Rattle.smith_types.specs.Entities.{AreEntitiesValid, AreCountsEnabled}
+use Rattle.smith_types.specs.Exports.{AreExportsValid}
+use Rattle.smith_types.specs.declared.value_type.HeapType.{HeapType}
+use Rattle.smith_types.specs.declared.value_type.HeapType.TheVariants.{Abstract, Concrete, Exact}
+use Rattle.smith_types.specs.declared.value_type.ValType.{ValType}
+use Rattle.smith_types.specs.declared.value_type.ValType.TheVariants.{Ref}
+use Rattle.smith_types.specs.declared.composite_type.CompositeInnerType.{CompositeInnerType}
+use Rattle.smith_types.specs.declared.composite_type.CompositeInnerType.TheVariants.{Array, Func, Struct}
+use Rattle.smith_types.specs.declared.composite_type.SubType.{SubType}
+use Rattle.smith_types.specs.declared.entity_type.GlobalType.{GlobalType}
+use Rattle.smith_types.specs.declared.entity_type.TableType.{TableType}
+use Rattle.smith_types.specs.declared.imports.Import.{Import}
+use Rattle.smith_config.specs.declared.config.Config.{Config}
+use Rattle.smith_config.specs.declared.shape.Shape.{Shape}
+use Rattle.smith_config.specs.Features.{features_of}
+
+-- the shapes that a configuration holds, each where it is given
+pub record Shapes : Type 0 where
+  pub available_imports : Option Shape
+  pub exports : Option Shape
+  pub module_shape : Option Shape
+
+-- none of them
+abbrev pub no_shapes : Shapes
+no_shapes = record { available_imports = None; exports = None; module_shape = None }
+
+-- the ranges of groups that follow one another
+abbrev pub ranges_from : ℕ → List (List SubType) → List (Range ℕ)
+ranges_from start [] = []
+ranges_from start (group ∷ groups) = record { start = start; end = start + length group } ∷ ranges_from (start + length group) groups
+
+-- the types of groups, with the groups as ranges of them
+abbrev pub space_of : List (List SubType) → Space
+space_of groups = record { types = flat_map (λ group. group) groups; groups = ranges_from 0 groups }
+
+-- the types of a shape
+abbrev pub shape_types : Shape → List SubType
+shape_types shape = (space_of shape.groups).types
+
+-- the imports of a shape, one by one: empty groups give none
+abbrev pub shape_imports : Shape → List Import
+shape_imports shape = flattened shape.imports
+
+-- the index spaces of a shape
+abbrev pub shape_spaces : Shape → IndexSpaces
+shape_spaces shape =
+    let before = imported_spaces (shape_imports shape) in
+    record {
+      tags = before.tags ++ shape.tags;
+      funcs = before.funcs ++ shape.funcs;
+      tables = before.tables ++ shape.tables;
+      memories = before.memories ++ shape.memories;
+      globals = before.globals ++ shape.globals;
+    }
+
+-- the greatest length of a list of a shape
+abbrev pub most_listed : ℕ
+most_listed = 2 ^ 29
+
+-- the lists of a composite type are short enough
+abbrev pub IsInnerShort : CompositeInnerType → Type 0
+IsInnerShort (Array array) = Unit {0}
+IsInnerShort (Func function) = (length function.params ≤ most_listed) × (length function.results ≤ most_listed)
+IsInnerShort (Struct structure) = length structure.fields ≤ most_listed
+
+-- no list is too long, nor are the types and the imports of all groups together
+pub record IsShort (shape : Shape) : Type 0 where
+  pub groups : length shape.groups ≤ most_listed
+  pub types : length (shape_types shape) ≤ most_listed
+  pub inner : All (λ (t : SubType). IsInnerShort t.composite_type.inner) (shape_types shape)
+  pub import_groups : length shape.imports ≤ most_listed
+  pub imports : length (shape_imports shape) ≤ most_listed
+  pub funcs : length shape.funcs ≤ most_listed
+  pub tags : length shape.tags ≤ most_listed
+  pub tables : length shape.tables ≤ most_listed
+  pub memories : length shape.memories ≤ most_listed
+  pub globals : length shape.globals ≤ most_listed
+  pub exports : length shape.exports ≤ most_listed
+
+-- no supertype is more than 62 steps away from the topmost one
+pub record IsShallow (types : List SubType) : Type 0 where
+  pub each : (index depth : ℕ) → HasDepth types index depth → depth ≤ 63
+
+-- the value types that a shape names: those of its types, tables and globals
+abbrev pub shape_values : Shape → List ValType
+shape_values shape =
+    flat_map (λ (t : SubType). values_of t.composite_type.inner) (shape_types shape)
+    ++ (map (λ (table : TableType). Ref table.element_type) (shape_spaces shape).tables ++ map (λ (global : GlobalType). global.val_type) (shape_spaces shape).globals)
+
+-- a heap type that a shape may name: it is not exact and not shared
+abbrev pub IsHeapTypePlain : HeapType → Type 0
+IsHeapTypePlain (Abstract shared ty) = shared ≡ false
+IsHeapTypePlain (Concrete index) = Unit {0}
+IsHeapTypePlain (Exact index) = ⊥
+
+-- a value type that a shape may name
+abbrev pub IsValTypePlain : ValType → Type 0
+IsValTypePlain (Ref reference) = IsHeapTypePlain reference.heap_type
+IsValTypePlain _ = Unit {0}
+
+-- nothing is shared but memories, and no reference is exact
+pub record HasNothingLeftOut (shape : Shape) : Type 0 where
+  pub types : All (λ (t : SubType). t.composite_type.shared ≡ false) (shape_types shape)
+  pub values : All IsValTypePlain (shape_values shape)
+  pub tables : All (λ (table : TableType). table.shared ≡ false) (shape_spaces shape).tables
+  pub globals : All (λ (global : GlobalType). global.shared ≡ false) (shape_spaces shape).globals
+
+-- a function type
+abbrev pub IsFunction : CompositeInnerType → Type 0
+IsFunction (Func function) = Unit {0}
+IsFunction _ = ⊥
+
+-- a type that the exports of a module may name: a final function type without a supertype
+pub record IsTypePlain (t : SubType) : Type 0 where
+  pub final : IsTrue t.is_final
+  pub root : t.supertype ≡ None
+  pub function : IsFunction t.composite_type.inner
+
+-- not the type of an index
+abbrev pub IsHeapTypeAbstract : HeapType → Type 0
+IsHeapTypeAbstract (Abstract shared ty) = Unit {0}
+IsHeapTypeAbstract _ = ⊥
+
+-- no reference to a type of an index
+abbrev pub IsAbstractValue : ValType → Type 0
+IsAbstractValue (Ref reference) = IsHeapTypeAbstract reference.heap_type
+IsAbstractValue _ = Unit {0}
+
+-- a shape for exports alone: such types, and no reference to any of them
+pub record IsPlain (shape : Shape) : Type 0 where
+  pub types : All IsTypePlain (shape_types shape)
+  pub values : All IsAbstractValue (shape_values shape)
+
+-- how a shape's items agree with one another and with the features
+pub record IsConsistent (features : Features) (shape : Shape) : Type 0 where
+  pub types : AreTypesValid features (space_of shape.groups)
+  pub shallow : IsShallow (shape_types shape)
+  pub entities : AreEntitiesValid features (shape_types shape) (shape_spaces shape)
+  pub exports : AreExportsValid (shape_spaces shape) shape.exports
+
+-- what each use of a shape asks beyond that: available imports may hold tags, memories and tables that are left aside
+abbrev pub IsFitFor : Which → Features → Shape → Type 0
+IsFitFor AvailableImports features shape = Unit {0}
+IsFitFor Exports features shape = AreCountsEnabled features (shape_spaces shape) × IsPlain shape
+IsFitFor ModuleShape features shape = AreCountsEnabled features (shape_spaces shape)
+
+-- a shape that may be handed in for this use, with this configuration
+pub record IsShapeValid (which : Which) (config : Config) (shape : Shape) : Type 0 where
+  pub short : IsShort shape
+  pub nothing_left_out : HasNothingLeftOut shape
+  pub consistent : IsConsistent (features_of config) shape
+  pub fit : IsFitFor which (features_of config) shape

@@ -1,0 +1,18 @@
+use smith_types::{ExportKind, GlobalType, Imports, Items, MemoryType, Name, SubType, TableType};
+
+/// What a module is asked to have: the types, imports, definitions and exports of a module, without bodies.
+#[derive(Debug, Drop, PartialEq)]
+pub struct Shape {
+    /// The types in their recursive groups.
+    pub groups: Items<Items<SubType>>,
+    pub imports: Items<Imports>,
+    /// The indices of the types of the functions that are defined.
+    pub funcs: Items<u32>,
+    /// The indices of the types of the tags that are defined.
+    pub tags: Items<u32>,
+    pub tables: Items<TableType>,
+    pub memories: Items<MemoryType>,
+    pub globals: Items<GlobalType>,
+    /// Names, kinds and indices of what is exported. Indices count what is imported first.
+    pub exports: Items<(Name, ExportKind, u32)>,
+}
