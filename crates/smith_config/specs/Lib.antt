@@ -4,4 +4,5 @@ pub mod Faults
 pub mod Features
 pub mod OffsetChoices
 pub mod Shapes
+pub mod ShapeFaults
 pub mod Arbitrary

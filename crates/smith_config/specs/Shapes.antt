@@ -149,15 +149,16 @@ pub record IsConsistent (features : Features) (shape : Shape) : Type 0 where
   pub entities : AreEntitiesValid features (shape_types shape) (shape_spaces shape)
   pub exports : AreExportsValid (shape_spaces shape) shape.exports
 
--- what each use of a shape asks beyond that: available imports may hold tags, memories and tables that are left aside
-abbrev pub IsFitFor : Which → Features → Shape → Type 0
-IsFitFor AvailableImports features shape = Unit {0}
-IsFitFor Exports features shape = AreCountsEnabled features (shape_spaces shape) × IsPlain shape
-IsFitFor ModuleShape features shape = AreCountsEnabled features (shape_spaces shape)
+-- tags, and the numbers of tables and memories, have their features; available imports may hold some that are left aside
+abbrev pub AreCountsFit : Which → Features → Shape → Type 0
+AreCountsFit AvailableImports features shape = Unit {0}
+AreCountsFit Exports features shape = AreCountsEnabled features (shape_spaces shape)
+AreCountsFit ModuleShape features shape = AreCountsEnabled features (shape_spaces shape)
 
 -- a shape that may be handed in for this use, with this configuration
 pub record IsShapeValid (which : Which) (config : Config) (shape : Shape) : Type 0 where
   pub short : IsShort shape
   pub nothing_left_out : HasNothingLeftOut shape
   pub consistent : IsConsistent (features_of config) shape
-  pub fit : IsFitFor which (features_of config) shape
+  pub counts : AreCountsFit which (features_of config) shape
+  pub plain : which ≡ Exports → IsPlain shape

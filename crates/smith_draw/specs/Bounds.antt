@@ -1,7 +1,8 @@
--- The bounds that a configuration sets to drawn entities.
+-- The bounds that a configuration sets to drawn entities. Rules of this project.
 use Rattle.std.specs.Prelude.{ℕ, ◌*◌, ◌^◌, ◌≤◌, ◌⊎◌, Bool, IsTrue, IsSome, IfSome, if◌then◌else◌}
 use Rattle.smith_types.specs.Entities.{page_log2}
 use Rattle.smith_types.specs.declared.entity_type.MemoryType.{MemoryType}
+use Rattle.smith_types.specs.declared.entity_type.TableType.{TableType}
 use Rattle.smith_config.specs.declared.config.Config.{Config}
 
 -- the configured bytes of a memory, by the width of its addresses
@@ -19,3 +20,13 @@ pub record IsMemoryWithin (config : Config) (memory : MemoryType) : Type 0 where
   pub minimum : ArePagesWithin config memory memory.minimum
   pub maximum : IfSome memory.maximum (ArePagesWithin config memory)
   pub required : IsTrue config.memory_max_size_required → IsSome memory.maximum
+
+-- so many elements are no more than the configured ones, or one at most where nothing may trap
+abbrev pub AreElementsWithin : Config → ℕ → Type 0
+AreElementsWithin config elements = (elements ≤ config.max_table_elements) ⊎ (IsTrue config.disallow_traps × (elements ≤ 1))
+
+-- a table's limits keep the configured elements, and there is a maximum where one is required
+pub record IsTableWithin (config : Config) (table : TableType) : Type 0 where
+  pub minimum : AreElementsWithin config table.minimum
+  pub maximum : IfSome table.maximum (AreElementsWithin config)
+  pub required : IsTrue config.table_max_size_required → IsSome table.maximum

@@ -4,3 +4,4 @@ pub mod SubTypes
 pub mod Limits
 pub mod Bounds
 pub mod Memories
+pub mod Spelling

@@ -6,7 +6,7 @@ use Rattle.smith_bytes.specs.declared.error.Error.TheVariants.{Memory}
 use Rattle.smith_config.specs.Arbitrary.{config_at}
 use Rattle.smith_config.specs.Config.{default_config}
 use Rattle.wasm_smith.specs.Module.{Parts}
-use Rattle.wasm_smith.specs.Refusals.{Allows}
+use Rattle.wasm_smith.specs.ToCome.{Allows}
 use Rattle.smith_run.specs.declared.run.Outcome.{Outcome}
 use Rattle.smith_run.specs.declared.run.Outcome.TheVariants.{Made, Refused}
 use Rattle.smith_run.specs.declared.run.RunFault.{RunFault}

@@ -24,9 +24,13 @@ IsEntityAt spaces kind.Tag index ty = (tag : ℕ) × (slice_get spaces.tags inde
 pub record AreDistinct {A : Type 0} (items : List A) : Type 0 where
   pub once : (i j : ℕ) (item : A) → slice_get items i ≡ Some item → slice_get items j ≡ Some item → i ≡ j
 
+-- each export is of an entity that stands (Validation, Exports)
+abbrev pub AreExportsStanding : IndexSpaces → List (List ℕ × ExportKind × ℕ) → Type 0
+AreExportsStanding spaces exports = All (λ (one : List ℕ × ExportKind × ℕ). (ty : EntityType) × IsEntityAt spaces one.1 one.2 ty) exports
+
 -- each export is of an entity that stands, and no name is used twice (Validation, Modules)
 pub record AreExportsValid (spaces : IndexSpaces) (exports : List (List ℕ × ExportKind × ℕ)) : Type 0 where
-  pub stand : All (λ (one : List ℕ × ExportKind × ℕ). (ty : EntityType) × IsEntityAt spaces one.1 one.2 ty) exports
+  pub stand : AreExportsStanding spaces exports
   pub distinct : AreDistinct (map (λ (one : List ℕ × ExportKind × ℕ). one.0) exports)
 
 -- the start function takes and gives nothing (Validation, Start Function)

@@ -7,13 +7,12 @@ use Rattle.std.proofs.lemmas.List.Elements.{All-nil, All-from_recursion}
 use Rattle.smith_bytes.specs.Draws.{range_at}
 use Rattle.smith_bytes.proofs.Drawn.{range_within}
 use Rattle.smith_bytes.proofs.Grown.{grow_all, grow_most, grow_least}
-use Rattle.smith_types.specs.Kinds.{kind_of}
 use Rattle.smith_types.specs.Space.{Space}
 use Rattle.smith_types.specs.Flags.{IsInnerEnabled}
 use Rattle.smith_types.specs.ValidTypes.{IsTypeValid, AreTypesValid}
-use Rattle.smith_types.specs.declared.value_type.AbstractHeapType.TheVariants.{Func}
 use Rattle.smith_types.specs.declared.composite_type.CompositeInnerType.{CompositeInnerType}
 use Rattle.smith_types.specs.declared.composite_type.CompositeInnerType.TheVariants as inners
+use Rattle.smith_types.specs.declared.composite_type.FuncType.{FuncType}
 use Rattle.smith_types.specs.declared.composite_type.SubType.{SubType}
 use Rattle.smith_types.proofs.Lists.{slice_get-last, slice_get-grown}
 use Rattle.smith_types.proofs.Validity.{AreTypesValid-at}
@@ -21,26 +20,28 @@ use Rattle.smith_config.specs.declared.config.Config.{Config}
 use Rattle.smith_config.specs.Features.{features_of}
 use Rattle.smith_config.specs.Sanitized.{IsSanitized}
 use Rattle.smith_draw.specs.Choices.{chosen_at}
-use Rattle.wasm_smith.specs.Module.{IsFuncIndex}
+use Rattle.smith_types.specs.Entities.{IsFuncValid}
 use Rattle.smith_bytes.specs.declared.error.Error.{Error}
 use Rattle.smith_bytes.specs.declared.error.Error.TheVariants as errors
 use Rattle.smith_bytes.specs.declared.error.Why.TheVariants.{Unmet}
 use Rattle.smith_bytes.specs.declared.error.Count.{Count}
 use Rattle.smith_bytes.specs.declared.error.Count.TheVariants as counts
-use Rattle.wasm_smith.specs.Refusals.{MayRefuse}
-use Rattle.wasm_smith.specs.Build.{Gives, is_function, is_unshared_function, places_from, func_types, chosen_funcs_at, funcs_at}
+use Rattle.wasm_smith.specs.ToCome.{MayComeOut}
+use Rattle.wasm_smith.specs.FuncTypes.{is_function, is_unshared_function, places_from, func_types}
+use Rattle.wasm_smith.specs.Build.{Gives, chosen_funcs_at, funcs_at}
 
-kind_of_function : (inner : CompositeInnerType) (unshared : Bool) → (is_function inner && unshared) ≡ true → kind_of inner ≡ Func
-kind_of_function (inners.Func function) unshared h = refl
-kind_of_function (inners.Array array) unshared h = cc
-kind_of_function (inners.Struct structure) unshared h = cc
+-- a type that passes the test is that of a function
+is_of_function : (inner : CompositeInnerType) (unshared : Bool) → (is_function inner && unshared) ≡ true → (function : FuncType) × (inner ≡ inners.Func function)
+is_of_function (inners.Func function) unshared h = (function, refl)
+is_of_function (inners.Array array) unshared h = cc
+is_of_function (inners.Struct structure) unshared h = cc
 
-places_turn : (types : List SubType) (n : ℕ) (b : Bool) (places : List ℕ) → (b ≡ true → IsFuncIndex types n) → ByRecursion (IsFuncIndex types) places → ByRecursion (IsFuncIndex types) (cond b (n ∷ places) places)
+places_turn : (types : List SubType) (n : ℕ) (b : Bool) (places : List ℕ) → (b ≡ true → IsFuncValid types n) → ByRecursion (IsFuncValid types) places → ByRecursion (IsFuncValid types) (cond b (n ∷ places) places)
 places_turn types n true places here rest = (here refl, rest)
 places_turn types n false places here rest = rest
 
 -- each place of an unshared function's type is that of a function type
-places_stand : (front xs : List SubType) → ByRecursion (IsFuncIndex (front ++ xs)) (places_from is_unshared_function (length front) xs)
+places_stand : (front xs : List SubType) → ByRecursion (IsFuncValid (front ++ xs)) (places_from is_unshared_function (length front) xs)
 unfolding is_unshared_function
 places_stand front [] = tt
 places_stand front (x ∷ xs) =
@@ -48,13 +49,15 @@ places_stand front (x ∷ xs) =
     let longer : length (front ++ x ∷ []) ≡ suc (length front) = simp length-append (omega arith) in
     let later = places_stand (front ++ x ∷ []) xs in
     places_turn (front ++ x ∷ xs) (length front) (is_unshared_function x) (places_from is_unshared_function (suc (length front)) xs)
-    (λ on. (x, rw (← regrouped) (slice_get-grown (front ++ x ∷ []) xs (length front) x (slice_get-last front x)), kind_of_function x.composite_type.inner (not x.composite_type.shared) on))
+    (λ on.
+    let (function, same) = is_of_function x.composite_type.inner (not x.composite_type.shared) on in
+    (function, (x, rw (← regrouped) (slice_get-grown (front ++ x ∷ []) xs (length front) x (slice_get-last front x)), same)))
     (rw (← longer, ← regrouped) later)
 
-func_types_stand : (types : List SubType) → All (IsFuncIndex types) (func_types types)
-func_types_stand types = All-from_recursion (IsFuncIndex types) (func_types types) (places_stand [] types)
+func_types_stand : (types : List SubType) → All (IsFuncValid types) (func_types types)
+func_types_stand types = All-from_recursion (IsFuncValid types) (func_types types) (places_stand [] types)
 
-func_chosen : (types : List SubType) (bytes : List ℕ) → 0 < length (func_types types) → IsFuncIndex types (chosen_at 0 (func_types types) bytes).0
+func_chosen : (types : List SubType) (bytes : List ℕ) → 0 < length (func_types types) → IsFuncValid types (chosen_at 0 (func_types types) bytes).0
 unfolding chosen_at
 func_chosen types bytes some =
     let place = range_at 0 (length (func_types types) - 1) bytes in
@@ -63,20 +66,20 @@ func_chosen types bytes some =
 
 -- what a list of functions is like
 pub record AreFuncs (config : Config) (types : List SubType) (funcs : List ℕ) : Type 0 where
-  pub valid : All (IsFuncIndex types) funcs
+  pub valid : All (IsFuncValid types) funcs
   pub most : length funcs ≤ config.max_funcs
   pub least : config.min_funcs ≤ length funcs
 
 pub chosen_are : (config : Config) (types : List SubType) (bytes : List ℕ) → config.min_funcs ≤ config.max_funcs → 0 < length (func_types types) → AreFuncs config types (chosen_funcs_at config types bytes).0
 unfolding chosen_funcs_at
 chosen_are config types bytes le some = record {
-  valid = grow_all (IsFuncIndex types) (λ _. chosen_at 0 (func_types types)) (λ _ after. func_chosen types after some) config.min_funcs config.max_funcs [] bytes (All-nil (IsFuncIndex types));
+  valid = grow_all (IsFuncValid types) (λ _. chosen_at 0 (func_types types)) (λ _ after. func_chosen types after some) config.min_funcs config.max_funcs [] bytes (All-nil (IsFuncValid types));
   most = grow_most (λ _. chosen_at 0 (func_types types)) config.min_funcs config.max_funcs config.max_funcs [] bytes (omega arith);
   least = grow_least (λ _. chosen_at 0 (func_types types)) config.min_funcs config.max_funcs [] bytes (omega arith);
 }
 
 pub none_are : (config : Config) (types : List SubType) → config.min_funcs ≡ 0 → AreFuncs config types []
-none_are config types none = record { valid = All-nil (IsFuncIndex types); most = omega arith; least = omega arith }
+none_are config types none = record { valid = All-nil (IsFuncValid types); most = omega arith; least = omega arith }
 
 -- an unshared function is all that is enabled without garbage collection
 plain : (features_gc shared : Bool) (inner : CompositeInnerType) → (is_function inner ≡ false → features_gc ≡ true) → features_gc ≡ false → (shared ≡ true → ⊥) → (is_function inner && not shared) ≡ true
@@ -155,7 +158,7 @@ no_type_asked config space sanitized off valid le none =
 
 -- functions are refused for want of memory, or of a type that they may have
 pub funcs_refuse : (config : Config) (space : Space) (r : Result (List ℕ) Error) → IsSanitized config → config.gc_enabled ≡ false → AreTypesValid (features_of config) space → config.min_types ≤ length space.types
-    → IfErr r (λ e. (e ≡ errors.Memory) ⊎ ((e ≡ errors.IncorrectFormat (Unmet counts.Funcs)) × (0 < config.min_funcs) × (length (func_types space.types) ≡ 0))) → IfErr r (MayRefuse config)
+    → IfErr r (λ e. (e ≡ errors.Memory) ⊎ ((e ≡ errors.IncorrectFormat (Unmet counts.Funcs)) × (0 < config.min_funcs) × (length (func_types space.types) ≡ 0))) → IfErr r (MayComeOut config)
 funcs_refuse config space (Ok funcs) sanitized off valid le h = tt
-funcs_refuse config space (Err e) sanitized off valid le (inl memory) = subst (MayRefuse config) (sym memory) tt
-funcs_refuse config space (Err e) sanitized off valid le (inr (unmet, some, none)) = subst (MayRefuse config) (sym unmet) (some, no_type_asked config space sanitized off valid le none)
+funcs_refuse config space (Err e) sanitized off valid le (inl memory) = subst (MayComeOut config) (sym memory) tt
+funcs_refuse config space (Err e) sanitized off valid le (inr (unmet, some, none)) = subst (MayComeOut config) (sym unmet) (some, no_type_asked config space sanitized off valid le none)

@@ -2,3 +2,4 @@ pub mod FuncLaws
 pub mod MemoryCounts
 pub mod Needless
 pub mod Bodies
+pub mod Alone

@@ -8,10 +8,11 @@ use Rattle.smith_bytes.specs.declared.error.Count.TheVariants as counts
 use Rattle.smith_config.specs.declared.config.Config.{Config}
 use Rattle.smith_config.specs.Faults.{Passes, minimum_of}
 use Rattle.smith_config.proofs.FaultLemmas.{no_fault}
-use Rattle.wasm_smith.specs.Refusals.{HasNoMinimums, MayBeUnmet, MayRefuse}
+use Rattle.wasm_smith.specs.Refusals.{HasNoMinimums}
+use Rattle.wasm_smith.specs.ToCome.{StaysUnmet, MayComeOut}
 
 -- a minimum that may stay unmet is above zero
-unmet_some : (config : Config) (count : Count) → MayBeUnmet config count → 0 < minimum_of config count
+unmet_some : (config : Config) (count : Count) → StaysUnmet config count → 0 < minimum_of config count
 unmet_some config counts.Types h = absurd h
 unmet_some config counts.Memories h = absurd h
 unmet_some config counts.Funcs h = h.0
@@ -24,7 +25,7 @@ unmet_some config counts.Elements h = h
 unmet_some config counts.DataSegments h = h
 unmet_some config counts.Tables h = h
 
-pub memory_alone : (config : Config) (e : Error) → Passes config → HasNoMinimums config → MayRefuse config e → e ≡ errors.Memory
+pub memory_alone : (config : Config) (e : Error) → Passes config → HasNoMinimums config → MayComeOut config e → e ≡ errors.Memory
 memory_alone config errors.Memory passes none h = refl
 memory_alone config (errors.Config fault) passes none h = absurd (no_fault config passes fault h.there)
 memory_alone config (errors.IncorrectFormat (reasons.Unmet count)) passes none h = let some = unmet_some config count h in absurd (omega (arith, none count))

@@ -1,5 +1,5 @@
 -- What each step of building a module reads from the bytes, and what it leaves. No public contract cites it.
-use Rattle.std.specs.Prelude.{◌≡◌, ℕ, suc, Bool, true, false, ◌&&◌, not, None, List, [], ◌∷◌, length, replicate, Result, Ok, Err, ◌==◌, if◌then◌else◌}
+use Rattle.std.specs.Prelude.{◌≡◌, ℕ, Bool, true, ◌&&◌, None, List, [], length, replicate, Result, Ok, Err, ◌==◌, if◌then◌else◌}
 use Rattle.std.specs.List.{list_any}
 use Rattle.smith_bytes.specs.declared.error.Error.{Error}
 use Rattle.smith_bytes.specs.declared.error.Error.TheVariants as errors
@@ -8,14 +8,13 @@ use Rattle.smith_bytes.specs.declared.error.Count.{Count}
 use Rattle.smith_bytes.specs.declared.error.Count.TheVariants as counts
 use Rattle.smith_bytes.specs.Draws.{bool_at}
 use Rattle.smith_bytes.specs.Growth.{grow_at}
-use Rattle.smith_types.specs.declared.composite_type.CompositeInnerType.{CompositeInnerType}
-use Rattle.smith_types.specs.declared.composite_type.CompositeInnerType.TheVariants as inners
 use Rattle.smith_types.specs.declared.composite_type.SubType.{SubType}
 use Rattle.smith_types.specs.declared.entity_type.MemoryType.{MemoryType}
 use Rattle.smith_config.specs.declared.config.Config.{Config}
 use Rattle.smith_draw.specs.Choices.{chosen_at}
 use Rattle.smith_draw.specs.SubTypes.{types_at}
 use Rattle.smith_draw.specs.Memories.{memtype_at}
+use Rattle.wasm_smith.specs.FuncTypes.{is_tag_type, func_types}
 use Rattle.wasm_smith.specs.Module.{Parts}
 use Rattle.smith_types.specs.declared.code.Code.{Code}
 use Rattle.smith_types.specs.declared.code.Instructions.TheVariants.{Unreachable}
@@ -32,15 +31,6 @@ unfoldable pub passed_at : Count → ℕ → ℕ → List ℕ → Result (List �
 passed_at count least most bytes =
     if least == 0 then Ok (if most == 0 then bytes else (bool_at bytes).1) else Err count
 
--- whether a composite type is a function without results
-abbrev pub gives_nothing : CompositeInnerType → Bool
-gives_nothing (inners.Func function) = length function.results == 0
-gives_nothing _ = false
-
--- whether tags may have a type
-unfoldable pub is_tag_type : SubType → Bool
-is_tag_type t = gives_nothing t.composite_type.inner
-
 -- tags have function types without results, where exceptions are enabled
 abbrev pub may_have_tags : Config → List SubType → Bool
 may_have_tags config types = config.exceptions_enabled && list_any is_tag_type types
@@ -48,25 +38,7 @@ may_have_tags config types = config.exceptions_enabled && list_any is_tag_type t
 unfoldable pub tags_at : Config → List SubType → List ℕ → Result (List ℕ) Count
 tags_at config types bytes = passed_at counts.Tags config.min_tags (if may_have_tags config types then config.max_tags else 0) bytes
 
--- whether a composite type is a function
-abbrev pub is_function : CompositeInnerType → Bool
-is_function (inners.Func function) = true
-is_function _ = false
-
--- whether a type is that of an unshared function
-unfoldable pub is_unshared_function : SubType → Bool
-is_unshared_function t = is_function t.composite_type.inner && not t.composite_type.shared
-
--- the places at which a test holds, in a list that begins at place n
-abbrev pub places_from : {A : Type 0} → (A → Bool) → ℕ → List A → List ℕ
-places_from test n [] = []
-places_from test n (x ∷ xs) = if test x then n ∷ places_from test (suc n) xs else places_from test (suc n) xs
-
--- the indices of the types that a function may have
-abbrev pub func_types : List SubType → List ℕ
-func_types types = places_from is_unshared_function 0 types
-
--- the type of each function, chosen among those
+-- the type of each function, chosen among those that it may have
 unfoldable pub chosen_funcs_at : Config → List SubType → List ℕ → List ℕ × List ℕ
 chosen_funcs_at config types bytes = grow_at (λ _. chosen_at 0 (func_types types)) config.min_funcs config.max_funcs [] bytes
 

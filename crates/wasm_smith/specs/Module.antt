@@ -1,12 +1,17 @@
--- The parts of a module, when it is valid, and which bounds and minimums it keeps.
-use Rattle.std.specs.Prelude.{◌≡◌, ℕ, ◌<◌, ◌≤◌, Bool, false, IsTrue, Option, Some, None, List, [], length, slice_get}
+-- The parts of a module, and when it is valid: the section Validation, Modules, of the WebAssembly Core Specification 3.0.
+use Rattle.std.specs.Prelude.{◌≡◌, ℕ, ◌+◌, Bool, IsTrue, Option, Some, None, List, length, slice_get}
 use Rattle.std.specs.List.{All}
 use Rattle.std.specs.declared.ops.Range.{Range}
 use Rattle.smith_types.specs.Features.{Features}
-use Rattle.smith_types.specs.Kinds.{kind}
-use Rattle.smith_types.specs.ValidTypes.{IsValTypeValid, AreTypesValid}
-use Rattle.smith_types.specs.Entities.{IsMemoryValid}
-use Rattle.smith_types.specs.declared.value_type.AbstractHeapType.TheVariants.{Func}
+use Rattle.smith_types.specs.Space.{Space}
+use Rattle.smith_types.specs.ValidTypes.{AreTypesValid}
+use Rattle.smith_types.specs.Imports.{IndexSpaces, Defines, IsImportsValid, flattened, imported_spaces}
+use Rattle.smith_types.specs.Entities.{AreEntitiesValid, AreCountsEnabled}
+use Rattle.smith_types.specs.Expressions.{Context, IsConstExpr, seeing, seen_by_tables, seen_by_global, seen_by_segments}
+use Rattle.smith_types.specs.Segments.{IsElementValid, IsDataValid}
+use Rattle.smith_types.specs.Exports.{AreExportsValid, IsStartValid}
+use Rattle.smith_types.specs.Bodies.{IsBodyValid, IsFuel}
+use Rattle.smith_types.specs.declared.value_type.ValType.TheVariants.{Ref}
 use Rattle.smith_types.specs.declared.composite_type.SubType.{SubType}
 use Rattle.smith_types.specs.declared.entity_type.TableType.{TableType}
 use Rattle.smith_types.specs.declared.entity_type.MemoryType.{MemoryType}
@@ -14,14 +19,11 @@ use Rattle.smith_types.specs.declared.entity_type.GlobalType.{GlobalType}
 use Rattle.smith_types.specs.declared.entity_type.ExportKind.{ExportKind}
 use Rattle.smith_types.specs.declared.imports.Imports.{Imports}
 use Rattle.smith_types.specs.declared.const_instr.ConstInstr.{ConstInstr}
-use Rattle.smith_config.specs.declared.config.Config.{Config}
-use Rattle.smith_config.specs.Features.{features_of}
-use Rattle.smith_config.specs.Sanitized.{sanitized}
-use Rattle.smith_draw.specs.Bounds.{IsMemoryWithin}
 use Rattle.smith_types.specs.declared.segments.ElementSegment.{ElementSegment}
 use Rattle.smith_types.specs.declared.segments.DataSegment.{DataSegment}
 use Rattle.smith_types.specs.declared.code.Code.{Code}
-use Rattle.smith_types.specs.declared.code.Instructions.TheVariants.{Unreachable}
+use Rattle.smith_config.specs.declared.config.Config.{Config}
+use Rattle.smith_config.specs.Features.{features_of}
 
 -- What a module holds. Each index space is that of its kind as a whole, with what is imported first.
 pub record Parts : Type 0 where
@@ -50,79 +52,93 @@ pub record Parts : Type 0 where
   pub encodes_imports : Bool
   pub type_size : ℕ
 
--- the type of this index is a function type (Validation, Functions)
-abbrev pub IsFuncIndex : List SubType → ℕ → Type 0
-IsFuncIndex types index = (t : SubType) × (slice_get types index ≡ Some t) × (kind t ≡ Func)
+-- the features of a module's configuration
+abbrev pub module_features : Parts → Features
+module_features m = features_of m.config
 
--- a body: locals of valid types, at most a hundred of them (own rule), and `unreachable`, which is valid for every type (Validation, Instructions)
-pub record IsBodyValid (features : Features) (end : ℕ) (body : Code) : Type 0 where
-  pub few : length body.locals ≤ 100
-  pub locals : All (IsValTypeValid features end) body.locals
-  pub instructions : body.instructions ≡ Unreachable
+-- a module's types in their groups
+abbrev pub module_types : Parts → Space
+module_types m = record { types = m.types; groups = m.groups }
 
--- no part stands beside types, functions, memories and bodies
-pub record HasNoMore (m : Parts) : Type 0 where
-  pub imports : m.imports ≡ []
-  pub num_imports : m.num_imports ≡ 0
-  pub tags : m.tags ≡ []
-  pub tables : m.tables ≡ []
-  pub defined_tables : m.defined_tables ≡ []
-  pub globals : m.globals ≡ []
-  pub defined_globals : m.defined_globals ≡ []
-  pub num_defined_tags : m.num_defined_tags ≡ 0
-  pub exports : m.exports ≡ []
-  pub start : m.start ≡ None
-  pub elems : m.elems ≡ []
-  pub segments : m.segments ≡ []
-  pub fuel_globals : m.fuel_globals ≡ []
-  pub type_size : m.type_size ≡ 0
+-- a module's index spaces
+abbrev pub module_spaces : Parts → IndexSpaces
+module_spaces m = record { tags = m.tags; funcs = m.funcs; tables = m.tables; memories = m.memories; globals = m.globals }
 
--- a valid module, under the features of its configuration (Validation, Modules); a second memory needs its feature (own rule)
+-- what a module's imports begin its index spaces with
+abbrev pub module_imports : Parts → IndexSpaces
+module_imports m = imported_spaces (flattened m.imports)
+
+-- what a module's expressions may refer to, where no global is visible
+abbrev pub module_context : Parts → Context
+module_context m = record {
+  features = module_features m;
+  types = m.types;
+  funcs = m.funcs;
+  globals = m.globals;
+  imported_funcs = length (module_imports m).funcs;
+  imported_globals = length (module_imports m).globals;
+  visible = 0;
+}
+
+-- in the initialiser of a table, and of the global of this index
+abbrev pub table_context : Parts → Context
+table_context m = seeing (module_context m) (seen_by_tables (module_context m))
+
+abbrev pub global_context : Parts → ℕ → Context
+global_context m index = seeing (module_context m) (seen_by_global (module_context m) index)
+
+-- in the offset or an item of a segment
+abbrev pub segment_context : Parts → Context
+segment_context m = seeing (module_context m) (seen_by_segments (module_context m))
+
+-- imports come first in each index space, definitions behind them (Structure, Indices)
+pub record AreSpacesMade (m : Parts) : Type 0 where
+  pub imports : m.num_imports ≡ length (flattened m.imports)
+  pub tags : Defines (module_imports m).tags m.num_defined_tags m.tags
+  pub funcs : Defines (module_imports m).funcs m.num_defined_funcs m.funcs
+  pub tables : Defines (module_imports m).tables (length m.defined_tables) m.tables
+  pub memories : Defines (module_imports m).memories m.num_defined_memories m.memories
+  pub globals : Defines (module_imports m).globals (length m.defined_globals) m.globals
+
+-- a table has an initialiser of its element type, or none where its elements may be null (Validation, Tables); an initialiser
+-- needs garbage collection (own rule)
+abbrev pub IsTableInitialised : Context → TableType → Option (List ConstInstr) → Type 0
+IsTableInitialised context table None = IsTrue table.element_type.nullable
+IsTableInitialised context table (Some expression) = IsTrue context.features.gc × IsConstExpr context (Ref table.element_type) expression
+
+-- a definition of a table
+abbrev pub IsTableDefined : Parts → ℕ → Option (List ConstInstr) → Type 0
+IsTableDefined m place initial =
+    (table : TableType) × (slice_get m.tables (length (module_imports m).tables + place) ≡ Some table) × IsTableInitialised (table_context m) table initial
+
+-- a definition of a global, which tells its index (Validation, Globals)
+pub record IsGlobalDefined (m : Parts) (place index : ℕ) (initial : List ConstInstr) : Type 0 where
+  pub in_order : index ≡ length (module_imports m).globals + place
+  pub global : GlobalType
+  pub stands : slice_get m.globals index ≡ Some global
+  pub initialised : IsConstExpr (global_context m index) global.val_type initial
+
+-- definitions of tables and globals
+pub record AreDefinitionsValid (m : Parts) : Type 0 where
+  pub tables : (place : ℕ) (initial : Option (List ConstInstr)) → slice_get m.defined_tables place ≡ Some initial → IsTableDefined m place initial
+  pub globals : (place index : ℕ) (initial : List ConstInstr) → slice_get m.defined_globals place ≡ Some (index, initial) → IsGlobalDefined m place index initial
+
+-- there is a body for each function that is defined (Validation, Functions), and each counter of fuel is such a global (own rule)
+pub record AreBodiesValid (m : Parts) : Type 0 where
+  pub each : length m.code ≡ m.num_defined_funcs
+  pub bodies : All (IsBodyValid (module_features m) (length m.types) m.config.allow_invalid_funcs) m.code
+  pub fuel : All (IsFuel m.globals (length (module_imports m).globals)) m.fuel_globals
+
+-- a valid module, under the features of its configuration (Validation, Modules)
 pub record IsValid (m : Parts) : Type 0 where
-  pub types : AreTypesValid (features_of m.config) (record { types = m.types; groups = m.groups })
-  pub funcs : All (IsFuncIndex m.types) m.funcs
-  pub memories : All (IsMemoryValid (features_of m.config)) m.memories
-  pub several_memories : 1 < length m.memories → IsTrue (features_of m.config).multi_memory
-  pub bodies : All (IsBodyValid (features_of m.config) (length m.types)) m.code
-  pub defined_funcs : m.num_defined_funcs ≡ length m.funcs
-  pub defined_memories : m.num_defined_memories ≡ length m.memories
-  pub each_body : length m.code ≡ m.num_defined_funcs
-  pub others : HasNoMore m
-
--- no more than the configuration allows
-pub record KeepsBounds (m : Parts) : Type 0 where
-  pub types : length m.types ≤ m.config.max_types
-  pub imports : m.num_imports ≤ m.config.max_imports
-  pub tags : length m.tags ≤ m.config.max_tags
-  pub funcs : length m.funcs ≤ m.config.max_funcs
-  pub tables : length m.tables ≤ m.config.max_tables
-  pub memories : length m.memories ≤ m.config.max_memories
-  pub globals : length m.globals ≤ m.config.max_globals
-  pub exports : length m.exports ≤ m.config.max_exports
-  pub element_segments : length m.elems ≤ m.config.max_element_segments
-  pub data_segments : length m.segments ≤ m.config.max_data_segments
-  pub memory_limits : All (IsMemoryWithin m.config) m.memories
-  pub type_size : m.type_size ≤ m.config.max_type_size
-
--- no fewer than the configuration asks for; no element segment stands that would have to meet its minimum
-pub record MeetsMinimums (m : Parts) : Type 0 where
-  pub types : m.config.min_types ≤ length m.types
-  pub imports : m.config.min_imports ≤ m.num_imports
-  pub tags : m.config.min_tags ≤ length m.tags
-  pub funcs : m.config.min_funcs ≤ length m.funcs
-  pub tables : m.config.min_tables ≤ length m.tables
-  pub memories : m.config.min_memories ≤ length m.memories
-  pub globals : m.config.min_globals ≤ length m.globals
-  pub exports : m.config.min_exports ≤ length m.exports
-  pub element_segments : m.config.min_element_segments ≤ length m.elems
-  pub elements : m.elems ≡ []
-  pub data_segments : m.config.min_data_segments ≤ length m.segments
-
--- the types section is written where there are types, the imports section where there are imports
-pub record WritesSections (m : Parts) : Type 0 where
-  pub types : 0 < length m.types → IsTrue m.encodes_types
-  pub imports : 0 < length m.imports → IsTrue m.encodes_imports
-
--- the configuration that a module is drawn for: without garbage collection for now, and sanitised
-abbrev pub accepted : Config → Config
-accepted config = sanitized (record config { gc_enabled = false })
+  pub types : AreTypesValid (module_features m) (module_types m)
+  pub imports : All (IsImportsValid (module_features m)) m.imports
+  pub spaces : AreSpacesMade m
+  pub entities : AreEntitiesValid (module_features m) m.types (module_spaces m)
+  pub counts : AreCountsEnabled (module_features m) (module_spaces m)
+  pub definitions : AreDefinitionsValid m
+  pub exports : AreExportsValid (module_spaces m) m.exports
+  pub start : IsStartValid m.types m.funcs m.start
+  pub elements : All (IsElementValid (segment_context m) m.tables) m.elems
+  pub data_segments : All (IsDataValid (segment_context m) m.memories) m.segments
+  pub bodies : AreBodiesValid m

@@ -76,8 +76,12 @@ impl Model for Module {
 }
 
 impl Module {
-    ghost use Rattle.wasm_smith.specs.Module.{accepted, IsValid, KeepsBounds, MeetsMinimums, WritesSections};
-    ghost use Rattle.wasm_smith.specs.Refusals.{HasNoMinimums, MayRefuse};
+    ghost use Rattle.smith_config.specs.Shapes.{no_shapes};
+    ghost use Rattle.wasm_smith.specs.Module.{IsValid};
+    ghost use Rattle.wasm_smith.specs.Bounds.{KeepsBounds, MeetsMinimums};
+    ghost use Rattle.wasm_smith.specs.Promises.{WritesSections};
+    ghost use Rattle.wasm_smith.specs.Refusals.{HasNoMinimums};
+    ghost use Rattle.wasm_smith.specs.ToCome.{accepted, MayComeOut};
 
     /// Draws a module from the bytes. The configuration is sanitised and checked first; until types of garbage collection
     /// are drawn, it is taken without them.
@@ -87,10 +91,10 @@ impl Module {
         ensures config { IfOk result (λ m. m.config ≡ accepted config) }
         ensures passes { IfOk result (λ m. Passes m.config) }
         ensures valid { IfOk result IsValid }
-        ensures bounds { IfOk result KeepsBounds }
-        ensures minimums { IfOk result MeetsMinimums }
+        ensures bounds { IfOk result (KeepsBounds no_shapes) }
+        ensures minimums { IfOk result (MeetsMinimums no_shapes) }
         ensures sections { IfOk result WritesSections }
-        ensures refusals { IfErr result (MayRefuse (accepted config)) }
+        ensures refusals { IfErr result (MayComeOut (accepted config)) }
         ensures needless { Passes (accepted config) → HasNoMinimums (accepted config) → IfErr result (λ e. e ≡ Error.Memory) }
         ensures source { IsPiece u.old u.new }
     {

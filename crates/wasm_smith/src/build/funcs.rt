@@ -4,10 +4,11 @@ ghost use Rattle.smith_types.specs.ValidTypes.{AreTypesValid};
 ghost use Rattle.smith_config.specs.Faults.{Passes};
 ghost use Rattle.smith_config.specs.Features.{features_of};
 ghost use Rattle.smith_config.specs.Sanitized.{IsSanitized};
-ghost use Rattle.wasm_smith.specs.Module.{IsFuncIndex};
-ghost use Rattle.wasm_smith.specs.Refusals.{MayRefuse};
+ghost use Rattle.smith_types.specs.Entities.{IsFuncValid};
+ghost use Rattle.wasm_smith.specs.ToCome.{MayComeOut};
 ghost use Rattle.smith_draw.specs.Choices.{chosen_at};
-ghost use Rattle.wasm_smith.specs.Build.{Gives, is_function, is_unshared_function, func_types, chosen_funcs_at, funcs_at};
+ghost use Rattle.wasm_smith.specs.FuncTypes.{is_function, is_unshared_function, func_types};
+ghost use Rattle.wasm_smith.specs.Build.{Gives, chosen_funcs_at, funcs_at};
 
 use smith_bytes::{Count, Error, Unstructured, Why, goes_on};
 use smith_config::Config;
@@ -20,7 +21,7 @@ fn is_function(inner: &CompositeInnerType) -> bool
     matches!(inner, CompositeInnerType::Func(_))
 }
 
-#[tactic(auto, unfolding(crate::specs::Build::is_unshared_function))]
+#[tactic(auto, unfolding(crate::specs::FuncTypes::is_unshared_function))]
 fn is_unshared_function(t: &SubType) -> bool
     ensures { result ≡ is_unshared_function t.now }
 {
@@ -131,10 +132,10 @@ pub(crate) fn funcs(
     requires valid { AreTypesValid (features_of config.now) types.now }
     requires least { config.now.min_types ≤ length types.now.types }
     ensures exact { Gives (λ funcs. (funcs, u.new)) result (funcs_at config.now types.now.types u.old) }
-    ensures valid { IfOk result (All (IsFuncIndex types.now.types)) }
+    ensures valid { IfOk result (All (IsFuncValid types.now.types)) }
     ensures most { IfOk result (λ funcs. length funcs ≤ config.now.max_funcs) }
     ensures least { IfOk result (λ funcs. config.now.min_funcs ≤ length funcs) }
-    ensures refusal { IfErr result (MayRefuse config.now) }
+    ensures refusal { IfErr result (MayComeOut config.now) }
     ensures left { KeepsPieces u.old u.new }
 {
     drawn_funcs(alloc, config, types.types(), u)

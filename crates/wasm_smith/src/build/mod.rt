@@ -5,8 +5,11 @@ ghost use Rattle.smith_bytes.specs.Source.{KeepsPieces};
 ghost use Rattle.smith_config.specs.Faults.{Passes};
 ghost use Rattle.smith_config.specs.Sanitized.{IsSanitized};
 ghost use Rattle.wasm_smith.specs.Build.{Gives, module_at};
-ghost use Rattle.wasm_smith.specs.Module.{IsValid, KeepsBounds, MeetsMinimums, WritesSections};
-ghost use Rattle.wasm_smith.specs.Refusals.{MayRefuse};
+ghost use Rattle.smith_config.specs.Shapes.{no_shapes};
+ghost use Rattle.wasm_smith.specs.Module.{IsValid};
+ghost use Rattle.wasm_smith.specs.Bounds.{KeepsBounds, MeetsMinimums};
+ghost use Rattle.wasm_smith.specs.Promises.{WritesSections};
+ghost use Rattle.wasm_smith.specs.ToCome.{MayComeOut};
 
 mod code;
 mod funcs;
@@ -33,10 +36,10 @@ pub(crate) fn build(
     ensures exact { Gives (λ m. (m, u.new)) result (module_at config u.old) }
     ensures config { IfOk result (λ m. m.config ≡ config) }
     ensures valid { IfOk result IsValid }
-    ensures bounds { IfOk result KeepsBounds }
-    ensures minimums { IfOk result MeetsMinimums }
+    ensures bounds { IfOk result (KeepsBounds no_shapes) }
+    ensures minimums { IfOk result (MeetsMinimums no_shapes) }
     ensures sections { IfOk result WritesSections }
-    ensures refusal { IfErr result (MayRefuse config) }
+    ensures refusal { IfErr result (MayComeOut config) }
     ensures left { KeepsPieces u.old u.new }
 {
     let types = types::types(alloc, &config, u)?;

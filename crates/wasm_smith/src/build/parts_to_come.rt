@@ -3,8 +3,9 @@
 ghost use Rattle.std.specs.Prelude.{◌≡◌, ◌<◌, length, OnOk, IfErr};
 ghost use Rattle.std.specs.List.{list_any};
 ghost use Rattle.smith_bytes.specs.Source.{KeepsPieces};
-ghost use Rattle.wasm_smith.specs.Refusals.{MayRefuse};
-ghost use Rattle.wasm_smith.specs.Build.{Gives, passed_at, gives_nothing, is_tag_type, may_have_tags, tags_at};
+ghost use Rattle.wasm_smith.specs.ToCome.{MayComeOut};
+ghost use Rattle.wasm_smith.specs.FuncTypes.{gives_nothing, is_tag_type};
+ghost use Rattle.wasm_smith.specs.Build.{Gives, passed_at, may_have_tags, tags_at};
 
 use smith_bytes::{Count, Error, Unstructured, Why};
 use smith_config::Config;
@@ -36,7 +37,7 @@ fn gives_nothing(inner: &CompositeInnerType) -> bool
     }
 }
 
-#[tactic(auto, unfolding(crate::specs::Build::is_tag_type))]
+#[tactic(auto, unfolding(crate::specs::FuncTypes::is_tag_type))]
 fn is_tag_type(t: &SubType) -> bool
     ensures { result ≡ is_tag_type t.now }
 {
@@ -69,7 +70,7 @@ pub(crate) fn tags(
 ) -> Result<(), Error>
     ensures exact { Gives (λ _. u.new) result (tags_at config.now types.now u.old) }
     ensures none { OnOk result (config.now.min_tags ≡ 0) }
-    ensures refusal { IfErr result (MayRefuse config.now) }
+    ensures refusal { IfErr result (MayComeOut config.now) }
     ensures left { KeepsPieces u.old u.new }
 {
     let most = if may_have_tags(config, types) {
@@ -84,7 +85,7 @@ pub(crate) fn tags(
 pub(crate) fn imports(config: &Config, u: &mut Unstructured<'_>) -> Result<(), Error>
     ensures exact { Gives (λ _. u.new) result (passed_at Count.Imports config.now.min_imports config.now.max_imports u.old) }
     ensures none { OnOk result (config.now.min_imports ≡ 0) }
-    ensures refusal { IfErr result (MayRefuse config.now) }
+    ensures refusal { IfErr result (MayComeOut config.now) }
     ensures left { KeepsPieces u.old u.new }
 {
     pass(Count::Imports, config.min_imports, config.max_imports, u)
@@ -94,7 +95,7 @@ pub(crate) fn imports(config: &Config, u: &mut Unstructured<'_>) -> Result<(), E
 pub(crate) fn tables(config: &Config, u: &mut Unstructured<'_>) -> Result<(), Error>
     ensures exact { Gives (λ _. u.new) result (passed_at Count.Tables config.now.min_tables config.now.max_tables u.old) }
     ensures none { OnOk result (config.now.min_tables ≡ 0) }
-    ensures refusal { IfErr result (MayRefuse config.now) }
+    ensures refusal { IfErr result (MayComeOut config.now) }
     ensures left { KeepsPieces u.old u.new }
 {
     pass(
@@ -109,7 +110,7 @@ pub(crate) fn tables(config: &Config, u: &mut Unstructured<'_>) -> Result<(), Er
 pub(crate) fn globals(config: &Config, u: &mut Unstructured<'_>) -> Result<(), Error>
     ensures exact { Gives (λ _. u.new) result (passed_at Count.Globals config.now.min_globals config.now.max_globals u.old) }
     ensures none { OnOk result (config.now.min_globals ≡ 0) }
-    ensures refusal { IfErr result (MayRefuse config.now) }
+    ensures refusal { IfErr result (MayComeOut config.now) }
     ensures left { KeepsPieces u.old u.new }
 {
     pass(Count::Globals, config.min_globals, config.max_globals, u)
@@ -119,7 +120,7 @@ pub(crate) fn globals(config: &Config, u: &mut Unstructured<'_>) -> Result<(), E
 pub(crate) fn exports(config: &Config, u: &mut Unstructured<'_>) -> Result<(), Error>
     ensures exact { Gives (λ _. u.new) result (passed_at Count.Exports config.now.min_exports 0 u.old) }
     ensures none { OnOk result (config.now.min_exports ≡ 0) }
-    ensures refusal { IfErr result (MayRefuse config.now) }
+    ensures refusal { IfErr result (MayComeOut config.now) }
     ensures left { KeepsPieces u.old u.new }
 {
     pass(Count::Exports, config.min_exports, 0, u)
@@ -129,7 +130,7 @@ pub(crate) fn exports(config: &Config, u: &mut Unstructured<'_>) -> Result<(), E
 pub(crate) fn element_segments(config: &Config, u: &mut Unstructured<'_>) -> Result<(), Error>
     ensures exact { Gives (λ _. u.new) result (passed_at Count.ElementSegments config.now.min_element_segments 0 u.old) }
     ensures none { OnOk result (config.now.min_element_segments ≡ 0) }
-    ensures refusal { IfErr result (MayRefuse config.now) }
+    ensures refusal { IfErr result (MayComeOut config.now) }
     ensures left { KeepsPieces u.old u.new }
 {
     pass(Count::ElementSegments, config.min_element_segments, 0, u)
@@ -139,7 +140,7 @@ pub(crate) fn element_segments(config: &Config, u: &mut Unstructured<'_>) -> Res
 pub(crate) fn elements(config: &Config, u: &mut Unstructured<'_>) -> Result<(), Error>
     ensures exact { Gives (λ _. u.new) result (passed_at Count.Elements config.now.min_elements 0 u.old) }
     ensures none { OnOk result (config.now.min_elements ≡ 0) }
-    ensures refusal { IfErr result (MayRefuse config.now) }
+    ensures refusal { IfErr result (MayComeOut config.now) }
     ensures left { KeepsPieces u.old u.new }
 {
     pass(Count::Elements, config.min_elements, 0, u)
@@ -149,7 +150,7 @@ pub(crate) fn elements(config: &Config, u: &mut Unstructured<'_>) -> Result<(), 
 pub(crate) fn data_segments(config: &Config, u: &mut Unstructured<'_>) -> Result<(), Error>
     ensures exact { Gives (λ _. u.new) result (passed_at Count.DataSegments config.now.min_data_segments 0 u.old) }
     ensures none { OnOk result (config.now.min_data_segments ≡ 0) }
-    ensures refusal { IfErr result (MayRefuse config.now) }
+    ensures refusal { IfErr result (MayComeOut config.now) }
     ensures left { KeepsPieces u.old u.new }
 {
     pass(Count::DataSegments, config.min_data_segments, 0, u)

@@ -1,6 +1,7 @@
 use Rattle.smith_bytes.proofs.Growing.{IsGrowing}
 use Rattle.smith_draw.specs.Choices.{chosen_at}
-use Rattle.wasm_smith.specs.Build.{func_types, chosen_funcs_at}
+use Rattle.wasm_smith.specs.FuncTypes.{func_types}
+use Rattle.wasm_smith.specs.Build.{chosen_funcs_at}
 use Rattle.wasm_smith.proofs.build.funcs.chosen_funcs.Given as goal
 
 abbrev pub invariant-loop-made : goal.invariant-loop-made

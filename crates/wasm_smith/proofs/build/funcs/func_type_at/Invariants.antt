@@ -1,5 +1,5 @@
 use Rattle.std.proofs.Common.{◌≡◌, get_or, drop}
-use Rattle.wasm_smith.specs.Build.{is_unshared_function, places_from, func_types}
+use Rattle.wasm_smith.specs.FuncTypes.{is_unshared_function, places_from, func_types}
 use Rattle.wasm_smith.proofs.build.funcs.func_type_at.Given as goal
 
 abbrev pub invariant-loop-index : goal.invariant-loop-index

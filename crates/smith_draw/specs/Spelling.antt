@@ -1,0 +1,128 @@
+-- Which bytes spell types: pieces of bytes, in the words of this project. Types that a spelling knows are unshared, without
+-- supertypes, and hold nullable references.
+use Rattle.std.specs.Prelude.{◌≡◌, ℕ, ◌+◌, ◌-◌, ◌&&◌, Bool, true, false, not, nat_lt, IsTrue, List, [], ◌∷◌, ◌++◌, Some, None, length, slice_get}
+use Rattle.std.specs.List.{list_any}
+use Rattle.smith_bytes.specs.Spelling.{SpellsBool, SpellsNumber, SpellsRefusal, Where, Joined, Each, Listed}
+use Rattle.smith_types.specs.declared.value_type.HeapType.{HeapType}
+use Rattle.smith_types.specs.declared.value_type.HeapType.TheVariants.{Abstract, Concrete, Exact}
+use Rattle.smith_types.specs.declared.value_type.ValType.{ValType}
+use Rattle.smith_types.specs.declared.value_type.ValType.TheVariants as vals
+use Rattle.smith_types.specs.declared.composite_type.StorageType.{StorageType}
+use Rattle.smith_types.specs.declared.composite_type.StorageType.TheVariants.{I8, I16, Val}
+use Rattle.smith_types.specs.declared.composite_type.FieldType.{FieldType}
+use Rattle.smith_types.specs.declared.composite_type.FuncType.{FuncType}
+use Rattle.smith_types.specs.declared.composite_type.CompositeInnerType.{CompositeInnerType}
+use Rattle.smith_types.specs.declared.composite_type.CompositeInnerType.TheVariants.{Array, Func, Struct}
+use Rattle.smith_types.specs.declared.composite_type.SubType.{SubType}
+use Rattle.smith_config.specs.declared.config.Config.{Config}
+use Rattle.smith_draw.specs.declared.value_type.ValueClass.{ValueClass}
+use Rattle.smith_draw.specs.declared.value_type.ValueClass.TheVariants.{I32, I64, F32, F64, V128, Reference}
+use Rattle.smith_draw.specs.Choices.{enabled}
+use Rattle.smith_draw.specs.ValueTypes.{value_classes, abstract_heap_types}
+use Rattle.smith_draw.specs.SubTypes.{most_results}
+
+-- an item by its place in a list
+pub record SpellsPlace {A : Type 0} (items : List A) (item : A) (piece : List ℕ) : Type 0 where
+  pub place : ℕ
+  pub stands : slice_get items place ≡ Some item
+  pub number : SpellsNumber place 0 (length items - 1) piece
+
+-- that a type is not shared, where it might be
+abbrev pub SpellsUnshared : Config → List ℕ → Type 0
+SpellsUnshared config = Where config.shared_everything_threads_enabled (SpellsRefusal 4)
+
+-- that a heap type is concrete or not, where there is a type below the limit
+abbrev pub SpellsConcrete : Config → ℕ → Bool → List ℕ → Type 0
+SpellsConcrete config limit concrete = Where (config.gc_enabled && nat_lt 0 limit) (SpellsBool concrete)
+
+abbrev pub SpellsHeapType : Config → ℕ → HeapType → List ℕ → Type 0
+SpellsHeapType config limit (Abstract shared ty) piece =
+    (shared ≡ false)
+    × Joined (SpellsConcrete config limit false) (Joined (SpellsUnshared config) (SpellsPlace (enabled (abstract_heap_types config)) ty)) piece
+SpellsHeapType config limit (Concrete index) piece =
+    IsTrue (config.gc_enabled && nat_lt index limit) × Joined (SpellsConcrete config limit true) (SpellsNumber index 0 (limit - 1)) piece
+SpellsHeapType config limit (Exact index) piece = ⊥
+
+-- the class of a value type
+abbrev pub class_of : ValType → ValueClass
+class_of vals.I32 = I32
+class_of vals.I64 = I64
+class_of vals.F32 = F32
+class_of vals.F64 = F64
+class_of vals.V128 = V128
+class_of (vals.Ref reference) = Reference
+
+-- what follows the class: of a reference its heap type
+abbrev pub SpellsRest : Config → ℕ → ValType → List ℕ → Type 0
+SpellsRest config limit (vals.Ref reference) piece = IsTrue reference.nullable × SpellsHeapType config limit reference.heap_type piece
+SpellsRest config limit _ piece = piece ≡ []
+
+unfoldable pub SpellsValType : Config → ℕ → ValType → List ℕ → Type 0
+SpellsValType config limit value = Joined (SpellsPlace (enabled (value_classes config)) (class_of value)) (SpellsRest config limit value)
+
+abbrev pub SpellsStorage : Config → ℕ → StorageType → List ℕ → Type 0
+SpellsStorage config limit I8 piece = SpellsNumber 0 0 2 piece
+SpellsStorage config limit I16 piece = SpellsNumber 1 0 2 piece
+SpellsStorage config limit (Val value) piece = Joined (SpellsNumber 2 0 2) (SpellsValType config limit value) piece
+
+unfoldable pub SpellsField : Config → ℕ → FieldType → List ℕ → Type 0
+SpellsField config limit field = Joined (SpellsStorage config limit field.element_type) (SpellsBool field.mutable)
+
+-- parameters, then results
+unfoldable pub SpellsFuncType : Config → ℕ → FuncType → List ℕ → Type 0
+SpellsFuncType config limit function =
+    Joined (Listed (SpellsValType config limit) 20 function.params) (Listed (SpellsValType config limit) (most_results config) function.results)
+
+-- with garbage collection a kind, and what is of it
+abbrev pub SpellsInner : Config → ℕ → CompositeInnerType → List ℕ → Type 0
+SpellsInner config limit (Array array) piece = Joined (SpellsNumber 0 0 2) (SpellsField config limit array.0) piece
+SpellsInner config limit (Func function) piece = Joined (SpellsNumber 1 0 2) (SpellsFuncType config limit function) piece
+SpellsInner config limit (Struct structure) piece =
+    Joined (SpellsNumber 2 0 2) (Joined (SpellsNumber (length structure.fields) 0 20) (Each (SpellsField config limit) structure.fields)) piece
+
+-- a type that may be a supertype: one that is not final
+abbrev pub is_open : SubType → Bool
+is_open t = not t.is_final
+
+-- with garbage collection: that no supertype is chosen, whether it is final, that it is not shared, and its composite type
+abbrev pub SpellsDeclared : Config → List SubType → ℕ → SubType → List ℕ → Type 0
+SpellsDeclared config before limit t =
+    Joined (Where (list_any is_open before) (SpellsRefusal 32))
+    (Joined (SpellsBool t.is_final) (Joined (SpellsUnshared config) (SpellsInner config limit t.composite_type.inner)))
+
+-- without it: the lists of a function type
+abbrev pub SpellsPlainFunction : Config → ℕ → CompositeInnerType → List ℕ → Type 0
+SpellsPlainFunction config limit (Func function) piece = SpellsFuncType config limit function piece
+SpellsPlainFunction config limit _ piece = ⊥
+
+-- with garbage collection or without
+abbrev pub SpellsForm : Bool → Config → List SubType → ℕ → SubType → List ℕ → Type 0
+SpellsForm true config before limit t piece = SpellsDeclared config before limit t piece
+SpellsForm false config before limit t piece = IsTrue t.is_final × SpellsPlainFunction config limit t.composite_type.inner piece
+
+-- a type behind others, in a group that ends at the limit
+pub record SpellsSubType (config : Config) (before : List SubType) (limit : ℕ) (t : SubType) (piece : List ℕ) : Type 0 where
+  pub root : t.supertype ≡ None
+  pub unshared : t.composite_type.shared ≡ false
+  pub form : SpellsForm config.gc_enabled config before limit t piece
+
+-- types one behind another
+unfoldable pub SpellsSubTypes : Config → List SubType → ℕ → List SubType → List ℕ → Type 0
+SpellsSubTypes config before limit [] piece = piece ≡ []
+SpellsSubTypes config before limit (t ∷ types) piece = Joined (SpellsSubType config before limit t) (SpellsSubTypes config (before ++ t ∷ []) limit types) piece
+
+-- a group behind others: with garbage collection that none is cloned, where one stands, and how many types it has
+abbrev pub SpellsSize : Bool → Config → Bool → ℕ → ℕ → List ℕ → Type 0
+SpellsSize true config stands room size piece = Joined (Where stands (SpellsRefusal 255)) (SpellsNumber size 0 room) piece
+SpellsSize false config stands room size piece = (size ≡ 1) × (piece ≡ [])
+
+unfoldable pub SpellsGroup : Config → List SubType → Bool → List SubType → List ℕ → Type 0
+SpellsGroup config before stands group =
+    Joined (SpellsSize config.gc_enabled config stands (config.max_types - length before) (length group))
+    (SpellsSubTypes config before (length before + length group) group)
+
+-- groups, each behind a bool that asks for it, then a bool that ends them where there is room
+unfoldable pub SpellsGroups : Config → List SubType → Bool → List (List SubType) → List ℕ → Type 0
+SpellsGroups config before stands [] piece = Where (nat_lt (length before) config.max_types) (SpellsBool false) piece
+SpellsGroups config before stands (group ∷ groups) piece =
+    Joined (SpellsBool true) (Joined (SpellsGroup config before stands group) (SpellsGroups config (before ++ group) true groups)) piece

@@ -1,0 +1,87 @@
+-- What else a module keeps: which names, types and sections it has. Rules of this project.
+use Rattle.std.specs.Prelude.{◌≡◌, ℕ, zero, suc, ◌<◌, IsTrue, List, [], ◌∷◌, ◌++◌, Option, Some, None, map, length, All}
+use Rattle.std.specs.List.{flat_map}
+use Rattle.smith_types.specs.Imports.{flattened}
+use Rattle.smith_types.specs.ValidTypes.{values_of}
+use Rattle.smith_types.specs.Exports.{AreDistinct}
+use Rattle.smith_types.specs.Segments.{IsElementInside, IsDataInside}
+use Rattle.smith_types.specs.declared.value_type.ValType.{ValType}
+use Rattle.smith_types.specs.declared.value_type.ValType.TheVariants.{F32, F64}
+use Rattle.smith_types.specs.declared.composite_type.SubType.{SubType}
+use Rattle.smith_types.specs.declared.entity_type.GlobalType.{GlobalType}
+use Rattle.smith_types.specs.declared.entity_type.ExportKind.{ExportKind}
+use Rattle.smith_types.specs.declared.entity_type.ExportKind.TheVariants as kind
+use Rattle.smith_types.specs.declared.imports.Import.{Import}
+use Rattle.smith_types.specs.declared.const_instr.ConstInstr.{ConstInstr}
+use Rattle.smith_types.specs.declared.const_instr.ConstInstr.TheVariants.{F32Const, F64Const}
+use Rattle.smith_types.specs.declared.segments.Elements.{Elements}
+use Rattle.smith_types.specs.declared.segments.Elements.TheVariants.{Functions, Expressions}
+use Rattle.smith_types.specs.declared.segments.ElementSegment.{ElementSegment}
+use Rattle.smith_types.specs.declared.code.Code.{Code}
+use Rattle.wasm_smith.specs.Module.{Parts}
+
+-- no two imports have the same pair of names
+abbrev pub HasDistinctImports : Parts → Type 0
+HasDistinctImports m = AreDistinct {A = List ℕ × List ℕ} (map (λ (one : Import). (one.«module», one.name)) (flattened m.imports))
+
+-- a value type that is not a float
+abbrev pub IsNoFloat : ValType → Type 0
+IsNoFloat F32 = ⊥
+IsNoFloat F64 = ⊥
+IsNoFloat _ = Unit {0}
+
+-- an instruction that is not a float's
+abbrev pub GivesNoFloat : ConstInstr → Type 0
+GivesNoFloat (F32Const bits) = ⊥
+GivesNoFloat (F64Const bits) = ⊥
+GivesNoFloat _ = Unit {0}
+
+-- the expressions of an element segment
+abbrev pub expressions_of : Elements → List (List ConstInstr)
+expressions_of (Functions functions) = []
+expressions_of (Expressions expressions) = expressions
+
+-- the expression of a table that has one
+abbrev pub initial_of : Option (List ConstInstr) → List (List ConstInstr)
+initial_of None = []
+initial_of (Some expression) = expression ∷ []
+
+-- all constant expressions of a module
+abbrev pub module_expressions : Parts → List (List ConstInstr)
+module_expressions m =
+    flat_map initial_of m.defined_tables
+    ++ (map (λ (one : ℕ × List ConstInstr). one.1) m.defined_globals ++ flat_map (λ (segment : ElementSegment). expressions_of segment.items) m.elems)
+
+-- all value types of a module, but those of element segments and tables, which are references
+abbrev pub module_values : Parts → List ValType
+module_values m =
+    flat_map (λ (t : SubType). values_of t.composite_type.inner) m.types
+    ++ (map (λ (global : GlobalType). global.val_type) m.globals ++ flat_map (λ (body : Code). body.locals) m.code)
+
+-- no type and no constant is a float's
+pub record HasNoFloats (m : Parts) : Type 0 where
+  pub values : All IsNoFloat (module_values m)
+  pub constants : All (All GivesNoFloat) (module_expressions m)
+
+-- the kind and each index below a number, in order
+abbrev pub numbered_from : ExportKind → ℕ → ℕ → List (ExportKind × ℕ)
+numbered_from of_kind start zero = []
+numbered_from of_kind start (suc count) = (of_kind, start) ∷ numbered_from of_kind (suc start) count
+
+-- every function, table, memory, global and tag is exported, in this order and by index, each once
+abbrev pub ExportsEverything : Parts → Type 0
+ExportsEverything m =
+    map (λ (one : List ℕ × ExportKind × ℕ). (one.1, one.2)) m.exports
+    ≡ numbered_from kind.Func 0 (length m.funcs)
+    ++ (numbered_from kind.Table 0 (length m.tables)
+    ++ (numbered_from kind.Memory 0 (length m.memories) ++ (numbered_from kind.Global 0 (length m.globals) ++ numbered_from kind.Tag 0 (length m.tags))))
+
+-- each segment that is copied has a constant offset and lies within the least size of its table or memory
+pub record IsInside (m : Parts) : Type 0 where
+  pub elements : All (IsElementInside m.tables) m.elems
+  pub data_segments : All (IsDataInside m.memories) m.segments
+
+-- the types section is written where there are types, the imports section where there are imports
+pub record WritesSections (m : Parts) : Type 0 where
+  pub types : 0 < length m.types → IsTrue m.encodes_types
+  pub imports : 0 < length m.imports → IsTrue m.encodes_imports

@@ -1,0 +1,135 @@
+-- What a module keeps of the shapes that it was asked to have. Rules of this project.
+use Rattle.std.specs.Prelude.{◌≡◌, ℕ, suc, ◌+◌, ◌%◌, ◌==◌, ◌&&◌, nat_le, nat_lt, Bool, true, IsTrue, IfSome, List, [], ◌∷◌, ◌++◌, None, Some, map, length, sum_by, slice_get, slice_index_or, if◌then◌else◌}
+use Rattle.std.specs.List.{AllZip, filter}
+use Rattle.smith_bytes.specs.declared.error.Count.{Count}
+use Rattle.smith_bytes.specs.declared.error.Count.TheVariants as counts
+use Rattle.smith_types.specs.Imports.{IndexSpaces, imports_of, flattened, imported_spaces}
+use Rattle.smith_types.specs.Exports.{IsEntityAt}
+use Rattle.smith_types.specs.Sizes.{size_in}
+use Rattle.smith_types.specs.declared.composite_type.SubType.{SubType}
+use Rattle.smith_types.specs.declared.entity_type.EntityType.{EntityType}
+use Rattle.smith_types.specs.declared.entity_type.EntityType.TheVariants as entity
+use Rattle.smith_types.specs.declared.entity_type.ExportKind.{ExportKind}
+use Rattle.smith_types.specs.declared.imports.Import.{Import}
+use Rattle.smith_types.specs.declared.imports.Imports.{Imports}
+use Rattle.smith_types.specs.declared.imports.Imports.TheVariants.{Single}
+use Rattle.smith_config.specs.declared.config.Config.{Config}
+use Rattle.smith_config.specs.declared.shape.Shape.{Shape}
+use Rattle.smith_config.specs.Faults.{maximum_of}
+use Rattle.smith_config.specs.Shapes.{Shapes, space_of, shape_types, shape_imports, shape_spaces}
+use Rattle.wasm_smith.specs.Bounds.{count_in}
+use Rattle.wasm_smith.specs.Module.{Parts, module_spaces}
+
+-- a list begins with these items
+pub record BeginsWith {A : Type 0} (first whole : List A) : Type 0 where
+  pub rest : List A
+  pub parts : whole ≡ first ++ rest
+
+-- the types and groups of a shape begin the module's
+pub record KeepsTypes (shape : Shape) (m : Parts) : Type 0 where
+  pub types : BeginsWith (shape_types shape) m.types
+  pub groups : BeginsWith (space_of shape.groups).groups m.groups
+
+-- a name, and the kind and the index of what it exports
+abbrev pub Export : Type 0
+Export = List ℕ × ExportKind × ℕ
+
+-- two exports have one name and one kind, and entities of one type
+pub record IsSameExport (ours theirs : IndexSpaces) (one other : Export) : Type 0 where
+  pub name : one.0 ≡ other.0
+  pub kind : one.1 ≡ other.1
+  pub ty : EntityType
+  pub ours_is : IsEntityAt ours one.1 one.2 ty
+  pub theirs_is : IsEntityAt theirs other.1 other.2 ty
+
+-- a group of imports that is not empty
+abbrev pub is_filled : Imports → Bool
+is_filled group = nat_lt 0 (length (imports_of group))
+
+-- the groups of a shape's imports as a module has them: without the empty ones, or one by one
+abbrev pub kept_groups : Config → Shape → List Imports
+kept_groups config shape = if config.compact_imports_enabled then filter is_filled shape.imports else map Single (shape_imports shape)
+
+-- a module shape: its types first, its imports and exports and no other, in order
+pub record KeepsModuleShape (shape : Shape) (m : Parts) : Type 0 where
+  pub types : KeepsTypes shape m
+  pub imports : m.imports ≡ kept_groups m.config shape
+  pub exports : AllZip (IsSameExport (module_spaces m) (shape_spaces shape)) m.exports shape.exports
+
+-- two function types with the same parameters and results, of which ours is final and has no supertype
+pub record IsSameFuncType (ours theirs : List SubType) (index other : ℕ) : Type 0 where
+  pub mine : SubType
+  pub yours : SubType
+  pub stands : slice_get ours index ≡ Some mine
+  pub stood : slice_get theirs other ≡ Some yours
+  pub final : IsTrue mine.is_final
+  pub root : mine.supertype ≡ None
+  pub same : mine.composite_type ≡ yours.composite_type
+
+-- two entities of one type, each over its own list of types
+abbrev pub IsSameType : List SubType → List SubType → EntityType → EntityType → Type 0
+IsSameType ours theirs (entity.Func index) (entity.Func other) = IsSameFuncType ours theirs index other
+IsSameType ours theirs (entity.Tag index) (entity.Tag other) = IsSameFuncType ours theirs index other
+IsSameType ours theirs one other = one ≡ other
+
+-- an export with the name, the kind and the type of a shape's
+pub record IsShapesExport (shape : Shape) (m : Parts) (one other : Export) : Type 0 where
+  pub name : one.0 ≡ other.0
+  pub kind : one.1 ≡ other.1
+  pub mine : EntityType
+  pub yours : EntityType
+  pub mine_is : IsEntityAt (module_spaces m) one.1 one.2 mine
+  pub yours_is : IsEntityAt (shape_spaces shape) other.1 other.2 yours
+  pub same : IsSameType m.types (shape_types shape) mine yours
+
+-- the exports of a shape and no other, in order
+abbrev pub KeepsExports : Shape → Parts → Type 0
+KeepsExports shape m = AllZip (IsShapesExport shape m) m.exports shape.exports
+
+-- whether the input picks the import at this place: its byte is odd, and past the end it isn't
+abbrev pub is_picked : List ℕ → ℕ → Bool
+is_picked bytes place = slice_index_or bytes place 0 % 2 == 1
+
+-- what an entity counts as
+abbrev pub count_for : EntityType → Count
+count_for (entity.Global global) = counts.Globals
+count_for (entity.Table table) = counts.Tables
+count_for (entity.Memory memory) = counts.Memories
+count_for (entity.Tag index) = counts.Tags
+count_for (entity.Func index) = counts.Funcs
+
+-- tags need their feature
+abbrev pub is_allowed : Config → EntityType → Bool
+is_allowed config (entity.Tag index) = config.exceptions_enabled
+is_allowed config _ = true
+
+-- the sizes of imports together
+abbrev pub sizes_of : List SubType → List Import → ℕ
+sizes_of types imports = sum_by (λ (one : Import). size_in types one.entity_type) imports
+
+-- whether one more import fits behind those that are taken: in number, of its kind and by its size
+unfoldable pub is_fitting : Config → List SubType → List Import → Import → Bool
+is_fitting config types taken one =
+    let count = count_for one.entity_type in
+    nat_lt (length taken) config.max_imports
+    && nat_lt (count_in (imported_spaces taken) count) (maximum_of config count)
+    && is_allowed config one.entity_type
+    && nat_le (sizes_of types taken + size_in types one.entity_type) config.max_type_size
+
+-- available imports, from this place on, that are taken behind others: those that the input picks and that fit
+abbrev pub taken_from : Config → List SubType → List ℕ → ℕ → List Import → List Import → List Import
+taken_from config types bytes place taken [] = taken
+taken_from config types bytes place taken (one ∷ more) =
+    let next = if is_picked bytes place && is_fitting config types taken one then taken ++ one ∷ [] else taken in
+    taken_from config types bytes (suc place) next more
+
+-- available imports: the types of their shape first, and of its imports those that the input picks and that fit, in order
+pub record KeepsAvailableImports (bytes : List ℕ) (shape : Shape) (m : Parts) : Type 0 where
+  pub types : KeepsTypes shape m
+  pub imports : flattened m.imports ≡ taken_from m.config (shape_types shape) bytes 0 [] (shape_imports shape)
+
+-- a module from this input keeps each shape that is given
+pub record KeepsShapes (bytes : List ℕ) (shapes : Shapes) (m : Parts) : Type 0 where
+  pub module_shape : IfSome shapes.module_shape (λ shape. KeepsModuleShape shape m)
+  pub available_imports : IfSome shapes.available_imports (λ shape. KeepsAvailableImports bytes shape m)
+  pub exports : IfSome shapes.exports (λ shape. KeepsExports shape m)

@@ -1,0 +1,112 @@
+-- Which bytes spell a module's types and functions, and the rest of a module that has no more than globals and passive data.
+-- A rule of this project. One pair of lists has many spellings.
+use Rattle.std.specs.Prelude.{◌≡◌, ℕ, ◌-◌, ◌≤◌, ◌==◌, ◌&&◌, nat_lt, Bool, true, false, ℤ, List, [], ◌∷◌, None, map, length, slice_get, option_to_list}
+use Rattle.std.specs.Int.{cast_unsigned, w32}
+use Rattle.std.specs.List.{list_any}
+use Rattle.smith_bytes.specs.Draws.{little_endian}
+use Rattle.smith_bytes.specs.Spelling.{SpellsBool, SpellsNumber, SpellsAnyByte, Where, Joined, Listed}
+use Rattle.smith_types.specs.declared.value_type.ValType.TheVariants as vals
+use Rattle.smith_types.specs.declared.composite_type.CompositeInnerType.{CompositeInnerType}
+use Rattle.smith_types.specs.declared.composite_type.CompositeInnerType.TheVariants.{Func}
+use Rattle.smith_types.specs.declared.composite_type.SubType.{SubType}
+use Rattle.smith_types.specs.declared.entity_type.GlobalType.{GlobalType}
+use Rattle.smith_types.specs.declared.const_instr.ConstInstr.{ConstInstr}
+use Rattle.smith_types.specs.declared.const_instr.ConstInstr.TheVariants.{I32Const}
+use Rattle.smith_types.specs.declared.segments.DataSegmentKind.TheVariants.{Passive}
+use Rattle.smith_config.specs.declared.config.Config.{Config}
+use Rattle.smith_config.specs.Shapes.{space_of}
+use Rattle.smith_draw.specs.Choices.{enabled}
+use Rattle.smith_draw.specs.ValueTypes.{value_classes}
+use Rattle.smith_draw.specs.Spelling.{SpellsPlace, SpellsUnshared, SpellsGroups}
+use Rattle.wasm_smith.specs.FuncTypes.{is_tag_type, func_types}
+use Rattle.wasm_smith.specs.Module.{Parts}
+
+-- that a loop ends before its first turn, where it might have one
+abbrev pub SpellsNone : ℕ → List ℕ → Type 0
+SpellsNone most = Where (nat_lt 0 most) (SpellsBool false)
+
+-- that there is no tag, where one might be
+abbrev pub SpellsNoTag : Config → List SubType → List ℕ → Type 0
+SpellsNoTag config types = Where (config.exceptions_enabled && nat_lt 0 config.max_tags && list_any is_tag_type types) (SpellsBool false)
+
+-- functions by the places of their types among those that functions may have, where there is such a type
+abbrev pub SpellsFuncs : Config → List SubType → List ℕ → List ℕ → Type 0
+SpellsFuncs config types funcs = Where (nat_lt 0 (length (func_types types))) (Listed (SpellsPlace (func_types types)) config.max_funcs funcs)
+
+-- types, no import, whether the imports section is written, no tag, functions
+unfoldable pub SpellsMember : Config → List (List SubType) → List ℕ → List ℕ → Type 0
+SpellsMember config groups funcs =
+    let types = (space_of groups).types in
+    Joined (SpellsGroups config [] false groups)
+    (Joined (SpellsNone config.max_imports) (Joined SpellsAnyByte (Joined (SpellsNoTag config types) (SpellsFuncs config types funcs))))
+
+-- a number of 32 bits: its four bytes, the lowest first
+pub record SpellsI32 (value : ℤ) (piece : List ℕ) : Type 0 where
+  pub four : length piece ≡ 4
+  pub read : cast_unsigned w32 value ≡ little_endian piece
+
+-- a mutable global with this number: the first class, unshared, mutable, a constant, where there is a choice the first one
+unfoldable pub SpellsGlobal : Config → ℤ → List ℕ → Type 0
+SpellsGlobal config value =
+    Joined (SpellsNumber 0 0 (length (enabled (value_classes config)) - 1))
+    (Joined (SpellsUnshared config) (Joined (SpellsBool true) (Joined (Where config.extended_const_enabled (SpellsNumber 0 0 1)) (SpellsI32 value))))
+
+-- bytes, each behind a bool that asks for it, then a bool that ends them
+unfoldable pub SpellsBytes : List ℕ → List ℕ → Type 0
+SpellsBytes [] piece = SpellsBool false piece
+SpellsBytes (byte ∷ bytes) piece = Joined (SpellsBool true) (Joined (λ one. one ≡ byte ∷ []) (SpellsBytes bytes)) piece
+
+-- whether a type takes and gives nothing
+abbrev pub takes_and_gives_nothing : CompositeInnerType → Bool
+takes_and_gives_nothing (Func function) = (length function.params == 0) && (length function.results == 0)
+takes_and_gives_nothing _ = false
+
+-- whether the type of this index does
+abbrev pub is_start_type : List SubType → ℕ → Bool
+is_start_type types index = list_any (λ (t : SubType). takes_and_gives_nothing t.composite_type.inner) (option_to_list (slice_get types index))
+
+-- that no function starts the module, where one might
+abbrev pub SpellsNoStart : Config → List SubType → List ℕ → List ℕ → Type 0
+SpellsNoStart config types funcs = Where (config.allow_start_export && list_any (is_start_type types) funcs) (SpellsBool false)
+
+-- with bulk memory: no element segment, then passive data
+abbrev pub SpellsSegments : Config → List (List ℕ) → List ℕ → Type 0
+SpellsSegments config passive = Where config.bulk_memory_enabled (Joined (SpellsNone config.max_element_segments) (Listed SpellsBytes config.max_data_segments passive))
+
+-- what may stand behind a member: so many numbers, and byte lists only with bulk memory
+pub record IsRest (config : Config) (numbers : List ℤ) (passive : List (List ℕ)) : Type 0 where
+  pub few_globals : length numbers ≤ config.max_globals
+  pub few_segments : length passive ≤ config.max_data_segments
+  pub bulk : config.bulk_memory_enabled ≡ false → passive ≡ []
+
+-- no table, no memory, a global for each number, no export, whether the types section is written, no start, segments
+unfoldable pub SpellsRest : Config → List (List SubType) → List ℕ → List ℤ → List (List ℕ) → List ℕ → Type 0
+SpellsRest config groups funcs numbers passive =
+    let types = (space_of groups).types in
+    Joined (SpellsNone config.max_tables)
+    (Joined (SpellsNone config.max_memories)
+    (Joined (Listed (SpellsGlobal config) config.max_globals numbers)
+    (Joined (SpellsNone config.max_exports)
+    (Joined (Where (length types == 0) SpellsAnyByte)
+    (Joined (SpellsNoStart config types funcs) (SpellsSegments config passive))))))
+
+-- a mutable number
+abbrev pub mutable_i32 : GlobalType
+mutable_i32 = record { val_type = vals.I32; mutable = true; shared = false }
+
+-- a module has these types and functions
+pub record HasMember (groups : List (List SubType)) (funcs : List ℕ) (m : Parts) : Type 0 where
+  pub types : m.types ≡ (space_of groups).types
+  pub groups_are : m.groups ≡ (space_of groups).groups
+  pub funcs_are : m.funcs ≡ funcs
+
+-- a module has globals of these numbers and these passive data, and nothing else beside types and functions
+pub record HasRest (numbers : List ℤ) (passive : List (List ℕ)) (m : Parts) : Type 0 where
+  pub tables : m.tables ≡ []
+  pub memories : m.memories ≡ []
+  pub globals : m.globals ≡ map (λ number. mutable_i32) numbers
+  pub initials : map (λ (one : ℕ × List ConstInstr). one.1) m.defined_globals ≡ map (λ number. I32Const number ∷ []) numbers
+  pub exports : m.exports ≡ []
+  pub start : m.start ≡ None
+  pub elements : m.elems ≡ []
+  pub data_segments : m.segments ≡ map (λ bytes. record { kind = Passive; init = bytes }) passive
