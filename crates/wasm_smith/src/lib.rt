@@ -2,6 +2,7 @@
 #![tactic(auto)]
 
 mod build;
+mod examples;
 mod module;
 
 pub use module::Module;
