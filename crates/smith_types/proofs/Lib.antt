@@ -8,3 +8,5 @@ pub mod Walk
 pub mod FeatureBits
 pub mod Parts
 pub mod KindLemmas
+pub mod ConstSteps
+pub mod ExampleLemmas

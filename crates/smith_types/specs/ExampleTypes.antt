@@ -4,11 +4,12 @@ use Rattle.std.specs.declared.ops.Range.{Range}
 use Rattle.smith_types.specs.declared.value_type.AbstractHeapType.{AbstractHeapType}
 use Rattle.smith_types.specs.declared.value_type.AbstractHeapType.TheVariants as heap
 use Rattle.smith_types.specs.declared.value_type.HeapType.{HeapType}
-use Rattle.smith_types.specs.declared.value_type.HeapType.TheVariants.{Abstract}
+use Rattle.smith_types.specs.declared.value_type.HeapType.TheVariants.{Abstract, Concrete}
 use Rattle.smith_types.specs.declared.value_type.RefType.{RefType}
 use Rattle.smith_types.specs.declared.value_type.ValType.{ValType}
 use Rattle.smith_types.specs.declared.value_type.ValType.TheVariants.{Ref}
 use Rattle.smith_types.specs.declared.composite_type.StorageType.{StorageType}
+use Rattle.smith_types.specs.declared.composite_type.StorageType.TheVariants.{Val}
 use Rattle.smith_types.specs.declared.composite_type.FieldType.{FieldType}
 use Rattle.smith_types.specs.declared.composite_type.FuncType.{FuncType}
 use Rattle.smith_types.specs.declared.composite_type.CompositeInnerType.{CompositeInnerType}
@@ -18,6 +19,18 @@ use Rattle.smith_types.specs.declared.composite_type.SubType.{SubType}
 -- a type that is not final and not shared
 abbrev pub open_type : Option ℕ → CompositeInnerType → SubType
 open_type supertype inner = record { is_final = false; supertype = supertype; composite_type = record { inner = inner; shared = false } }
+
+-- a type that is final and not shared, without a supertype
+abbrev pub final_type : CompositeInnerType → SubType
+final_type inner = record { is_final = true; supertype = None; composite_type = record { inner = inner; shared = false } }
+
+-- a type that is final and shared, without a supertype
+abbrev pub shared_type : CompositeInnerType → SubType
+shared_type inner = record { is_final = true; supertype = None; composite_type = record { inner = inner; shared = true } }
+
+-- a struct type of these fields
+abbrev pub struct : List FieldType → CompositeInnerType
+struct fields = Struct (record { fields = fields })
 
 -- a struct type without fields
 abbrev pub empty_struct : CompositeInnerType
@@ -54,6 +67,10 @@ anyref = Ref (nullable (plain heap.Any))
 abbrev pub eqref : ValType
 eqref = Ref (nullable (plain heap.Eq))
 
+-- the value type anyref, of shared references
+abbrev pub shared_anyref : ValType
+shared_anyref = Ref (nullable (Abstract true heap.Any))
+
 -- a field that is constant, and one that is not
 abbrev pub constant : StorageType → FieldType
 constant ty = record { element_type = ty; mutable = false }
@@ -64,3 +81,19 @@ variable ty = record { element_type = ty; mutable = true }
 -- a function type of one parameter and one result
 abbrev pub func : ValType → ValType → FuncType
 func param result = record { params = param ∷ []; results = result ∷ [] }
+
+-- a function type that takes nothing and gives these
+abbrev pub giving : List ValType → CompositeInnerType
+giving results = Func (record { params = []; results = results })
+
+-- a function type that takes these and gives nothing
+abbrev pub taking : List ValType → CompositeInnerType
+taking params = Func (record { params = params; results = [] })
+
+-- a struct type that refers to the type behind it
+abbrev pub referring_type : SubType
+referring_type = final_type (struct (constant (Val (Ref (nullable (Concrete 1)))) ∷ []))
+
+-- that type, and a type behind it
+abbrev pub referring : List SubType
+referring = referring_type ∷ final_type empty_struct ∷ []

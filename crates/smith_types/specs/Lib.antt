@@ -19,3 +19,6 @@ pub mod Same
 pub mod Parts
 pub mod Instructions
 pub mod ExampleTypes
+pub mod ExampleFeatures
+pub mod ExampleEntities
+pub mod ExampleContexts

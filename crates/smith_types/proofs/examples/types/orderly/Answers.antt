@@ -1,7 +1,7 @@
 use Rattle.std.proofs.Common.{arith, Some, None, refl}
 use Rattle.smith_types.specs.Types.{IsAlike}
 use Rattle.smith_types.specs.ExampleTypes.{open_type, empty_struct, plain_func}
-use Rattle.smith_types.proofs.examples.orderly.Goals as goal
+use Rattle.smith_types.proofs.examples.types.orderly.Goals as goal
 
 pub returns-clause-its_own_supertype : goal.returns-clause-its_own_supertype
 returns-clause-its_own_supertype c = λ orderly.

@@ -9,7 +9,7 @@ use Rattle.smith_types.specs.ExampleTypes.{open_type, empty_struct, struct_and_b
 use Rattle.smith_types.proofs.Growth.{IsBelow-trans}
 use Rattle.smith_types.proofs.Paths.{below_declared, below_kind, below_abstract, exact_below, exact_above_bottom}
 use Rattle.smith_types.proofs.Walk.{by_cases_from_below, below_alone}
-use Rattle.smith_types.proofs.examples.heap_types.Goals as goal
+use Rattle.smith_types.proofs.examples.subtyping.heap_types.Goals as goal
 
 orderly : IsOrderly struct_and_below
 orderly = search rules

@@ -1,7 +1,7 @@
 use Rattle.std.proofs.Common.{Some, None, refl}
 use Rattle.smith_types.specs.Space.{HasDepth, root, deeper}
 use Rattle.smith_types.specs.ExampleTypes.{open_type, empty_struct, struct_and_below}
-use Rattle.smith_types.proofs.examples.depths.Goals as goal
+use Rattle.smith_types.proofs.examples.types.depths.Goals as goal
 
 on_its_own : HasDepth struct_and_below 0 1
 on_its_own = root {t = open_type None empty_struct} refl refl

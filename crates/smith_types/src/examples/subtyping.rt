@@ -1,20 +1,17 @@
-// Values that meet the definitions, and values that do not. The clauses are proved; nothing calls these functions.
-
-ghost use Rattle.std.specs.Prelude.{[], ◌∷◌, true, Some, None};
+ghost use Rattle.std.specs.Prelude.{◌≡◌, [], ◌∷◌, true, IsTrue};
 ghost use Rattle.smith_types.specs.declared.value_type.AbstractHeapType.TheVariants as heap;
 ghost use Rattle.smith_types.specs.declared.value_type.HeapType.TheVariants.{Abstract, Concrete, Exact};
 ghost use Rattle.smith_types.specs.declared.value_type.ValType.TheVariants.{I32, I64};
 ghost use Rattle.smith_types.specs.declared.composite_type.StorageType.TheVariants.{I8, I16, Val};
-ghost use Rattle.smith_types.specs.Types.{IsOrderly, AreCovered};
-ghost use Rattle.smith_types.specs.Space.{HasDepth};
+ghost use Rattle.smith_types.specs.Kinds.{kind, bottom, shared};
 ghost use Rattle.smith_types.specs.Subtyping.{IsBelow, IsRefBelow, IsValBelow};
 ghost use Rattle.smith_types.specs.Matching.{IsStorageMatch, IsFieldMatch, AreFieldsMatched, IsFuncMatch};
 ghost use Rattle.smith_types.specs.ExampleTypes.{
-  open_type,
+  final_type,
+  shared_type,
   empty_struct,
   plain_func,
   struct_and_below,
-  range,
   plain,
   nullable,
   not_null,
@@ -25,22 +22,13 @@ ghost use Rattle.smith_types.specs.ExampleTypes.{
   func,
 };
 
-fn orderly()
-    ensures supertype_before { IsOrderly struct_and_below }
-    ensures its_own_supertype { ¬ IsOrderly (open_type (Some 0) empty_struct ∷ []) }
-    ensures of_another_kind { ¬ IsOrderly (open_type None plain_func ∷ open_type (Some 0) empty_struct ∷ []) }
-{}
-
-fn groups()
-    ensures an_empty_one { AreCovered struct_and_below (range 0 2 ∷ range 2 2 ∷ []) }
-    ensures a_type_left_over { ¬ AreCovered struct_and_below (range 0 1 ∷ []) }
-    ensures a_type_twice { ¬ AreCovered struct_and_below (range 0 2 ∷ range 1 2 ∷ []) }
-{}
-
-fn depths()
-    ensures on_its_own { HasDepth struct_and_below 0 1 }
-    ensures one_deeper { HasDepth struct_and_below 1 2 }
-    ensures not_the_same { ¬ HasDepth struct_and_below 1 1 }
+fn kinds()
+    ensures of_a_struct { kind (final_type empty_struct) ≡ heap.Struct }
+    ensures of_a_function { kind (final_type plain_func) ≡ heap.Func }
+    ensures bottom_of_a_struct { bottom (final_type empty_struct) ≡ heap.None }
+    ensures bottom_of_a_function { bottom (final_type plain_func) ≡ heap.NoFunc }
+    ensures shared_one { IsTrue (shared (shared_type plain_func)) }
+    ensures not_shared { ¬ IsTrue (shared (final_type plain_func)) }
 {}
 
 fn heap_types()

@@ -1,0 +1,10 @@
+use Rattle.std.proofs.Common.{[], ◌∷◌, refl}
+use Rattle.smith_types.specs.declared.value_type.ValType.TheVariants.{I32}
+use Rattle.smith_types.specs.ExampleTypes.{final_type, plain_func, giving}
+use Rattle.smith_types.proofs.examples.entities.functions_and_tags.Goals as goal
+
+pub returns-clause-function : goal.returns-clause-function
+returns-clause-function c = (record { params = []; results = I32 ∷ [] }, (final_type (giving (I32 ∷ [])), refl, refl))
+
+pub returns-clause-tag : goal.returns-clause-tag
+returns-clause-tag c = (record { params = []; results = [] }, (final_type plain_func, refl, refl), refl)

@@ -1,0 +1,11 @@
+use Rattle.std.proofs.Common.{rules, arith, refl}
+use Rattle.smith_types.specs.declared.value_type.ValType.TheVariants.{I32}
+use Rattle.smith_types.specs.declared.const_instr.ConstInstr.TheVariants.{GlobalGet}
+use Rattle.smith_types.specs.ExampleFeatures.{usual_features}
+use Rattle.smith_types.specs.ExampleEntities.{constant_global}
+use Rattle.smith_types.specs.ExampleContexts.{context_with}
+use Rattle.smith_types.proofs.ConstSteps.{alone}
+use Rattle.smith_types.proofs.examples.expressions.globals.Goals as goal
+
+pub returns-clause-read : goal.returns-clause-read
+returns-clause-read c = alone (context_with usual_features 2) (GlobalGet 0) I32 I32 (refl, (constant_global I32, refl, omega arith, refl, refl)) tt (search rules)

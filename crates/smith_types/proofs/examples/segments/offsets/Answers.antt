@@ -1,0 +1,7 @@
+use Rattle.std.proofs.Common.{arith, refl}
+use Rattle.smith_types.specs.declared.value_type.ValType.TheVariants.{I32}
+use Rattle.smith_types.specs.ExampleEntities.{constant_global}
+use Rattle.smith_types.proofs.examples.segments.offsets.Goals as goal
+
+pub returns-clause-global : goal.returns-clause-global
+returns-clause-global c = (constant_global I32, refl, omega arith, refl, refl)

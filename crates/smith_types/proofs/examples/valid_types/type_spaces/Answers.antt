@@ -1,0 +1,11 @@
+use Rattle.std.proofs.Common.{[], ◌∷◌}
+use Rattle.std.proofs.lemmas.List.Elements.{All-head}
+use Rattle.smith_types.specs.ValidTypes.{IsGroupValid}
+use Rattle.smith_types.specs.ExampleFeatures.{usual_features}
+use Rattle.smith_types.specs.ExampleTypes.{range, referring}
+use Rattle.smith_types.proofs.ExampleLemmas.{referring_behind}
+use Rattle.smith_types.proofs.examples.valid_types.type_spaces.Goals as goal
+
+pub returns-clause-two_groups : goal.returns-clause-two_groups
+returns-clause-two_groups c = λ valid.
+    referring_behind (All-head (IsGroupValid usual_features referring) (range 0 1) (range 1 2 ∷ []) valid.groups)

@@ -1,0 +1,29 @@
+-- Contexts that the examples speak of.
+use Rattle.std.specs.Prelude.{ℕ, List, [], ◌∷◌}
+use Rattle.smith_types.specs.declared.value_type.AbstractHeapType.TheVariants as heap
+use Rattle.smith_types.specs.declared.value_type.ValType.TheVariants.{I32, Ref}
+use Rattle.smith_types.specs.declared.composite_type.StorageType.TheVariants.{I8, Val}
+use Rattle.smith_types.specs.declared.composite_type.CompositeInnerType.TheVariants.{Array}
+use Rattle.smith_types.specs.declared.composite_type.SubType.{SubType}
+use Rattle.smith_types.specs.Features.{Features}
+use Rattle.smith_types.specs.Expressions.{Context}
+use Rattle.smith_types.specs.ExampleTypes.{final_type, plain_func, struct, constant, variable, not_null, plain}
+use Rattle.smith_types.specs.ExampleEntities.{constant_global, variable_global}
+
+-- a function type, a struct of one packed field, an array of numbers, and a struct whose field may not be null
+abbrev pub context_types : List SubType
+context_types =
+    final_type plain_func ∷ final_type (struct (constant I8 ∷ [])) ∷ final_type (Array (record { 0 = variable (Val I32) }))
+    ∷ final_type (struct (constant (Val (Ref (not_null (plain heap.Func)))) ∷ [])) ∷ []
+
+-- an imported function and a defined one; two imported globals, of which one is mutable, and a defined one
+abbrev pub context_with : Features → ℕ → Context
+context_with features visible = record {
+  features = features;
+  types = context_types;
+  funcs = 0 ∷ 0 ∷ [];
+  globals = constant_global I32 ∷ variable_global I32 ∷ constant_global I32 ∷ [];
+  imported_funcs = 1;
+  imported_globals = 2;
+  visible = visible;
+}

@@ -1,0 +1,48 @@
+-- Entities that the examples speak of.
+use Rattle.std.specs.Prelude.{ℕ, true, false, List, [], ◌∷◌, Option, None}
+use Rattle.smith_types.specs.declared.value_type.RefType.{RefType}
+use Rattle.smith_types.specs.declared.value_type.ValType.{ValType}
+use Rattle.smith_types.specs.declared.value_type.ValType.TheVariants.{I32}
+use Rattle.smith_types.specs.declared.entity_type.GlobalType.{GlobalType}
+use Rattle.smith_types.specs.declared.entity_type.MemoryType.{MemoryType}
+use Rattle.smith_types.specs.declared.entity_type.TableType.{TableType}
+use Rattle.smith_types.specs.declared.entity_type.EntityType.{EntityType}
+use Rattle.smith_types.specs.declared.entity_type.EntityType.TheVariants as entity
+use Rattle.smith_types.specs.declared.imports.Import.{Import}
+use Rattle.smith_types.specs.declared.imports.ImportItem.{ImportItem}
+use Rattle.smith_types.specs.Flags.{funcref}
+use Rattle.smith_types.specs.Imports.{IndexSpaces, import_of}
+
+-- a memory with 32-bit addresses, not shared, of so many pages of 64 KiB
+abbrev pub memory : ℕ → Option ℕ → MemoryType
+memory minimum maximum = record { minimum = minimum; maximum = maximum; memory64 = false; shared = false; page_size_log2 = None }
+
+-- a table with 32-bit addresses, not shared, of so many of these references
+abbrev pub table : RefType → ℕ → Option ℕ → TableType
+table element minimum maximum = record { element_type = element; minimum = minimum; maximum = maximum; table64 = false; shared = false }
+
+-- a global that is immutable and not shared
+abbrev pub constant_global : ValType → GlobalType
+constant_global value = record { val_type = value; mutable = false; shared = false }
+
+-- a global that is mutable and not shared
+abbrev pub variable_global : ValType → GlobalType
+variable_global value = record { val_type = value; mutable = true; shared = false }
+
+-- a function and a tag of the first type, a table, a memory and a global
+abbrev pub one_of_each : IndexSpaces
+one_of_each = record {
+  tags = 0 ∷ [];
+  funcs = 0 ∷ [];
+  tables = table funcref 10 None ∷ [];
+  memories = memory 1 None ∷ [];
+  globals = constant_global I32 ∷ [];
+}
+
+-- an import of a group, which has this name
+abbrev pub item : List ℕ → EntityType → ImportItem
+item name entity_type = record { name = name; entity_type = entity_type }
+
+-- imports of two functions, of a tag and of a memory
+abbrev pub mixed_imports : List Import
+mixed_imports = import_of [] [] (entity.Func 3) ∷ import_of [] [] (entity.Tag 2) ∷ import_of [] [] (entity.Memory (memory 1 None)) ∷ import_of [] [] (entity.Func 1) ∷ []

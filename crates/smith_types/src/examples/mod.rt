@@ -1,0 +1,12 @@
+// Values that meet the definitions, and values that do not. The clauses are proved; nothing calls these functions.
+
+mod bodies;
+mod entities;
+mod exports;
+mod expressions;
+mod flags;
+mod imports;
+mod segments;
+mod subtyping;
+mod types;
+mod valid_types;

@@ -1,0 +1,98 @@
+ghost use Rattle.std.specs.Prelude.{[], ◌∷◌, true, false, Some, None, pos, negsuc};
+ghost use Rattle.smith_types.specs.declared.value_type.AbstractHeapType.TheVariants as heap;
+ghost use Rattle.smith_types.specs.declared.value_type.HeapType.TheVariants.{Concrete};
+ghost use Rattle.smith_types.specs.declared.const_instr.ConstInstr.TheVariants.{RefNull};
+ghost use Rattle.smith_types.specs.declared.segments.Elements.TheVariants.{Functions, Expressions};
+ghost use Rattle.smith_types.specs.declared.segments.ElementKind.TheVariants as element;
+ghost use Rattle.smith_types.specs.declared.segments.DataSegmentKind.TheVariants as data_kind;
+ghost use Rattle.smith_types.specs.declared.segments.Offset.TheVariants.{Const32, Const64, Global};
+ghost use Rattle.smith_types.specs.Flags.{funcref};
+ghost use Rattle.smith_types.specs.Segments.{
+  IsOffsetValid,
+  IsItem,
+  AreItemsValid,
+  IsActiveElement,
+  IsElementKindValid,
+  IsElementValid,
+  IsDataKindValid,
+  IsDataValid,
+  IsOffsetInside,
+  IsElementInside,
+  IsDataInside,
+};
+ghost use Rattle.smith_types.specs.ExampleFeatures.{usual_features};
+ghost use Rattle.smith_types.specs.ExampleTypes.{plain, nullable, not_null};
+ghost use Rattle.smith_types.specs.ExampleEntities.{memory, table};
+ghost use Rattle.smith_types.specs.ExampleContexts.{context_with};
+
+fn offsets()
+    ensures narrow { IsOffsetValid (context_with usual_features 3) false (Const32 (pos 1)) }
+    ensures wide_into_narrow { ¬ IsOffsetValid (context_with usual_features 3) false (Const64 (pos 1)) }
+    ensures wide { IsOffsetValid (context_with usual_features 3) true (Const64 (pos 1)) }
+    ensures global { IsOffsetValid (context_with usual_features 3) false (Global 2) }
+    ensures global_of_another_type { ¬ IsOffsetValid (context_with usual_features 3) true (Global 2) }
+    ensures mutable_global { ¬ IsOffsetValid (context_with usual_features 3) false (Global 1) }
+{}
+
+fn items()
+    ensures function { IsItem (context_with usual_features 3) funcref 1 }
+    ensures function_that_is_not_there { ¬ IsItem (context_with usual_features 3) funcref 2 }
+    ensures function_of_another_type { ¬ IsItem (context_with usual_features 3) (nullable (plain heap.Extern)) 1 }
+    ensures list { AreItemsValid (context_with usual_features 3) funcref (Functions (0 ∷ 1 ∷ [])) }
+    ensures list_past_the_functions { ¬ AreItemsValid (context_with usual_features 3) funcref (Functions (0 ∷ 2 ∷ [])) }
+    ensures expression { AreItemsValid (context_with usual_features 3) funcref (Expressions ((RefNull (plain heap.Func) ∷ []) ∷ [])) }
+    ensures expression_without_reference_types { ¬ AreItemsValid (context_with (record usual_features { reference_types = false }) 3) funcref (Expressions []) }
+{}
+
+fn active_elements()
+    ensures into_a_table { IsActiveElement (context_with usual_features 3) (table funcref 1 None ∷ []) funcref 0 (Const32 (pos 0)) }
+    ensures into_no_table { ¬ IsActiveElement (context_with usual_features 3) [] funcref 0 (Const32 (pos 0)) }
+    ensures not_below_the_table { ¬ IsActiveElement (context_with usual_features 3) (table (not_null (plain heap.Func)) 1 None ∷ []) funcref 0 (Const32 (pos 0)) }
+    ensures with_a_wide_offset { ¬ IsActiveElement (context_with usual_features 3) (table funcref 1 None ∷ []) funcref 0 (Const64 (pos 0)) }
+{}
+
+fn element_kinds()
+    ensures passive { IsElementKindValid (context_with usual_features 3) [] funcref element.Passive }
+    ensures passive_without_bulk_memory { ¬ IsElementKindValid (context_with (record usual_features { bulk_memory = false }) 3) [] funcref element.Passive }
+    ensures declared_without_bulk_memory { ¬ IsElementKindValid (context_with (record usual_features { bulk_memory = false }) 3) [] funcref element.Declared }
+    ensures into_the_first_table { IsElementKindValid (context_with (record usual_features { bulk_memory = false }) 3) (table funcref 1 None ∷ []) funcref (element.Active None (Const32 (pos 0))) }
+    ensures into_a_named_table { ¬ IsElementKindValid (context_with (record usual_features { bulk_memory = false }) 3) (table funcref 1 None ∷ []) funcref (element.Active (Some 0) (Const32 (pos 0))) }
+{}
+
+fn element_segments()
+    ensures passive { IsElementValid (context_with usual_features 3) [] (record { kind = element.Passive; ty = funcref; items = Functions [] }) }
+    ensures of_an_unknown_type { ¬ IsElementValid (context_with usual_features 3) [] (record { kind = element.Passive; ty = nullable (Concrete 4); items = Functions [] }) }
+    ensures of_others_without_reference_types { ¬ IsElementValid (context_with (record usual_features { reference_types = false }) 3) []
+        (record { kind = element.Passive; ty = nullable (plain heap.Extern); items = Functions [] }) }
+{}
+
+fn data_kinds()
+    ensures passive { IsDataKindValid (context_with usual_features 3) [] data_kind.Passive }
+    ensures passive_without_bulk_memory { ¬ IsDataKindValid (context_with (record usual_features { bulk_memory = false }) 3) [] data_kind.Passive }
+    ensures into_a_memory { IsDataKindValid (context_with usual_features 3) (memory 1 None ∷ []) (data_kind.Active 0 (Const32 (pos 0))) }
+    ensures into_no_memory { ¬ IsDataKindValid (context_with usual_features 3) [] (data_kind.Active 0 (Const32 (pos 0))) }
+    ensures with_a_wide_offset { ¬ IsDataValid (context_with usual_features 3) (memory 1 None ∷ []) (record { kind = data_kind.Active 0 (Const64 (pos 0)); init = [] }) }
+{}
+
+fn inside()
+    ensures up_to_the_end { IsOffsetInside (Const32 (pos 7)) 3 10 }
+    ensures past_the_end { ¬ IsOffsetInside (Const32 (pos 8)) 3 10 }
+    ensures read_without_sign { IsOffsetInside (Const32 (negsuc 0)) 0 4294967295 }
+    ensures not_below_zero { ¬ IsOffsetInside (Const32 (negsuc 0)) 0 4294967294 }
+    ensures global { ¬ IsOffsetInside (Global 0) 0 10 }
+{}
+
+fn elements_inside()
+    ensures passive { IsElementInside [] (record { kind = element.Passive; ty = funcref; items = Functions (0 ∷ []) }) }
+    ensures within { IsElementInside (table funcref 1 None ∷ []) (record { kind = element.Active None (Const32 (pos 0)); ty = funcref; items = Functions (0 ∷ []) }) }
+    ensures past_the_table { ¬ IsElementInside (table funcref 1 None ∷ []) (record { kind = element.Active None (Const32 (pos 1)); ty = funcref; items = Functions (0 ∷ []) }) }
+    ensures expressions_past_the_table { ¬ IsElementInside (table funcref 1 None ∷ []) (record { kind = element.Active None (Const32 (pos 0)); ty = funcref; items = Expressions ([] ∷ [] ∷ []) }) }
+{}
+
+fn bytes_inside()
+    ensures within { IsDataInside (memory 1 None ∷ []) (record { kind = data_kind.Active 0 (Const32 (pos 65535)); init = 0 ∷ [] }) }
+    ensures past_the_memory { ¬ IsDataInside (memory 1 None ∷ []) (record { kind = data_kind.Active 0 (Const32 (pos 65536)); init = 0 ∷ [] }) }
+    ensures past_pages_of_one_byte { ¬ IsDataInside (record (memory 1 None) { page_size_log2 = Some 0 } ∷ []) (record { kind = data_kind.Active 0 (Const32 (pos 1)); init = 0 ∷ [] }) }
+    ensures minus_one { ¬ IsDataInside (memory 65535 None ∷ []) (record { kind = data_kind.Active 0 (Const32 (negsuc 0)); init = 0 ∷ [] }) }
+    ensures last_byte { IsDataInside (memory 65536 None ∷ []) (record { kind = data_kind.Active 0 (Const32 (negsuc 0)); init = 0 ∷ [] }) }
+{}
