@@ -8,5 +8,10 @@ pub mod Walk
 pub mod FeatureBits
 pub mod Parts
 pub mod KindLemmas
+pub mod TypeGrowth
+pub mod EntityGrowth
+pub mod ExpressionGrowth
+pub mod SegmentGrowth
+pub mod ExportGrowth
 pub mod ConstSteps
 pub mod ExampleLemmas

@@ -1,6 +1,7 @@
 -- Where things stand in a list that grows at its end.
-use Rattle.std.proofs.Common.{◌≡◌, ◌⊎◌, ℕ, suc, zero, List, [], ◌∷◌, ◌++◌, Some, length, refl, inl, inr, ap}
+use Rattle.std.proofs.Common.{◌≡◌, ◌<◌, ◌⊎◌, ℕ, suc, zero, List, [], ◌∷◌, ◌++◌, Some, length, refl, inl, inr, ap, arith}
 use Rattle.std.specs.Prelude.{slice_get}
+use Rattle.std.specs.List.{AllZip}
 
 -- what stands in a list stands there when more is added
 pub slice_get-grown : {A : Type 0} (xs more : List A) (i : ℕ) (x : A) → slice_get xs i ≡ Some x → slice_get (xs ++ more) i ≡ Some x
@@ -19,3 +20,16 @@ slice_get-push [] y zero x at = inr (refl, cc)
 slice_get-push [] y (suc i) x at = cc
 slice_get-push (z ∷ xs) y zero x at = inl at
 slice_get-push (z ∷ xs) y (suc i) x at = elim (slice_get-push xs y i x at) [ inl old ↦ inl old | inr (is, same) ↦ inr (ap suc is, same) ]
+
+-- what stands before the end of the first of two lists stands in it
+pub slice_get-front : {A : Type 0} (xs more : List A) (i : ℕ) (x : A) → i < length xs → slice_get (xs ++ more) i ≡ Some x → slice_get xs i ≡ Some x
+slice_get-front [] more i x inside at = absurd (omega arith)
+slice_get-front (y ∷ xs) more zero x inside at = at
+slice_get-front (y ∷ xs) more (suc i) x inside at = slice_get-front xs more i x (omega arith) at
+
+-- what relates two lists place by place does so in a weaker way
+pub AllZip-weaker : {A B : Type 0} (R S : A → B → Type 0) → ((x : A) (y : B) → R x y → S x y) → (xs : List A) (ys : List B) → AllZip R xs ys → AllZip S xs ys
+AllZip-weaker R S weaker [] [] h = tt
+AllZip-weaker R S weaker [] (y ∷ ys) h = absurd h
+AllZip-weaker R S weaker (x ∷ xs) [] h = absurd h
+AllZip-weaker R S weaker (x ∷ xs) (y ∷ ys) (p, q) = (weaker x y p, AllZip-weaker R S weaker xs ys q)

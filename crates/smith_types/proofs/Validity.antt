@@ -24,7 +24,7 @@ module _ (features : Features) (types more : List SubType) where
   IsHeapTypeShared-grown (Concrete i) (t, at, h) = (t, slice_get-grown types more i t at, h)
   IsHeapTypeShared-grown (Exact i) (t, at, h) = (t, slice_get-grown types more i t at, h)
 
-  IsShareable-grown : (value : ValType) → IsShareable types value → IsShareable (types ++ more) value
+  pub IsShareable-grown : (value : ValType) → IsShareable types value → IsShareable (types ++ more) value
   IsShareable-grown (Ref reference) h = IsHeapTypeShared-grown reference.heap_type h
   IsShareable-grown I32 h = h
   IsShareable-grown I64 h = h
@@ -43,7 +43,7 @@ module _ (features : Features) (types more : List SubType) where
   }
 
 -- consecutive groups end within the last of them
-ends_within : (start : ℕ) (groups : List (Range ℕ)) → AreConsecutive start groups → (start ≤ end_from start groups) × ByRecursion (λ (g : Range ℕ). g.end ≤ end_from start groups) groups
+pub ends_within : (start : ℕ) (groups : List (Range ℕ)) → AreConsecutive start groups → (start ≤ end_from start groups) × ByRecursion (λ (g : Range ℕ). g.end ≤ end_from start groups) groups
 ends_within start [] c = (omega arith, tt)
 ends_within start (g ∷ groups) (begins, ordered, rest) =
     let (later, inside) = ends_within g.end groups rest in

@@ -1,5 +1,6 @@
--- Laws of subtyping and matching.
-use Rattle.std.specs.Prelude.{ℕ, List, ◌++◌}
+-- Laws of subtyping and matching, and of validity as lists grow.
+use Rattle.std.specs.Prelude.{ℕ, List, ◌++◌, Option}
+use Rattle.std.specs.declared.ops.Range.{Range}
 use Rattle.smith_types.specs.declared.value_type.HeapType.{HeapType}
 use Rattle.smith_types.specs.declared.value_type.HeapType.TheVariants.{Concrete, Exact}
 use Rattle.smith_types.specs.declared.value_type.RefType.{RefType}
@@ -8,6 +9,22 @@ use Rattle.smith_types.specs.declared.composite_type.CompositeType.{CompositeTyp
 use Rattle.smith_types.specs.declared.composite_type.SubType.{SubType}
 use Rattle.smith_types.specs.Subtyping.{IsBelow, IsRefBelow, IsValBelow}
 use Rattle.smith_types.specs.Matching.{IsCompositeMatch}
+use Rattle.smith_types.specs.Features.{Features}
+use Rattle.smith_types.specs.ValidTypes.{AreTypesValid}
+use Rattle.smith_types.specs.Imports.{IndexSpaces}
+use Rattle.smith_types.specs.Entities.{IsTableValid, IsGlobalValid, IsTagValid, IsFuncValid, AreEntitiesValid}
+use Rattle.smith_types.specs.Expressions.{Context, IsStackStep, AreStackSteps, IsConstExpr}
+use Rattle.smith_types.specs.Segments.{IsElementValid, IsDataValid}
+use Rattle.smith_types.specs.Exports.{IsEntityAt, AreExportsValid, IsStartValid}
+use Rattle.smith_types.specs.Grown.{IsContextGrown, AreSpacesGrown, AreGroupsAdded}
+use Rattle.smith_types.specs.declared.entity_type.EntityType.{EntityType}
+use Rattle.smith_types.specs.declared.entity_type.ExportKind.{ExportKind}
+use Rattle.smith_types.specs.declared.entity_type.GlobalType.{GlobalType}
+use Rattle.smith_types.specs.declared.entity_type.MemoryType.{MemoryType}
+use Rattle.smith_types.specs.declared.entity_type.TableType.{TableType}
+use Rattle.smith_types.specs.declared.const_instr.ConstInstr.{ConstInstr}
+use Rattle.smith_types.specs.declared.segments.DataSegment.{DataSegment}
+use Rattle.smith_types.specs.declared.segments.ElementSegment.{ElementSegment}
 
 -- each type is below itself
 pub record SubtypingIsReflexive : Type 0 where
@@ -38,3 +55,33 @@ MatchingIsReflexive = (types : List SubType) (a : CompositeType) → IsComposite
 -- what matches goes on matching when more types are added at the end
 abbrev pub MatchingSurvivesGrowth : Type 0
 MatchingSurvivesGrowth = (types more : List SubType) (a b : CompositeType) → IsCompositeMatch types a b → IsCompositeMatch (types ++ more) a b
+
+-- valid types stay valid when whole groups are added behind them
+abbrev pub ValidTypesSurviveGrowth : Type 0
+ValidTypesSurviveGrowth = (features : Features) (types more : List SubType) (groups further : List (Range ℕ)) → AreTypesValid features (record { types = types; groups = groups })
+    → AreGroupsAdded features types more further → AreTypesValid features (record { types = types ++ more; groups = groups ++ further })
+
+-- valid entities stay valid when more types are added at the end
+pub record ValidEntitiesSurviveGrowth : Type 0 where
+  pub table : (features : Features) (types more : List SubType) (ty : TableType) → IsTableValid features types ty → IsTableValid features (types ++ more) ty
+  pub global : (features : Features) (types more : List SubType) (ty : GlobalType) → IsGlobalValid features types ty → IsGlobalValid features (types ++ more) ty
+  pub tag : (types more : List SubType) (index : ℕ) → IsTagValid types index → IsTagValid (types ++ more) index
+  pub func : (types more : List SubType) (index : ℕ) → IsFuncValid types index → IsFuncValid (types ++ more) index
+  pub all : (features : Features) (types more : List SubType) (spaces : IndexSpaces) → AreEntitiesValid features types spaces → AreEntitiesValid features (types ++ more) spaces
+
+-- what is typed and valid in a context is so in a grown one
+pub record ValidExpressionsSurviveGrowth : Type 0 where
+  pub step : (old new : Context) (instruction : ConstInstr) (before after : List ValType) → IsContextGrown old new → IsStackStep old instruction before after → IsStackStep new instruction before after
+  pub steps : (old new : Context) (instructions : List ConstInstr) (before after : List ValType) → IsContextGrown old new → AreStackSteps old instructions before after → AreStackSteps new instructions before after
+  pub expression : (old new : Context) (wanted : ValType) (instructions : List ConstInstr) → IsContextGrown old new → IsConstExpr old wanted instructions → IsConstExpr new wanted instructions
+
+-- a valid segment is valid in a grown context, with more tables or memories
+pub record ValidSegmentsSurviveGrowth : Type 0 where
+  pub element : (old new : Context) (tables more : List TableType) (segment : ElementSegment) → IsContextGrown old new → IsElementValid old tables segment → IsElementValid new (tables ++ more) segment
+  pub bytes : (old new : Context) (memories more : List MemoryType) (segment : DataSegment) → IsContextGrown old new → IsDataValid old memories segment → IsDataValid new (memories ++ more) segment
+
+-- what is exported or started stands in grown index spaces
+pub record ValidExportsSurviveGrowth : Type 0 where
+  pub entity : (old new : IndexSpaces) (kind : ExportKind) (index : ℕ) (ty : EntityType) → AreSpacesGrown old new → IsEntityAt old kind index ty → IsEntityAt new kind index ty
+  pub exports : (old new : IndexSpaces) (exports : List (List ℕ × ExportKind × ℕ)) → AreSpacesGrown old new → AreExportsValid old exports → AreExportsValid new exports
+  pub start : (types more_types : List SubType) (funcs more_funcs : List ℕ) (function : Option ℕ) → IsStartValid types funcs function → IsStartValid (types ++ more_types) (funcs ++ more_funcs) function

@@ -5,7 +5,6 @@ pub mod Types
 pub mod Space
 pub mod Subtyping
 pub mod Matching
-pub mod Laws
 pub mod Flags
 pub mod ValidTypes
 pub mod Imports
@@ -15,6 +14,8 @@ pub mod Expressions
 pub mod Segments
 pub mod Exports
 pub mod Bodies
+pub mod Grown
+pub mod Laws
 pub mod Same
 pub mod Parts
 pub mod Instructions

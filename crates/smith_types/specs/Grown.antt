@@ -1,0 +1,39 @@
+-- What grows while a module is put together: lists at their ends, and with them what is told by their indices.
+use Rattle.std.specs.Prelude.{◌≡◌, ℕ, ◌≤◌, List, ◌++◌, length, All}
+use Rattle.std.specs.declared.ops.Range.{Range}
+use Rattle.smith_types.specs.Features.{Features}
+use Rattle.smith_types.specs.Types.{IsOrderly, AreConsecutive, end_from}
+use Rattle.smith_types.specs.ValidTypes.{IsGroupValid}
+use Rattle.smith_types.specs.Imports.{IndexSpaces}
+use Rattle.smith_types.specs.Expressions.{Context}
+use Rattle.smith_types.specs.declared.composite_type.SubType.{SubType}
+
+-- a list is another with more behind it, or without
+pub record Extends {A : Type 0} (old new : List A) : Type 0 where
+  pub more : List A
+  pub parts : new ≡ old ++ more
+
+-- a context with more types, functions and globals at their ends, where as much is visible as before or more
+pub record IsContextGrown (old new : Context) : Type 0 where
+  pub features : new.features ≡ old.features
+  pub types : Extends old.types new.types
+  pub funcs : Extends old.funcs new.funcs
+  pub globals : Extends old.globals new.globals
+  pub imported_funcs : new.imported_funcs ≡ old.imported_funcs
+  pub imported_globals : new.imported_globals ≡ old.imported_globals
+  pub visible : old.visible ≤ new.visible
+
+-- index spaces with more of each kind at their ends
+pub record AreSpacesGrown (old new : IndexSpaces) : Type 0 where
+  pub tags : Extends old.tags new.tags
+  pub funcs : Extends old.funcs new.funcs
+  pub tables : Extends old.tables new.tables
+  pub memories : Extends old.memories new.memories
+  pub globals : Extends old.globals new.globals
+
+-- more types behind these, in valid groups that cover them
+pub record AreGroupsAdded (features : Features) (types more : List SubType) (groups : List (Range ℕ)) : Type 0 where
+  pub orderly : IsOrderly (types ++ more)
+  pub consecutive : AreConsecutive (length types) groups
+  pub whole : end_from (length types) groups ≡ length (types ++ more)
+  pub valid : All (IsGroupValid features (types ++ more)) groups
