@@ -1,2 +1,4 @@
 pub mod FaultLemmas
 pub mod DrawnConfig
+pub mod Chains
+pub mod ShapeExamples

@@ -5,4 +5,5 @@ pub mod Features
 pub mod OffsetChoices
 pub mod Shapes
 pub mod ShapeFaults
+pub mod ExampleShapes
 pub mod Arbitrary

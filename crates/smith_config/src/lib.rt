@@ -4,6 +4,7 @@
 mod arbitrary;
 mod check;
 mod config;
+mod examples;
 mod features;
 mod offset_choices;
 mod sanitize;
