@@ -1,5 +1,5 @@
 -- Entities that the examples speak of.
-use Rattle.std.specs.Prelude.{ℕ, true, false, List, [], ◌∷◌, Option, None}
+use Rattle.std.specs.Prelude.{ℕ, ◌^◌, true, false, List, [], ◌∷◌, Option, None}
 use Rattle.smith_types.specs.declared.value_type.RefType.{RefType}
 use Rattle.smith_types.specs.declared.value_type.ValType.{ValType}
 use Rattle.smith_types.specs.declared.value_type.ValType.TheVariants.{I32}
@@ -16,6 +16,10 @@ use Rattle.smith_types.specs.Imports.{IndexSpaces, import_of}
 -- a memory with 32-bit addresses, not shared, of so many pages of 64 KiB
 abbrev pub memory : ℕ → Option ℕ → MemoryType
 memory minimum maximum = record { minimum = minimum; maximum = maximum; memory64 = false; shared = false; page_size_log2 = None }
+
+-- a memory of as many bytes as have 64-bit addresses
+abbrev pub all_addresses : MemoryType
+all_addresses = record (memory (2 ^ 48) None) { memory64 = true }
 
 -- a table with 32-bit addresses, not shared, of so many of these references
 abbrev pub table : RefType → ℕ → Option ℕ → TableType

@@ -1,4 +1,4 @@
-ghost use Rattle.std.specs.Prelude.{[], ◌∷◌, ◌≡◌, ◌-◌, ◌^◌, true, false, Some, None};
+ghost use Rattle.std.specs.Prelude.{[], ◌∷◌, ◌≡◌, ◌+◌, ◌-◌, ◌^◌, true, false, Some, None};
 ghost use Rattle.smith_types.specs.declared.value_type.AbstractHeapType.TheVariants as heap;
 ghost use Rattle.smith_types.specs.declared.value_type.HeapType.TheVariants.{Abstract, Concrete};
 ghost use Rattle.smith_types.specs.declared.value_type.ValType.TheVariants.{I32, I64, Ref};
@@ -20,7 +20,7 @@ ghost use Rattle.smith_types.specs.Entities.{
 };
 ghost use Rattle.smith_types.specs.ExampleFeatures.{usual_features};
 ghost use Rattle.smith_types.specs.ExampleTypes.{final_type, empty_struct, plain_func, giving, func, nullable, plain, anyref, shared_anyref};
-ghost use Rattle.smith_types.specs.ExampleEntities.{memory, table, constant_global, one_of_each};
+ghost use Rattle.smith_types.specs.ExampleEntities.{memory, all_addresses, table, constant_global, one_of_each};
 
 fn limits()
     ensures of_one_value { AreLimitsValid 10 10 (Some 10) }
@@ -43,6 +43,8 @@ fn most()
 fn memories()
     ensures of_4_gibibytes { IsMemoryValid usual_features (memory 65536 None) }
     ensures of_one_page_more { ¬ IsMemoryValid usual_features (memory 65537 None) }
+    ensures of_all_addresses { IsMemoryValid usual_features all_addresses }
+    ensures of_one_page_more_than_all { ¬ IsMemoryValid usual_features (record all_addresses { minimum = 2 ^ 48 + 1 }) }
     ensures of_wide_addresses { IsMemoryValid usual_features (record (memory 65537 None) { memory64 = true }) }
     ensures wide_addresses_need_their_feature { ¬ IsMemoryValid (record usual_features { memory64 = false }) (record (memory 1 None) { memory64 = true }) }
     ensures shared { IsMemoryValid usual_features (record (memory 1 (Some 1)) { shared = true }) }
@@ -89,6 +91,7 @@ fn entities()
 
 fn counts()
     ensures one_of_each_kind { AreCountsEnabled usual_features one_of_each }
+    ensures several { AreCountsEnabled usual_features (record one_of_each { tables = table funcref 1 None ∷ table funcref 1 None ∷ []; memories = memory 1 None ∷ memory 1 None ∷ [] }) }
     ensures one_memory { AreCountsEnabled (record usual_features { multi_memory = false }) one_of_each }
     ensures a_second_memory { ¬ AreCountsEnabled (record usual_features { multi_memory = false }) (record one_of_each { memories = memory 1 None ∷ memory 1 None ∷ [] }) }
     ensures a_second_table { ¬ AreCountsEnabled (record usual_features { reference_types = false }) (record one_of_each { tables = table funcref 1 None ∷ table funcref 1 None ∷ [] }) }

@@ -1,13 +1,15 @@
 ghost use Rattle.std.specs.Prelude.{[], ◌∷◌, ◌≡◌, true, false, pos};
 ghost use Rattle.smith_types.specs.declared.value_type.AbstractHeapType.TheVariants as heap;
 ghost use Rattle.smith_types.specs.declared.value_type.HeapType.TheVariants.{Abstract, Concrete, Exact};
-ghost use Rattle.smith_types.specs.declared.value_type.ValType.TheVariants.{I32, I64, Ref};
+ghost use Rattle.smith_types.specs.declared.value_type.ValType.TheVariants.{I32, I64, V128, Ref};
 ghost use Rattle.smith_types.specs.declared.const_instr.ConstInstr.TheVariants.{
   I32Const,
   GlobalGet,
   RefNull,
   RefFunc,
   I32Add,
+  I64Mul,
+  V128Const,
   RefI31,
   RefI31Shared,
   StructNew,
@@ -42,6 +44,14 @@ fn constants()
     ensures sum { IsConstExpr (context_with usual_features 2) I32 (I32Const (pos 1) ∷ I32Const (pos 2) ∷ I32Add ∷ []) }
     ensures sum_without_its_feature { ¬ IsConstExpr (context_with (record usual_features { extended_const = false }) 2) I32 (I32Const (pos 1) ∷ I32Const (pos 2) ∷ I32Add ∷ []) }
     ensures sum_of_one_value { ¬ IsConstExpr (context_with usual_features 2) I32 (I32Const (pos 1) ∷ I32Add ∷ []) }
+{}
+
+fn instructions()
+    ensures wide_product { HasType (context_with usual_features 2) I64Mul (I64 ∷ I64 ∷ []) I64 }
+    ensures product_of_another_type { ¬ HasType (context_with usual_features 2) I64Mul (I32 ∷ I32 ∷ []) I64 }
+    ensures product_of_one_value { ¬ HasType (context_with usual_features 2) I64Mul (I64 ∷ []) I64 }
+    ensures vector { HasType (context_with usual_features 2) (V128Const (pos 0)) [] V128 }
+    ensures null_of_an_unknown_type { ¬ HasType (context_with usual_features 2) (RefNull (Concrete 4)) [] (Ref (nullable (Concrete 4))) }
 {}
 
 fn visible_globals()

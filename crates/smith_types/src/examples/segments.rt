@@ -22,7 +22,7 @@ ghost use Rattle.smith_types.specs.Segments.{
 };
 ghost use Rattle.smith_types.specs.ExampleFeatures.{usual_features};
 ghost use Rattle.smith_types.specs.ExampleTypes.{plain, nullable, not_null};
-ghost use Rattle.smith_types.specs.ExampleEntities.{memory, table};
+ghost use Rattle.smith_types.specs.ExampleEntities.{memory, all_addresses, table};
 ghost use Rattle.smith_types.specs.ExampleContexts.{context_with};
 
 fn offsets()
@@ -78,6 +78,7 @@ fn inside()
     ensures up_to_the_end { IsOffsetInside (Const32 (pos 7)) 3 10 }
     ensures past_the_end { ¬ IsOffsetInside (Const32 (pos 8)) 3 10 }
     ensures read_without_sign { IsOffsetInside (Const32 (negsuc 0)) 0 4294967295 }
+    ensures wide_read_without_sign { IsOffsetInside (Const64 (negsuc 0)) 0 18446744073709551615 }
     ensures not_below_zero { ¬ IsOffsetInside (Const32 (negsuc 0)) 0 4294967294 }
     ensures global { ¬ IsOffsetInside (Global 0) 0 10 }
 {}
@@ -95,4 +96,6 @@ fn bytes_inside()
     ensures past_pages_of_one_byte { ¬ IsDataInside (record (memory 1 None) { page_size_log2 = Some 0 } ∷ []) (record { kind = data_kind.Active 0 (Const32 (pos 1)); init = 0 ∷ [] }) }
     ensures minus_one { ¬ IsDataInside (memory 65535 None ∷ []) (record { kind = data_kind.Active 0 (Const32 (negsuc 0)); init = 0 ∷ [] }) }
     ensures last_byte { IsDataInside (memory 65536 None ∷ []) (record { kind = data_kind.Active 0 (Const32 (negsuc 0)); init = 0 ∷ [] }) }
+    ensures last_of_all_addresses { IsDataInside (all_addresses ∷ []) (record { kind = data_kind.Active 0 (Const64 (negsuc 0)); init = 0 ∷ [] }) }
+    ensures past_all_addresses { ¬ IsDataInside (all_addresses ∷ []) (record { kind = data_kind.Active 0 (Const64 (negsuc 0)); init = 0 ∷ 0 ∷ [] }) }
 {}

@@ -1,5 +1,5 @@
 use Rattle.std.proofs.Common.{arith, None, refl}
-use Rattle.smith_types.specs.ExampleEntities.{memory}
+use Rattle.smith_types.specs.ExampleEntities.{memory, all_addresses}
 use Rattle.smith_types.proofs.examples.segments.bytes_inside.Goals as goal
 
 pub returns-clause-within : goal.returns-clause-within
@@ -7,3 +7,6 @@ returns-clause-within c = (memory 1 None, refl, omega arith)
 
 pub returns-clause-last_byte : goal.returns-clause-last_byte
 returns-clause-last_byte c = (memory 65536 None, refl, omega arith)
+
+pub returns-clause-last_of_all_addresses : goal.returns-clause-last_of_all_addresses
+returns-clause-last_of_all_addresses c = (all_addresses, refl, omega arith)
