@@ -1,0 +1,21 @@
+use smith_types::{CompositeInnerType, FuncType, SubType, ValType};
+
+/// Whether a function type takes and gives these.
+pub(crate) fn takes_and_gives(
+    function: &FuncType,
+    params: &[ValType],
+    results: &[ValType],
+) -> bool {
+    function.params.as_slice() == params && function.results.as_slice() == results
+}
+
+/// Whether a type is final, not shared and without a supertype, and of functions that take and give these.
+pub(crate) fn is_function(ty: &SubType, params: &[ValType], results: &[ValType]) -> bool {
+    let is_plain = ty.is_final && ty.supertype.is_none() && !ty.composite_type.shared;
+    match &ty.composite_type.inner {
+        CompositeInnerType::Func(function) => {
+            is_plain && takes_and_gives(function, params, results)
+        }
+        _ => false,
+    }
+}
