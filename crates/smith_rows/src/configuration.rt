@@ -90,19 +90,21 @@ fn references_off_leave_one_table(rt: HostRuntime) {
     assert!(rt; !config.gc_enabled);
 }
 
+// What the check says of the defaults with these bounds.
+fn checked(min_tags: usize, max_tags: usize, max_types: usize) -> Result<(), ConfigFault> {
+    let mut config = Config::default();
+    config.min_tags = min_tags;
+    config.max_tags = max_tags;
+    config.max_types = max_types;
+    config.check()
+}
+
 #[test]
 fn faults_of_configurations(rt: HostRuntime) {
-    let tags = Config {
-        min_tags: 3,
-        max_tags: 2,
-        ..Config::default()
-    };
-    let types = Config {
-        max_types: (1 << 31) + 1,
-        ..Config::default()
-    };
-    assert_eq!(rt; tags.check(), Err(ConfigFault::MinAboveMax(Count::Tags)));
-    assert_eq!(rt; types.check(), Err(ConfigFault::MaxTooLarge(Count::Types)));
+    let above = ConfigFault::MinAboveMax(Count::Tags);
+    let large = ConfigFault::MaxTooLarge(Count::Types);
+    assert_eq!(rt; checked(3, 2, 100), Err(above));
+    assert_eq!(rt; checked(0, 100, (1 << 31) + 1), Err(large));
     assert_eq!(rt; Config::default().check(), Ok(()));
 }
 

@@ -28,12 +28,17 @@ fn spaces_of<'a>(types: &'a TypeSpace) -> Spaces<'a> {
     }
 }
 
-// The configuration with garbage collection off, sanitised.
-fn without_gc(mut config: Config) -> Config
+// The defaults without garbage collection, sanitised, and without exceptions, floats and several results where there are
+// to be fewer.
+fn without_gc(fewer: bool) -> Config
     ensures sanitized { IsSanitized result }
     ensures without_gc { result.gc_enabled ≡ false }
 {
+    let mut config = Config::default();
     config.gc_enabled = false;
+    config.exceptions_enabled = !fewer;
+    config.allow_floats = !fewer;
+    config.multi_value_enabled = !fewer;
     config.sanitize();
     config
 }
@@ -52,40 +57,33 @@ fn reference(ty: AbstractHeapType) -> RefType {
 }
 
 // A heap type, and how many bytes it leaves.
-fn heap_type(alloc: Global, config: Config, input: &[u8]) -> Result<(HeapType, usize), Error> {
+fn heap_type(alloc: Global, fewer: bool, input: &[u8]) -> Result<(HeapType, usize), Error> {
     let types = TypeSpace::new(alloc);
     let mut u = Unstructured::new(input);
-    let config = without_gc(config);
+    let config = without_gc(fewer);
     let drawn = arbitrary_heap_type(alloc, &config, &spaces_of(&types), false, 0, &mut u)?;
     Ok((drawn, u.len()))
 }
 
 #[test]
 fn heap_types(rt: HostRuntime) -> Result<(), Fail> {
+    let functions = unshared(AbstractHeapType::Func);
     let externals = unshared(AbstractHeapType::Extern);
     let exceptions = unshared(AbstractHeapType::Exn);
-    let functions = unshared(AbstractHeapType::Func);
-    let all = Config::default();
-    assert_eq!(rt; heap_type(rt.alloc(), all, &[])?, (functions, 0));
-    let all = Config::default();
-    assert_eq!(rt; heap_type(rt.alloc(), all, &[1, 7])?, (externals, 1));
-    let all = Config::default();
-    assert_eq!(rt; heap_type(rt.alloc(), all, &[5])?, (exceptions, 0));
-    let without_exceptions = Config {
-        exceptions_enabled: false,
-        ..Config::default()
-    };
-    assert_eq!(rt;
-        heap_type(rt.alloc(), without_exceptions, &[5])?,
-        (externals, 0)
-    );
+    assert_eq!(rt; heap_type(rt.alloc(), false, &[])?, (functions, 0));
+    assert_eq!(rt; heap_type(rt.alloc(), false, &[1, 7])?, (externals, 1));
+    assert_eq!(rt; heap_type(rt.alloc(), false, &[5])?, (exceptions, 0));
+    assert_eq!(rt; heap_type(rt.alloc(), true, &[5])?, (externals, 0));
     Ok(())
 }
 
-fn ref_type(alloc: Global, config: Config, input: &[u8]) -> Result<(RefType, usize), Error> {
+// A reference type, and how many bytes it leaves.
+fn ref_type(alloc: Global, enabled: bool, input: &[u8]) -> Result<(RefType, usize), Error> {
     let types = TypeSpace::new(alloc);
     let mut u = Unstructured::new(input);
-    let config = without_gc(config);
+    let mut config = without_gc(false);
+    config.reference_types_enabled = enabled;
+    config.sanitize();
     let drawn = arbitrary_ref_type(alloc, &config, &spaces_of(&types), false, 0, &mut u)?;
     Ok((drawn, u.len()))
 }
@@ -94,23 +92,16 @@ fn ref_type(alloc: Global, config: Config, input: &[u8]) -> Result<(RefType, usi
 fn reference_types(rt: HostRuntime) -> Result<(), Fail> {
     let externals = reference(AbstractHeapType::Extern);
     let functions = reference(AbstractHeapType::Func);
-    let all = Config::default();
-    assert_eq!(rt; ref_type(rt.alloc(), all, &[1, 7])?, (externals, 1));
-    let without_references = Config {
-        reference_types_enabled: false,
-        ..Config::default()
-    };
-    assert_eq!(rt;
-        ref_type(rt.alloc(), without_references, &[1, 7])?,
-        (functions, 2)
-    );
+    assert_eq!(rt; ref_type(rt.alloc(), true, &[1, 7])?, (externals, 1));
+    assert_eq!(rt; ref_type(rt.alloc(), false, &[1, 7])?, (functions, 2));
     Ok(())
 }
 
-fn val_type(alloc: Global, config: Config, input: &[u8]) -> Result<(ValType, usize), Error> {
+// A value type, and how many bytes it leaves.
+fn val_type(alloc: Global, fewer: bool, input: &[u8]) -> Result<(ValType, usize), Error> {
     let types = TypeSpace::new(alloc);
     let mut u = Unstructured::new(input);
-    let config = without_gc(config);
+    let config = without_gc(fewer);
     let drawn = arbitrary_valtype(alloc, &config, &spaces_of(&types), false, 0, &mut u)?;
     Ok((drawn, u.len()))
 }
@@ -118,32 +109,23 @@ fn val_type(alloc: Global, config: Config, input: &[u8]) -> Result<(ValType, usi
 #[test]
 fn value_types(rt: HostRuntime) -> Result<(), Fail> {
     let exceptions = ValType::Ref(reference(AbstractHeapType::Exn));
-    let all = Config::default();
-    assert_eq!(rt; val_type(rt.alloc(), all, &[3, 7])?, (ValType::F64, 1));
-    let all = Config::default();
-    assert_eq!(rt; val_type(rt.alloc(), all, &[5, 2, 7])?, (exceptions, 1));
-    let without_floats = Config {
-        allow_floats: false,
-        ..Config::default()
-    };
-    assert_eq!(rt;
-        val_type(rt.alloc(), without_floats, &[6, 1, 7])?,
-        (ValType::V128, 2)
-    );
+    assert_eq!(rt; val_type(rt.alloc(), false, &[3, 7])?, (ValType::F64, 1));
+    assert_eq!(rt; val_type(rt.alloc(), false, &[5, 2, 7])?, (exceptions, 1));
+    assert_eq!(rt; val_type(rt.alloc(), true, &[6, 1, 7])?, (ValType::V128, 2));
     Ok(())
 }
 
 // Whether a drawn function type takes and gives these, and how many bytes it leaves.
-fn is_drawn(
+fn is_func_type(
     alloc: Global,
-    config: Config,
+    fewer: bool,
     input: &[u8],
     params: &[ValType],
     results: &[ValType],
 ) -> Result<(bool, usize), Error> {
     let types = TypeSpace::new(alloc);
     let mut u = Unstructured::new(input);
-    let config = without_gc(config);
+    let config = without_gc(fewer);
     let drawn = arbitrary_func_type(alloc, &config, &spaces_of(&types), false, 0, &mut u)?;
     Ok((takes_and_gives(&drawn, params, results), u.len()))
 }
@@ -154,31 +136,20 @@ fn a_function_type(rt: HostRuntime) -> Result<(), Fail> {
     let params = [ValType::I64, ValType::F32];
     let funcref = ValType::Ref(reference(AbstractHeapType::Func));
     let results = [funcref, funcref];
-    let all = Config::default();
-    assert_eq!(rt;
-        is_drawn(rt.alloc(), all, &input, &params, &results)?,
-        (true, 1)
-    );
+    let drawn = is_func_type(rt.alloc(), false, &input, &params, &results)?;
+    assert_eq!(rt; drawn, (true, 1));
     Ok(())
 }
 
 #[test]
 fn a_function_type_of_one_result(rt: HostRuntime) -> Result<(), Fail> {
-    let config = Config {
-        multi_value_enabled: false,
-        ..Config::default()
-    };
-    let input = [0, 1, 1, 1, 1];
-    let results = [ValType::I64];
-    assert_eq!(rt;
-        is_drawn(rt.alloc(), config, &input, &[], &results)?,
-        (true, 2)
-    );
+    let drawn = is_func_type(rt.alloc(), true, &[0, 1, 1, 1, 1], &[], &[ValType::I64])?;
+    assert_eq!(rt; drawn, (true, 2));
     Ok(())
 }
 
 // Whether a drawn subtype is of functions that take and give these.
-fn is_drawn_below(
+fn is_sub_type(
     alloc: Global,
     input: &[u8],
     params: &[ValType],
@@ -186,14 +157,14 @@ fn is_drawn_below(
 ) -> Result<bool, Error> {
     let types = TypeSpace::new(alloc);
     let mut u = Unstructured::new(input);
-    let config = without_gc(Config::default());
+    let config = without_gc(false);
     let drawn = arbitrary_sub_type(alloc, &config, &spaces_of(&types), 0, &mut u)?;
     Ok(is_function(&drawn, params, results))
 }
 
 #[test]
 fn a_subtype_is_a_function_type(rt: HostRuntime) -> Result<(), Fail> {
-    assert!(rt; is_drawn_below(rt.alloc(), &[1, 3], &[ValType::F64], &[])?);
+    assert!(rt; is_sub_type(rt.alloc(), &[1, 3], &[ValType::F64], &[])?);
     Ok(())
 }
 
@@ -210,7 +181,7 @@ fn are_two_groups(types: &TypeSpace) -> bool {
 #[test]
 fn a_group_is_one_type(rt: HostRuntime) -> Result<(), Fail> {
     let alloc = rt.alloc();
-    let config = without_gc(Config::default());
+    let config = without_gc(false);
     let mut types = TypeSpace::new(alloc);
     let mut u = Unstructured::new(&[0, 1, 1, 0, 0, 0, 7]);
     assert!(rt; config.check().is_ok());

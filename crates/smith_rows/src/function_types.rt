@@ -9,12 +9,16 @@ pub(crate) fn takes_and_gives(
     function.params.as_slice() == params && function.results.as_slice() == results
 }
 
-/// Whether a type is final, not shared and without a supertype, and of functions that take and give these.
+// Whether a type is final, not shared and without a supertype.
+fn is_plain(ty: &SubType) -> bool {
+    ty.is_final && ty.supertype.is_none() && !ty.composite_type.shared
+}
+
+/// Whether a type is plain, and of functions that take and give these.
 pub(crate) fn is_function(ty: &SubType, params: &[ValType], results: &[ValType]) -> bool {
-    let is_plain = ty.is_final && ty.supertype.is_none() && !ty.composite_type.shared;
     match &ty.composite_type.inner {
         CompositeInnerType::Func(function) => {
-            is_plain && takes_and_gives(function, params, results)
+            is_plain(ty) && takes_and_gives(function, params, results)
         }
         _ => false,
     }
