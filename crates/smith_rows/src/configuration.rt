@@ -4,13 +4,9 @@ use smith_types::{InstructionKinds, WasmFeatures};
 use std::alloc::AllocError;
 use std::str::FromStr;
 
-#[test]
-fn four_bytes_draw_two_numbers(rt: HostRuntime) {
-    let mut u = Unstructured::new(&[0, 5, 3, 232]);
-    let config = Config::arbitrary(&mut u).unwrap();
-    assert_eq!(rt; config.max_types, 5);
-    assert_eq!(rt; config.max_imports, 1000);
-    let counts = [
+// The numbers that are drawn after those of types and imports.
+fn other_numbers(config: &Config) -> [usize; 12] {
+    [
         config.max_tags,
         config.max_funcs,
         config.max_globals,
@@ -23,20 +19,38 @@ fn four_bytes_draw_two_numbers(rt: HostRuntime) {
         config.max_tables,
         config.max_aliases,
         config.max_nesting_depth,
-    ];
-    assert_eq!(rt; counts, [0; 12]);
-    assert_eq!(rt; config.max_memory32_bytes, 0);
-    assert_eq!(rt; config.max_memory64_bytes, 0);
-    assert_eq!(rt; config.min_uleb_size, 0);
-    assert_eq!(rt; config.max_table_elements, 0);
-    assert_eq!(rt; config.const_expr_fuel, 0);
-    let rules = [
+    ]
+}
+
+// The sizes that are drawn.
+fn sizes(config: &Config) -> [u128; 5] {
+    [
+        u128::from(config.max_memory32_bytes),
+        config.max_memory64_bytes,
+        u128::from(config.min_uleb_size),
+        u128::from(config.max_table_elements),
+        u128::from(config.const_expr_fuel),
+    ]
+}
+
+// The rules that are drawn.
+fn rules(config: &Config) -> [bool; 4] {
+    [
         config.table_max_size_required,
         config.disallow_traps,
         config.allow_floats,
         config.limit_arrays_in_const_exprs,
-    ];
-    assert_eq!(rt; rules, [false; 4]);
+    ]
+}
+
+#[test]
+fn four_bytes_draw_two_numbers(rt: HostRuntime) {
+    let mut u = Unstructured::new(&[0, 5, 3, 232]);
+    let config = Config::arbitrary(&mut u).unwrap();
+    assert_eq!(rt; [config.max_types, config.max_imports], [5, 1000]);
+    assert_eq!(rt; other_numbers(&config), [0; 12]);
+    assert_eq!(rt; sizes(&config), [0; 5]);
+    assert_eq!(rt; rules(&config), [false; 4]);
     assert_eq!(rt; config.allowed_instructions, InstructionKinds::none());
     let always = WasmFeatures::MUTABLE_GLOBAL | WasmFeatures::WASM1;
     assert_eq!(rt; config.features(), always);
@@ -76,19 +90,21 @@ fn references_off_leave_one_table(rt: HostRuntime) {
     assert!(rt; !config.gc_enabled);
 }
 
+// What the check says of the defaults with these bounds.
+fn checked(min_tags: usize, max_tags: usize, max_types: usize) -> Result<(), ConfigFault> {
+    let mut config = Config::default();
+    config.min_tags = min_tags;
+    config.max_tags = max_tags;
+    config.max_types = max_types;
+    config.check()
+}
+
 #[test]
 fn faults_of_configurations(rt: HostRuntime) {
-    let tags = Config {
-        min_tags: 3,
-        max_tags: 2,
-        ..Config::default()
-    };
-    let types = Config {
-        max_types: (1 << 31) + 1,
-        ..Config::default()
-    };
-    assert_eq!(rt; tags.check(), Err(ConfigFault::MinAboveMax(Count::Tags)));
-    assert_eq!(rt; types.check(), Err(ConfigFault::MaxTooLarge(Count::Types)));
+    let above = ConfigFault::MinAboveMax(Count::Tags);
+    let large = ConfigFault::MaxTooLarge(Count::Types);
+    assert_eq!(rt; checked(3, 2, 100), Err(above));
+    assert_eq!(rt; checked(0, 100, (1 << 31) + 1), Err(large));
     assert_eq!(rt; Config::default().check(), Ok(()));
 }
 

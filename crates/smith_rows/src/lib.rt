@@ -4,6 +4,10 @@
 #[cfg(test)]
 mod configuration;
 #[cfg(test)]
+mod drawn_types;
+#[cfg(test)]
+mod function_types;
+#[cfg(test)]
 mod kinds;
 #[cfg(test)]
 mod modules;

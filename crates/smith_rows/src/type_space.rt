@@ -1,12 +1,14 @@
-ghost use Rattle.std.specs.Prelude.{◌≡◌};
+ghost use Rattle.std.specs.Prelude.{◌≡◌, ◌∷◌, [], IfOk};
+ghost use Rattle.smith_types.specs.declared.composite_type.CompositeInnerType.TheVariants.{Func};
 ghost use Rattle.smith_types.specs.declared.value_type.HeapType.TheVariants.{Concrete};
+ghost use Rattle.smith_types.specs.declared.value_type.ValType.TheVariants.{I32, I64, F64};
 
 use smith_types::{
     AbstractHeapType, CompositeInnerType, CompositeType, EntityType, FieldType, FuncType, HeapType,
     Import, ImportItem, Imports, Items, Name, RefType, StorageType, StructType, SubType, TypeSpace,
     ValType,
 };
-use std::alloc::Global;
+use std::alloc::{AllocError, Global};
 use std::test::Fail;
 
 // A struct type without fields.
@@ -137,29 +139,41 @@ fn a_struct_type_is_cloned(rt: HostRuntime) -> Result<(), Fail> {
     Ok(())
 }
 
-#[test]
-fn a_function_counts_what_it_takes_and_gives(rt: HostRuntime) -> Result<(), Fail> {
-    let alloc = rt.alloc();
-    let mut params = Items::new(alloc);
-    params.push(ValType::I32)?;
-    params.push(ValType::F64)?;
-    let mut results = Items::new(alloc);
-    results.push(ValType::I64)?;
-    let ty = SubType {
+// The type of a function that takes an i32 and an f64, and gives an i64.
+fn function(alloc: Global) -> Result<SubType, AllocError>
+    ensures { IfOk result (λ ty. ty.composite_type.inner ≡ Func (record { params = I32 ∷ F64 ∷ []; results = I64 ∷ [] })) }
+{
+    let params = Vec::from_slice(alloc, &[ValType::I32, ValType::F64])?;
+    let results = Vec::from_slice(alloc, &[ValType::I64])?;
+    Ok(SubType {
         is_final: true,
         supertype: None,
         composite_type: CompositeType {
-            inner: CompositeInnerType::Func(FuncType { params, results }),
+            inner: CompositeInnerType::Func(FuncType {
+                params: Items::from_vec(params),
+                results: Items::from_vec(results),
+            }),
             shared: false,
         },
-    };
-    let copy = ty.clone(alloc)?;
-    assert!(rt; copy == ty);
-    let mut space = TypeSpace::new(alloc);
+    })
+}
+
+#[test]
+fn a_function_type_is_cloned(rt: HostRuntime) -> Result<(), Fail> {
+    let alloc = rt.alloc();
+    let ty = function(alloc)?;
+    assert!(rt; ty.clone(alloc)? == ty);
+    Ok(())
+}
+
+#[test]
+fn a_function_counts_what_it_takes_and_gives(rt: HostRuntime) -> Result<(), Fail> {
+    let mut space = TypeSpace::new(rt.alloc());
+    let ty = function(rt.alloc())?;
     assert!(rt; space.may_follow(&ty));
+    assert!(rt; space.composite_type_matches(&ty.composite_type, &ty.composite_type));
     let index = space.push_type(ty)?;
     assert_eq!(rt; space.size_of(&EntityType::Func(index)), 4);
     assert_eq!(rt; space.size_of(&EntityType::Tag(index)), 1);
-    assert!(rt; space.composite_type_matches(&copy.composite_type, &copy.composite_type));
     Ok(())
 }

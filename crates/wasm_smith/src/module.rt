@@ -13,6 +13,10 @@ use std::alloc::Global;
 use std::marker::Model;
 use std::ops::Range;
 
+/// The interesting values, of which none are collected yet.
+const VALUES32: &[u32] = &[];
+const VALUES64: &[u64] = &[];
+
 /// A module: the types, imports, index spaces, definitions, exports, segments and bodies of the standard's section
 /// Structure, Modules. In each index space imported items come first.
 #[derive(Drop)]
@@ -269,13 +273,13 @@ impl Module {
     pub fn interesting_values32(&self) -> &[u32]
         ensures { result.now ≡ [] }
     {
-        &[]
+        VALUES32
     }
 
     /// Numbers of 64 bits that tests of this module should try. Until they are collected there are none.
     pub fn interesting_values64(&self) -> &[u64]
         ensures { result.now ≡ [] }
     {
-        &[]
+        VALUES64
     }
 }

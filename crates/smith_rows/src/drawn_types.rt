@@ -1,0 +1,195 @@
+ghost use Rattle.std.specs.Prelude.{◌≡◌, false};
+ghost use Rattle.smith_config.specs.Sanitized.{IsSanitized};
+
+use crate::function_types::{is_function, takes_and_gives};
+use smith_types::{AbstractHeapType, HeapType, RefType, TypeSpace, ValType};
+use std::alloc::Global;
+use std::test::Fail;
+use wasm_smith::{
+    Config, Entities, Error, Spaces, Unstructured, arbitrary_func_type, arbitrary_heap_type,
+    arbitrary_rec_group, arbitrary_ref_type, arbitrary_sub_type, arbitrary_valtype,
+};
+
+const NO_ENTITIES: Entities<'static> = Entities {
+    tags: &[],
+    funcs: &[],
+    tables: &[],
+    memories: &[],
+    globals: &[],
+    imported_funcs: 0,
+    imported_globals: 0,
+};
+
+// The spaces of a module without entities.
+fn spaces_of<'a>(types: &'a TypeSpace) -> Spaces<'a> {
+    Spaces {
+        types,
+        entities: NO_ENTITIES,
+    }
+}
+
+// The defaults without garbage collection, sanitised, and without exceptions, floats and several results where there are
+// to be fewer.
+fn without_gc(fewer: bool) -> Config
+    ensures sanitized { IsSanitized result }
+    ensures without_gc { result.gc_enabled ≡ false }
+{
+    let mut config = Config::default();
+    config.gc_enabled = false;
+    config.exceptions_enabled = !fewer;
+    config.allow_floats = !fewer;
+    config.multi_value_enabled = !fewer;
+    config.sanitize();
+    config
+}
+
+// An unshared heap type.
+const fn unshared(ty: AbstractHeapType) -> HeapType {
+    HeapType::Abstract { shared: false, ty }
+}
+
+// A nullable reference to an unshared heap type.
+fn reference(ty: AbstractHeapType) -> RefType {
+    RefType {
+        nullable: true,
+        heap_type: unshared(ty),
+    }
+}
+
+// A heap type, and how many bytes it leaves.
+fn heap_type(alloc: Global, fewer: bool, input: &[u8]) -> Result<(HeapType, usize), Error> {
+    let types = TypeSpace::new(alloc);
+    let mut u = Unstructured::new(input);
+    let config = without_gc(fewer);
+    let drawn = arbitrary_heap_type(alloc, &config, &spaces_of(&types), false, 0, &mut u)?;
+    Ok((drawn, u.len()))
+}
+
+#[test]
+fn heap_types(rt: HostRuntime) -> Result<(), Fail> {
+    let functions = unshared(AbstractHeapType::Func);
+    let externals = unshared(AbstractHeapType::Extern);
+    let exceptions = unshared(AbstractHeapType::Exn);
+    assert_eq!(rt; heap_type(rt.alloc(), false, &[])?, (functions, 0));
+    assert_eq!(rt; heap_type(rt.alloc(), false, &[1, 7])?, (externals, 1));
+    assert_eq!(rt; heap_type(rt.alloc(), false, &[5])?, (exceptions, 0));
+    assert_eq!(rt; heap_type(rt.alloc(), true, &[5])?, (externals, 0));
+    Ok(())
+}
+
+// A reference type, and how many bytes it leaves.
+fn ref_type(alloc: Global, enabled: bool, input: &[u8]) -> Result<(RefType, usize), Error> {
+    let types = TypeSpace::new(alloc);
+    let mut u = Unstructured::new(input);
+    let mut config = without_gc(false);
+    config.reference_types_enabled = enabled;
+    config.sanitize();
+    let drawn = arbitrary_ref_type(alloc, &config, &spaces_of(&types), false, 0, &mut u)?;
+    Ok((drawn, u.len()))
+}
+
+#[test]
+fn reference_types(rt: HostRuntime) -> Result<(), Fail> {
+    let externals = reference(AbstractHeapType::Extern);
+    let functions = reference(AbstractHeapType::Func);
+    assert_eq!(rt; ref_type(rt.alloc(), true, &[1, 7])?, (externals, 1));
+    assert_eq!(rt; ref_type(rt.alloc(), false, &[1, 7])?, (functions, 2));
+    Ok(())
+}
+
+// A value type, and how many bytes it leaves.
+fn val_type(alloc: Global, fewer: bool, input: &[u8]) -> Result<(ValType, usize), Error> {
+    let types = TypeSpace::new(alloc);
+    let mut u = Unstructured::new(input);
+    let config = without_gc(fewer);
+    let drawn = arbitrary_valtype(alloc, &config, &spaces_of(&types), false, 0, &mut u)?;
+    Ok((drawn, u.len()))
+}
+
+#[test]
+fn value_types(rt: HostRuntime) -> Result<(), Fail> {
+    let exceptions = ValType::Ref(reference(AbstractHeapType::Exn));
+    assert_eq!(rt; val_type(rt.alloc(), false, &[3, 7])?, (ValType::F64, 1));
+    assert_eq!(rt; val_type(rt.alloc(), false, &[5, 2, 7])?, (exceptions, 1));
+    assert_eq!(rt; val_type(rt.alloc(), true, &[6, 1, 7])?, (ValType::V128, 2));
+    Ok(())
+}
+
+// Whether a drawn function type takes and gives these, and how many bytes it leaves.
+fn is_func_type(
+    alloc: Global,
+    fewer: bool,
+    input: &[u8],
+    params: &[ValType],
+    results: &[ValType],
+) -> Result<(bool, usize), Error> {
+    let types = TypeSpace::new(alloc);
+    let mut u = Unstructured::new(input);
+    let config = without_gc(fewer);
+    let drawn = arbitrary_func_type(alloc, &config, &spaces_of(&types), false, 0, &mut u)?;
+    Ok((takes_and_gives(&drawn, params, results), u.len()))
+}
+
+#[test]
+fn a_function_type(rt: HostRuntime) -> Result<(), Fail> {
+    let input = [1, 1, 1, 2, 0, 1, 5, 0, 1, 5, 3, 0, 7];
+    let params = [ValType::I64, ValType::F32];
+    let funcref = ValType::Ref(reference(AbstractHeapType::Func));
+    let results = [funcref, funcref];
+    let drawn = is_func_type(rt.alloc(), false, &input, &params, &results)?;
+    assert_eq!(rt; drawn, (true, 1));
+    Ok(())
+}
+
+#[test]
+fn a_function_type_of_one_result(rt: HostRuntime) -> Result<(), Fail> {
+    let drawn = is_func_type(rt.alloc(), true, &[0, 1, 1, 1, 1], &[], &[ValType::I64])?;
+    assert_eq!(rt; drawn, (true, 2));
+    Ok(())
+}
+
+// Whether a drawn subtype is of functions that take and give these.
+fn is_sub_type(
+    alloc: Global,
+    input: &[u8],
+    params: &[ValType],
+    results: &[ValType],
+) -> Result<bool, Error> {
+    let types = TypeSpace::new(alloc);
+    let mut u = Unstructured::new(input);
+    let config = without_gc(false);
+    let drawn = arbitrary_sub_type(alloc, &config, &spaces_of(&types), 0, &mut u)?;
+    Ok(is_function(&drawn, params, results))
+}
+
+#[test]
+fn a_subtype_is_a_function_type(rt: HostRuntime) -> Result<(), Fail> {
+    assert!(rt; is_sub_type(rt.alloc(), &[1, 3], &[ValType::F64], &[])?);
+    Ok(())
+}
+
+// Whether these are a type of functions that give an i64, and one of functions that give nothing, in groups of one.
+fn are_two_groups(types: &TypeSpace) -> bool {
+    let are_functions = match types.types() {
+        [first, second] => is_function(first, &[], &[ValType::I64])
+            && is_function(second, &[], &[]),
+        _ => false,
+    };
+    are_functions && types.rec_groups() == [0..1, 1..2].as_slice()
+}
+
+#[test]
+fn a_group_is_one_type(rt: HostRuntime) -> Result<(), Fail> {
+    let alloc = rt.alloc();
+    let config = without_gc(false);
+    let mut types = TypeSpace::new(alloc);
+    let mut u = Unstructured::new(&[0, 1, 1, 0, 0, 0, 7]);
+    assert!(rt; config.check().is_ok());
+    assert!(rt; types.types().len() < config.max_types);
+    arbitrary_rec_group(alloc, &config, &mut types, &NO_ENTITIES, false, &mut u)?;
+    assert!(rt; types.types().len() < config.max_types);
+    arbitrary_rec_group(alloc, &config, &mut types, &NO_ENTITIES, true, &mut u)?;
+    assert!(rt; are_two_groups(&types));
+    assert_eq!(rt; u.len(), 1);
+    Ok(())
+}
