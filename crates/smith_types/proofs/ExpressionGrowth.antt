@@ -47,37 +47,37 @@ module _ (context : Context) (types : List SubType) (funcs : List ℕ) (globals 
   IsArrayAt-grown : (index : ℕ) (element : FieldType) → IsArrayAt context.types index element → IsArrayAt (context.types ++ types) index element
   IsArrayAt-grown index element (t, at, is) = (t, slice_get-grown context.types types index t at, is)
 
-  HasType-grown : (instruction : ConstInstr) (operands : List ValType) (result : ValType) → HasType context instruction operands result → HasType (grown context types funcs globals visible) instruction operands result
-  HasType-grown (instr.I32Const value) operands result h = h
-  HasType-grown (instr.I64Const value) operands result h = h
-  HasType-grown (instr.F32Const bits) operands result h = h
-  HasType-grown (instr.F64Const bits) operands result h = h
-  HasType-grown (instr.V128Const bits) operands result h = h
-  HasType-grown (instr.GlobalGet index) operands result (none, seen) = (none, IsVisible-grown index result seen)
-  HasType-grown (instr.RefNull heap_type) operands result (valid, none, is) =
+  HasType-more : (instruction : ConstInstr) (operands : List ValType) (result : ValType) → HasType context instruction operands result → HasType (grown context types funcs globals visible) instruction operands result
+  HasType-more (instr.I32Const value) operands result h = h
+  HasType-more (instr.I64Const value) operands result h = h
+  HasType-more (instr.F32Const bits) operands result h = h
+  HasType-more (instr.F64Const bits) operands result h = h
+  HasType-more (instr.V128Const bits) operands result h = h
+  HasType-more (instr.GlobalGet index) operands result (none, seen) = (none, IsVisible-grown index result seen)
+  HasType-more (instr.RefNull heap_type) operands result (valid, none, is) =
       (IsHeapTypeValid-later context.features (length context.types) (length (context.types ++ types)) (no_fewer context.types types) heap_type valid, none, is)
-  HasType-grown (instr.RefFunc function) operands result (index, at, none, is) = (index, slice_get-grown context.funcs funcs function index at, none, is)
-  HasType-grown instr.I32Add operands result h = h
-  HasType-grown instr.I32Sub operands result h = h
-  HasType-grown instr.I32Mul operands result h = h
-  HasType-grown instr.I64Add operands result h = h
-  HasType-grown instr.I64Sub operands result h = h
-  HasType-grown instr.I64Mul operands result h = h
-  HasType-grown instr.RefI31 operands result h = h
-  HasType-grown instr.RefI31Shared operands result h = h
-  HasType-grown (instr.StructNew index) operands result (fields, at, taken, given) = (fields, IsStructAt-grown index fields at, taken, given)
-  HasType-grown (instr.StructNewDefault index) operands result (fields, at, defaults, taken, given) = (fields, IsStructAt-grown index fields at, defaults, taken, given)
-  HasType-grown (instr.ArrayNew index) operands result (element, at, taken, given) = (element, IsArrayAt-grown index element at, taken, given)
-  HasType-grown (instr.ArrayNewDefault index) operands result (element, at, default, taken, given) = (element, IsArrayAt-grown index element at, default, taken, given)
-  HasType-grown (instr.ArrayNewFixed index size) operands result (element, at, taken, given) = (element, IsArrayAt-grown index element at, taken, given)
-  HasType-grown instr.AnyConvertExtern operands result h = h
-  HasType-grown instr.ExternConvertAny operands result h = h
+  HasType-more (instr.RefFunc function) operands result (index, at, none, is) = (index, slice_get-grown context.funcs funcs function index at, none, is)
+  HasType-more instr.I32Add operands result h = h
+  HasType-more instr.I32Sub operands result h = h
+  HasType-more instr.I32Mul operands result h = h
+  HasType-more instr.I64Add operands result h = h
+  HasType-more instr.I64Sub operands result h = h
+  HasType-more instr.I64Mul operands result h = h
+  HasType-more instr.RefI31 operands result h = h
+  HasType-more instr.RefI31Shared operands result h = h
+  HasType-more (instr.StructNew index) operands result (fields, at, taken, given) = (fields, IsStructAt-grown index fields at, taken, given)
+  HasType-more (instr.StructNewDefault index) operands result (fields, at, defaults, taken, given) = (fields, IsStructAt-grown index fields at, defaults, taken, given)
+  HasType-more (instr.ArrayNew index) operands result (element, at, taken, given) = (element, IsArrayAt-grown index element at, taken, given)
+  HasType-more (instr.ArrayNewDefault index) operands result (element, at, default, taken, given) = (element, IsArrayAt-grown index element at, default, taken, given)
+  HasType-more (instr.ArrayNewFixed index size) operands result (element, at, taken, given) = (element, IsArrayAt-grown index element at, taken, given)
+  HasType-more instr.AnyConvertExtern operands result h = h
+  HasType-more instr.ExternConvertAny operands result h = h
 
   IsStackStep-more : (instruction : ConstInstr) (before after : List ValType) → IsStackStep context instruction before after → IsStackStep (grown context types funcs globals visible) instruction before after
   IsStackStep-more instruction before after h = record {
     operands = h.operands;
     result = h.result;
-    typed = HasType-grown instruction h.operands h.result h.typed;
+    typed = HasType-more instruction h.operands h.result h.typed;
     rest = h.rest;
     taken = h.taken;
     on_top = h.on_top;
@@ -98,6 +98,11 @@ module _ (context : Context) (types : List SubType) (funcs : List ℕ) (globals 
   }
 
 module _ (old new : Context) (growth : IsContextGrown old new) where
+  pub HasType-grown : (instruction : ConstInstr) (operands : List ValType) (result : ValType) → HasType old instruction operands result → HasType new instruction operands result
+  HasType-grown instruction operands result h =
+      subst (λ c. HasType c instruction operands result) (grown_is old new growth)
+      (HasType-more old growth.types.more growth.funcs.more growth.globals.more new.visible growth.visible instruction operands result h)
+
   pub IsStackStep-grown : (instruction : ConstInstr) (before after : List ValType) → IsStackStep old instruction before after → IsStackStep new instruction before after
   IsStackStep-grown instruction before after h =
       subst (λ c. IsStackStep c instruction before after) (grown_is old new growth) (IsStackStep-more old growth.types.more growth.funcs.more growth.globals.more new.visible growth.visible instruction before after h)

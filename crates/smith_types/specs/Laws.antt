@@ -13,7 +13,7 @@ use Rattle.smith_types.specs.Features.{Features}
 use Rattle.smith_types.specs.ValidTypes.{AreTypesValid}
 use Rattle.smith_types.specs.Imports.{IndexSpaces}
 use Rattle.smith_types.specs.Entities.{IsTableValid, IsGlobalValid, IsTagValid, IsFuncValid, AreEntitiesValid}
-use Rattle.smith_types.specs.Expressions.{Context, IsStackStep, AreStackSteps, IsConstExpr}
+use Rattle.smith_types.specs.Expressions.{Context, HasType, IsStackStep, AreStackSteps, IsConstExpr}
 use Rattle.smith_types.specs.Segments.{IsElementValid, IsDataValid}
 use Rattle.smith_types.specs.Exports.{IsEntityAt, AreExportsValid, IsStartValid}
 use Rattle.smith_types.specs.Grown.{IsContextGrown, AreSpacesGrown, AreGroupsAdded}
@@ -71,6 +71,7 @@ pub record ValidEntitiesSurviveGrowth : Type 0 where
 
 -- what is typed and valid in a context is so in a grown one
 pub record ValidExpressionsSurviveGrowth : Type 0 where
+  pub typed : (old new : Context) (instruction : ConstInstr) (operands : List ValType) (result : ValType) → IsContextGrown old new → HasType old instruction operands result → HasType new instruction operands result
   pub step : (old new : Context) (instruction : ConstInstr) (before after : List ValType) → IsContextGrown old new → IsStackStep old instruction before after → IsStackStep new instruction before after
   pub steps : (old new : Context) (instructions : List ConstInstr) (before after : List ValType) → IsContextGrown old new → AreStackSteps old instructions before after → AreStackSteps new instructions before after
   pub expression : (old new : Context) (wanted : ValType) (instructions : List ConstInstr) → IsContextGrown old new → IsConstExpr old wanted instructions → IsConstExpr new wanted instructions

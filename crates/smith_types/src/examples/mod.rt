@@ -5,6 +5,7 @@ mod entities;
 mod exports;
 mod expressions;
 mod flags;
+mod grown;
 mod imports;
 mod segments;
 mod subtyping;
