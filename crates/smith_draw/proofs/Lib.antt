@@ -1,4 +1,5 @@
 pub mod Enabled
+pub mod Ancestors
 pub mod ValueTypeLaws
 pub mod TypeLaws
 pub mod Groups

@@ -5,6 +5,7 @@ mod choice;
 mod composite_type;
 mod entity_type;
 mod limits;
+mod offered;
 mod rec_group;
 mod spaces;
 mod sub_type;
