@@ -5,10 +5,12 @@ mod choice;
 mod composite_type;
 mod entity_type;
 mod limits;
+mod matching;
 mod offered;
 mod rec_group;
 mod spaces;
 mod sub_type;
+mod super_type;
 mod value_type;
 
 pub use composite_type::arbitrary_func_type;

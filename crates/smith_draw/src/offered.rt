@@ -12,7 +12,10 @@ ghost use Rattle.std.specs.Prelude.{
   IfErr,
 };
 ghost use Rattle.smith_types.specs.declared.value_type.HeapType.TheVariants.{Abstract, Concrete, Exact};
+ghost use Rattle.smith_bytes.specs.Source.{KeepsPieces};
+ghost use Rattle.smith_types.specs.declared.value_type.HeapType.{HeapType};
 ghost use Rattle.smith_types.specs.Types.{IsOrderly};
+ghost use Rattle.smith_draw.specs.Choices.{chosen_at};
 ghost use Rattle.smith_types.specs.Kinds.{bottom_of};
 ghost use Rattle.smith_draw.specs.Offered.{
   abstract_subtypes,
@@ -35,7 +38,7 @@ ghost use Rattle.smith_draw.specs.Offered.{
   gc_supertypes,
 };
 
-use smith_bytes::Error;
+use smith_bytes::{Error, Unstructured};
 use smith_config::Config;
 use smith_types::{AbstractHeapType, CompositeInnerType, HeapType, Items, SubType};
 use std::alloc::Global;
@@ -49,6 +52,7 @@ pub(crate) fn gc_subtypes(
 ) -> Result<Items<HeapType>, Error>
     requires few { length types.now < 2 ^ 32 }
     ensures exact { IfOk result (λ offered. offered ≡ gc_subtypes config.now types.now ty) }
+    ensures some { IfOk result (λ offered. 0 < length offered) }
     ensures memory { IfErr result (λ e. e ≡ Error.Memory) }
 {
     match ty {
@@ -73,6 +77,7 @@ pub(crate) fn gc_supertypes(
     requires orderly { IsOrderly types.now }
     requires few { length types.now < 2 ^ 32 }
     ensures exact { IfOk result (λ offered. offered ≡ gc_supertypes types.now ty) }
+    ensures some { IfOk result (λ offered. 0 < length offered) }
     ensures memory { IfErr result (λ e. e ≡ Error.Memory) }
 {
     match ty {
@@ -402,4 +407,14 @@ fn kinds_above(ty: AbstractHeapType) -> &'static [AbstractHeapType]
         NoFunc => &[Func],
         _ => &[],
     }
+}
+
+/// Chooses among what is offered.
+#[tactic(auto, unfolding(crate::specs::Choices::chosen_at))]
+pub(crate) fn choose_offered(offered: &[HeapType], u: &mut Unstructured<'_>) -> HeapType
+    requires { 0 < length offered.now }
+    ensures exact { (other : HeapType) → chosen_at other offered.now u.old ≡ (result, u.new) }
+    ensures left { KeepsPieces u.old u.new }
+{
+    offered[u.int_in_range(0..=offered.len() - 1)]
 }
