@@ -18,7 +18,7 @@ declares types i s None at e = cc
 declares types i s (Some t) at e = (t, at, e)
 
 -- a type that has a supertype stands
-stands : (types : List SubType) (i s : ℕ) → supertype_at types i ≡ Some s → (t : SubType) × (slice_get types i ≡ Some t) × (t.supertype ≡ Some s)
+pub stands : (types : List SubType) (i s : ℕ) → supertype_at types i ≡ Some s → (t : SubType) × (slice_get types i ≡ Some t) × (t.supertype ≡ Some s)
 stands types i s e = declares types i s (slice_get types i) refl e
 
 -- a declared supertype stands before the type
@@ -83,6 +83,19 @@ within_above types (suc n) i = above_turn types n i (supertype_at types i) refl 
 pub ancestors_above : (types : List SubType) (i : ℕ) → ByRecursion (λ (h : HeapType). IsBelow types (Concrete i) h) (ancestors types i)
 unfolding ancestors
 ancestors_above types i = within_above types (length types) i
+
+each_turn : (P : HeapType → Type 0) (types : List SubType) (n i : ℕ) → ((j s : ℕ) → supertype_at types j ≡ Some s → P (Concrete s)) → ((s : ℕ) → ByRecursion P (ancestors_within n types s)) → (o : Option ℕ) → supertype_at types i ≡ o → ByRecursion P (ancestors_within (suc n) types i)
+each_turn P types n i each more None e = rw (e, ancestors_within) tt
+each_turn P types n i each more (Some s) e = rw (e, ancestors_within) (each i s e, more s)
+
+within_each : (P : HeapType → Type 0) (types : List SubType) → ((j s : ℕ) → supertype_at types j ≡ Some s → P (Concrete s)) → (n i : ℕ) → ByRecursion P (ancestors_within n types i)
+within_each P types each zero i = tt
+within_each P types each (suc n) i = each_turn P types n i each (λ s. within_each P types each n s) (supertype_at types i) refl
+
+-- what holds of each declared supertype
+pub ancestors_each : (P : HeapType → Type 0) (types : List SubType) → ((j s : ℕ) → supertype_at types j ≡ Some s → P (Concrete s)) → (i : ℕ) → ByRecursion P (ancestors types i)
+unfolding ancestors
+ancestors_each P types each i = within_each P types each (length types) i
 
 -- one turn of the walk that lists them
 pub walk_up : (types : List SubType) → IsOrderly types → (i s : ℕ) (now more total : List HeapType) → supertype_at types i ≡ Some s → more ≡ now ++ Concrete s ∷ [] → now ++ ancestors types i ≡ total → more ++ ancestors types s ≡ total

@@ -1,6 +1,8 @@
 pub mod Enabled
 pub mod Ancestors
 pub mod Each
+pub mod OfferedEach
+pub mod HeapTypeLaws
 pub mod Chosen
 pub mod ValueTypeLaws
 pub mod TypeLaws

@@ -6,3 +6,4 @@ pub mod Limits
 pub mod Bounds
 pub mod Memories
 pub mod MatchingTypes
+pub mod Kept

@@ -78,9 +78,14 @@ is_shared_as false t = not (shared t)
 abbrev pub is_kind : Bool → AbstractHeapType → SubType → Bool
 is_kind is_shared kind t = is_shared_as is_shared t && is_of_kind kind t.composite_type.inner
 
+-- an index, if there is one, is that one
+abbrev pub is_index : ℕ → Option ℕ → Bool
+is_index index None = false
+is_index index (Some other) = other == index
+
 -- a type is declared directly below the one of an index (Structure, Recursive Types)
 abbrev pub is_declared_below : ℕ → SubType → Bool
-is_declared_below index t = elim t.supertype [ None ↦ false | Some supertype ↦ supertype == index ]
+is_declared_below index t = is_index index t.supertype
 
 -- the concrete heap types of those that a test picks among types whose indices begin there, by index (own rule)
 abbrev pub picked_from : (SubType → Bool) → ℕ → List SubType → List HeapType
