@@ -1,5 +1,4 @@
--- Drawn heap types that match a heap type are below it, and drawn supertypes above; both are shared as it is, and valid
--- where it is.
+-- Drawn heap types that match a heap type are below it, and drawn supertypes above; both are valid where it is.
 use Rattle.std.proofs.Common.{rules, ◌≡◌, ℕ, ◌-◌, ◌<◌, ◌≤◌, Bool, true, false, cond, List, [], ◌∷◌, Some, None, length, refl, sym, ◌∙◌, ap, subst, arith, ◌↔◌}
 use Rattle.std.specs.Prelude.{slice_get, IsTrue, All}
 use Rattle.std.specs.List.{AllByRecursion as Each}
@@ -69,43 +68,6 @@ matching_heap_below config types ty bytes = matching_is (λ (h : HeapType). IsBe
 
 pub super_heap_above : (config : Config) (types : List SubType) (ty : HeapType) (bytes : List ℕ) → IsBelow types ty (super_heap_type_at config types ty bytes).0
 super_heap_above config types ty bytes = super_is (λ (h : HeapType). IsBelow types ty h) config types ty bytes itself (λ on. gc_supertypes_above types ty)
-
--- sharedness: the same on both ends of a step
-shared_at : (types : List SubType) (i : ℕ) (t : SubType) → slice_get types i ≡ Some t → IsHeapTypeShared types (Concrete i) ↔ IsTrue (shared t)
-shared_at types i t at = (
-  λ (u, at', h). subst (λ (v : SubType). IsTrue (shared v)) (same_Some u t (sym at' ∙ at)) h,
-  λ h. (t, at, h),
-)
-
-true_as : {a b : Bool} → a ≡ b → IsTrue a ↔ IsTrue b
-true_as {a = a} e = (λ h. sym e ∙ h, λ h. e ∙ h)
-
-both_ways : {A B C : Type 0} → A ↔ B → B ↔ C → A ↔ C
-both_ways p q = (λ a. q.0 (p.0 a), λ c. p.1 (q.1 c))
-
-turned : {A B : Type 0} → A ↔ B → B ↔ A
-turned p = (p.1, p.0)
-
-declared_shared : (types : List SubType) → IsOrderly types → (i j : ℕ) (t : SubType) → slice_get types i ≡ Some t → t.supertype ≡ Some j → IsHeapTypeShared types (Concrete i) ↔ IsHeapTypeShared types (Concrete j)
-declared_shared types orderly i j t at sup =
-    let (before, alike) = orderly.under i j t at sup in
-    let inside : i < length types = slice_get_within types i t at in
-    let above = slice_get-get_or types j t (omega arith) in
-    both_ways (shared_at types i t at) (both_ways (true_as (alike _ above).shared) (turned (shared_at types j _ above)))
-
-step_shared : (types : List SubType) → IsOrderly types → (a b : HeapType) → IsStep types a b → IsHeapTypeShared types a ↔ IsHeapTypeShared types b
-step_shared types orderly (Abstract s a) (Abstract r b) (same, step) = true_as same
-step_shared types orderly (Abstract s a) (Concrete j) (t, at, same, p) = both_ways (true_as same) (turned (shared_at types j t at))
-step_shared types orderly (Abstract s a) (Exact j) (t, at, same, p) = both_ways (true_as same) (turned (shared_at types j t at))
-step_shared types orderly (Concrete i) (Abstract r b) (t, at, same, p) = both_ways (shared_at types i t at) (true_as same)
-step_shared types orderly (Concrete i) (Concrete j) (t, at, sup) = declared_shared types orderly i j t at sup
-step_shared types orderly (Exact i) (Concrete j) same = subst (λ (n : ℕ). IsHeapTypeShared types (Concrete i) ↔ IsHeapTypeShared types (Concrete n)) same ((λ h. h), (λ h. h))
-step_shared types orderly a b step = absurd step
-
--- a heap type below another is shared where that is
-pub below_shared : (types : List SubType) → IsOrderly types → (a b : HeapType) → IsBelow types a b → IsHeapTypeShared types a ↔ IsHeapTypeShared types b
-below_shared types orderly a b itself = ((λ h. h), (λ h. h))
-below_shared types orderly a c (by_step {b = b} step below) = both_ways (step_shared types orderly a b step) (below_shared types orderly b c below)
 
 -- validity
 enabled_below : (features : Features) (a b : AbstractHeapType) → IsTrue features.gc → IsTrue (is_abstract_below b a) → IsAbstractEnabled features a → IsAbstractEnabled features b

@@ -3,6 +3,8 @@ pub mod Ancestors
 pub mod Each
 pub mod OfferedEach
 pub mod HeapTypeLaws
+pub mod SharedLaws
+pub mod MatchingLaws
 pub mod Chosen
 pub mod ValueTypeLaws
 pub mod TypeLaws
