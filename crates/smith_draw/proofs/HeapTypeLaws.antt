@@ -1,8 +1,8 @@
 -- Drawn heap types that match a heap type are below it, and drawn supertypes above; both are valid where it is.
-use Rattle.std.proofs.Common.{rules, ◌≡◌, ℕ, ◌-◌, ◌<◌, ◌≤◌, Bool, true, false, cond, List, [], ◌∷◌, Some, None, length, refl, sym, ◌∙◌, ap, subst, arith, ◌↔◌}
+use Rattle.std.proofs.Common.{rules, ◌≡◌, ℕ, ◌<◌, ◌≤◌, Bool, true, false, cond, List, [], ◌∷◌, Some, length, refl, sym, subst, arith}
 use Rattle.std.specs.Prelude.{slice_get, IsTrue, All}
 use Rattle.std.specs.List.{AllByRecursion as Each}
-use Rattle.std.proofs.lemmas.Option.{same_Some, slice_get_within, slice_get-get_or, get_or_from_slice_get}
+use Rattle.std.proofs.lemmas.Option.{slice_get_within, get_or_from_slice_get}
 use Rattle.std.proofs.lemmas.List.Elements.{All-from_recursion}
 use Rattle.smith_types.specs.Features.{Features}
 use Rattle.smith_types.specs.declared.value_type.AbstractHeapType.{AbstractHeapType}
@@ -12,13 +12,13 @@ use Rattle.smith_types.specs.declared.composite_type.CompositeInnerType.{Composi
 use Rattle.smith_types.specs.declared.composite_type.SubType.{SubType}
 use Rattle.smith_types.specs.Kinds.{kind, bottom, shared, kind_of, bottom_of}
 use Rattle.smith_types.specs.Types.{IsOrderly}
-use Rattle.smith_types.specs.Subtyping.{is_abstract_below, IsStep, IsBelow, itself, by_step}
-use Rattle.smith_types.specs.ValidTypes.{IsAbstractEnabled, IsHeapTypeValid, IsHeapTypeShared}
+use Rattle.smith_types.specs.Subtyping.{is_abstract_below, IsBelow, itself}
+use Rattle.smith_types.specs.ValidTypes.{IsAbstractEnabled, IsHeapTypeValid}
 use Rattle.smith_types.proofs.Growth.{IsBelow-trans}
 use Rattle.smith_types.proofs.Paths.{below_abstract, below_declared, below_kind, above_bottom, exact_below}
 use Rattle.smith_config.specs.declared.config.Config.{Config}
 use Rattle.smith_config.specs.Features.{features_of}
-use Rattle.smith_draw.specs.Offered.{gc_subtypes, gc_supertypes, subtypes_offered, supertypes_offered, supertype_at, ancestors}
+use Rattle.smith_draw.specs.Offered.{gc_subtypes, gc_supertypes, subtypes_offered, supertypes_offered}
 use Rattle.smith_draw.specs.Kept.{IsSharingEnabled, StaysValid}
 use Rattle.smith_draw.specs.MatchingTypes.{matching_heap_type_at, super_heap_type_at}
 use Rattle.smith_draw.proofs.Enabled.{chosen_is}

@@ -1,9 +1,8 @@
 -- Drawn types that match a type are below it, and drawn supertypes above; both are valid where it is.
-use Rattle.std.proofs.Common.{rules, ◌≡◌, ℕ, ◌<◌, ◌≤◌, Bool, true, false, cond, List, [], ◌∷◌, length, refl, sym, ◌∙◌, ap, subst, arith}
-use Rattle.std.specs.Prelude.{IsTrue, All}
+use Rattle.std.proofs.Common.{◌≡◌, ℕ, ◌≤◌, Bool, true, false, cond, List, [], ◌∷◌, length, refl, arith}
+use Rattle.std.specs.Prelude.{All}
 use Rattle.std.specs.List.{AllByRecursion as Each}
 use Rattle.std.proofs.lemmas.List.Elements.{All-from_recursion, recursion_from_All}
-use Rattle.smith_types.specs.Features.{Features}
 use Rattle.smith_types.specs.declared.value_type.RefType.{RefType}
 use Rattle.smith_types.specs.declared.value_type.ValType.{ValType}
 use Rattle.smith_types.specs.declared.value_type.ValType.TheVariants.{Ref}
@@ -78,6 +77,14 @@ super_ref_valid config types orderly ty bytes = record {
     nullable = λ e. cc;
   };
 }
+
+pub matching_ref_nullable : (config : Config) (types : List SubType) (ty : RefType) (bytes : List ℕ) → (matching_ref_type_at config types ty bytes).0.nullable ≡ ty.nullable
+unfolding matching_ref_type_at
+matching_ref_nullable config types ty bytes = refl
+
+pub super_ref_nullable : (config : Config) (types : List SubType) (ty : RefType) (bytes : List ℕ) → (super_ref_type_at config types ty bytes).0.nullable ≡ true
+unfolding super_ref_type_at
+super_ref_nullable config types ty bytes = refl
 
 -- value types
 pub matching_val_below : (config : Config) (types : List SubType) (ty : ValType) (bytes : List ℕ) → IsValBelow types (matching_val_type_at config types ty bytes).0 ty
@@ -170,10 +177,10 @@ matching_func_valid config types orderly function bytes =
     let same = length-each_at (matching_val_type_at config types) function.results params.1 in
     record {
       against = λ end le sharing valid.
-      let P = IsValTypeValid (features_of config) end in
-      record {
-        results = λ several. valid.results (omega arith);
-        params_valid = all_stay P (super_val_type_at config types) (λ x rest h. super_val_kept config types orderly x rest end le sharing h) function.params bytes valid.params_valid;
-        results_valid = all_stay P (matching_val_type_at config types) (λ x rest h. val_kept config types x rest end le sharing h) function.results params.1 valid.results_valid;
-      };
+          let P = IsValTypeValid (features_of config) end in
+          record {
+            results = λ several. valid.results (omega arith);
+            params_valid = all_stay P (super_val_type_at config types) (λ x rest h. super_val_kept config types orderly x rest end le sharing h) function.params bytes valid.params_valid;
+            results_valid = all_stay P (matching_val_type_at config types) (λ x rest h. val_kept config types x rest end le sharing h) function.results params.1 valid.results_valid;
+          };
     }

@@ -1,5 +1,5 @@
 -- What holds of each heap type that is offered.
-use Rattle.std.proofs.Common.{rules, ◌≡◌, ℕ, zero, suc, ◌+◌, Bool, true, false, cond, not, ◌&&◌, List, [], ◌∷◌, ◌++◌, map, Option, Some, None, refl, sym, ◌∙◌, ap, subst, arith}
+use Rattle.std.proofs.Common.{rules, ◌≡◌, ℕ, zero, suc, ◌+◌, Bool, true, false, cond, not, ◌&&◌, List, [], ◌∷◌, ◌++◌, map, Option, Some, None, refl, sym, ap, subst, arith}
 use Rattle.std.specs.Prelude.{slice_get, IsTrue}
 use Rattle.std.specs.List.{flat_map, AllByRecursion as Each}
 use Rattle.std.proofs.lemmas.Bool.{eqb-true}
@@ -9,7 +9,6 @@ use Rattle.smith_types.specs.declared.value_type.AbstractHeapType.TheVariants as
 use Rattle.smith_types.specs.declared.value_type.HeapType.{HeapType}
 use Rattle.smith_types.specs.declared.value_type.HeapType.TheVariants.{Abstract, Concrete, Exact}
 use Rattle.smith_types.specs.declared.composite_type.CompositeInnerType.{CompositeInnerType}
-use Rattle.smith_types.specs.declared.composite_type.CompositeInnerType.TheVariants.{Array, Func, Struct}
 use Rattle.smith_types.specs.declared.composite_type.SubType.{SubType}
 use Rattle.smith_types.specs.Kinds.{kind, kind_of, bottom, bottom_of, shared}
 use Rattle.smith_types.specs.Subtyping.{is_abstract_below}
@@ -145,9 +144,11 @@ pub below_concrete_each : (P : HeapType → Type 0) (config : Config) (types : L
 below_concrete_each P config types i own direct exact bottoms =
     let subtypes = direct_each P types i direct in
     let bottoms_each = standing_each P (λ t. Abstract (shared t) (bottom t) ∷ []) types i (λ t at. (bottoms t at, tt)) (slice_get types i) refl in
-    let exacts = each_cond P config.custom_descriptors_enabled (Exact i ∷ direct_subtypes types i) (λ on. (exact on, subtypes)) in
-    (own, each_append P (direct_subtypes types i) (exact_subtypes config types i ++ bottom_at types i) subtypes
-    (each_append P (exact_subtypes config types i) (bottom_at types i) exacts bottoms_each))
+    let exacts = each_cond P config.custom_descriptors_enabled (Exact i ∷ direct_subtypes types i) (λ on. (exact on, subtypes)) in (
+      own,
+      each_append P (direct_subtypes types i) (exact_subtypes config types i ++ bottom_at types i) subtypes
+          (each_append P (exact_subtypes config types i) (bottom_at types i) exacts bottoms_each),
+    )
 
 -- above a concrete type
 pub above_concrete_each : (P : HeapType → Type 0) (types : List SubType) (i : ℕ) → P (Concrete i)

@@ -1,5 +1,5 @@
 -- Types that match are shared alike.
-use Rattle.std.proofs.Common.{rules, ◌≡◌, ℕ, ◌<◌, Bool, List, [], ◌∷◌, ◌++◌, Some, length, refl, sym, ◌∙◌, subst, arith, ◌↔◌}
+use Rattle.std.proofs.Common.{rules, ◌≡◌, ℕ, ◌<◌, Bool, List, [], ◌∷◌, ◌++◌, Some, length, sym, ◌∙◌, subst, arith, ◌↔◌}
 use Rattle.std.specs.Prelude.{slice_get, IsTrue, All}
 use Rattle.std.specs.List.{AllByRecursion as Each}
 use Rattle.std.proofs.lemmas.Option.{same_Some, slice_get_within, slice_get-get_or}
@@ -16,7 +16,7 @@ use Rattle.smith_types.specs.Kinds.{shared}
 use Rattle.smith_types.specs.Types.{IsOrderly}
 use Rattle.smith_types.specs.Subtyping.{IsStep, IsBelow, itself, by_step, IsValBelow}
 use Rattle.smith_types.specs.Matching.{IsStorageMatch, AreBelow, IsFuncMatch}
-use Rattle.smith_types.specs.ValidTypes.{IsHeapTypeShared, IsShareable, values_of_storage}
+use Rattle.smith_types.specs.ValidTypes.{IsHeapTypeShared, IsShareable}
 use Rattle.smith_draw.specs.Kept.{IsStorageShareable, IsFuncShareable}
 
 true_as : {a b : Bool} → a ≡ b → IsTrue a ↔ IsTrue b
@@ -55,10 +55,16 @@ pub below_shared : (types : List SubType) → IsOrderly types → (a b : HeapTyp
 below_shared types orderly a b itself = ((λ h. h), (λ h. h))
 below_shared types orderly a c (by_step {b = b} step below) = both_ways (step_shared types orderly a b step) (below_shared types orderly b c below)
 
+pub above_shared : (types : List SubType) → IsOrderly types → (a b : HeapType) → IsBelow types a b → IsHeapTypeShared types b ↔ IsHeapTypeShared types a
+above_shared types orderly a b below = turned (below_shared types orderly a b below)
+
 -- a value type below another may stand in a shared type where that may
 pub val_shareable : (types : List SubType) → IsOrderly types → (a b : ValType) → IsValBelow types a b → IsShareable types a ↔ IsShareable types b
 val_shareable types orderly (Ref a) (Ref b) below = below_shared types orderly a.heap_type b.heap_type below.heap
 val_shareable types orderly a b below = search rules
+
+pub val_shareable_above : (types : List SubType) → IsOrderly types → (a b : ValType) → IsValBelow types a b → IsShareable types b ↔ IsShareable types a
+val_shareable_above types orderly a b below = turned (val_shareable types orderly a b below)
 
 one_each : (types : List SubType) (a b : ValType) → IsShareable types a ↔ IsShareable types b → All (IsShareable types) (a ∷ []) → All (IsShareable types) (b ∷ [])
 one_each types a b same h = All-from_recursion (IsShareable types) (b ∷ []) (same.0 (recursion_from_All (IsShareable types) (a ∷ []) h).0, tt)

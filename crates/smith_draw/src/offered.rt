@@ -266,11 +266,7 @@ fn push_kinds(offered: &mut Items<HeapType>, types: &[SubType], index: u32) -> R
 }
 
 /// Adds the types on the way up from one, nearest first.
-fn push_ancestors(
-    offered: &mut Items<HeapType>,
-    types: &[SubType],
-    index: u32,
-) -> Result<(), Error>
+fn push_ancestors(offered: &mut Items<HeapType>, types: &[SubType], index: u32) -> Result<(), Error>
     requires orderly { IsOrderly types.now }
     ensures ok { OnOk result (offered.new ≡ offered.old ++ ancestors types.now index) }
     ensures memory { IfErr result (λ e. e ≡ Error.Memory) }

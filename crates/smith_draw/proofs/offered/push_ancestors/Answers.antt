@@ -1,6 +1,4 @@
-use Rattle.std.proofs.Common.{[], ◌∷◌, ◌++◌, sym, ap, ◌∙◌, append_assoc}
-use Rattle.std.proofs.lemmas.List.{append-nil}
-use Rattle.smith_draw.specs.Offered.{ancestors}
+use Rattle.std.proofs.Common.{sym, ◌∙◌}
 use Rattle.smith_draw.proofs.Ancestors.{supertype_before, walk_up, walk_end}
 use Rattle.smith_draw.proofs.offered.push_ancestors.Goals as goal
 
