@@ -4,6 +4,7 @@ pub mod Each
 pub mod OfferedEach
 pub mod HeapTypeLaws
 pub mod SharedLaws
+pub mod StandingLaws
 pub mod MatchingLaws
 pub mod Chosen
 pub mod ValueTypeLaws

@@ -7,6 +7,7 @@ mod entity_type;
 mod limits;
 mod matching;
 mod offered;
+mod offered_examples;
 mod rec_group;
 mod spaces;
 mod sub_type;

@@ -8,6 +8,8 @@ use Rattle.smith_draw.specs.Kept.{StaysValid}
 use Rattle.smith_draw.proofs.SharedLaws.{below_shared}
 use Rattle.smith_draw.proofs.HeapTypeLaws.{matching_heap_below, matching_heap_valid}
 use Rattle.smith_draw.proofs.Chosen.{matching_item}
+use Rattle.smith_draw.proofs.StandingLaws.{below_stands}
+use Rattle.smith_types.specs.Subtyping.{IsInRange}
 use Rattle.smith_draw.proofs.ValueTypeLaws.{drawn_is}
 use Rattle.smith_draw.proofs.matching.arbitrary_matching_heap_type.Goals as goal
 
@@ -28,3 +30,8 @@ returns-clause-valid c =
 
 pub returns-clause-offered : goal.returns-clause-offered
 returns-clause-offered c = IfOk-weaker c.matching_heap_type.result _ _ (λ x. matching_item _ _ _ _ x _) c.matching_heap_type.ensures.exact
+
+pub returns-clause-stands : goal.returns-clause-stands
+returns-clause-stands c =
+    let types = c.args.spaces.now.types.now.types in
+    IfOk-weaker c.matching_heap_type.result _ _ (λ _. drawn_is (λ (h : HeapType). IsInRange types c.args.ty → IsInRange types h) _ (below_stands types _ _ (matching_heap_below _ _ _ _))) c.matching_heap_type.ensures.exact

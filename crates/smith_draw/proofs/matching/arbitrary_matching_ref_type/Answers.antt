@@ -7,6 +7,8 @@ use Rattle.smith_config.specs.Features.{features_of}
 use Rattle.smith_draw.specs.Kept.{StaysValid}
 use Rattle.smith_draw.proofs.SharedLaws.{below_shared}
 use Rattle.smith_draw.proofs.MatchingLaws.{matching_ref_nullable, matching_ref_below, matching_ref_valid}
+use Rattle.smith_draw.proofs.StandingLaws.{below_stands}
+use Rattle.smith_types.specs.Subtyping.{IsInRange}
 use Rattle.smith_draw.proofs.ValueTypeLaws.{drawn_is}
 use Rattle.smith_draw.proofs.matching.arbitrary_matching_ref_type.Goals as goal
 
@@ -29,3 +31,8 @@ pub returns-clause-valid : goal.returns-clause-valid
 returns-clause-valid c =
     let types = c.args.spaces.now.types.now.types in
     IfOk-weaker c.matching_ref_type.result _ _ (λ _. drawn_is (StaysValid (IsRefTypeValid (features_of c.args.config.now)) (features_of c.args.config.now) types c.args.ty) _ (matching_ref_valid _ _ _ _)) c.matching_ref_type.ensures.exact
+
+pub returns-clause-stands : goal.returns-clause-stands
+returns-clause-stands c =
+    let types = c.args.spaces.now.types.now.types in
+    IfOk-weaker c.matching_ref_type.result _ _ (λ _. drawn_is (λ (r : RefType). IsInRange types c.args.ty.heap_type → IsInRange types r.heap_type) _ (below_stands types _ _ (matching_ref_below _ _ _ _).heap)) c.matching_ref_type.ensures.exact
