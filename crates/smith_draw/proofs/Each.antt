@@ -13,9 +13,6 @@ pub record IsDrawing {A : Type 0} (draw : A → List ℕ → A × List ℕ) (xs 
   pub so_far : each_at draw xs start ≡ behind made (each_at draw (drop n xs) bytes)
   pub left : KeepsPieces start bytes
 
-pub each_none : {A : Type 0} (draw : A → List ℕ → A × List ℕ) (xs : List A) (start : List ℕ) → IsDrawing draw xs 0 [] start start
-each_none draw xs start = record { so_far = refl; left = λ whole h. h }
-
 -- one more is drawn
 pub each_more : {A : Type 0} {draw : A → List ℕ → A × List ℕ} {xs : List A} {n : ℕ} {made more : List A} {start bytes : List ℕ} {x y : A} {after : List ℕ}
     → IsDrawing draw xs n made start bytes → n < length xs → x ≡ get_or xs n x → draw x bytes ≡ (y, after) → more ≡ made ++ y ∷ [] → KeepsPieces bytes after

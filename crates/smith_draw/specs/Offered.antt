@@ -1,5 +1,5 @@
 -- The heap types that are offered in place of a heap type: subtypes and supertypes of it.
-use Rattle.std.specs.Prelude.{ℕ, zero, suc, ◌+◌, Bool, true, false, not, ◌&&◌, Option, Some, None, List, [], ◌∷◌, ◌++◌, map, length, slice_get, ◌==◌, if◌then◌else◌}
+use Rattle.std.specs.Prelude.{◌≡◌, ℕ, zero, suc, ◌+◌, Bool, true, false, not, ◌&&◌, Option, Some, None, List, [], ◌∷◌, ◌++◌, map, length, slice_get, ◌==◌, if◌then◌else◌}
 use Rattle.std.specs.List.{flat_map}
 use Rattle.smith_types.specs.declared.value_type.AbstractHeapType.{AbstractHeapType}
 use Rattle.smith_types.specs.declared.value_type.AbstractHeapType.TheVariants as heap
@@ -9,6 +9,7 @@ use Rattle.smith_types.specs.declared.composite_type.CompositeInnerType.{Composi
 use Rattle.smith_types.specs.declared.composite_type.CompositeInnerType.TheVariants.{Array, Func, Struct}
 use Rattle.smith_types.specs.declared.composite_type.SubType.{SubType}
 use Rattle.smith_types.specs.Kinds.{bottom, shared}
+use Rattle.smith_types.specs.Types.{IsOrderly}
 use Rattle.smith_config.specs.declared.config.Config.{Config}
 
 -- the abstract heap types below one that are offered, with itself (own rule)
@@ -117,6 +118,10 @@ ancestors_within (suc most) types index = elim (supertype_at types index) [ None
 -- the types on the way up from the one of an index, nearest first: no more than there are types (own rule)
 unfoldable pub ancestors : List SubType → ℕ → List HeapType
 ancestors types index = ancestors_within (length types) types index
+
+-- over orderly types none is left out: on the way up stands the declared supertype, and then what is on the way up from that
+abbrev pub AncestorsAreAll : Type 0
+AncestorsAreAll = (types : List SubType) → IsOrderly types → (index supertype : ℕ) → supertype_at types index ≡ Some supertype → ancestors types index ≡ Concrete supertype ∷ ancestors types supertype
 
 -- what is offered of a type that stands, and nothing of one that does not (own rule)
 abbrev pub of_standing : (SubType → List HeapType) → Option SubType → List HeapType

@@ -1,4 +1,4 @@
-// Lists of what is offered, and draws from them. The clauses are proved; nothing calls these functions.
+// Lists of what is offered, a law of them, and draws from them. The clauses are proved; nothing calls these functions.
 
 ghost use Rattle.std.specs.Prelude.{◌≡◌, [], ◌∷◌, true, false, None};
 ghost use Rattle.smith_types.specs.declared.value_type.AbstractHeapType.TheVariants as heap;
@@ -6,7 +6,7 @@ ghost use Rattle.smith_types.specs.declared.value_type.HeapType.TheVariants.{Abs
 ghost use Rattle.smith_types.specs.declared.composite_type.StorageType.TheVariants.{Val};
 ghost use Rattle.smith_types.specs.ExampleTypes.{open_type, plain_func, struct_and_below, plain, nullable, not_null, anyref, eqref, constant, variable};
 ghost use Rattle.smith_config.specs.Config.{default_config};
-ghost use Rattle.smith_draw.specs.Offered.{subtypes_offered, supertypes_offered};
+ghost use Rattle.smith_draw.specs.Offered.{subtypes_offered, supertypes_offered, AncestorsAreAll};
 ghost use Rattle.smith_draw.specs.MatchingTypes.{matching_heap_type_at, matching_ref_type_at, matching_field_type_at, super_heap_type_at, super_ref_type_at};
 
 #[tactic(auto, unfolding(crate::specs::Offered::subtypes_offered))]
@@ -31,6 +31,10 @@ fn supertypes()
         ≡ plain heap.None ∷ plain heap.Any ∷ plain heap.Eq ∷ plain heap.Struct ∷ plain heap.Array ∷ plain heap.I31 ∷ Concrete 0 ∷ Concrete 1 ∷ [] }
     ensures of_an_exact_type { supertypes_offered default_config struct_and_below (Exact 1) ≡ Exact 1 ∷ [] }
     ensures of_a_type_to_come { supertypes_offered default_config struct_and_below (Concrete 2) ≡ Concrete 2 ∷ [] }
+{}
+
+fn ancestors_are_all()
+    ensures { AncestorsAreAll }
 {}
 
 #[tactic(auto, unfolding(crate::specs::MatchingTypes::matching_heap_type_at, crate::specs::MatchingTypes::matching_ref_type_at, crate::specs::MatchingTypes::matching_field_type_at, crate::specs::Offered::subtypes_offered, crate::specs::Choices::chosen_at, smith_bytes::specs::Draws::range_at, smith_bytes::specs::Draws::digit_count,))]
