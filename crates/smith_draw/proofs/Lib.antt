@@ -1,4 +1,12 @@
 pub mod Enabled
+pub mod Ancestors
+pub mod Each
+pub mod OfferedEach
+pub mod HeapTypeLaws
+pub mod SharedLaws
+pub mod StandingLaws
+pub mod MatchingLaws
+pub mod Chosen
 pub mod ValueTypeLaws
 pub mod TypeLaws
 pub mod Groups

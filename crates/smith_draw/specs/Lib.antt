@@ -1,7 +1,10 @@
 pub mod Choices
+pub mod Offered
 pub mod ValueTypes
 pub mod SubTypes
 pub mod Limits
 pub mod Bounds
 pub mod Memories
 pub mod Spelling
+pub mod MatchingTypes
+pub mod Kept
