@@ -1,14 +1,17 @@
 -- What is wrong with a shape: which of its faults is told. Rules of this project.
-use Rattle.std.specs.Prelude.{◌≡◌, ℕ, true, List, length, map, All}
+use Rattle.std.specs.Prelude.{◌≡◌, ℕ, true, false, IsTrue, List, length, map, All}
 use Rattle.smith_bytes.specs.declared.error.Which.{Which}
 use Rattle.smith_bytes.specs.declared.error.Which.TheVariants.{Exports}
 use Rattle.smith_bytes.specs.declared.error.ShapeFault.{ShapeFault}
 use Rattle.smith_bytes.specs.declared.error.ShapeFault.TheVariants as fault
 use Rattle.smith_types.specs.Features.{Features}
 use Rattle.smith_types.specs.ValidTypes.{AreTypesValid, IsValTypeValid}
-use Rattle.smith_types.specs.Entities.{IsTagValid, IsFuncValid, IsTableValid, IsMemoryValid, AreEntitiesValid}
+use Rattle.smith_types.specs.Entities.{AreLimitsValid, most_elements, IsTagValid, IsFuncValid, IsTableValid, IsMemoryValid, IsGlobalValid}
 use Rattle.smith_types.specs.Exports.{AreDistinct, AreExportsStanding}
+use Rattle.smith_types.specs.declared.composite_type.SubType.{SubType}
 use Rattle.smith_types.specs.declared.entity_type.ExportKind.{ExportKind}
+use Rattle.smith_types.specs.declared.entity_type.GlobalType.{GlobalType}
+use Rattle.smith_types.specs.declared.entity_type.TableType.{TableType}
 use Rattle.smith_config.specs.declared.config.Config.{Config}
 use Rattle.smith_config.specs.declared.shape.Shape.{Shape}
 use Rattle.smith_config.specs.Features.{features_of}
@@ -54,16 +57,27 @@ pub record AreIndicesRight (shape : Shape) : Type 0 where
   pub tags : All (IsTagValid (shape_types shape)) (shape_spaces shape).tags
   pub exports : AreExportsStanding (shape_spaces shape) shape.exports
 
--- tables and memories are right where every feature is on, and supertypes are not too far away
+-- tables have limits that fit, memories are right where every feature is on, and supertypes are not too far away
 pub record AreLimitsRight (shape : Shape) : Type 0 where
-  pub tables : All (IsTableValid every_feature (shape_types shape)) (shape_spaces shape).tables
+  pub tables : All (λ (table : TableType). AreLimitsValid (most_elements table.table64) table.minimum table.maximum) (shape_spaces shape).tables
   pub memories : All (IsMemoryValid every_feature) (shape_spaces shape).memories
   pub shallow : IsShallow (shape_types shape)
+
+-- a table and a global have their features, whatever is shared in them: sharedness is left out on its own account
+pub record IsTableOn (features : Features) (types : List SubType) (table : TableType) : Type 0 where
+  pub unshared : IsTableValid features types (record table { shared = false })
+  pub shared : IsTrue table.shared → IsTrue features.shared_everything_threads
+
+pub record IsGlobalOn (features : Features) (types : List SubType) (global : GlobalType) : Type 0 where
+  pub unshared : IsGlobalValid features types (record global { shared = false })
+  pub shared : IsTrue global.shared → IsTrue features.shared_everything_threads
 
 -- the features of a configuration are enough
 pub record AreFeaturesOn (which : Which) (features : Features) (shape : Shape) : Type 0 where
   pub types : AreTypesValid features (space_of shape.groups)
-  pub entities : AreEntitiesValid features (shape_types shape) (shape_spaces shape)
+  pub tables : All (IsTableOn features (shape_types shape)) (shape_spaces shape).tables
+  pub memories : All (IsMemoryValid features) (shape_spaces shape).memories
+  pub globals : All (IsGlobalOn features (shape_types shape)) (shape_spaces shape).globals
   pub counts : AreCountsFit which features shape
 
 -- what each fault says; a missing feature is one only where every feature would do

@@ -88,7 +88,7 @@ pub record IsShort (shape : Shape) : Type 0 where
   pub globals : length shape.globals ≤ most_listed
   pub exports : length shape.exports ≤ most_listed
 
--- no supertype is more than 62 steps away from the topmost one
+-- no type is more than 62 steps below its topmost supertype
 pub record IsShallow (types : List SubType) : Type 0 where
   pub each : (index depth : ℕ) → HasDepth types index depth → depth ≤ 63
 
@@ -127,20 +127,21 @@ pub record IsTypePlain (t : SubType) : Type 0 where
   pub root : t.supertype ≡ None
   pub function : IsFunction t.composite_type.inner
 
--- not the type of an index
-abbrev pub IsHeapTypeAbstract : HeapType → Type 0
-IsHeapTypeAbstract (Abstract shared ty) = Unit {0}
-IsHeapTypeAbstract _ = ⊥
+-- not the type of an index and those below it; an exact type is left out on its own account
+abbrev pub IsNotConcrete : HeapType → Type 0
+IsNotConcrete (Abstract shared ty) = Unit {0}
+IsNotConcrete (Concrete index) = ⊥
+IsNotConcrete (Exact index) = Unit {0}
 
--- no reference to a type of an index
-abbrev pub IsAbstractValue : ValType → Type 0
-IsAbstractValue (Ref reference) = IsHeapTypeAbstract reference.heap_type
-IsAbstractValue _ = Unit {0}
+-- no concrete reference
+abbrev pub HasNoConcrete : ValType → Type 0
+HasNoConcrete (Ref reference) = IsNotConcrete reference.heap_type
+HasNoConcrete _ = Unit {0}
 
--- a shape for exports alone: such types, and no reference to any of them
+-- a shape for exports alone: such types, and no concrete reference to any of them
 pub record IsPlain (shape : Shape) : Type 0 where
   pub types : All IsTypePlain (shape_types shape)
-  pub values : All IsAbstractValue (shape_values shape)
+  pub values : All HasNoConcrete (shape_values shape)
 
 -- how a shape's items agree with one another and with the features
 pub record IsConsistent (features : Features) (shape : Shape) : Type 0 where

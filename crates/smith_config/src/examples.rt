@@ -1,14 +1,16 @@
 // Values that meet the definitions of shapes, and values that do not. The clauses are proved; nothing calls these functions.
 
-ghost use Rattle.std.specs.Prelude.{◌≡◌, [], ◌∷◌, true, false, None, codes};
+ghost use Rattle.std.specs.Prelude.{◌≡◌, [], ◌∷◌, true, false, Some, None, codes};
 ghost use Rattle.smith_bytes.specs.declared.error.Which.TheVariants.{AvailableImports, Exports, ModuleShape};
+ghost use Rattle.smith_bytes.specs.declared.error.ShapeFault.TheVariants.{DuplicateExport, Limit, LeftOut, Feature, NotPlain};
 ghost use Rattle.smith_types.specs.declared.value_type.HeapType.TheVariants.{Concrete, Exact};
 ghost use Rattle.smith_types.specs.declared.value_type.ValType.TheVariants.{I32, Ref};
 ghost use Rattle.smith_types.specs.declared.entity_type.EntityType.TheVariants as entity;
 ghost use Rattle.smith_types.specs.declared.entity_type.ExportKind.TheVariants as kind;
 ghost use Rattle.smith_types.specs.declared.imports.Imports.TheVariants.{Compact1, Compact2};
 ghost use Rattle.smith_types.specs.ExampleTypes.{open_type, final_type, empty_struct, plain_func, range, nullable, anyref, shared_anyref};
-ghost use Rattle.smith_types.specs.ExampleEntities.{constant_global};
+ghost use Rattle.smith_types.specs.Flags.{funcref};
+ghost use Rattle.smith_types.specs.ExampleEntities.{constant_global, table};
 ghost use Rattle.smith_config.specs.Config.{default_config};
 ghost use Rattle.smith_config.specs.Features.{features_of};
 ghost use Rattle.smith_config.specs.Shapes.{
@@ -20,6 +22,7 @@ ghost use Rattle.smith_config.specs.Shapes.{
   AreCountsFit,
   IsShapeValid,
 };
+ghost use Rattle.smith_config.specs.ShapeFaults.{HasShapeFault};
 ghost use Rattle.smith_config.specs.ExampleShapes.{empty_shape, passed_on, imported_memory, chain};
 
 fn ranges()
@@ -46,6 +49,19 @@ fn plain()
     ensures not_final { ¬ IsPlain (record passed_on { groups = (open_type None plain_func ∷ []) ∷ [] }) }
     ensures struct_type { ¬ IsPlain (record passed_on { groups = (final_type empty_struct ∷ []) ∷ [] }) }
     ensures concrete_reference { ¬ IsPlain (record passed_on { globals = constant_global (Ref (nullable (Concrete 0))) ∷ [] }) }
+{}
+
+fn faults()
+    ensures a_name_twice { HasShapeFault ModuleShape default_config (record passed_on { exports = (codes "a", kind.Func, 0) ∷ (codes "a", kind.Func, 0) ∷ [] }) DuplicateExport }
+    ensures names_apart { ¬ HasShapeFault ModuleShape default_config passed_on DuplicateExport }
+    ensures limits_crossed { HasShapeFault ModuleShape default_config (record empty_shape { tables = table funcref 2 (Some 1) ∷ [] }) Limit }
+    ensures limits_of_a_shared_table { ¬ HasShapeFault ModuleShape default_config (record empty_shape { tables = record (table funcref 1 None) { shared = true } ∷ [] }) Limit }
+    ensures shared_table { HasShapeFault ModuleShape default_config (record empty_shape { tables = record (table funcref 1 None) { shared = true } ∷ [] }) LeftOut }
+    ensures shared_global { HasShapeFault ModuleShape default_config (record empty_shape { globals = record (constant_global I32) { shared = true } ∷ [] }) Feature }
+    ensures unshared_global { ¬ HasShapeFault ModuleShape default_config (record empty_shape { globals = constant_global I32 ∷ [] }) Feature }
+    ensures exact_is_not_concrete { ¬ HasShapeFault Exports default_config (record passed_on { globals = constant_global (Ref (nullable (Exact 0))) ∷ [] }) NotPlain }
+    ensures concrete_export { HasShapeFault Exports default_config (record passed_on { globals = constant_global (Ref (nullable (Concrete 0))) ∷ [] }) NotPlain }
+    ensures concrete_elsewhere { ¬ HasShapeFault ModuleShape default_config (record passed_on { globals = constant_global (Ref (nullable (Concrete 0))) ∷ [] }) NotPlain }
 {}
 
 fn depths()
