@@ -1,4 +1,5 @@
 pub mod Choices
+pub mod Offered
 pub mod ValueTypes
 pub mod FieldTypes
 pub mod CompositeTypes
@@ -6,3 +7,5 @@ pub mod SubTypes
 pub mod Limits
 pub mod Bounds
 pub mod Memories
+pub mod MatchingTypes
+pub mod Kept
