@@ -10,6 +10,11 @@ pub mod Chosen
 pub mod ValueTypeLaws
 pub mod FieldTypeLaws
 pub mod CompositeTypeLaws
-pub mod TypeLaws
+pub mod Supertypes
+pub mod MatchingCompositeLaws
+pub mod SubTypeLaws
+pub mod Copies
+pub mod GroupSizes
 pub mod Groups
+pub mod RecGroupLaws
 pub mod MemoryLaws
