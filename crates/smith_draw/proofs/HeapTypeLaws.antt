@@ -13,7 +13,8 @@ use Rattle.smith_types.specs.declared.composite_type.SubType.{SubType}
 use Rattle.smith_types.specs.Kinds.{kind, bottom, shared, kind_of, bottom_of}
 use Rattle.smith_types.specs.Types.{IsOrderly}
 use Rattle.smith_types.specs.Subtyping.{is_abstract_below, IsBelow, itself}
-use Rattle.smith_types.specs.ValidTypes.{IsAbstractEnabled, IsHeapTypeValid}
+use Rattle.smith_types.specs.Flags.{IsAbstractEnabled}
+use Rattle.smith_types.specs.ValidTypes.{IsHeapTypeValid}
 use Rattle.smith_types.proofs.Growth.{IsBelow-trans}
 use Rattle.smith_types.proofs.Paths.{below_abstract, below_declared, below_kind, above_bottom, exact_below}
 use Rattle.smith_config.specs.declared.config.Config.{Config}

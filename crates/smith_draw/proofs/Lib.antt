@@ -1,4 +1,5 @@
 pub mod Enabled
+pub mod Until
 pub mod Ancestors
 pub mod Each
 pub mod OfferedEach
@@ -8,6 +9,13 @@ pub mod StandingLaws
 pub mod MatchingLaws
 pub mod Chosen
 pub mod ValueTypeLaws
-pub mod TypeLaws
+pub mod FieldTypeLaws
+pub mod CompositeTypeLaws
+pub mod Supertypes
+pub mod MatchingCompositeLaws
+pub mod SubTypeLaws
+pub mod Copies
+pub mod GroupSizes
 pub mod Groups
+pub mod RecGroupLaws
 pub mod MemoryLaws

@@ -1,10 +1,14 @@
 pub mod Choices
 pub mod Offered
 pub mod ValueTypes
+pub mod FieldTypes
+pub mod CompositeTypes
+pub mod MatchingTypes
+pub mod MatchingComposites
 pub mod SubTypes
+pub mod RecGroups
 pub mod Limits
 pub mod Bounds
 pub mod Memories
 pub mod Spelling
-pub mod MatchingTypes
 pub mod Kept

@@ -157,8 +157,8 @@ no_type_asked config space sanitized off valid le none =
     ]
 
 -- functions are refused for want of memory, or of a type that they may have
-pub funcs_refuse : (config : Config) (space : Space) (r : Result (List ℕ) Error) → IsSanitized config → config.gc_enabled ≡ false → AreTypesValid (features_of config) space → config.min_types ≤ length space.types
+pub funcs_refuse : (config : Config) (space : Space) (r : Result (List ℕ) Error) → IsSanitized config → AreTypesValid (features_of config) space → config.min_types ≤ length space.types
     → IfErr r (λ e. (e ≡ errors.Memory) ⊎ ((e ≡ errors.IncorrectFormat (Unmet counts.Funcs)) × (0 < config.min_funcs) × (length (func_types space.types) ≡ 0))) → IfErr r (MayComeOut config)
-funcs_refuse config space (Ok funcs) sanitized off valid le h = tt
-funcs_refuse config space (Err e) sanitized off valid le (inl memory) = subst (MayComeOut config) (sym memory) tt
-funcs_refuse config space (Err e) sanitized off valid le (inr (unmet, some, none)) = subst (MayComeOut config) (sym unmet) (some, no_type_asked config space sanitized off valid le none)
+funcs_refuse config space (Ok funcs) sanitized valid le h = tt
+funcs_refuse config space (Err e) sanitized valid le (inl memory) = subst (MayComeOut config) (sym memory) tt
+funcs_refuse config space (Err e) sanitized valid le (inr (unmet, some, none)) = subst (MayComeOut config) (sym unmet) (some, λ off. no_type_asked config space sanitized off valid le none)

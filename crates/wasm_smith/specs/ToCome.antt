@@ -13,10 +13,6 @@ use Rattle.wasm_smith.specs.Module.{Parts, IsValid}
 use Rattle.wasm_smith.specs.Bounds.{KeepsBounds, MeetsMinimums}
 use Rattle.wasm_smith.specs.Promises.{WritesSections}
 
--- the configuration that a module is drawn for: without garbage collection for now, and sanitised
-abbrev pub accepted : Config → Config
-accepted config = sanitized (record config { gc_enabled = false })
-
 -- no part stands beside types, functions, memories and bodies
 pub record HasNoMore (m : Parts) : Type 0 where
   pub imports : m.imports ≡ []
@@ -36,22 +32,22 @@ pub record HasNoMore (m : Parts) : Type 0 where
 
 -- all that holds of a module that is drawn for a configuration
 pub record IsDrawn (config : Config) (m : Parts) : Type 0 where
-  pub accepts : m.config ≡ accepted config
+  pub accepts : m.config ≡ sanitized config
   pub passes : Passes m.config
   pub valid : IsValid m
   pub bounds : KeepsBounds no_shapes m
   pub minimums : MeetsMinimums no_shapes m
   pub sections : WritesSections m
 
--- where a minimum may stay unmet: it is above zero, that of types and memories never, and that of functions only where no type
--- is asked for; that of a part which is not drawn yet always
+-- where a minimum may stay unmet: it is above zero, that of types and memories never, and that of functions without garbage
+-- collection only where no type is asked for; that of a part which is not drawn yet always
 abbrev pub StaysUnmet : Config → Count → Type 0
 StaysUnmet config counts.Types = ⊥
 StaysUnmet config counts.Memories = ⊥
-StaysUnmet config counts.Funcs = (0 < config.min_funcs) × (config.min_types ≡ 0)
+StaysUnmet config counts.Funcs = (0 < config.min_funcs) × (config.gc_enabled ≡ false → config.min_types ≡ 0)
 StaysUnmet config count = 0 < minimum_of config count
 
--- when each refusal may come, for a configuration that is accepted: with less cause than it may when every part is drawn, but
+-- when each refusal may come, for a sanitised configuration: with less cause than it may when every part is drawn, but
 -- for the minimums of parts that are not
 abbrev pub MayComeOut : Config → Error → Type 0
 MayComeOut config (errors.Config fault) = IsFirstFault config fault
@@ -62,4 +58,4 @@ MayComeOut config _ = ⊥
 -- what a configuration allows: a module that is drawn for it, or a refusal that may come
 abbrev pub Allows : Config → Result Parts Error → Type 0
 Allows config (Ok m) = IsDrawn config m
-Allows config (Err e) = MayComeOut (accepted config) e
+Allows config (Err e) = MayComeOut (sanitized config) e

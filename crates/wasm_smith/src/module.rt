@@ -80,29 +80,28 @@ impl Model for Module {
 }
 
 impl Module {
+    ghost use Rattle.smith_config.specs.Sanitized.{sanitized};
     ghost use Rattle.smith_config.specs.Shapes.{no_shapes};
     ghost use Rattle.wasm_smith.specs.Module.{IsValid};
     ghost use Rattle.wasm_smith.specs.Bounds.{KeepsBounds, MeetsMinimums};
     ghost use Rattle.wasm_smith.specs.Promises.{WritesSections};
     ghost use Rattle.wasm_smith.specs.Refusals.{HasNoMinimums};
-    ghost use Rattle.wasm_smith.specs.ToCome.{accepted, MayComeOut};
+    ghost use Rattle.wasm_smith.specs.ToCome.{MayComeOut};
 
-    /// Draws a module from the bytes. The configuration is sanitised and checked first; until types of garbage collection
-    /// are drawn, it is taken without them.
+    /// Draws a module from the bytes. The configuration is sanitised and checked first.
     ///
     /// It refuses a configuration that fails its check, a minimum that can't be met, and want of memory.
     pub fn new(alloc: Global, mut config: Config, u: &mut Unstructured<'_>) -> Result<Module, Error>
-        ensures config { IfOk result (λ m. m.config ≡ accepted config) }
+        ensures config { IfOk result (λ m. m.config ≡ sanitized config) }
         ensures passes { IfOk result (λ m. Passes m.config) }
         ensures valid { IfOk result IsValid }
         ensures bounds { IfOk result (KeepsBounds no_shapes) }
         ensures minimums { IfOk result (MeetsMinimums no_shapes) }
         ensures sections { IfOk result WritesSections }
-        ensures refusals { IfErr result (MayComeOut (accepted config)) }
-        ensures needless { Passes (accepted config) → HasNoMinimums (accepted config) → IfErr result (λ e. e ≡ Error.Memory) }
+        ensures refusals { IfErr result (MayComeOut (sanitized config)) }
+        ensures needless { Passes (sanitized config) → HasNoMinimums (sanitized config) → IfErr result (λ e. e ≡ Error.Memory) }
         ensures source { IsPiece u.old u.new }
     {
-        config.gc_enabled = false;
         config.sanitize();
         if let Err(fault) = config.check() {
             return Err(Error::Config(fault));

@@ -128,7 +128,6 @@ pub(crate) fn funcs(
 ) -> Result<Items<u32>, Error>
     requires passes { Passes config.now }
     requires sanitized { IsSanitized config.now }
-    requires without_gc { config.now.gc_enabled ≡ false }
     requires valid { AreTypesValid (features_of config.now) types.now }
     requires least { config.now.min_types ≤ length types.now.types }
     ensures exact { Gives (λ funcs. (funcs, u.new)) result (funcs_at config.now types.now.types u.old) }

@@ -32,7 +32,6 @@ pub(crate) fn build(
 ) -> Result<Module, Error>
     requires passes { Passes config }
     requires sanitized { IsSanitized config }
-    requires without_gc { config.gc_enabled ≡ false }
     ensures exact { Gives (λ m. (m, u.new)) result (module_at config u.old) }
     ensures config { IfOk result (λ m. m.config ≡ config) }
     ensures valid { IfOk result IsValid }

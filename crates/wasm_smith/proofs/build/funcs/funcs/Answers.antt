@@ -20,4 +20,4 @@ returns-clause-least c =
 
 pub returns-clause-refusal : goal.returns-clause-refusal
 returns-clause-refusal c =
-    funcs_refuse _ _ c.drawn_funcs.result c.requires.sanitized c.requires.without_gc c.requires.valid c.requires.least (rw c.types.ensures.value at c.drawn_funcs.ensures.refusal)
+    funcs_refuse _ _ c.drawn_funcs.result c.requires.sanitized c.requires.valid c.requires.least (rw c.types.ensures.value at c.drawn_funcs.ensures.refusal)
