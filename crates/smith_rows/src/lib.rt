@@ -8,7 +8,11 @@ mod drawn_types;
 #[cfg(test)]
 mod function_types;
 #[cfg(test)]
+mod gc_modules;
+#[cfg(test)]
 mod kinds;
+#[cfg(test)]
+mod matching_types;
 #[cfg(test)]
 mod modules;
 #[cfg(test)]

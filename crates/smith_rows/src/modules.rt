@@ -116,7 +116,7 @@ fn no_bytes_give_the_empty_module(rt: HostRuntime) -> Result<(), Fail> {
     assert!(rt; !made.encodes_imports);
     assert_eq!(rt; made.start, None);
     assert_eq!(rt; made.type_size, 0);
-    assert!(rt; !made.gc_enabled);
+    assert!(rt; made.gc_enabled);
     Ok(())
 }
 

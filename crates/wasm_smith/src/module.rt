@@ -15,6 +15,7 @@ use std::ops::Range;
 
 /// The interesting values, of which none are collected yet.
 const VALUES32: &[u32] = &[];
+
 const VALUES64: &[u64] = &[];
 
 /// A module: the types, imports, index spaces, definitions, exports, segments and bodies of the standard's section

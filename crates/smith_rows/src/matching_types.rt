@@ -1,0 +1,232 @@
+use smith_types::{
+    AbstractHeapType, CompositeInnerType, CompositeType, FieldType, FuncType, HeapType, Items,
+    RefType, StorageType, StructType, SubType, TypeSpace, ValType,
+};
+use std::alloc::Global;
+use std::test::Fail;
+use wasm_smith::{
+    Config, Entities, Error, Spaces, Unstructured, arbitrary_matching_field_type,
+    arbitrary_matching_func_type, arbitrary_matching_heap_type, arbitrary_matching_ref_type,
+    arbitrary_matching_storage_type, arbitrary_matching_val_type,
+    arbitrary_super_type_of_heap_type, arbitrary_super_type_of_ref_type,
+    arbitrary_super_type_of_val_type,
+};
+
+const NO_ENTITIES: Entities<'static> = Entities {
+    tags: &[],
+    funcs: &[],
+    tables: &[],
+    memories: &[],
+    globals: &[],
+    imported_funcs: 0,
+    imported_globals: 0,
+};
+
+fn spaces_of<'a>(types: &'a TypeSpace) -> Spaces<'a> {
+    Spaces {
+        types,
+        entities: NO_ENTITIES,
+    }
+}
+
+// A struct type without fields.
+fn empty_struct(alloc: Global, supertype: Option<u32>) -> SubType {
+    SubType {
+        is_final: false,
+        supertype,
+        composite_type: CompositeType {
+            inner: CompositeInnerType::Struct(StructType {
+                fields: Items::new(alloc),
+            }),
+            shared: false,
+        },
+    }
+}
+
+fn add(types: &mut TypeSpace, added: SubType) -> Result<(), Error> {
+    if types.may_follow(&added) {
+        let _ = types.push_type(added)?;
+    }
+    Ok(())
+}
+
+// A struct type, and one below it.
+fn two_structs(alloc: Global) -> Result<TypeSpace, Error> {
+    let mut types = TypeSpace::new(alloc);
+    add(&mut types, empty_struct(alloc, None))?;
+    add(&mut types, empty_struct(alloc, Some(0)))?;
+    types.push_group()?;
+    Ok(types)
+}
+
+fn with_descriptors() -> Config {
+    let mut config = Config::default();
+    config.custom_descriptors_enabled = true;
+    config
+}
+
+fn without_gc() -> Config {
+    let mut config = Config::default();
+    config.gc_enabled = false;
+    config
+}
+
+const fn plain(ty: AbstractHeapType) -> HeapType {
+    HeapType::Abstract { shared: false, ty }
+}
+
+// A heap type below one, and how many bytes are left.
+fn below(
+    alloc: Global,
+    config: &Config,
+    ty: HeapType,
+    input: &[u8],
+) -> Result<(HeapType, usize), Error> {
+    let types = two_structs(alloc)?;
+    let mut u = Unstructured::new(input);
+    let drawn = arbitrary_matching_heap_type(alloc, config, &spaces_of(&types), ty, &mut u)?;
+    Ok((drawn, u.len()))
+}
+
+// A heap type above one.
+fn above(alloc: Global, ty: HeapType, input: &[u8]) -> Result<HeapType, Error> {
+    let types = two_structs(alloc)?;
+    let mut u = Unstructured::new(input);
+    let config = Config::default();
+    arbitrary_super_type_of_heap_type(alloc, &config, &spaces_of(&types), ty, &mut u)
+}
+
+#[test]
+fn heap_types_below_any(rt: HostRuntime) -> Result<(), Fail> {
+    let config = Config::default();
+    let any = plain(AbstractHeapType::Any);
+    let none = plain(AbstractHeapType::None);
+    assert_eq!(rt; below(rt.alloc(), &config, any, &[7])?, (HeapType::Concrete(1), 0));
+    assert_eq!(rt; below(rt.alloc(), &config, any, &[5])?, (none, 0));
+    Ok(())
+}
+
+#[test]
+fn heap_types_below_a_struct(rt: HostRuntime) -> Result<(), Fail> {
+    let config = Config::default();
+    let first = HeapType::Concrete(0);
+    let none = plain(AbstractHeapType::None);
+    assert_eq!(rt; below(rt.alloc(), &config, first, &[1])?, (HeapType::Concrete(1), 0));
+    assert_eq!(rt; below(rt.alloc(), &config, first, &[2])?, (none, 0));
+    Ok(())
+}
+
+#[test]
+fn heap_types_below_with_descriptors(rt: HostRuntime) -> Result<(), Fail> {
+    let config = with_descriptors();
+    let first = HeapType::Concrete(0);
+    let unknown = HeapType::Concrete(9);
+    assert_eq!(rt; below(rt.alloc(), &config, first, &[2])?, (HeapType::Exact(0), 0));
+    assert_eq!(rt; below(rt.alloc(), &config, first, &[3])?, (HeapType::Concrete(1), 0));
+    assert_eq!(rt; below(rt.alloc(), &config, unknown, &[1])?, (HeapType::Exact(9), 0));
+    Ok(())
+}
+
+#[test]
+fn heap_types_stay_without_gc(rt: HostRuntime) -> Result<(), Fail> {
+    let func = plain(AbstractHeapType::Func);
+    assert_eq!(rt; below(rt.alloc(), &without_gc(), func, &[5])?, (func, 1));
+    Ok(())
+}
+
+#[test]
+fn heap_types_above(rt: HostRuntime) -> Result<(), Fail> {
+    let none = plain(AbstractHeapType::None);
+    assert_eq!(rt; above(rt.alloc(), HeapType::Concrete(1), &[4])?, HeapType::Concrete(0));
+    assert_eq!(rt; above(rt.alloc(), HeapType::Concrete(1), &[0])?, HeapType::Concrete(1));
+    assert_eq!(rt; above(rt.alloc(), none, &[7])?, HeapType::Concrete(1));
+    Ok(())
+}
+
+// A reference that may not be null.
+const fn reference(index: u32) -> RefType {
+    RefType {
+        nullable: false,
+        heap_type: HeapType::Concrete(index),
+    }
+}
+
+// From an i32 and the second struct to the first.
+fn from_second_to_first(alloc: Global) -> Result<FuncType, Error> {
+    let mut params = Items::new(alloc);
+    params.push(ValType::I32)?;
+    params.push(ValType::Ref(reference(1)))?;
+    let mut results = Items::new(alloc);
+    results.push(ValType::Ref(reference(0)))?;
+    Ok(FuncType { params, results })
+}
+
+#[test]
+fn function_types(rt: HostRuntime) -> Result<(), Fail> {
+    let alloc = rt.alloc();
+    let types = two_structs(alloc)?;
+    let function = from_second_to_first(alloc)?;
+    let mut u = Unstructured::new(&[4, 1]);
+    let config = Config::default();
+    let drawn = arbitrary_matching_func_type(alloc, &config, &spaces_of(&types), &function, &mut u)?;
+    let first = ValType::Ref(RefType {
+        nullable: true,
+        heap_type: HeapType::Concrete(0),
+    });
+    assert!(rt; drawn.params.as_slice() == [ValType::I32, first]);
+    assert!(rt; drawn.results.as_slice() == [ValType::Ref(reference(1))]);
+    Ok(())
+}
+
+// A field of a reference to the first struct.
+const fn field(mutable: bool, index: u32) -> FieldType {
+    FieldType {
+        element_type: StorageType::Val(ValType::Ref(reference(index))),
+        mutable,
+    }
+}
+
+// A field that matches one.
+fn field_below(alloc: Global, field: FieldType) -> Result<FieldType, Error> {
+    let types = two_structs(alloc)?;
+    let mut u = Unstructured::new(&[1]);
+    arbitrary_matching_field_type(alloc, &Config::default(), &spaces_of(&types), field, &mut u)
+}
+
+#[test]
+fn field_types(rt: HostRuntime) -> Result<(), Fail> {
+    assert_eq!(rt; field_below(rt.alloc(), field(true, 0))?, field(true, 0));
+    assert_eq!(rt; field_below(rt.alloc(), field(false, 0))?, field(false, 1));
+    Ok(())
+}
+
+#[test]
+fn values_below(rt: HostRuntime) -> Result<(), Fail> {
+    let alloc = rt.alloc();
+    let types = two_structs(alloc)?;
+    let config = Config::default();
+    let spaces = spaces_of(&types);
+    let mut u = Unstructured::new(&[0]);
+    let packed = arbitrary_matching_storage_type(alloc, &config, &spaces, StorageType::I8, &mut u)?;
+    let float = arbitrary_matching_val_type(alloc, &config, &spaces, ValType::F64, &mut u)?;
+    let same = arbitrary_matching_ref_type(alloc, &config, &spaces, reference(0), &mut u)?;
+    assert_eq!(rt; packed, StorageType::I8);
+    assert_eq!(rt; float, ValType::F64);
+    assert_eq!(rt; same, reference(0));
+    Ok(())
+}
+
+#[test]
+fn values_above(rt: HostRuntime) -> Result<(), Fail> {
+    let alloc = rt.alloc();
+    let types = two_structs(alloc)?;
+    let config = Config::default();
+    let spaces = spaces_of(&types);
+    let mut u = Unstructured::new(&[1]);
+    let vector = arbitrary_super_type_of_val_type(alloc, &config, &spaces, ValType::V128, &mut u)?;
+    let any = arbitrary_super_type_of_ref_type(alloc, &config, &spaces, reference(0), &mut u)?;
+    assert_eq!(rt; vector, ValType::V128);
+    assert_eq!(rt; any.nullable, true);
+    assert_eq!(rt; any.heap_type, plain(AbstractHeapType::Any));
+    Ok(())
+}
