@@ -38,7 +38,7 @@ fn is_bytes_array(inner: &CompositeInnerType) -> bool {
     }
 }
 
-fn sketch(ty: &SubType) -> Sketch {
+fn sketch_of(ty: &SubType) -> Sketch {
     Sketch {
         is_final: ty.is_final,
         supertype: ty.supertype,
@@ -49,7 +49,7 @@ fn sketch(ty: &SubType) -> Sketch {
 fn sketches(alloc: Global, types: &[SubType]) -> Result<Vec<Sketch>, Error> {
     let mut all = Vec::new(alloc);
     for ty in types {
-        all.push(sketch(ty))?;
+        all.push(sketch_of(ty))?;
     }
     Ok(all)
 }
@@ -94,23 +94,23 @@ const fn bytes_below(supertype: Option<u32>) -> Sketch {
 fn an_empty_group(rt: HostRuntime) -> Result<(), Fail> {
     let made = types_from(rt.alloc(), Config::default(), &[1])?;
     assert!(rt; made.types.is_empty());
-    assert!(rt; made.groups.as_slice() == [(0, 0)]);
+    assert!(rt; made.groups.as_slice() == [(0, 0)].as_slice());
     Ok(())
 }
 
 #[test]
 fn a_type_below_another(rt: HostRuntime) -> Result<(), Fail> {
     let made = types_from(rt.alloc(), Config::default(), &[1, 2])?;
-    assert!(rt; made.types.as_slice() == [bytes_below(None), bytes_below(Some(0))]);
-    assert!(rt; made.groups.as_slice() == [(0, 2)]);
+    assert!(rt; made.types.as_slice() == [bytes_below(None), bytes_below(Some(0))].as_slice());
+    assert!(rt; made.groups.as_slice() == [(0, 2)].as_slice());
     Ok(())
 }
 
 #[test]
 fn a_clone_past_the_end(rt: HostRuntime) -> Result<(), Fail> {
     let made = types_from(rt.alloc(), Config::default(), &[1, 1, 0, 0, 0, 0, 1])?;
-    assert!(rt; made.types.as_slice() == [bytes_below(None), bytes_below(None)]);
-    assert!(rt; made.groups.as_slice() == [(0, 1), (1, 2)]);
+    assert!(rt; made.types.as_slice() == [bytes_below(None), bytes_below(None)].as_slice());
+    assert!(rt; made.groups.as_slice() == [(0, 1), (1, 2)].as_slice());
     Ok(())
 }
 
@@ -125,8 +125,8 @@ fn three_types() -> Config {
 #[test]
 fn a_minimum_of_types(rt: HostRuntime) -> Result<(), Fail> {
     let made = types_from(rt.alloc(), three_types(), &[1])?;
-    assert!(rt; made.types.as_slice() == [bytes_below(None), bytes_below(Some(0)), bytes_below(Some(0))]);
-    assert!(rt; made.groups.as_slice() == [(0, 2), (2, 3)]);
+    assert!(rt; made.types.as_slice() == [bytes_below(None), bytes_below(Some(0)), bytes_below(Some(0))].as_slice());
+    assert!(rt; made.groups.as_slice() == [(0, 2), (2, 3)].as_slice());
     Ok(())
 }
 
@@ -135,7 +135,7 @@ fn a_function_of_a_plain_type(rt: HostRuntime) -> Result<(), Fail> {
     let input = [1, 1, 1, 1, 0, 0, 0, 0, 0, 0, 1, 0];
     let made = types_from(rt.alloc(), Config::default(), &input)?;
     assert!(rt; made.is_plain_function);
-    assert!(rt; made.groups.as_slice() == [(0, 1)]);
+    assert!(rt; made.groups.as_slice() == [(0, 1)].as_slice());
     assert_eq!(rt; made.funcs, 1);
     Ok(())
 }

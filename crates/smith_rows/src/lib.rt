@@ -8,6 +8,8 @@ mod drawn_types;
 #[cfg(test)]
 mod function_types;
 #[cfg(test)]
+mod gc_draws;
+#[cfg(test)]
 mod gc_modules;
 #[cfg(test)]
 mod kinds;

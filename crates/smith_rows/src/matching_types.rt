@@ -173,8 +173,8 @@ fn function_types(rt: HostRuntime) -> Result<(), Fail> {
         nullable: true,
         heap_type: HeapType::Concrete(0),
     });
-    assert!(rt; drawn.params.as_slice() == [ValType::I32, first]);
-    assert!(rt; drawn.results.as_slice() == [ValType::Ref(reference(1))]);
+    assert!(rt; drawn.params.as_slice() == [ValType::I32, first].as_slice());
+    assert!(rt; drawn.results.as_slice() == [ValType::Ref(reference(1))].as_slice());
     Ok(())
 }
 
