@@ -1,5 +1,15 @@
 pub mod Enabled
+pub mod Until
+pub mod Ancestors
+pub mod Each
+pub mod OfferedEach
+pub mod HeapTypeLaws
+pub mod SharedLaws
+pub mod MatchingLaws
+pub mod Chosen
 pub mod ValueTypeLaws
+pub mod FieldTypeLaws
+pub mod CompositeTypeLaws
 pub mod TypeLaws
 pub mod Groups
 pub mod MemoryLaws

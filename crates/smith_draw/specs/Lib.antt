@@ -1,5 +1,10 @@
 pub mod Choices
 pub mod ValueTypes
+pub mod FieldTypes
+pub mod CompositeTypes
+pub mod Kept
+pub mod Offered
+pub mod MatchingTypes
 pub mod SubTypes
 pub mod Limits
 pub mod Bounds

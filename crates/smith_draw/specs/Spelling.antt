@@ -19,7 +19,7 @@ use Rattle.smith_draw.specs.declared.value_type.ValueClass.{ValueClass}
 use Rattle.smith_draw.specs.declared.value_type.ValueClass.TheVariants.{I32, I64, F32, F64, V128, Reference}
 use Rattle.smith_draw.specs.Choices.{enabled}
 use Rattle.smith_draw.specs.ValueTypes.{value_classes, abstract_heap_types}
-use Rattle.smith_draw.specs.SubTypes.{most_results}
+use Rattle.smith_draw.specs.CompositeTypes.{most_results}
 
 -- an item by its place in a list
 pub record SpellsPlace {A : Type 0} (items : List A) (item : A) (piece : List ℕ) : Type 0 where

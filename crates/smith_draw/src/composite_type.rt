@@ -1,55 +1,180 @@
-ghost use Rattle.std.specs.Prelude.{◌≡◌, ◌≤◌, false, length, IsTrue, IfOk, IfErr, All};
+ghost use Rattle.std.specs.Prelude.{◌≡◌, IsTrue, IfOk, IfErr, All, length, ◌≤◌};
 ghost use Rattle.smith_bytes.specs.Source.{KeepsPieces};
-ghost use Rattle.smith_types.specs.ValidTypes.{IsFuncTypeValid};
+ghost use Rattle.smith_types.specs.declared.composite_type.CompositeInnerType.TheVariants.{Func, Struct};
+ghost use Rattle.smith_types.specs.Flags.{IsInnerEnabled};
+ghost use Rattle.smith_types.specs.Matching.{IsFuncInRange, IsFieldInRange, IsInnerInRange};
+ghost use Rattle.smith_types.specs.ValidTypes.{values_of, IsFuncTypeValid, IsValTypeValid, IsShareable};
 ghost use Rattle.smith_config.specs.Features.{features_of};
 ghost use Rattle.smith_config.specs.Sanitized.{IsSanitized};
-ghost use Rattle.smith_draw.specs.SubTypes.{most_results, val_types_at, func_type_at};
+ghost use Rattle.smith_draw.specs.FieldTypes.{fields_until_at};
+ghost use Rattle.smith_draw.specs.CompositeTypes.{
+  most_results,
+  val_types_at,
+  func_type_at,
+  struct_type_at,
+  inner_number_at,
+  inner_of_number_at,
+  composite_type_at,
+};
 
+use crate::field_type::field_type;
 use crate::spaces::Spaces;
-use crate::value_type::val_type;
+use crate::value_type::{sharedness, val_type};
 use smith_bytes::{Error, Unstructured, goes_on};
 use smith_config::Config;
-use smith_types::{FuncType, Items, ValType};
+use smith_types::{
+    ArrayType, CompositeInnerType, CompositeType, FieldType, FuncType, Items, StructType, SubType,
+    ValType,
+};
 use std::alloc::Global;
 
 /// At most so many value types.
-#[tactic(auto, unfolding(crate::specs::SubTypes::val_types_at))]
+#[tactic(auto, unfolding(crate::specs::CompositeTypes::val_types_at))]
 fn val_types(
     alloc: Global,
     config: &Config,
+    types: &[SubType],
     must_share: bool,
+    limit: u32,
     most: usize,
     u: &mut Unstructured<'_>,
 ) -> Result<Items<ValType>, Error>
-    ensures exact { IfOk result (λ drawn. val_types_at config.now must_share most u.old ≡ (drawn, u.new)) }
+    ensures exact { IfOk result (λ drawn. val_types_at config.now types.now must_share limit most u.old ≡ (drawn, u.new)) }
     ensures memory { IfErr result (λ e. e ≡ Error.Memory) }
     ensures left { KeepsPieces u.old u.new }
 {
-    let mut types = Items::new(alloc);
+    let mut drawn = Items::new(alloc);
     for made in 0..most {
         if !goes_on(u, made, 0) {
-            return Ok(types);
+            return Ok(drawn);
         }
-        types.push(val_type(config, must_share, u))?;
+        drawn.push(val_type(config, types, must_share, limit, u))?;
     }
-    Ok(types)
+    Ok(drawn)
 }
 
-#[tactic(auto, unfolding(crate::specs::SubTypes::func_type_at))]
-pub(crate) fn func_type(
+#[tactic(auto, unfolding(crate::specs::CompositeTypes::func_type_at))]
+fn func_type(
     alloc: Global,
     config: &Config,
+    types: &[SubType],
     must_share: bool,
+    limit: u32,
     u: &mut Unstructured<'_>,
 ) -> Result<FuncType, Error>
-    ensures exact { IfOk result (λ drawn. func_type_at config.now must_share u.old ≡ (drawn, u.new)) }
+    ensures exact { IfOk result (λ drawn. func_type_at config.now types.now must_share limit u.old ≡ (drawn, u.new)) }
     ensures memory { IfErr result (λ e. e ≡ Error.Memory) }
     ensures left { KeepsPieces u.old u.new }
 {
     let most_results = if config.multi_value_enabled { 20 } else { 1 };
-    let params = val_types(alloc, config, must_share, 20, u)?;
-    let results = val_types(alloc, config, must_share, most_results, u)?;
+    let params = val_types(alloc, config, types, must_share, limit, 20, u)?;
+    let results = val_types(alloc, config, types, must_share, limit, most_results, u)?;
     Ok(FuncType { params, results })
+}
+
+/// These fields, with more behind them until there are so many.
+#[tactic(auto, unfolding(crate::specs::FieldTypes::fields_until_at))]
+pub(crate) fn fields_until(
+    config: &Config,
+    types: &[SubType],
+    must_share: bool,
+    limit: u32,
+    end: usize,
+    mut fields: Items<FieldType>,
+    u: &mut Unstructured<'_>,
+) -> Result<Items<FieldType>, Error>
+    ensures exact { IfOk result (λ drawn. fields_until_at config.now types.now must_share limit end fields u.old ≡ (drawn, u.new)) }
+    ensures memory { IfErr result (λ e. e ≡ Error.Memory) }
+    ensures left { KeepsPieces u.old u.new }
+{
+    for made in fields.len()..end {
+        fields.push(field_type(config, types, must_share, limit, u))?;
+    }
+    Ok(fields)
+}
+
+#[tactic(auto, unfolding(crate::specs::CompositeTypes::struct_type_at))]
+fn struct_type(
+    alloc: Global,
+    config: &Config,
+    types: &[SubType],
+    must_share: bool,
+    limit: u32,
+    u: &mut Unstructured<'_>,
+) -> Result<StructType, Error>
+    ensures exact { IfOk result (λ drawn. struct_type_at config.now types.now must_share limit u.old ≡ (drawn, u.new)) }
+    ensures memory { IfErr result (λ e. e ≡ Error.Memory) }
+    ensures left { KeepsPieces u.old u.new }
+{
+    let count = u.int_in_range(0..=20usize);
+    let fields = fields_until(
+        config,
+        types,
+        must_share,
+        limit,
+        count,
+        Items::new(alloc),
+        u,
+    )?;
+    Ok(StructType { fields })
+}
+
+fn inner_number(config: &Config, u: &mut Unstructured<'_>) -> u8
+    ensures exact { inner_number_at config.now u.old ≡ (result, u.new) }
+    ensures left { KeepsPieces u.old u.new }
+{
+    if config.gc_enabled {
+        return u.int_in_range(0..=2u8);
+    }
+    1
+}
+
+/// The array, function or struct of a number.
+fn inner_of_number(
+    alloc: Global,
+    config: &Config,
+    types: &[SubType],
+    must_share: bool,
+    limit: u32,
+    number: u8,
+    u: &mut Unstructured<'_>,
+) -> Result<CompositeInnerType, Error>
+    ensures exact { IfOk result (λ drawn. inner_of_number_at config.now types.now must_share limit number u.old ≡ (drawn, u.new)) }
+    ensures memory { IfErr result (λ e. e ≡ Error.Memory) }
+    ensures left { KeepsPieces u.old u.new }
+{
+    match number {
+        0 => {
+            let field = field_type(config, types, must_share, limit, u);
+            Ok(CompositeInnerType::Array(ArrayType(field)))
+        }
+        1 => {
+            let function = func_type(alloc, config, types, must_share, limit, u)?;
+            Ok(CompositeInnerType::Func(function))
+        }
+        _ => {
+            let structure = struct_type(alloc, config, types, must_share, limit, u)?;
+            Ok(CompositeInnerType::Struct(structure))
+        }
+    }
+}
+
+#[tactic(auto, unfolding(crate::specs::CompositeTypes::composite_type_at))]
+pub(crate) fn composite_type(
+    alloc: Global,
+    config: &Config,
+    types: &[SubType],
+    limit: u32,
+    u: &mut Unstructured<'_>,
+) -> Result<CompositeType, Error>
+    ensures exact { IfOk result (λ drawn. composite_type_at config.now types.now limit u.old ≡ (drawn, u.new)) }
+    ensures memory { IfErr result (λ e. e ≡ Error.Memory) }
+    ensures left { KeepsPieces u.old u.new }
+{
+    let shared = sharedness(config, false, u);
+    let number = inner_number(config, u);
+    let inner = inner_of_number(alloc, config, types, shared, limit, number, u)?;
+    Ok(CompositeType { inner, shared })
 }
 
 /// A function type of at most 20 parameters and 20 results, or one result where several are not enabled. The standard's
@@ -57,18 +182,63 @@ pub(crate) fn func_type(
 pub fn arbitrary_func_type(
     alloc: Global,
     config: &Config,
-    _spaces: &Spaces<'_>,
+    spaces: &Spaces<'_>,
     must_share: bool,
     limit: u32,
     u: &mut Unstructured<'_>,
 ) -> Result<FuncType, Error>
     requires sanitized { IsSanitized config.now }
-    requires without_gc { config.now.gc_enabled ≡ false }
     requires may_share { IsTrue must_share → IsTrue config.now.shared_everything_threads_enabled }
-    ensures exact { IfOk result (λ drawn. func_type_at config.now must_share u.old ≡ (drawn, u.new)) }
+    ensures exact { IfOk result (λ drawn. func_type_at config.now spaces.now.types.now.types must_share limit u.old ≡ (drawn, u.new)) }
     ensures valid { IfOk result (IsFuncTypeValid (features_of config.now) limit) }
+    ensures stands { IfOk result (IsFuncInRange spaces.now.types.now.types) }
+    ensures shared { IsTrue must_share → IfOk result (λ drawn. All (IsShareable spaces.now.types.now.types) (values_of (Func drawn))) }
     ensures memory { IfErr result (λ e. e ≡ Error.Memory) }
     ensures left { KeepsPieces u.old u.new }
 {
-    func_type(alloc, config, must_share, u)
+    func_type(alloc, config, spaces.types.types(), must_share, limit, u)
+}
+
+/// A struct type of at most 20 fields. The standard's section Structure, Composite Types.
+pub fn arbitrary_struct_type(
+    alloc: Global,
+    config: &Config,
+    spaces: &Spaces<'_>,
+    must_share: bool,
+    limit: u32,
+    u: &mut Unstructured<'_>,
+) -> Result<StructType, Error>
+    requires sanitized { IsSanitized config.now }
+    requires may_share { IsTrue must_share → IsTrue config.now.shared_everything_threads_enabled }
+    ensures exact { IfOk result (λ drawn. struct_type_at config.now spaces.now.types.now.types must_share limit u.old ≡ (drawn, u.new)) }
+    ensures few { IfOk result (λ drawn. length drawn.fields ≤ 20) }
+    ensures valid { IfOk result (λ drawn. All (IsValTypeValid (features_of config.now) limit) (values_of (Struct drawn))) }
+    ensures stands { IfOk result (λ drawn. All (IsFieldInRange spaces.now.types.now.types) drawn.fields) }
+    ensures shared { IsTrue must_share → IfOk result (λ drawn. All (IsShareable spaces.now.types.now.types) (values_of (Struct drawn))) }
+    ensures memory { IfErr result (λ e. e ≡ Error.Memory) }
+    ensures left { KeepsPieces u.old u.new }
+{
+    struct_type(alloc, config, spaces.types.types(), must_share, limit, u)
+}
+
+/// A composite type, shared or not: with garbage collection an array, a function or a struct, else a function. The standard's
+/// section Structure, Composite Types.
+pub fn arbitrary_composite_type(
+    alloc: Global,
+    config: &Config,
+    spaces: &Spaces<'_>,
+    limit: u32,
+    u: &mut Unstructured<'_>,
+) -> Result<CompositeType, Error>
+    requires sanitized { IsSanitized config.now }
+    ensures exact { IfOk result (λ drawn. composite_type_at config.now spaces.now.types.now.types limit u.old ≡ (drawn, u.new)) }
+    ensures enabled { IfOk result (λ drawn. IsInnerEnabled (features_of config.now) drawn.inner) }
+    ensures may_be_shared { IfOk result (λ drawn. IsTrue drawn.shared → IsTrue config.now.shared_everything_threads_enabled) }
+    ensures valid { IfOk result (λ drawn. All (IsValTypeValid (features_of config.now) limit) (values_of drawn.inner)) }
+    ensures stands { IfOk result (λ drawn. IsInnerInRange spaces.now.types.now.types drawn.inner) }
+    ensures shared { IfOk result (λ drawn. IsTrue drawn.shared → All (IsShareable spaces.now.types.now.types) (values_of drawn.inner)) }
+    ensures memory { IfErr result (λ e. e ≡ Error.Memory) }
+    ensures left { KeepsPieces u.old u.new }
+{
+    composite_type(alloc, config, spaces.types.types(), limit, u)
 }

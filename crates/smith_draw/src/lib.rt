@@ -4,16 +4,29 @@
 mod choice;
 mod composite_type;
 mod entity_type;
+mod field_type;
 mod limits;
+mod matching;
+mod offered;
 mod rec_group;
 mod spaces;
 mod sub_type;
+mod super_type;
 mod value_type;
 
-pub use composite_type::arbitrary_func_type;
+pub use composite_type::{arbitrary_composite_type, arbitrary_func_type, arbitrary_struct_type};
 pub use entity_type::arbitrary_memtype;
+pub use field_type::{arbitrary_field_type, arbitrary_storage_type};
 pub use limits::{arbitrary_limits64, gradually_grow};
+pub use matching::{
+    arbitrary_matching_field_type, arbitrary_matching_func_type, arbitrary_matching_heap_type,
+    arbitrary_matching_ref_type, arbitrary_matching_storage_type, arbitrary_matching_val_type,
+};
 pub use rec_group::{add_type, arbitrary_rec_group, arbitrary_types};
 pub use spaces::{Entities, Spaces};
 pub use sub_type::arbitrary_sub_type;
+pub use super_type::{
+    arbitrary_super_type_of_heap_type, arbitrary_super_type_of_ref_type,
+    arbitrary_super_type_of_val_type,
+};
 pub use value_type::{arbitrary_heap_type, arbitrary_ref_type, arbitrary_valtype};

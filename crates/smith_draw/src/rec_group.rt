@@ -41,7 +41,8 @@ fn rec_group(
     ensures memory { IfErr result (λ e. e ≡ Error.Memory) }
     ensures left { KeepsPieces u.old u.new }
 {
-    let added = sub_type(alloc, config, u)?;
+    let limit = types.types().len() as u32 + 1;
+    let added = sub_type(alloc, config, types.types(), limit, u)?;
     let _ = add_type(types, added)?;
     types.push_group()?;
     Ok(())

@@ -1,3 +1,5 @@
+ghost use Rattle.smith_types.specs.Types.{IsOrderly};
+
 use smith_types::{GlobalType, MemoryType, TableType, TypeSpace};
 
 /// The index spaces that stand so far, but that of types: imported entities come first in each.
@@ -21,4 +23,11 @@ pub struct Entities<'a> {
 pub struct Spaces<'a> {
     pub types: &'a TypeSpace,
     pub entities: Entities<'a>,
+}
+
+/// Tells that the types that stand are orderly, as those of every type space are.
+pub(crate) fn orderly(spaces: &Spaces<'_>)
+    ensures { IsOrderly spaces.now.types.now.types }
+{
+    let _types = spaces.types.types();
 }

@@ -5,40 +5,37 @@ ghost use Rattle.smith_config.specs.Features.{features_of};
 ghost use Rattle.smith_config.specs.Sanitized.{IsSanitized};
 ghost use Rattle.smith_draw.specs.SubTypes.{sub_type_at};
 
-use crate::composite_type::func_type;
+use crate::composite_type::composite_type;
 use crate::spaces::Spaces;
-use crate::value_type::sharedness;
 use smith_bytes::{Error, Unstructured};
 use smith_config::Config;
-use smith_types::{CompositeInnerType, CompositeType, SubType};
+use smith_types::SubType;
 use std::alloc::Global;
 
-/// A function type that is final and has no supertype.
+/// Final, and without a supertype.
 #[tactic(auto, unfolding(crate::specs::SubTypes::sub_type_at))]
 pub(crate) fn sub_type(
     alloc: Global,
     config: &Config,
+    types: &[SubType],
+    limit: u32,
     u: &mut Unstructured<'_>,
 ) -> Result<SubType, Error>
-    ensures exact { IfOk result (λ drawn. sub_type_at config.now u.old ≡ (drawn, u.new)) }
+    ensures exact { IfOk result (λ drawn. sub_type_at config.now types.now limit u.old ≡ (drawn, u.new)) }
     ensures root { IfOk result (λ drawn. drawn.supertype ≡ None) }
     ensures memory { IfErr result (λ e. e ≡ Error.Memory) }
     ensures left { KeepsPieces u.old u.new }
 {
-    let shared = sharedness(config, false, u);
-    let function = func_type(alloc, config, shared, u)?;
+    let composite_type = composite_type(alloc, config, types, limit, u)?;
     Ok(SubType {
         is_final: true,
         supertype: None,
-        composite_type: CompositeType {
-            inner: CompositeInnerType::Func(function),
-            shared,
-        },
+        composite_type,
     })
 }
 
-/// A subtype: a function type that is final and has no supertype. Until types of garbage collection are drawn, it takes a
-/// configuration without them. The standard's section Structure, Recursive Types.
+/// A subtype: a function type that is final and has no supertype. Until subtypes with garbage collection are drawn, it takes
+/// a configuration without it. The standard's section Structure, Recursive Types.
 pub fn arbitrary_sub_type(
     alloc: Global,
     config: &Config,
@@ -48,10 +45,10 @@ pub fn arbitrary_sub_type(
 ) -> Result<SubType, Error>
     requires sanitized { IsSanitized config.now }
     requires without_gc { config.now.gc_enabled ≡ false }
-    ensures exact { IfOk result (λ drawn. sub_type_at config.now u.old ≡ (drawn, u.new)) }
+    ensures exact { IfOk result (λ drawn. sub_type_at config.now spaces.now.types.now.types limit u.old ≡ (drawn, u.new)) }
     ensures valid { IfOk result (IsTypeValid (features_of config.now) spaces.now.types.now.types limit) }
     ensures memory { IfErr result (λ e. e ≡ Error.Memory) }
     ensures left { KeepsPieces u.old u.new }
 {
-    sub_type(alloc, config, u)
+    sub_type(alloc, config, spaces.types.types(), limit, u)
 }

@@ -1,15 +1,32 @@
-ghost use Rattle.std.specs.Prelude.{◌≡◌, false, IsTrue, IfOk, IfErr};
+ghost use Rattle.std.specs.Prelude.{◌≡◌, ◌<◌, IsTrue, IfOk, IfErr, slice_get};
 ghost use Rattle.smith_bytes.specs.Source.{KeepsPieces};
-ghost use Rattle.smith_types.specs.ValidTypes.{IsHeapTypeValid, IsRefTypeValid, IsValTypeValid};
+ghost use Rattle.smith_types.specs.Subtyping.{IsInRange, IsValInRange};
+ghost use Rattle.smith_types.specs.ValidTypes.{
+  IsHeapTypeValid,
+  IsRefTypeValid,
+  IsValTypeValid,
+  IsHeapTypeShared,
+  IsShareable,
+};
 ghost use Rattle.smith_config.specs.Features.{features_of};
 ghost use Rattle.smith_config.specs.Sanitized.{IsSanitized};
-ghost use Rattle.smith_draw.specs.ValueTypes.{sharedness_at, heap_type_at, ref_type_at, value_of_class_at, val_type_at};
+ghost use Rattle.smith_draw.specs.ValueTypes.{
+  sharedness_at,
+  abstract_heap_type_at,
+  index_wanted_at,
+  kept_index,
+  type_index_at,
+  heap_type_at,
+  ref_type_at,
+  value_of_class_at,
+  val_type_at,
+};
 
 use crate::choice::choose_enabled;
 use crate::spaces::Spaces;
 use smith_bytes::{Error, Unstructured};
 use smith_config::Config;
-use smith_types::{AbstractHeapType, HeapType, RefType, ValType};
+use smith_types::{AbstractHeapType, HeapType, RefType, SubType, ValType};
 use std::alloc::Global;
 
 /// What is chosen first of a value type.
@@ -37,28 +54,107 @@ pub(crate) fn sharedness(config: &Config, must_share: bool, u: &mut Unstructured
     false
 }
 
-#[tactic(auto, unfolding(crate::specs::ValueTypes::heap_type_at))]
-fn heap_type(config: &Config, must_share: bool, u: &mut Unstructured<'_>) -> HeapType
-    ensures exact { heap_type_at config.now must_share u.old ≡ (result, u.new) }
+#[tactic(auto, unfolding(crate::specs::ValueTypes::abstract_heap_type_at))]
+fn abstract_heap_type(config: &Config, must_share: bool, u: &mut Unstructured<'_>) -> HeapType
+    ensures exact { abstract_heap_type_at config.now must_share u.old ≡ (result, u.new) }
     ensures left { KeepsPieces u.old u.new }
 {
     let shared = sharedness(config, must_share, u);
+    let gc = config.gc_enabled;
     let table = [
         (AbstractHeapType::Func, true),
         (AbstractHeapType::Extern, true),
         (AbstractHeapType::Exn, config.exceptions_enabled),
+        (AbstractHeapType::Any, gc),
+        (AbstractHeapType::None, gc),
+        (AbstractHeapType::NoExtern, gc),
+        (AbstractHeapType::NoFunc, gc),
+        (AbstractHeapType::Eq, gc),
+        (AbstractHeapType::Struct, gc),
+        (AbstractHeapType::Array, gc),
+        (AbstractHeapType::I31, gc),
     ];
     let ty = choose_enabled(&table, AbstractHeapType::Func, u);
     HeapType::Abstract { shared, ty }
 }
 
+/// Whether a type index is asked for.
+fn index_wanted(config: &Config, limit: u32, u: &mut Unstructured<'_>) -> bool
+    ensures exact { index_wanted_at config.now limit u.old ≡ (result, u.new) }
+    ensures below { IsTrue result → 0 < limit }
+    ensures left { KeepsPieces u.old u.new }
+{
+    if !config.gc_enabled || limit == 0 {
+        return false;
+    }
+    u.arbitrary()
+}
+
+/// The index, if its type stands and is shared where it must be.
+fn kept_index(types: &[SubType], must_share: bool, index: u32) -> Option<u32>
+    ensures { result ≡ kept_index must_share index (slice_get types.now index) }
+{
+    match types.get(index as usize) {
+        Some(ty) => {
+            if !must_share || ty.composite_type.shared {
+                Some(index)
+            } else {
+                None
+            }
+        }
+        None => None,
+    }
+}
+
+/// The index of a type below the limit, where one is asked for and kept.
+#[tactic(auto, unfolding(crate::specs::ValueTypes::type_index_at))]
+fn type_index(
+    config: &Config,
+    types: &[SubType],
+    must_share: bool,
+    limit: u32,
+    u: &mut Unstructured<'_>,
+) -> Option<u32>
+    ensures exact { type_index_at config.now types.now must_share limit u.old ≡ (result, u.new) }
+    ensures left { KeepsPieces u.old u.new }
+{
+    if !index_wanted(config, limit, u) {
+        return None;
+    }
+    let index = u.int_in_range(0..=limit - 1);
+    kept_index(types, must_share, index)
+}
+
+#[tactic(auto, unfolding(crate::specs::ValueTypes::heap_type_at))]
+fn heap_type(
+    config: &Config,
+    types: &[SubType],
+    must_share: bool,
+    limit: u32,
+    u: &mut Unstructured<'_>,
+) -> HeapType
+    ensures exact { heap_type_at config.now types.now must_share limit u.old ≡ (result, u.new) }
+    ensures left { KeepsPieces u.old u.new }
+{
+    match type_index(config, types, must_share, limit, u) {
+        Some(index) => HeapType::Concrete(index),
+        None => abstract_heap_type(config, must_share, u),
+    }
+}
+
 #[tactic(auto, unfolding(crate::specs::ValueTypes::ref_type_at))]
-fn ref_type(config: &Config, must_share: bool, u: &mut Unstructured<'_>) -> RefType
-    ensures exact { ref_type_at config.now must_share u.old ≡ (result, u.new) }
+fn ref_type(
+    config: &Config,
+    types: &[SubType],
+    must_share: bool,
+    limit: u32,
+    u: &mut Unstructured<'_>,
+) -> RefType
+    ensures exact { ref_type_at config.now types.now must_share limit u.old ≡ (result, u.new) }
     ensures left { KeepsPieces u.old u.new }
 {
     let heap_type = if config.reference_types_enabled {
-        heap_type(config, must_share, u)
+        heap_type(config, types, must_share, limit, u)
     } else {
         HeapType::Abstract {
             shared: false,
@@ -73,11 +169,13 @@ fn ref_type(config: &Config, must_share: bool, u: &mut Unstructured<'_>) -> RefT
 
 fn value_of_class(
     config: &Config,
+    types: &[SubType],
     must_share: bool,
+    limit: u32,
     class: ValueClass,
     u: &mut Unstructured<'_>,
 ) -> ValType
-    ensures exact { value_of_class_at config.now must_share class u.old ≡ (result, u.new) }
+    ensures exact { value_of_class_at config.now types.now must_share limit class u.old ≡ (result, u.new) }
     ensures left { KeepsPieces u.old u.new }
 {
     match class {
@@ -86,13 +184,19 @@ fn value_of_class(
         ValueClass::F32 => ValType::F32,
         ValueClass::F64 => ValType::F64,
         ValueClass::V128 => ValType::V128,
-        ValueClass::Reference => ValType::Ref(ref_type(config, must_share, u)),
+        ValueClass::Reference => ValType::Ref(ref_type(config, types, must_share, limit, u)),
     }
 }
 
 #[tactic(auto, unfolding(crate::specs::ValueTypes::val_type_at))]
-pub(crate) fn val_type(config: &Config, must_share: bool, u: &mut Unstructured<'_>) -> ValType
-    ensures exact { val_type_at config.now must_share u.old ≡ (result, u.new) }
+pub(crate) fn val_type(
+    config: &Config,
+    types: &[SubType],
+    must_share: bool,
+    limit: u32,
+    u: &mut Unstructured<'_>,
+) -> ValType
+    ensures exact { val_type_at config.now types.now must_share limit u.old ≡ (result, u.new) }
     ensures left { KeepsPieces u.old u.new }
 {
     let table = [
@@ -104,66 +208,69 @@ pub(crate) fn val_type(config: &Config, must_share: bool, u: &mut Unstructured<'
         (ValueClass::Reference, config.reference_types_enabled),
     ];
     let class = choose_enabled(&table, ValueClass::I32, u);
-    value_of_class(config, must_share, class, u)
+    value_of_class(config, types, must_share, limit, class, u)
 }
 
-/// A heap type: an abstract one among those that are enabled. Until types of garbage collection are drawn, it takes a
-/// configuration without them. The standard's section Structure, Heap Types.
+/// A heap type: one of the types below the limit that stand, or an abstract one that is enabled; a shared one where it must
+/// be. The standard's section Structure, Heap Types.
 pub fn arbitrary_heap_type(
     _alloc: Global,
     config: &Config,
-    _spaces: &Spaces<'_>,
+    spaces: &Spaces<'_>,
     must_share: bool,
     limit: u32,
     u: &mut Unstructured<'_>,
 ) -> Result<HeapType, Error>
     requires sanitized { IsSanitized config.now }
-    requires without_gc { config.now.gc_enabled ≡ false }
     requires may_share { IsTrue must_share → IsTrue config.now.shared_everything_threads_enabled }
-    ensures exact { IfOk result (λ drawn. heap_type_at config.now must_share u.old ≡ (drawn, u.new)) }
+    ensures exact { IfOk result (λ drawn. heap_type_at config.now spaces.now.types.now.types must_share limit u.old ≡ (drawn, u.new)) }
     ensures valid { IfOk result (IsHeapTypeValid (features_of config.now) limit) }
+    ensures stands { IfOk result (IsInRange spaces.now.types.now.types) }
+    ensures shared { IsTrue must_share → IfOk result (IsHeapTypeShared spaces.now.types.now.types) }
     ensures memory { IfErr result (λ e. e ≡ Error.Memory) }
     ensures left { KeepsPieces u.old u.new }
 {
-    Ok(heap_type(config, must_share, u))
+    Ok(heap_type(config, spaces.types.types(), must_share, limit, u))
 }
 
 /// A reference type, nullable. The standard's section Structure, Reference Types.
 pub fn arbitrary_ref_type(
     _alloc: Global,
     config: &Config,
-    _spaces: &Spaces<'_>,
+    spaces: &Spaces<'_>,
     must_share: bool,
     limit: u32,
     u: &mut Unstructured<'_>,
 ) -> Result<RefType, Error>
     requires sanitized { IsSanitized config.now }
-    requires without_gc { config.now.gc_enabled ≡ false }
     requires may_share { IsTrue must_share → IsTrue config.now.shared_everything_threads_enabled }
-    ensures exact { IfOk result (λ drawn. ref_type_at config.now must_share u.old ≡ (drawn, u.new)) }
+    ensures exact { IfOk result (λ drawn. ref_type_at config.now spaces.now.types.now.types must_share limit u.old ≡ (drawn, u.new)) }
     ensures valid { IfOk result (IsRefTypeValid (features_of config.now) limit) }
+    ensures stands { IfOk result (λ drawn. IsInRange spaces.now.types.now.types drawn.heap_type) }
+    ensures shared { IsTrue must_share → IfOk result (λ drawn. IsHeapTypeShared spaces.now.types.now.types drawn.heap_type) }
     ensures memory { IfErr result (λ e. e ≡ Error.Memory) }
     ensures left { KeepsPieces u.old u.new }
 {
-    Ok(ref_type(config, must_share, u))
+    Ok(ref_type(config, spaces.types.types(), must_share, limit, u))
 }
 
 /// A value type among those that are enabled. The standard's section Structure, Value Types.
 pub fn arbitrary_valtype(
     _alloc: Global,
     config: &Config,
-    _spaces: &Spaces<'_>,
+    spaces: &Spaces<'_>,
     must_share: bool,
     limit: u32,
     u: &mut Unstructured<'_>,
 ) -> Result<ValType, Error>
     requires sanitized { IsSanitized config.now }
-    requires without_gc { config.now.gc_enabled ≡ false }
     requires may_share { IsTrue must_share → IsTrue config.now.shared_everything_threads_enabled }
-    ensures exact { IfOk result (λ drawn. val_type_at config.now must_share u.old ≡ (drawn, u.new)) }
+    ensures exact { IfOk result (λ drawn. val_type_at config.now spaces.now.types.now.types must_share limit u.old ≡ (drawn, u.new)) }
     ensures valid { IfOk result (IsValTypeValid (features_of config.now) limit) }
+    ensures stands { IfOk result (IsValInRange spaces.now.types.now.types) }
+    ensures shared { IsTrue must_share → IfOk result (IsShareable spaces.now.types.now.types) }
     ensures memory { IfErr result (λ e. e ≡ Error.Memory) }
     ensures left { KeepsPieces u.old u.new }
 {
-    Ok(val_type(config, must_share, u))
+    Ok(val_type(config, spaces.types.types(), must_share, limit, u))
 }

@@ -17,7 +17,7 @@ use Rattle.smith_config.specs.declared.config.Config.{Config}
 use Rattle.smith_config.specs.Shapes.{space_of}
 use Rattle.smith_draw.specs.Choices.{enabled}
 use Rattle.smith_draw.specs.ValueTypes.{abstract_heap_types}
-use Rattle.smith_draw.specs.SubTypes.{most_results}
+use Rattle.smith_draw.specs.CompositeTypes.{most_results}
 
 -- a heap type that the type of this index may name: an unshared abstract one that is offered, or a type of smaller index
 abbrev pub IsMemberHeapType : Config → ℕ → HeapType → Type 0

@@ -12,9 +12,10 @@ pub use smith_bytes::{
 };
 pub use smith_config::{Config, MemoryOffsetChoices, OffsetChoicesFault};
 pub use smith_draw::{
-    Entities, Spaces, add_type, arbitrary_func_type, arbitrary_heap_type, arbitrary_limits64,
-    arbitrary_memtype, arbitrary_rec_group, arbitrary_ref_type, arbitrary_sub_type,
-    arbitrary_types, arbitrary_valtype, gradually_grow,
+    Entities, Spaces, add_type, arbitrary_composite_type, arbitrary_field_type,
+    arbitrary_func_type, arbitrary_heap_type, arbitrary_limits64, arbitrary_memtype,
+    arbitrary_rec_group, arbitrary_ref_type, arbitrary_storage_type, arbitrary_struct_type,
+    arbitrary_sub_type, arbitrary_types, arbitrary_valtype, gradually_grow,
 };
 pub use smith_types::{
     AbstractHeapType, ArrayType, Code, CompositeInnerType, CompositeType, ConstInstr, DataSegment,

@@ -1,9 +1,25 @@
 use Rattle.std.proofs.lemmas.Result.{IfOk-weaker}
-use Rattle.smith_types.specs.ValidTypes.{IsFuncTypeValid}
-use Rattle.smith_config.specs.Features.{features_of}
-use Rattle.smith_draw.proofs.ValueTypeLaws.{drawn_is}
-use Rattle.smith_draw.proofs.TypeLaws.{func_type_valid}
+use Rattle.smith_types.specs.declared.composite_type.CompositeInnerType.TheVariants.{Func}
+use Rattle.smith_types.specs.declared.composite_type.FuncType.{FuncType}
+use Rattle.smith_types.specs.ValidTypes.{values_of}
+use Rattle.smith_draw.proofs.ValueTypeLaws.{drawn_is, values_shared}
+use Rattle.smith_draw.proofs.CompositeTypeLaws.{IsFuncTypeDrawn, func_type_drawn, func_type_valid, func_drawn}
 use Rattle.smith_draw.proofs.composite_type.arbitrary_func_type.Goals as goal
 
-pub returns-clause-valid : goal.returns-clause-valid
-returns-clause-valid c = IfOk-weaker c.func_type.result _ _ (λ _. drawn_is (IsFuncTypeValid (features_of c.args.config.now) c.args.limit) _ (func_type_valid _ _ _ _ c.requires.may_share)) c.func_type.ensures.exact
+pub returns : goal.returns
+returns c =
+    let types = c.args.spaces.now.types.now.types in
+    let config = c.args.config.now in
+    let exact = rw c.types.ensures.value at c.func_type.ensures.exact in
+    let P = λ (function : FuncType). IsFuncTypeDrawn config types c.args.must_share c.args.limit function in
+    let drawn = IfOk-weaker c.func_type.result _ P (λ _ e. drawn_is P _ (func_type_drawn _ _ _ _ _ c.requires.sanitized c.requires.may_share) e) exact in
+    record {
+      exact = exact;
+      valid = IfOk-weaker c.func_type.result P _ (func_type_valid config types c.args.must_share c.args.limit) drawn;
+      stands = IfOk-weaker c.func_type.result P _ (λ f h. (func_drawn config types c.args.must_share c.args.limit f h).stands) drawn;
+      shared = λ must.
+          IfOk-weaker c.func_type.result P _
+          (λ f h. values_shared config types c.args.must_share c.args.limit (values_of (Func f)) must (func_drawn config types c.args.must_share c.args.limit f h).values) drawn;
+      memory = c.func_type.ensures.memory;
+      left = c.func_type.ensures.left;
+    }

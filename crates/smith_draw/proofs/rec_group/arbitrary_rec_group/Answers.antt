@@ -13,4 +13,4 @@ rec_group-requires-clause-room c = omega (arith, c.requires.passes.few Types)
 pub returns-clause-valid : goal.returns-clause-valid
 returns-clause-valid c =
     on_ok_weaker c.rec_group.result
-    (drawn_is (AreTypesValid (features_of c.args.config.now)) _ (rec_group_valid _ _ _ c.requires.sanitized c.requires.without_gc c.requires.valid)) c.rec_group.ensures.exact
+    (drawn_is (AreTypesValid (features_of c.args.config.now)) _ (rec_group_valid _ _ _ c.requires.sanitized c.requires.valid)) c.rec_group.ensures.exact

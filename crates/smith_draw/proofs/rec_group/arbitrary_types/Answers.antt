@@ -14,7 +14,7 @@ rec_groups-requires-clause-few c = c.requires.passes.few Types
 pub returns-clause-valid : goal.returns-clause-valid
 returns-clause-valid c =
     on_ok_weaker c.rec_groups.result
-    (drawn_is (AreTypesValid (features_of c.args.config.now)) _ (types_valid _ _ _ c.requires.sanitized c.requires.without_gc c.requires.valid)) c.rec_groups.ensures.exact
+    (drawn_is (AreTypesValid (features_of c.args.config.now)) _ (types_valid _ _ _ c.requires.sanitized c.requires.valid)) c.rec_groups.ensures.exact
 
 pub returns-clause-most : goal.returns-clause-most
 returns-clause-most c =

@@ -5,5 +5,12 @@ use Rattle.smith_draw.proofs.ValueTypeLaws.{drawn_is}
 use Rattle.smith_draw.proofs.TypeLaws.{sub_type_valid}
 use Rattle.smith_draw.proofs.sub_type.arbitrary_sub_type.Goals as goal
 
-pub returns-clause-valid : goal.returns-clause-valid
-returns-clause-valid c = IfOk-weaker c.sub_type.result _ _ (λ _. drawn_is (IsTypeValid (features_of c.args.config.now) _ c.args.limit) _ (sub_type_valid _ _ _ _ c.requires.sanitized c.requires.without_gc)) c.sub_type.ensures.exact
+pub returns : goal.returns
+returns c =
+    let exact = rw c.types.ensures.value at c.sub_type.ensures.exact in
+    record {
+      exact = exact;
+      valid = IfOk-weaker c.sub_type.result _ _ (λ _ e. drawn_is (IsTypeValid (features_of c.args.config.now) _ c.args.limit) _ (sub_type_valid _ _ _ _ c.requires.sanitized) e) exact;
+      memory = c.sub_type.ensures.memory;
+      left = c.sub_type.ensures.left;
+    }

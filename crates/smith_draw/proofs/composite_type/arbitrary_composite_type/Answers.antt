@@ -1,0 +1,25 @@
+use Rattle.std.proofs.lemmas.Result.{IfOk-weaker}
+use Rattle.smith_types.specs.declared.composite_type.CompositeType.{CompositeType}
+use Rattle.smith_types.specs.ValidTypes.{values_of}
+use Rattle.smith_draw.proofs.ValueTypeLaws.{drawn_is, values_valid, values_shared}
+use Rattle.smith_draw.proofs.CompositeTypeLaws.{IsCompositeDrawn, composite_type_drawn}
+use Rattle.smith_draw.proofs.composite_type.arbitrary_composite_type.Goals as goal
+
+pub returns : goal.returns
+returns c =
+    let types = c.args.spaces.now.types.now.types in
+    let config = c.args.config.now in
+    let limit = c.args.limit in
+    let exact = rw c.types.ensures.value at c.composite_type.ensures.exact in
+    let P = λ (composite : CompositeType). IsCompositeDrawn config types limit composite in
+    let drawn = IfOk-weaker c.composite_type.result _ P (λ _ e. drawn_is P _ (composite_type_drawn _ _ _ _ c.requires.sanitized) e) exact in
+    record {
+      exact = exact;
+      enabled = IfOk-weaker c.composite_type.result P _ (λ composite h. h.inner.enabled) drawn;
+      may_be_shared = IfOk-weaker c.composite_type.result P _ (λ composite h. h.shared) drawn;
+      valid = IfOk-weaker c.composite_type.result P _ (λ composite h. values_valid config types composite.shared limit (values_of composite.inner) h.inner.values) drawn;
+      stands = IfOk-weaker c.composite_type.result P _ (λ composite h. h.inner.stands) drawn;
+      shared = IfOk-weaker c.composite_type.result P _ (λ composite h must. values_shared config types composite.shared limit (values_of composite.inner) must h.inner.values) drawn;
+      memory = c.composite_type.ensures.memory;
+      left = c.composite_type.ensures.left;
+    }

@@ -1,0 +1,21 @@
+use Rattle.smith_types.specs.ValidTypes.{values_of_storage}
+use Rattle.smith_types.specs.declared.composite_type.FieldType.{FieldType}
+use Rattle.smith_draw.proofs.ValueTypeLaws.{drawn_is, values_valid, values_shared}
+use Rattle.smith_draw.proofs.FieldTypeLaws.{IsFieldDrawn, field_type_drawn}
+use Rattle.smith_draw.proofs.field_type.arbitrary_field_type.Goals as goal
+
+pub returns : goal.returns
+returns c =
+    let types = c.args.spaces.now.types.now.types in
+    let config = c.args.config.now in
+    let exact = rw c.types.ensures.value at c.field_type.ensures.exact in
+    let drawn = drawn_is (λ (ty : FieldType). IsFieldDrawn config types c.args.must_share c.args.limit ty) _ (field_type_drawn _ _ _ _ _ c.requires.sanitized c.requires.may_share) exact in
+    let values = values_of_storage c.field_type.result.element_type in
+    record {
+      exact = exact;
+      valid = values_valid config types c.args.must_share c.args.limit values drawn.values;
+      stands = drawn.stands;
+      shared = λ must. values_shared config types c.args.must_share c.args.limit values must drawn.values;
+      memory = tt;
+      left = c.field_type.ensures.left;
+    }

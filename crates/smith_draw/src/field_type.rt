@@ -1,0 +1,93 @@
+ghost use Rattle.std.specs.Prelude.{◌≡◌, IsTrue, IfOk, IfErr, All};
+ghost use Rattle.smith_bytes.specs.Source.{KeepsPieces};
+ghost use Rattle.smith_types.specs.Matching.{IsStorageInRange, IsFieldInRange};
+ghost use Rattle.smith_types.specs.ValidTypes.{values_of_storage, IsValTypeValid, IsShareable};
+ghost use Rattle.smith_config.specs.Features.{features_of};
+ghost use Rattle.smith_config.specs.Sanitized.{IsSanitized};
+ghost use Rattle.smith_draw.specs.FieldTypes.{storage_of_number_at, storage_type_at, field_type_at};
+
+use crate::spaces::Spaces;
+use crate::value_type::val_type;
+use smith_bytes::{Error, Unstructured};
+use smith_config::Config;
+use smith_types::{FieldType, StorageType, SubType};
+use std::alloc::Global;
+
+#[tactic(auto, unfolding(crate::specs::FieldTypes::storage_type_at))]
+fn storage_type(
+    config: &Config,
+    types: &[SubType],
+    must_share: bool,
+    limit: u32,
+    u: &mut Unstructured<'_>,
+) -> StorageType
+    ensures exact { storage_type_at config.now types.now must_share limit u.old ≡ (result, u.new) }
+    ensures left { KeepsPieces u.old u.new }
+{
+    match u.int_in_range(0..=2u8) {
+        0 => StorageType::I8,
+        1 => StorageType::I16,
+        _ => StorageType::Val(val_type(config, types, must_share, limit, u)),
+    }
+}
+
+#[tactic(auto, unfolding(crate::specs::FieldTypes::field_type_at))]
+pub(crate) fn field_type(
+    config: &Config,
+    types: &[SubType],
+    must_share: bool,
+    limit: u32,
+    u: &mut Unstructured<'_>,
+) -> FieldType
+    ensures exact { field_type_at config.now types.now must_share limit u.old ≡ (result, u.new) }
+    ensures left { KeepsPieces u.old u.new }
+{
+    let element_type = storage_type(config, types, must_share, limit, u);
+    let mutable = u.arbitrary();
+    FieldType {
+        element_type,
+        mutable,
+    }
+}
+
+/// A storage type: packed, or a value type. The standard's section Structure, Composite Types.
+pub fn arbitrary_storage_type(
+    _alloc: Global,
+    config: &Config,
+    spaces: &Spaces<'_>,
+    must_share: bool,
+    limit: u32,
+    u: &mut Unstructured<'_>,
+) -> Result<StorageType, Error>
+    requires sanitized { IsSanitized config.now }
+    requires may_share { IsTrue must_share → IsTrue config.now.shared_everything_threads_enabled }
+    ensures exact { IfOk result (λ drawn. storage_type_at config.now spaces.now.types.now.types must_share limit u.old ≡ (drawn, u.new)) }
+    ensures valid { IfOk result (λ drawn. All (IsValTypeValid (features_of config.now) limit) (values_of_storage drawn)) }
+    ensures stands { IfOk result (IsStorageInRange spaces.now.types.now.types) }
+    ensures shared { IsTrue must_share → IfOk result (λ drawn. All (IsShareable spaces.now.types.now.types) (values_of_storage drawn)) }
+    ensures memory { IfErr result (λ e. e ≡ Error.Memory) }
+    ensures left { KeepsPieces u.old u.new }
+{
+    Ok(storage_type(config, spaces.types.types(), must_share, limit, u))
+}
+
+/// A field type, mutable or not. The standard's section Structure, Composite Types.
+pub fn arbitrary_field_type(
+    _alloc: Global,
+    config: &Config,
+    spaces: &Spaces<'_>,
+    must_share: bool,
+    limit: u32,
+    u: &mut Unstructured<'_>,
+) -> Result<FieldType, Error>
+    requires sanitized { IsSanitized config.now }
+    requires may_share { IsTrue must_share → IsTrue config.now.shared_everything_threads_enabled }
+    ensures exact { IfOk result (λ drawn. field_type_at config.now spaces.now.types.now.types must_share limit u.old ≡ (drawn, u.new)) }
+    ensures valid { IfOk result (λ drawn. All (IsValTypeValid (features_of config.now) limit) (values_of_storage drawn.element_type)) }
+    ensures stands { IfOk result (IsFieldInRange spaces.now.types.now.types) }
+    ensures shared { IsTrue must_share → IfOk result (λ drawn. All (IsShareable spaces.now.types.now.types) (values_of_storage drawn.element_type)) }
+    ensures memory { IfErr result (λ e. e ≡ Error.Memory) }
+    ensures left { KeepsPieces u.old u.new }
+{
+    Ok(field_type(config, spaces.types.types(), must_share, limit, u))
+}

@@ -1,0 +1,309 @@
+ghost use Rattle.std.specs.Prelude.{◌≡◌, ◌↔◌, Some, IfOk, IfErr};
+ghost use Rattle.smith_bytes.specs.Draws.{choose_at};
+ghost use Rattle.smith_bytes.specs.Source.{KeepsPieces};
+ghost use Rattle.smith_types.specs.Subtyping.{IsBelow, IsRefBelow, IsValBelow};
+ghost use Rattle.smith_types.specs.Matching.{IsStorageMatch, IsFieldMatch, IsFuncMatch};
+ghost use Rattle.smith_types.specs.ValidTypes.{
+  IsHeapTypeValid,
+  IsRefTypeValid,
+  IsValTypeValid,
+  IsFuncTypeValid,
+  IsHeapTypeShared,
+  IsShareable,
+};
+ghost use Rattle.smith_config.specs.Features.{features_of};
+ghost use Rattle.smith_draw.specs.Kept.{
+  StaysValid,
+  IsStorageValid,
+  IsFieldValid,
+  IsStorageShareable,
+  IsFuncShareable,
+};
+ghost use Rattle.smith_draw.specs.Offered.{subtypes_offered};
+ghost use Rattle.smith_draw.specs.MatchingTypes.{
+  each_at,
+  matching_heap_type_at,
+  matching_ref_type_at,
+  matching_val_type_at,
+  matching_storage_type_at,
+  matching_field_type_at,
+  matched_fields_at,
+  matching_func_type_at,
+};
+
+use crate::offered::{choose_offered, gc_subtypes};
+use crate::spaces::{Spaces, orderly};
+use crate::super_type::super_val_types;
+use smith_bytes::{Error, Unstructured};
+use smith_config::Config;
+use smith_types::{FieldType, FuncType, HeapType, Items, RefType, StorageType, TypeSpace, ValType};
+use std::alloc::Global;
+
+fn matching_heap_type(
+    alloc: Global,
+    config: &Config,
+    space: &TypeSpace,
+    ty: HeapType,
+    u: &mut Unstructured<'_>,
+) -> Result<HeapType, Error>
+    ensures exact { IfOk result (λ drawn. matching_heap_type_at config.now space.now.types ty u.old ≡ (drawn, u.new)) }
+    ensures memory { IfErr result (λ e. e ≡ Error.Memory) }
+    ensures left { KeepsPieces u.old u.new }
+{
+    if !config.gc_enabled {
+        return Ok(ty);
+    }
+    let offered = gc_subtypes(alloc, config, space.types(), ty)?;
+    Ok(choose_offered(offered.as_slice(), u))
+}
+
+#[tactic(auto, unfolding(crate::specs::MatchingTypes::matching_ref_type_at))]
+fn matching_ref_type(
+    alloc: Global,
+    config: &Config,
+    space: &TypeSpace,
+    ty: RefType,
+    u: &mut Unstructured<'_>,
+) -> Result<RefType, Error>
+    ensures exact { IfOk result (λ drawn. matching_ref_type_at config.now space.now.types ty u.old ≡ (drawn, u.new)) }
+    ensures memory { IfErr result (λ e. e ≡ Error.Memory) }
+    ensures left { KeepsPieces u.old u.new }
+{
+    let heap_type = matching_heap_type(alloc, config, space, ty.heap_type, u)?;
+    Ok(RefType {
+        nullable: ty.nullable,
+        heap_type,
+    })
+}
+
+fn matching_val_type(
+    alloc: Global,
+    config: &Config,
+    space: &TypeSpace,
+    ty: ValType,
+    u: &mut Unstructured<'_>,
+) -> Result<ValType, Error>
+    ensures exact { IfOk result (λ drawn. matching_val_type_at config.now space.now.types ty u.old ≡ (drawn, u.new)) }
+    ensures memory { IfErr result (λ e. e ≡ Error.Memory) }
+    ensures left { KeepsPieces u.old u.new }
+{
+    if let ValType::Ref(reference) = ty {
+        let drawn = matching_ref_type(alloc, config, space, reference, u)?;
+        return Ok(ValType::Ref(drawn));
+    }
+    Ok(ty)
+}
+
+fn matching_storage_type(
+    alloc: Global,
+    config: &Config,
+    space: &TypeSpace,
+    ty: StorageType,
+    u: &mut Unstructured<'_>,
+) -> Result<StorageType, Error>
+    ensures exact { IfOk result (λ drawn. matching_storage_type_at config.now space.now.types ty u.old ≡ (drawn, u.new)) }
+    ensures memory { IfErr result (λ e. e ≡ Error.Memory) }
+    ensures left { KeepsPieces u.old u.new }
+{
+    if let StorageType::Val(value) = ty {
+        let drawn = matching_val_type(alloc, config, space, value, u)?;
+        return Ok(StorageType::Val(drawn));
+    }
+    Ok(ty)
+}
+
+#[tactic(auto, unfolding(crate::specs::MatchingTypes::matching_field_type_at))]
+fn matching_field_type(
+    alloc: Global,
+    config: &Config,
+    space: &TypeSpace,
+    field: FieldType,
+    u: &mut Unstructured<'_>,
+) -> Result<FieldType, Error>
+    ensures exact { IfOk result (λ drawn. matching_field_type_at config.now space.now.types field u.old ≡ (drawn, u.new)) }
+    ensures memory { IfErr result (λ e. e ≡ Error.Memory) }
+    ensures left { KeepsPieces u.old u.new }
+{
+    if field.mutable {
+        return Ok(field);
+    }
+    let element_type = matching_storage_type(alloc, config, space, field.element_type, u)?;
+    Ok(FieldType {
+        element_type,
+        mutable: false,
+    })
+}
+
+/// A matching field for each field, in order.
+#[tactic(auto, unfolding(crate::specs::MatchingTypes::matched_fields_at))]
+fn matched_fields(
+    alloc: Global,
+    config: &Config,
+    space: &TypeSpace,
+    fields: &[FieldType],
+    u: &mut Unstructured<'_>,
+) -> Result<Items<FieldType>, Error>
+    ensures exact { IfOk result (λ drawn. matched_fields_at config.now space.now.types fields.now u.old ≡ (drawn, u.new)) }
+    ensures memory { IfErr result (λ e. e ≡ Error.Memory) }
+    ensures left { KeepsPieces u.old u.new }
+{
+    let mut matched = Items::new(alloc);
+    for field in fields {
+        matched.push(matching_field_type(alloc, config, space, *field, u)?)?;
+    }
+    Ok(matched)
+}
+
+/// A matching type for each value type, in order.
+fn matching_val_types(
+    alloc: Global,
+    config: &Config,
+    space: &TypeSpace,
+    values: &[ValType],
+    u: &mut Unstructured<'_>,
+) -> Result<Items<ValType>, Error>
+    ensures exact { IfOk result (λ drawn. each_at (matching_val_type_at config.now space.now.types) values.now u.old ≡ (drawn, u.new)) }
+    ensures memory { IfErr result (λ e. e ≡ Error.Memory) }
+    ensures left { KeepsPieces u.old u.new }
+{
+    let mut matching = Items::new(alloc);
+    for ty in values {
+        matching.push(matching_val_type(alloc, config, space, *ty, u)?)?;
+    }
+    Ok(matching)
+}
+
+#[tactic(auto, unfolding(crate::specs::MatchingTypes::matching_func_type_at))]
+fn matching_func_type(
+    alloc: Global,
+    config: &Config,
+    space: &TypeSpace,
+    function: &FuncType,
+    u: &mut Unstructured<'_>,
+) -> Result<FuncType, Error>
+    ensures exact { IfOk result (λ drawn. matching_func_type_at config.now space.now.types function.now u.old ≡ (drawn, u.new)) }
+    ensures memory { IfErr result (λ e. e ≡ Error.Memory) }
+    ensures left { KeepsPieces u.old u.new }
+{
+    let params = super_val_types(alloc, config, space, function.params.as_slice(), u)?;
+    let results = matching_val_types(alloc, config, space, function.results.as_slice(), u)?;
+    Ok(FuncType { params, results })
+}
+
+/// A heap type below this one, among those that are offered; without garbage collection itself. The standard's section
+/// Validation, Matching, Heap Types.
+pub fn arbitrary_matching_heap_type(
+    alloc: Global,
+    config: &Config,
+    spaces: &Spaces<'_>,
+    ty: HeapType,
+    u: &mut Unstructured<'_>,
+) -> Result<HeapType, Error>
+    ensures exact { IfOk result (λ drawn. matching_heap_type_at config.now spaces.now.types.now.types ty u.old ≡ (drawn, u.new)) }
+    ensures offered { IfOk result (λ drawn. choose_at (subtypes_offered config.now spaces.now.types.now.types ty) u.old ≡ (Some drawn, u.new)) }
+    ensures below { IfOk result (λ drawn. IsBelow spaces.now.types.now.types drawn ty) }
+    ensures shared { IfOk result (λ drawn. IsHeapTypeShared spaces.now.types.now.types drawn ↔ IsHeapTypeShared spaces.now.types.now.types ty) }
+    ensures valid { IfOk result (StaysValid (IsHeapTypeValid (features_of config.now)) (features_of config.now) spaces.now.types.now.types ty) }
+    ensures memory { IfErr result (λ e. e ≡ Error.Memory) }
+    ensures left { KeepsPieces u.old u.new }
+{
+    orderly(spaces);
+    matching_heap_type(alloc, config, spaces.types, ty, u)
+}
+
+/// A reference type below this one, nullable as it is. The standard's section Validation, Matching, Reference Types.
+pub fn arbitrary_matching_ref_type(
+    alloc: Global,
+    config: &Config,
+    spaces: &Spaces<'_>,
+    ty: RefType,
+    u: &mut Unstructured<'_>,
+) -> Result<RefType, Error>
+    ensures exact { IfOk result (λ drawn. matching_ref_type_at config.now spaces.now.types.now.types ty u.old ≡ (drawn, u.new)) }
+    ensures below { IfOk result (λ drawn. IsRefBelow spaces.now.types.now.types drawn ty) }
+    ensures nullable { IfOk result (λ drawn. drawn.nullable ≡ ty.nullable) }
+    ensures shared { IfOk result (λ drawn. IsHeapTypeShared spaces.now.types.now.types drawn.heap_type ↔ IsHeapTypeShared spaces.now.types.now.types ty.heap_type) }
+    ensures valid { IfOk result (StaysValid (IsRefTypeValid (features_of config.now)) (features_of config.now) spaces.now.types.now.types ty) }
+    ensures memory { IfErr result (λ e. e ≡ Error.Memory) }
+    ensures left { KeepsPieces u.old u.new }
+{
+    orderly(spaces);
+    matching_ref_type(alloc, config, spaces.types, ty, u)
+}
+
+/// A value type below this one. The standard's section Validation, Matching, Value Types.
+pub fn arbitrary_matching_val_type(
+    alloc: Global,
+    config: &Config,
+    spaces: &Spaces<'_>,
+    ty: ValType,
+    u: &mut Unstructured<'_>,
+) -> Result<ValType, Error>
+    ensures exact { IfOk result (λ drawn. matching_val_type_at config.now spaces.now.types.now.types ty u.old ≡ (drawn, u.new)) }
+    ensures below { IfOk result (λ drawn. IsValBelow spaces.now.types.now.types drawn ty) }
+    ensures shared { IfOk result (λ drawn. IsShareable spaces.now.types.now.types drawn ↔ IsShareable spaces.now.types.now.types ty) }
+    ensures valid { IfOk result (StaysValid (IsValTypeValid (features_of config.now)) (features_of config.now) spaces.now.types.now.types ty) }
+    ensures memory { IfErr result (λ e. e ≡ Error.Memory) }
+    ensures left { KeepsPieces u.old u.new }
+{
+    orderly(spaces);
+    matching_val_type(alloc, config, spaces.types, ty, u)
+}
+
+/// A storage type that matches this one. The standard's section Validation, Matching, Field Types.
+pub fn arbitrary_matching_storage_type(
+    alloc: Global,
+    config: &Config,
+    spaces: &Spaces<'_>,
+    ty: StorageType,
+    u: &mut Unstructured<'_>,
+) -> Result<StorageType, Error>
+    ensures exact { IfOk result (λ drawn. matching_storage_type_at config.now spaces.now.types.now.types ty u.old ≡ (drawn, u.new)) }
+    ensures below { IfOk result (λ drawn. IsStorageMatch spaces.now.types.now.types drawn ty) }
+    ensures shared { IfOk result (λ drawn. IsStorageShareable spaces.now.types.now.types drawn ↔ IsStorageShareable spaces.now.types.now.types ty) }
+    ensures valid { IfOk result (StaysValid (IsStorageValid (features_of config.now)) (features_of config.now) spaces.now.types.now.types ty) }
+    ensures memory { IfErr result (λ e. e ≡ Error.Memory) }
+    ensures left { KeepsPieces u.old u.new }
+{
+    orderly(spaces);
+    matching_storage_type(alloc, config, spaces.types, ty, u)
+}
+
+/// A field type that matches this one. The standard's section Validation, Matching, Field Types.
+pub fn arbitrary_matching_field_type(
+    alloc: Global,
+    config: &Config,
+    spaces: &Spaces<'_>,
+    field: FieldType,
+    u: &mut Unstructured<'_>,
+) -> Result<FieldType, Error>
+    ensures exact { IfOk result (λ drawn. matching_field_type_at config.now spaces.now.types.now.types field u.old ≡ (drawn, u.new)) }
+    ensures below { IfOk result (λ drawn. IsFieldMatch spaces.now.types.now.types drawn field) }
+    ensures shared { IfOk result (λ drawn. IsStorageShareable spaces.now.types.now.types drawn.element_type ↔ IsStorageShareable spaces.now.types.now.types field.element_type) }
+    ensures valid { IfOk result (StaysValid (IsFieldValid (features_of config.now)) (features_of config.now) spaces.now.types.now.types field) }
+    ensures memory { IfErr result (λ e. e ≡ Error.Memory) }
+    ensures left { KeepsPieces u.old u.new }
+{
+    orderly(spaces);
+    matching_field_type(alloc, config, spaces.types, field, u)
+}
+
+/// A function type that matches this one: of supertypes of its parameters and subtypes of its results. The standard's section
+/// Validation, Matching, Composite Types.
+pub fn arbitrary_matching_func_type(
+    alloc: Global,
+    config: &Config,
+    spaces: &Spaces<'_>,
+    function: &FuncType,
+    u: &mut Unstructured<'_>,
+) -> Result<FuncType, Error>
+    ensures exact { IfOk result (λ drawn. matching_func_type_at config.now spaces.now.types.now.types function.now u.old ≡ (drawn, u.new)) }
+    ensures below { IfOk result (λ drawn. IsFuncMatch spaces.now.types.now.types drawn function.now) }
+    ensures shared { IfOk result (λ drawn. IsFuncShareable spaces.now.types.now.types drawn ↔ IsFuncShareable spaces.now.types.now.types function.now) }
+    ensures valid { IfOk result (StaysValid (IsFuncTypeValid (features_of config.now)) (features_of config.now) spaces.now.types.now.types function.now) }
+    ensures memory { IfErr result (λ e. e ≡ Error.Memory) }
+    ensures left { KeepsPieces u.old u.new }
+{
+    orderly(spaces);
+    matching_func_type(alloc, config, spaces.types, function, u)
+}

@@ -1,0 +1,150 @@
+ghost use Rattle.std.specs.Prelude.{◌≡◌, ◌↔◌, true, Some, IfOk, IfErr};
+ghost use Rattle.smith_bytes.specs.Draws.{choose_at};
+ghost use Rattle.smith_bytes.specs.Source.{KeepsPieces};
+ghost use Rattle.smith_types.specs.Subtyping.{IsBelow, IsRefBelow, IsValBelow};
+ghost use Rattle.smith_types.specs.ValidTypes.{IsHeapTypeValid, IsRefTypeValid, IsValTypeValid, IsHeapTypeShared, IsShareable};
+ghost use Rattle.smith_config.specs.Features.{features_of};
+ghost use Rattle.smith_draw.specs.Kept.{StaysValid};
+ghost use Rattle.smith_draw.specs.Offered.{supertypes_offered};
+ghost use Rattle.smith_draw.specs.MatchingTypes.{each_at, super_heap_type_at, super_ref_type_at, super_val_type_at};
+
+use crate::offered::{choose_offered, gc_supertypes};
+use crate::spaces::{Spaces, orderly};
+use smith_bytes::{Error, Unstructured};
+use smith_config::Config;
+use smith_types::{HeapType, Items, RefType, TypeSpace, ValType};
+use std::alloc::Global;
+
+fn super_heap_type(
+    alloc: Global,
+    config: &Config,
+    space: &TypeSpace,
+    ty: HeapType,
+    u: &mut Unstructured<'_>,
+) -> Result<HeapType, Error>
+    ensures exact { IfOk result (λ drawn. super_heap_type_at config.now space.now.types ty u.old ≡ (drawn, u.new)) }
+    ensures memory { IfErr result (λ e. e ≡ Error.Memory) }
+    ensures left { KeepsPieces u.old u.new }
+{
+    if !config.gc_enabled {
+        return Ok(ty);
+    }
+    let offered = gc_supertypes(alloc, space.types(), ty)?;
+    Ok(choose_offered(offered.as_slice(), u))
+}
+
+#[tactic(auto, unfolding(crate::specs::MatchingTypes::super_ref_type_at))]
+fn super_ref_type(
+    alloc: Global,
+    config: &Config,
+    space: &TypeSpace,
+    ty: RefType,
+    u: &mut Unstructured<'_>,
+) -> Result<RefType, Error>
+    ensures exact { IfOk result (λ drawn. super_ref_type_at config.now space.now.types ty u.old ≡ (drawn, u.new)) }
+    ensures memory { IfErr result (λ e. e ≡ Error.Memory) }
+    ensures left { KeepsPieces u.old u.new }
+{
+    let heap_type = super_heap_type(alloc, config, space, ty.heap_type, u)?;
+    Ok(RefType {
+        nullable: true,
+        heap_type,
+    })
+}
+
+fn super_val_type(
+    alloc: Global,
+    config: &Config,
+    space: &TypeSpace,
+    ty: ValType,
+    u: &mut Unstructured<'_>,
+) -> Result<ValType, Error>
+    ensures exact { IfOk result (λ drawn. super_val_type_at config.now space.now.types ty u.old ≡ (drawn, u.new)) }
+    ensures memory { IfErr result (λ e. e ≡ Error.Memory) }
+    ensures left { KeepsPieces u.old u.new }
+{
+    if let ValType::Ref(reference) = ty {
+        let drawn = super_ref_type(alloc, config, space, reference, u)?;
+        return Ok(ValType::Ref(drawn));
+    }
+    Ok(ty)
+}
+
+/// A supertype for each value type, in order.
+pub(crate) fn super_val_types(
+    alloc: Global,
+    config: &Config,
+    space: &TypeSpace,
+    values: &[ValType],
+    u: &mut Unstructured<'_>,
+) -> Result<Items<ValType>, Error>
+    ensures exact { IfOk result (λ drawn. each_at (super_val_type_at config.now space.now.types) values.now u.old ≡ (drawn, u.new)) }
+    ensures memory { IfErr result (λ e. e ≡ Error.Memory) }
+    ensures left { KeepsPieces u.old u.new }
+{
+    let mut supertypes = Items::new(alloc);
+    for ty in values {
+        supertypes.push(super_val_type(alloc, config, space, *ty, u)?)?;
+    }
+    Ok(supertypes)
+}
+
+/// A heap type above this one, among those that are offered; without garbage collection itself. The standard's section
+/// Validation, Matching, Heap Types.
+pub fn arbitrary_super_type_of_heap_type(
+    alloc: Global,
+    config: &Config,
+    spaces: &Spaces<'_>,
+    ty: HeapType,
+    u: &mut Unstructured<'_>,
+) -> Result<HeapType, Error>
+    ensures exact { IfOk result (λ drawn. super_heap_type_at config.now spaces.now.types.now.types ty u.old ≡ (drawn, u.new)) }
+    ensures offered { IfOk result (λ drawn. choose_at (supertypes_offered config.now spaces.now.types.now.types ty) u.old ≡ (Some drawn, u.new)) }
+    ensures above { IfOk result (λ drawn. IsBelow spaces.now.types.now.types ty drawn) }
+    ensures shared { IfOk result (λ drawn. IsHeapTypeShared spaces.now.types.now.types drawn ↔ IsHeapTypeShared spaces.now.types.now.types ty) }
+    ensures valid { IfOk result (StaysValid (IsHeapTypeValid (features_of config.now)) (features_of config.now) spaces.now.types.now.types ty) }
+    ensures memory { IfErr result (λ e. e ≡ Error.Memory) }
+    ensures left { KeepsPieces u.old u.new }
+{
+    orderly(spaces);
+    super_heap_type(alloc, config, spaces.types, ty, u)
+}
+
+/// A reference type above this one, nullable. The standard's section Validation, Matching, Reference Types.
+pub fn arbitrary_super_type_of_ref_type(
+    alloc: Global,
+    config: &Config,
+    spaces: &Spaces<'_>,
+    ty: RefType,
+    u: &mut Unstructured<'_>,
+) -> Result<RefType, Error>
+    ensures exact { IfOk result (λ drawn. super_ref_type_at config.now spaces.now.types.now.types ty u.old ≡ (drawn, u.new)) }
+    ensures above { IfOk result (λ drawn. IsRefBelow spaces.now.types.now.types ty drawn) }
+    ensures nullable { IfOk result (λ drawn. drawn.nullable ≡ true) }
+    ensures shared { IfOk result (λ drawn. IsHeapTypeShared spaces.now.types.now.types drawn.heap_type ↔ IsHeapTypeShared spaces.now.types.now.types ty.heap_type) }
+    ensures valid { IfOk result (StaysValid (IsRefTypeValid (features_of config.now)) (features_of config.now) spaces.now.types.now.types ty) }
+    ensures memory { IfErr result (λ e. e ≡ Error.Memory) }
+    ensures left { KeepsPieces u.old u.new }
+{
+    orderly(spaces);
+    super_ref_type(alloc, config, spaces.types, ty, u)
+}
+
+/// A value type above this one. The standard's section Validation, Matching, Value Types.
+pub fn arbitrary_super_type_of_val_type(
+    alloc: Global,
+    config: &Config,
+    spaces: &Spaces<'_>,
+    ty: ValType,
+    u: &mut Unstructured<'_>,
+) -> Result<ValType, Error>
+    ensures exact { IfOk result (λ drawn. super_val_type_at config.now spaces.now.types.now.types ty u.old ≡ (drawn, u.new)) }
+    ensures above { IfOk result (λ drawn. IsValBelow spaces.now.types.now.types ty drawn) }
+    ensures shared { IfOk result (λ drawn. IsShareable spaces.now.types.now.types drawn ↔ IsShareable spaces.now.types.now.types ty) }
+    ensures valid { IfOk result (StaysValid (IsValTypeValid (features_of config.now)) (features_of config.now) spaces.now.types.now.types ty) }
+    ensures memory { IfErr result (λ e. e ≡ Error.Memory) }
+    ensures left { KeepsPieces u.old u.new }
+{
+    orderly(spaces);
+    super_val_type(alloc, config, spaces.types, ty, u)
+}
