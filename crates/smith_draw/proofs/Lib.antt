@@ -8,6 +8,8 @@ pub mod SharedLaws
 pub mod MatchingLaws
 pub mod Chosen
 pub mod ValueTypeLaws
+pub mod SpelledValues
+pub mod SpelledTypes
 pub mod FieldTypeLaws
 pub mod CompositeTypeLaws
 pub mod TypeLaws

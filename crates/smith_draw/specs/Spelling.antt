@@ -5,14 +5,17 @@ use Rattle.std.specs.List.{list_any}
 use Rattle.smith_bytes.specs.Spelling.{SpellsBool, SpellsNumber, SpellsRefusal, Where, Joined, Each, Listed}
 use Rattle.smith_types.specs.declared.value_type.HeapType.{HeapType}
 use Rattle.smith_types.specs.declared.value_type.HeapType.TheVariants.{Abstract, Concrete, Exact}
+use Rattle.smith_types.specs.declared.value_type.RefType.{RefType}
 use Rattle.smith_types.specs.declared.value_type.ValType.{ValType}
 use Rattle.smith_types.specs.declared.value_type.ValType.TheVariants as vals
 use Rattle.smith_types.specs.declared.composite_type.StorageType.{StorageType}
 use Rattle.smith_types.specs.declared.composite_type.StorageType.TheVariants.{I8, I16, Val}
 use Rattle.smith_types.specs.declared.composite_type.FieldType.{FieldType}
 use Rattle.smith_types.specs.declared.composite_type.FuncType.{FuncType}
+use Rattle.smith_types.specs.declared.composite_type.StructType.{StructType}
 use Rattle.smith_types.specs.declared.composite_type.CompositeInnerType.{CompositeInnerType}
 use Rattle.smith_types.specs.declared.composite_type.CompositeInnerType.TheVariants.{Array, Func, Struct}
+use Rattle.smith_types.specs.declared.composite_type.CompositeType.{CompositeType}
 use Rattle.smith_types.specs.declared.composite_type.SubType.{SubType}
 use Rattle.smith_config.specs.declared.config.Config.{Config}
 use Rattle.smith_draw.specs.declared.value_type.ValueClass.{ValueClass}
@@ -42,6 +45,12 @@ SpellsHeapType config limit (Abstract shared ty) piece =
 SpellsHeapType config limit (Concrete index) piece =
     IsTrue (config.gc_enabled && nat_lt index limit) × Joined (SpellsConcrete config limit true) (SpellsNumber index 0 (limit - 1)) piece
 SpellsHeapType config limit (Exact index) piece = ⊥
+
+-- a nullable reference, where there are reference types
+pub record SpellsRefType (config : Config) (limit : ℕ) (reference : RefType) (piece : List ℕ) : Type 0 where
+  pub enabled : IsTrue config.reference_types_enabled
+  pub nullable : IsTrue reference.nullable
+  pub heap_type : SpellsHeapType config limit reference.heap_type piece
 
 -- the class of a value type
 abbrev pub class_of : ValType → ValueClass
@@ -73,12 +82,31 @@ unfoldable pub SpellsFuncType : Config → ℕ → FuncType → List ℕ → Typ
 SpellsFuncType config limit function =
     Joined (Listed (SpellsValType config limit) 20 function.params) (Listed (SpellsValType config limit) (most_results config) function.results)
 
+-- the number of fields, then the fields
+unfoldable pub SpellsStructType : Config → ℕ → StructType → List ℕ → Type 0
+SpellsStructType config limit structure =
+    Joined (SpellsNumber (length structure.fields) 0 20) (Each (SpellsField config limit) structure.fields)
+
 -- with garbage collection a kind, and what is of it
 abbrev pub SpellsInner : Config → ℕ → CompositeInnerType → List ℕ → Type 0
 SpellsInner config limit (Array array) piece = Joined (SpellsNumber 0 0 2) (SpellsField config limit array.0) piece
 SpellsInner config limit (Func function) piece = Joined (SpellsNumber 1 0 2) (SpellsFuncType config limit function) piece
-SpellsInner config limit (Struct structure) piece =
-    Joined (SpellsNumber 2 0 2) (Joined (SpellsNumber (length structure.fields) 0 20) (Each (SpellsField config limit) structure.fields)) piece
+SpellsInner config limit (Struct structure) piece = Joined (SpellsNumber 2 0 2) (SpellsStructType config limit structure) piece
+
+-- without it the lists of a function type
+abbrev pub SpellsPlainFunction : Config → ℕ → CompositeInnerType → List ℕ → Type 0
+SpellsPlainFunction config limit (Func function) piece = SpellsFuncType config limit function piece
+SpellsPlainFunction config limit _ piece = ⊥
+
+-- with garbage collection or without
+abbrev pub SpellsKind : Bool → Config → ℕ → CompositeInnerType → List ℕ → Type 0
+SpellsKind true config limit inner piece = SpellsInner config limit inner piece
+SpellsKind false config limit inner piece = SpellsPlainFunction config limit inner piece
+
+-- a composite type: that it is not shared, and of which kind
+pub record SpellsCompositeType (config : Config) (limit : ℕ) (composite : CompositeType) (piece : List ℕ) : Type 0 where
+  pub unshared : composite.shared ≡ false
+  pub form : Joined (SpellsUnshared config) (SpellsKind config.gc_enabled config limit composite.inner) piece
 
 -- a type that may be a supertype: one that is not final
 abbrev pub is_open : SubType → Bool
@@ -89,11 +117,6 @@ abbrev pub SpellsDeclared : Config → List SubType → ℕ → SubType → List
 SpellsDeclared config before limit t =
     Joined (Where (list_any is_open before) (SpellsRefusal 32))
     (Joined (SpellsBool t.is_final) (Joined (SpellsUnshared config) (SpellsInner config limit t.composite_type.inner)))
-
--- without it: the lists of a function type
-abbrev pub SpellsPlainFunction : Config → ℕ → CompositeInnerType → List ℕ → Type 0
-SpellsPlainFunction config limit (Func function) piece = SpellsFuncType config limit function piece
-SpellsPlainFunction config limit _ piece = ⊥
 
 -- with garbage collection or without
 abbrev pub SpellsForm : Bool → Config → List SubType → ℕ → SubType → List ℕ → Type 0
