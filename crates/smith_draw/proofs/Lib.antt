@@ -10,6 +10,7 @@ pub mod Chosen
 pub mod ValueTypeLaws
 pub mod SpelledValues
 pub mod SpelledTypes
+pub mod Taken
 pub mod FieldTypeLaws
 pub mod CompositeTypeLaws
 pub mod TypeLaws

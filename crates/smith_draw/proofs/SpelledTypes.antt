@@ -51,8 +51,11 @@ pub func_type_read : (config : Config) (types : List SubType) (limit : ℕ) (fun
     → func_type_at config types false limit (piece ++ after) ≡ (function, after)
 unfolding func_type_at SpellsFuncType
 func_type_read config types limit function piece after stand h =
-    rw (joined_parts h after, val_types_read config types limit 20 function.params h.first (h.second ++ after) stand.params h.is_first,
-        val_types_read config types limit (most_results config) function.results h.second after stand.results h.is_second) refl
+    rw (
+      joined_parts h after,
+      val_types_read config types limit 20 function.params h.first (h.second ++ after) stand.params h.is_first,
+      val_types_read config types limit (most_results config) function.results h.second after stand.results h.is_second,
+    ) refl
 
 fields_read : (config : Config) (types : List SubType) (limit : ℕ) (fields : List FieldType) (piece after : List ℕ) → All (IsFieldInRange types) fields → Each (SpellsField config limit) fields piece
     → fields_until_at config types false limit (length fields) [] (piece ++ after) ≡ (fields, after)

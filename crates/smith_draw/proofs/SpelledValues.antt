@@ -60,8 +60,14 @@ abstract_read config types limit shared ty piece after h =
     let parts = h.1 in
     let rest = parts.is_second in
     let behind = rest.first ++ (rest.second ++ after) in
-    rw (joined_parts parts after, joined_parts rest after, wanted_read config limit false parts.first behind (λ no. cc) parts.is_first,
-        unshared_read config rest.first (rest.second ++ after) rest.is_first, chosen_read Func (enabled (abstract_heap_types config)) ty rest.second after rest.is_second, unshared) refl
+    rw (
+      joined_parts parts after,
+      joined_parts rest after,
+      wanted_read config limit false parts.first behind (λ no. cc) parts.is_first,
+      unshared_read config rest.first (rest.second ++ after) rest.is_first,
+      chosen_read Func (enabled (abstract_heap_types config)) ty rest.second after rest.is_second,
+      unshared,
+    ) refl
 
 concrete_read : (config : Config) (types : List SubType) (limit index : ℕ) (piece after : List ℕ) (t : SubType) → slice_get types index ≡ Some t → SpellsHeapType config limit (Concrete index) piece
     → heap_type_at config types false limit (piece ++ after) ≡ (Concrete index, after)
@@ -69,8 +75,12 @@ unfolding heap_type_at type_index_at
 concrete_read config types limit index piece after t stands h =
     let below = h.0 in
     let parts = h.1 in
-    rw (joined_parts parts after, wanted_read config limit true parts.first (parts.second ++ after) (λ yes. some_below config.gc_enabled index limit below) parts.is_first,
-        number_read index 0 (limit - 1) parts.second after parts.is_second, stands) refl
+    rw (
+      joined_parts parts after,
+      wanted_read config limit true parts.first (parts.second ++ after) (λ yes. some_below config.gc_enabled index limit below) parts.is_first,
+      number_read index 0 (limit - 1) parts.second after parts.is_second,
+      stands,
+    ) refl
 
 standing : (types : List SubType) (index : ℕ) → index < length types → (t : SubType) × (slice_get types index ≡ Some t)
 standing [] index below = absurd (omega arith)
