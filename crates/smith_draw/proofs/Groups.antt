@@ -1,58 +1,99 @@
--- One turn of the loop that adds groups.
-use Rattle.std.proofs.Common.{◌≡◌, ℕ, suc, ◌-◌, ◌+◌, ◌≤◌, ◌<◌, Bool, true, false, List, length, refl, sym, ap, ◌∙◌, arith, length-append, nat_lt}
+-- One turn of each loop that adds groups.
+use Rattle.std.proofs.Common.{◌≡◌, ℕ, zero, suc, ◌+◌, ◌≤◌, ◌<◌, Bool, true, false, List, [], ◌∷◌, ◌++◌, length, refl, sym, ap, ◌∙◌, arith, length-append}
+use Rattle.std.proofs.lemmas.Bool.{lt-ltb, le-ltb}
 use Rattle.smith_bytes.specs.Source.{KeepsPieces}
-use Rattle.smith_bytes.specs.Growth.{goes_at}
+use Rattle.smith_bytes.specs.Draws.{bool_at}
+use Rattle.smith_bytes.proofs.Pieces.{piece_same}
 use Rattle.smith_types.specs.Space.{Space}
-use Rattle.smith_types.specs.Types.{next_start}
-use Rattle.smith_types.proofs.Spaces.{next_start-push}
 use Rattle.smith_config.specs.declared.config.Config.{Config}
-use Rattle.smith_draw.specs.SubTypes.{rec_group_at, rec_groups_at}
+use Rattle.smith_draw.specs.RecGroups.{rec_group_at, least_types_at, more_types_at}
 use Rattle.smith_draw.proofs.ValueTypeLaws.{drawn_is}
+use Rattle.smith_draw.proofs.GroupSizes.{AreWithin, rec_group_more}
 
--- n types stand in groups, and what is drawn on from here is all that is drawn
-pub record IsGrouping (config : Config) (n : ℕ) (space : Space) (start bytes : List ℕ) (total : Space × List ℕ) : Type 0 where
-  pub count : length space.types ≡ n
-  pub covered : next_start space.groups ≡ length space.types
-  pub so_far : rec_groups_at config (config.max_types - n) space bytes ≡ total
+-- so many more turns suffice, and what they draw completes the whole
+pub record IsReaching (config : Config) (space : Space) (start bytes : List ℕ) (total : Space × List ℕ) : Type 0 where
+  pub turns : ℕ
+  pub enough : config.min_types ≤ length space.types + turns
+  pub so_far : least_types_at config turns space bytes ≡ total
   pub left : KeepsPieces start bytes
 
--- a space with one more type in a group of its own
-record HasOneMore (n : ℕ) (more : Space) : Type 0 where
-  count : length more.types ≡ n + 1
-  covered : next_start more.groups ≡ length more.types
+-- a group that is not empty adds a type
+pub group_adds : (config : Config) (space more : Space) (bytes after : List ℕ) → AreWithin space → length space.types < config.max_types → rec_group_at config false space bytes ≡ (more, after) → length space.types < length more.types
+group_adds config space more bytes after within room grown =
+    drawn_is (λ (s : Space). length space.types < length s.types) (rec_group_at config false space bytes) ((rec_group_more config false space bytes within room).some refl) grown
 
-one_more : (config : Config) (space : Space) (bytes : List ℕ) → HasOneMore (length space.types) (rec_group_at config space bytes).0
-unfolding rec_group_at
-one_more config space bytes = record { count = simp length-append refl; covered = next_start-push _ space.groups }
+least_turn : (config : Config) (turns : ℕ) (space more : Space) (bytes after : List ℕ) (start : List ℕ) (total : Space × List ℕ) → config.min_types ≤ length space.types + turns → least_types_at config turns space bytes ≡ total → length space.types < config.min_types
+    → rec_group_at config false space bytes ≡ (more, after) → length space.types < length more.types → KeepsPieces start after → IsReaching config more start after total
+unfolding least_types_at
+least_turn config zero space more bytes after start total enough so_far few grown longer left = absurd (omega arith)
+least_turn config (suc turns) space more bytes after start total enough so_far few grown longer left =
+    let one : least_types_at config (suc turns) space bytes ≡ least_types_at config turns more after = rw (lt-ltb (length space.types) config.min_types few, grown) refl in
+    record { turns = turns; enough = omega arith; so_far = sym one ∙ so_far; left = left }
 
-pub group_go : {config : Config} {n : ℕ} {space more : Space} {start bytes mid : List ℕ} {b : Bool} {after : List ℕ} {total : Space × List ℕ} → IsGrouping config n space start bytes total → n < config.max_types → goes_at (nat_lt n config.min_types) bytes ≡ (b, mid) → b ≡ true → rec_group_at config space mid ≡ (more, after) → KeepsPieces bytes mid → KeepsPieces mid after
-    → IsGrouping config (n + 1) more start after total
-unfolding rec_groups_at
-group_go {config = config} {n = n} {space = space} {more = more} {bytes = bytes} {mid = mid} {after = after} now lt go odd grown p q =
-    let k : config.max_types - n ≡ suc (config.max_types - (n + 1)) = omega arith in
-    let count = now.count in
-    let one : rec_groups_at config (config.max_types - n) space bytes ≡ rec_groups_at config (config.max_types - (n + 1)) more after = rw (k, count, go, odd, grown) refl in
-    let longer = drawn_is (HasOneMore (length space.types)) (rec_group_at config space mid) (one_more config space mid) grown in
-    record {
-      count = longer.count ∙ ap (λ m. m + 1) count;
-      covered = longer.covered;
-      so_far = sym one ∙ now.so_far;
-      left = λ whole h. q whole (p whole (now.left whole h));
-    }
+pub least_go : {config : Config} {space more : Space} {start bytes after : List ℕ} {total : Space × List ℕ} → IsReaching config space start bytes total → length space.types < config.min_types → rec_group_at config false space bytes ≡ (more, after) → length space.types < length more.types
+    → KeepsPieces bytes after → IsReaching config more start after total
+least_go {config = config} {space = space} {more = more} {start = start} {bytes = bytes} {after = after} {total = total} now few grown longer kept =
+    least_turn config now.turns space more bytes after start total now.enough now.so_far few grown longer (λ whole h. kept whole (now.left whole h))
 
-pub group_stop : {config : Config} {n : ℕ} {space : Space} {start bytes : List ℕ} {b : Bool} {after : List ℕ} {total : Space × List ℕ} → IsGrouping config n space start bytes total → n < config.max_types → goes_at (nat_lt n config.min_types) bytes ≡ (b, after) → b ≡ false
-    → total ≡ (space, after)
-unfolding rec_groups_at
-group_stop {config = config} {n = n} {space = space} {bytes = bytes} {after = after} now lt go even =
-    let k : config.max_types - n ≡ suc (config.max_types - suc n) = omega arith in
-    let count = now.count in
-    let one : rec_groups_at config (config.max_types - n) space bytes ≡ (space, after) = rw (k, count, go, even) refl in
-    sym now.so_far ∙ one
+least_done : (config : Config) (turns : ℕ) (space : Space) (bytes : List ℕ) → config.min_types ≤ length space.types → least_types_at config turns space bytes ≡ (space, bytes)
+unfolding least_types_at
+least_done config zero space bytes le = refl
+least_done config (suc turns) space bytes le = rw (le-ltb (length space.types) config.min_types le) refl
 
-pub group_full : {config : Config} {n : ℕ} {space : Space} {start bytes : List ℕ} {total : Space × List ℕ} → IsGrouping config n space start bytes total → config.max_types ≤ n
-    → total ≡ (space, bytes)
-unfolding rec_groups_at
-group_full {config = config} {n = n} {space = space} {bytes = bytes} now le =
-    let k : config.max_types - n ≡ 0 = omega arith in
-    let one : rec_groups_at config (config.max_types - n) space bytes ≡ (space, bytes) = rw k refl in
-    sym now.so_far ∙ one
+pub least_full : {config : Config} {space : Space} {start bytes : List ℕ} {total : Space × List ℕ} → IsReaching config space start bytes total → config.min_types ≤ length space.types → total ≡ (space, bytes)
+least_full {config = config} {space = space} {bytes = bytes} now le = sym now.so_far ∙ least_done config now.turns space bytes le
+
+-- the same for the loop that a bool ends: each turn takes a byte
+pub record IsAdding (config : Config) (space : Space) (start bytes : List ℕ) (total : Space × List ℕ) : Type 0 where
+  pub turns : ℕ
+  pub enough : length bytes < turns
+  pub so_far : more_types_at config turns space bytes ≡ total
+  pub left : KeepsPieces start bytes
+
+-- a true bool takes a byte
+pub bool_takes : (bytes after : List ℕ) → bool_at bytes ≡ (true, after) → length after < length bytes
+unfolding bool_at
+bool_takes [] after e = let no : false ≡ true = ap (λ (r : Bool × List ℕ). r.0) e in absurd (cc)
+bool_takes (b ∷ bytes) after e = let same : bytes ≡ after = ap (λ (r : Bool × List ℕ). r.1) e in let len = ap (λ (xs : List ℕ). length xs) same in omega arith
+
+-- a piece is no longer than the whole
+pub piece_short : {old new : List ℕ} → KeepsPieces old new → length new ≤ length old
+piece_short {old = old} {new = new} kept =
+    let piece = kept old (piece_same old) in
+    let len = ap (λ (xs : List ℕ). length xs) piece.parts in
+    let outer = length-append piece.before (new ++ piece.after) in
+    let inner = length-append new piece.after in
+    omega arith
+
+more_turn : (config : Config) (turns : ℕ) (space more : Space) (start bytes mid after : List ℕ) (total : Space × List ℕ) → length bytes < turns → more_types_at config turns space bytes ≡ total → length space.types < config.max_types → bool_at bytes ≡ (true, mid)
+    → rec_group_at config true space mid ≡ (more, after) → length after < length bytes → KeepsPieces start after → IsAdding config more start after total
+unfolding more_types_at
+more_turn config zero space more start bytes mid after total enough so_far room go grown shorter left = absurd (omega arith)
+more_turn config (suc turns) space more start bytes mid after total enough so_far room go grown shorter left =
+    let one : more_types_at config (suc turns) space bytes ≡ more_types_at config turns more after = rw (lt-ltb (length space.types) config.max_types room, go, grown) refl in
+    record { turns = turns; enough = omega arith; so_far = sym one ∙ so_far; left = left }
+
+pub more_go : {config : Config} {space more : Space} {start bytes mid after : List ℕ} {b : Bool} {total : Space × List ℕ} → IsAdding config space start bytes total → length space.types < config.max_types → bool_at bytes ≡ (b, mid) → b ≡ true → rec_group_at config true space mid ≡ (more, after)
+    → KeepsPieces bytes mid → KeepsPieces mid after → IsAdding config more start after total
+more_go {config = config} {space = space} {more = more} {start = start} {bytes = bytes} {mid = mid} {after = after} {total = total} now room drawn odd grown p q =
+    let go = drawn ∙ ap (λ (b : Bool). (b, mid)) odd in
+    let taken = bool_takes bytes mid go in
+    let rest = piece_short q in
+    more_turn config now.turns space more start bytes mid after total now.enough now.so_far room go grown (omega arith) (λ whole h. q whole (p whole (now.left whole h)))
+
+more_end : (config : Config) (turns : ℕ) (space : Space) (bytes mid : List ℕ) → length bytes < turns → length space.types < config.max_types → bool_at bytes ≡ (false, mid) → more_types_at config turns space bytes ≡ (space, mid)
+unfolding more_types_at
+more_end config zero space bytes mid enough room stop = absurd (omega arith)
+more_end config (suc turns) space bytes mid enough room stop = rw (lt-ltb (length space.types) config.max_types room, stop) refl
+
+pub more_stop : {config : Config} {space : Space} {start bytes mid : List ℕ} {b : Bool} {total : Space × List ℕ} → IsAdding config space start bytes total → length space.types < config.max_types → bool_at bytes ≡ (b, mid) → b ≡ false → total ≡ (space, mid)
+more_stop {config = config} {space = space} {bytes = bytes} {mid = mid} now room drawn even =
+    sym now.so_far ∙ more_end config now.turns space bytes mid now.enough room (drawn ∙ ap (λ (b : Bool). (b, mid)) even)
+
+more_done : (config : Config) (turns : ℕ) (space : Space) (bytes : List ℕ) → config.max_types ≤ length space.types → more_types_at config turns space bytes ≡ (space, bytes)
+unfolding more_types_at
+more_done config zero space bytes le = refl
+more_done config (suc turns) space bytes le = rw (le-ltb (length space.types) config.max_types le) refl
+
+pub more_full : {config : Config} {space : Space} {start bytes : List ℕ} {total : Space × List ℕ} → IsAdding config space start bytes total → config.max_types ≤ length space.types → total ≡ (space, bytes)
+more_full {config = config} {space = space} {bytes = bytes} now le = sym now.so_far ∙ more_done config now.turns space bytes le

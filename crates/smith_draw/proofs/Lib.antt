@@ -13,6 +13,11 @@ pub mod SpelledTypes
 pub mod Taken
 pub mod FieldTypeLaws
 pub mod CompositeTypeLaws
-pub mod TypeLaws
+pub mod Supertypes
+pub mod MatchingCompositeLaws
+pub mod SubTypeLaws
+pub mod Copies
+pub mod GroupSizes
 pub mod Groups
+pub mod RecGroupLaws
 pub mod MemoryLaws

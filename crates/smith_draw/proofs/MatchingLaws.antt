@@ -43,7 +43,7 @@ unfolding each_at
 each_stays P draw stays [] bytes h = tt
 each_stays P draw stays (x ∷ xs) bytes h = (stays x bytes h.0, each_stays P draw stays xs (draw x bytes).1 h.1)
 
-all_stay : {A : Type 0} (P : A → Type 0) (draw : A → List ℕ → A × List ℕ) → ((x : A) (bytes : List ℕ) → P x → P (draw x bytes).0) → (xs : List A) (bytes : List ℕ) → All P xs → All P (each_at draw xs bytes).0
+pub all_stay : {A : Type 0} (P : A → Type 0) (draw : A → List ℕ → A × List ℕ) → ((x : A) (bytes : List ℕ) → P x → P (draw x bytes).0) → (xs : List A) (bytes : List ℕ) → All P xs → All P (each_at draw xs bytes).0
 all_stay P draw stays xs bytes h = All-from_recursion P (each_at draw xs bytes).0 (each_stays P draw stays xs bytes (recursion_from_All P xs h))
 
 length-each_at : {A : Type 0} (draw : A → List ℕ → A × List ℕ) (xs : List A) (bytes : List ℕ) → length (each_at draw xs bytes).0 ≡ length xs

@@ -75,7 +75,7 @@ abstract_heap_type_drawn config types must_share limit bytes may = record {
   shared = sharedness_must config must_share bytes;
 }
 
-wanted_by : (gc some : Bool) (drawn : Bool × List ℕ) (bytes : List ℕ) → IsTrue (cond (gc && some) drawn (false, bytes)).0 → IsTrue gc × IsTrue some
+pub wanted_by : (gc some : Bool) (drawn : Bool × List ℕ) (bytes : List ℕ) → IsTrue (cond (gc && some) drawn (false, bytes)).0 → IsTrue gc × IsTrue some
 wanted_by true true drawn bytes h = (refl, refl)
 wanted_by true false drawn bytes h = cc
 wanted_by false some drawn bytes h = cc

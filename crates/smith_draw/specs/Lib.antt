@@ -5,7 +5,9 @@ pub mod CompositeTypes
 pub mod Kept
 pub mod Offered
 pub mod MatchingTypes
+pub mod MatchingComposites
 pub mod SubTypes
+pub mod RecGroups
 pub mod Limits
 pub mod Bounds
 pub mod Memories

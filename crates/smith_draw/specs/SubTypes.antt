@@ -1,38 +1,71 @@
--- Drawn subtypes and groups: until subtypes with garbage collection are drawn, of a module without it.
-use Rattle.std.specs.Prelude.{ℕ, zero, suc, ◌-◌, ◌+◌, true, None, List, [], ◌∷◌, ◌++◌, length, nat_lt, if◌then◌else◌}
+-- Drawn subtypes, and the types that may have subtypes.
+use Rattle.std.specs.Prelude.{◌≡◌, ℕ, suc, ◌+◌, Bool, true, false, not, ◌&&◌, nat_lt, Option, Some, None, List, [], ◌∷◌, length, slice_get, if◌then◌else◌}
 use Rattle.smith_types.specs.declared.composite_type.SubType.{SubType}
-use Rattle.smith_types.specs.Space.{Space}
-use Rattle.smith_types.specs.Types.{next_group}
+use Rattle.smith_types.specs.Types.{IsAlike}
 use Rattle.smith_config.specs.declared.config.Config.{Config}
-use Rattle.smith_bytes.specs.Growth.{goes_at}
+use Rattle.smith_bytes.specs.Draws.{bool_at, ratio_at}
+use Rattle.smith_draw.specs.Choices.{chosen_at}
+use Rattle.smith_draw.specs.Offered.{ancestors}
 use Rattle.smith_draw.specs.CompositeTypes.{composite_type_at}
+use Rattle.smith_draw.specs.MatchingComposites.{matching_composite_type_at}
 
--- final, without a supertype (own rule)
+-- how many types stand on the way up from the one of an index, itself included (own rule)
+abbrev pub depth_at : List SubType → ℕ → ℕ
+depth_at types index = suc (length (ancestors types index))
+
+-- the type of an index may have subtypes: it is not final, and its depth is below 60 (own rule)
+abbrev pub may_have_subtypes : List SubType → ℕ → SubType → Bool
+may_have_subtypes types index t = not t.is_final && nat_lt (depth_at types index) 60
+
+-- a declared supertype stands, may have subtypes, and is like its subtype (Validation, Types, Sub Types)
+pub record HasSuperType (types : List SubType) (t : SubType) : Type 0 where
+  pub below : (s : ℕ) → t.supertype ≡ Some s → (u : SubType) × (slice_get types s ≡ Some u) × IsAlike t u
+  pub allowed : (s : ℕ) (u : SubType) → t.supertype ≡ Some s → slice_get types s ≡ Some u → may_have_subtypes types s u ≡ true
+
+-- the indices, from there on, of the types that may have subtypes (own rule)
+abbrev pub supertypes_from : List SubType → ℕ → List SubType → List ℕ
+supertypes_from types start [] = []
+supertypes_from types start (t ∷ more) =
+    if may_have_subtypes types start t then start ∷ supertypes_from types (start + 1) more
+    else supertypes_from types (start + 1) more
+
+-- the indices of the types that may have subtypes (own rule)
+unfoldable pub supertypes : List SubType → List ℕ
+supertypes types = supertypes_from types 0 types
+
+-- whether a type without a supertype is final: without garbage collection it is (own rule)
+abbrev pub is_final_at : Config → List ℕ → Bool × List ℕ
+is_final_at config bytes = if config.gc_enabled then bool_at bytes else (true, bytes)
+
+-- without a supertype: whether it is final, then the composite type (own rule)
+unfoldable pub root_type_at : Config → List SubType → ℕ → List ℕ → SubType × List ℕ
+root_type_at config types limit bytes =
+    let is_final = is_final_at config bytes in
+    let composite = composite_type_at config types limit is_final.1 in
+    (record { is_final = is_final.0; supertype = None; composite_type = composite.0 }, composite.1)
+
+-- below the type of an index, where it stands: a matching composite type, then whether it is final (own rule)
+abbrev pub sub_type_below_at : Config → List SubType → ℕ → ℕ → Option SubType → List ℕ → SubType × List ℕ
+sub_type_below_at config types limit index None bytes = root_type_at config types limit bytes
+sub_type_below_at config types limit index (Some supertype) bytes =
+    let composite = matching_composite_type_at config types limit supertype.composite_type bytes in
+    let is_final = bool_at composite.1 in
+    (record { is_final = is_final.0; supertype = Some index; composite_type = composite.0 }, is_final.1)
+
+-- below the type of a chosen one of these indices (own rule)
+unfoldable pub sub_type_of_at : Config → List SubType → ℕ → List ℕ → List ℕ → SubType × List ℕ
+sub_type_of_at config types limit indices bytes =
+    let index = chosen_at 0 indices bytes in
+    sub_type_below_at config types limit index.0 (slice_get types index.0) index.1
+
+-- whether a supertype is asked for, where there are so many: with garbage collection one time of 32 (own rule)
+abbrev pub supertype_wanted_at : Config → ℕ → List ℕ → Bool × List ℕ
+supertype_wanted_at config count bytes =
+    if config.gc_enabled && nat_lt 0 count then ratio_at 1 32 bytes else (false, bytes)
+
+-- below a type that may have subtypes, or without a supertype (own rule)
 unfoldable pub sub_type_at : Config → List SubType → ℕ → List ℕ → SubType × List ℕ
 sub_type_at config types limit bytes =
-    let composite = composite_type_at config types limit bytes in
-    (record { is_final = true; supertype = None; composite_type = composite.0 }, composite.1)
-
--- the types with one more, in a group of its own
-abbrev pub with_single : Space → SubType → Space
-with_single space added =
-    let types = space.types ++ added ∷ [] in
-    record { types = types; groups = space.groups ++ next_group types space.groups ∷ [] }
-
--- a group of one type
-unfoldable pub rec_group_at : Config → Space → List ℕ → Space × List ℕ
-rec_group_at config space bytes =
-    let drawn = sub_type_at config space.types (length space.types + 1) bytes in
-    (with_single space drawn.0, drawn.1)
-
--- at most that many groups: without asking while there are too few types
-unfoldable pub rec_groups_at : Config → ℕ → Space → List ℕ → Space × List ℕ
-rec_groups_at config zero space bytes = (space, bytes)
-rec_groups_at config (suc most) space bytes =
-    let go = goes_at (nat_lt (length space.types) config.min_types) bytes in
-    let grown = rec_group_at config space go.1 in
-    if go.0 then rec_groups_at config most grown.0 grown.1 else (space, go.1)
-
--- groups until there are as many types as may be
-unfoldable pub types_at : Config → Space → List ℕ → Space × List ℕ
-types_at config space bytes = rec_groups_at config (config.max_types - length space.types) space bytes
+    let wanted = supertype_wanted_at config (length (supertypes types)) bytes in
+    if wanted.0 then sub_type_of_at config types limit (supertypes types) wanted.1
+    else root_type_at config types limit wanted.1

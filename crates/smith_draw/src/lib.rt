@@ -7,6 +7,7 @@ mod entity_type;
 mod field_type;
 mod limits;
 mod matching;
+mod matching_composite;
 mod offered;
 mod rec_group;
 mod spaces;
@@ -22,9 +23,10 @@ pub use matching::{
     arbitrary_matching_field_type, arbitrary_matching_func_type, arbitrary_matching_heap_type,
     arbitrary_matching_ref_type, arbitrary_matching_storage_type, arbitrary_matching_val_type,
 };
-pub use rec_group::{add_type, arbitrary_rec_group, arbitrary_types};
+pub use matching_composite::arbitrary_matching_struct_type;
+pub use rec_group::{add_type, arbitrary_rec_group, arbitrary_types, clone_rec_group};
 pub use spaces::{Entities, Spaces};
-pub use sub_type::arbitrary_sub_type;
+pub use sub_type::{arbitrary_sub_type, arbitrary_sub_type_of_super_type};
 pub use super_type::{
     arbitrary_super_type_of_heap_type, arbitrary_super_type_of_ref_type,
     arbitrary_super_type_of_val_type,

@@ -113,7 +113,7 @@ fn matching_storage_type(
 }
 
 #[tactic(auto, unfolding(crate::specs::MatchingTypes::matching_field_type_at))]
-fn matching_field_type(
+pub(crate) fn matching_field_type(
     alloc: Global,
     config: &Config,
     space: &TypeSpace,
@@ -136,7 +136,7 @@ fn matching_field_type(
 
 /// A matching field for each field, in order.
 #[tactic(auto, unfolding(crate::specs::MatchingTypes::matched_fields_at))]
-fn matched_fields(
+pub(crate) fn matched_fields(
     alloc: Global,
     config: &Config,
     space: &TypeSpace,
@@ -174,7 +174,7 @@ fn matching_val_types(
 }
 
 #[tactic(auto, unfolding(crate::specs::MatchingTypes::matching_func_type_at))]
-fn matching_func_type(
+pub(crate) fn matching_func_type(
     alloc: Global,
     config: &Config,
     space: &TypeSpace,

@@ -1,19 +1,31 @@
-ghost use Rattle.std.specs.Prelude.{◌≡◌, ◌≤◌, ◌<◌, ◌+◌, ◌^◌, ◌++◌, ◌∷◌, [], false, length, Some, slice_get, OnOk, OnErr, IfOk, IfErr, max};
+ghost use Rattle.std.specs.Prelude.{◌≡◌, ◌≤◌, ◌<◌, ◌+◌, ◌-◌, ◌^◌, ◌++◌, ◌∷◌, [], false, length, take, drop, Some, slice_get, slice_index_or, IsTrue, OnOk, OnErr, IfOk, IfErr};
 ghost use Rattle.smith_bytes.specs.Source.{KeepsPieces};
 ghost use Rattle.smith_types.specs.Space.{MayFollow};
-ghost use Rattle.smith_types.specs.Types.{next_start};
 ghost use Rattle.smith_types.specs.ValidTypes.{AreTypesValid};
 ghost use Rattle.smith_config.specs.Faults.{Passes};
 ghost use Rattle.smith_config.specs.Features.{features_of};
 ghost use Rattle.smith_config.specs.Sanitized.{IsSanitized};
-ghost use Rattle.smith_draw.specs.SubTypes.{rec_group_at, types_at};
+ghost use Rattle.smith_draw.specs.RecGroups.{
+  types_left,
+  types_until_at,
+  group_size_at,
+  new_group_at,
+  may_be_cloned,
+  clone_rec_group_at,
+  clone_wanted_at,
+  rec_group_at,
+  least_types_at,
+  more_types_at,
+  types_at,
+};
 
 use crate::spaces::Entities;
 use crate::sub_type::sub_type;
-use smith_bytes::{Error, Unstructured, goes_on};
+use smith_bytes::{Error, Unstructured};
 use smith_config::Config;
 use smith_types::{SubType, TypeSpace};
 use std::alloc::Global;
+use std::ops::Range;
 
 /// Adds a type at the end of the space, and gives its index.
 pub fn add_type(types: &mut TypeSpace, added: SubType) -> Result<u32, Error>
@@ -27,75 +39,275 @@ pub fn add_type(types: &mut TypeSpace, added: SubType) -> Result<u32, Error>
     types.push_type(added)
 }
 
-// A group of one type.
-#[tactic(auto, unfolding(crate::specs::SubTypes::rec_group_at))]
-fn rec_group(
+/// Adds types until there are so many.
+#[tactic(auto, unfolding(crate::specs::RecGroups::types_until_at))]
+fn types_until(
     alloc: Global,
     config: &Config,
     types: &mut TypeSpace,
+    limit: u32,
     u: &mut Unstructured<'_>,
 ) -> Result<(), Error>
-    requires covered { next_start types.old.groups ≡ length types.old.types }
-    requires room { length types.old.types + 1 < 2 ^ 32 }
-    ensures exact { OnOk result (rec_group_at config.now types.old u.old ≡ (types.new, u.new)) }
+    requires few { limit + 1 < 2 ^ 32 }
+    ensures exact { OnOk result (types_until_at config.now limit types.old.types u.old ≡ (types.new.types, u.new)) }
+    ensures groups { OnOk result (types.new.groups ≡ types.old.groups) }
     ensures memory { IfErr result (λ e. e ≡ Error.Memory) }
     ensures left { KeepsPieces u.old u.new }
 {
-    let limit = types.types().len() as u32 + 1;
-    let added = sub_type(alloc, config, types.types(), limit, u)?;
-    let _ = add_type(types, added)?;
+    for made in types.types().len()..limit as usize {
+        let added = sub_type(alloc, config, types, limit, u)?;
+        add_type(types, added)?;
+    }
+    Ok(())
+}
+
+fn group_size(config: &Config, allow_empty: bool, most: usize, u: &mut Unstructured<'_>) -> usize
+    requires { 0 < most }
+    ensures exact { group_size_at config.now allow_empty most u.old ≡ (result, u.new) }
+    ensures within { result ≤ most }
+    ensures left { KeepsPieces u.old u.new }
+{
+    if !config.gc_enabled {
+        return 1;
+    }
+    let least = if allow_empty { 0 } else { 1 };
+    u.int_in_range(least..=most)
+}
+
+/// Adds a new group.
+#[tactic(auto, unfolding(crate::specs::RecGroups::new_group_at))]
+fn new_group(
+    alloc: Global,
+    config: &Config,
+    types: &mut TypeSpace,
+    allow_empty: bool,
+    u: &mut Unstructured<'_>,
+) -> Result<(), Error>
+    requires room { length types.old.types < config.now.max_types }
+    requires few { config.now.max_types ≤ 2 ^ 31 }
+    ensures exact { OnOk result (new_group_at config.now allow_empty types.old u.old ≡ (types.new, u.new)) }
+    ensures memory { IfErr result (λ e. e ≡ Error.Memory) }
+    ensures left { KeepsPieces u.old u.new }
+{
+    let start = types.types().len();
+    let size = group_size(config, allow_empty, config.max_types - start, u);
+    types_until(alloc, config, types, (start + size) as u32, u)?;
     types.push_group()?;
     Ok(())
 }
 
-// Adds groups while a bool asks for them, and as many as the least number of types asks for.
-#[tactic(auto, unfolding(crate::specs::SubTypes::types_at))]
-fn rec_groups(
+/// Adds copies of the types of these indices.
+fn add_copies(alloc: Global, types: &mut TypeSpace, start: usize, end: usize) -> Result<(), Error>
+    requires ordered { start ≤ end }
+    requires inside { end ≤ length types.old.types }
+    requires few { length types.old.types + (end - start) + 1 < 2 ^ 32 }
+    ensures exact { OnOk result (types.new ≡ record types.old { types = types.old.types ++ take (end - start) (drop start types.old.types) }) }
+    ensures memory { IfErr result (λ e. e ≡ Error.Memory) }
+{
+    for index in start..end {
+        let copy = types.types()[index].clone(alloc)?;
+        add_type(types, copy)?;
+    }
+    Ok(())
+}
+
+/// A group, by its place among those that stand.
+fn group_at(types: &TypeSpace, place: usize) -> Range<usize>
+    requires { place < length types.now.groups }
+    ensures value { result ≡ slice_index_or types.now.groups place (record { start = 0; end = 0 }) }
+    ensures ordered { result.start ≤ result.end }
+    ensures inside { result.end ≤ length types.now.types }
+{
+    let _types = types.types();
+    let group = &types.rec_groups()[place];
+    group.start..group.end
+}
+
+/// Whether a group may be added again.
+fn may_be_cloned(
+    config: &Config,
+    types: &TypeSpace,
+    allow_empty: bool,
+    group: &Range<usize>,
+) -> bool
+    requires { group.now.start ≤ group.now.end }
+    ensures { result ≡ may_be_cloned config.now allow_empty types.now group.now }
+{
+    let room = config.max_types.saturating_sub(types.types().len());
+    (allow_empty || group.start < group.end) && group.end - group.start <= room
+}
+
+/// Adds a chosen group again, where it may be.
+#[tactic(auto, unfolding(crate::specs::RecGroups::clone_rec_group_at, crate::specs::Choices::chosen_at))]
+fn clone_group(
+    alloc: Global,
+    config: &Config,
+    types: &mut TypeSpace,
+    allow_empty: bool,
+    u: &mut Unstructured<'_>,
+) -> Result<bool, Error>
+    requires some { 0 < length types.old.groups }
+    requires room { length types.old.types < config.now.max_types }
+    requires few { config.now.max_types ≤ 2 ^ 31 }
+    ensures exact { IfOk result (λ added. clone_rec_group_at config.now allow_empty types.old u.old ≡ (added, (types.new, u.new))) }
+    ensures kept { IfOk result (λ added. added ≡ false → types.new ≡ types.old) }
+    ensures memory { IfErr result (λ e. e ≡ Error.Memory) }
+    ensures left { KeepsPieces u.old u.new }
+{
+    let place = u.int_in_range(0..=types.rec_groups().len() - 1);
+    let group = group_at(types, place);
+    if !may_be_cloned(config, types, allow_empty, &group) {
+        return Ok(false);
+    }
+    add_copies(alloc, types, group.start, group.end)?;
+    types.push_group()?;
+    Ok(true)
+}
+
+/// Whether a clone is asked for.
+fn clone_wanted(config: &Config, types: &TypeSpace, u: &mut Unstructured<'_>) -> bool
+    ensures exact { clone_wanted_at config.now types.now u.old ≡ (result, u.new) }
+    ensures some { IsTrue result → 0 < length types.now.groups }
+    ensures left { KeepsPieces u.old u.new }
+{
+    if !config.gc_enabled || types.rec_groups().len() == 0 {
+        return false;
+    }
+    u.ratio(1u32, 255)
+}
+
+/// Adds a clone where one is asked for and may be added, else a new group; nothing where a clone may not be added and a group
+/// may be empty.
+#[tactic(auto, unfolding(crate::specs::RecGroups::rec_group_at))]
+fn rec_group(
+    alloc: Global,
+    config: &Config,
+    types: &mut TypeSpace,
+    allow_empty: bool,
+    u: &mut Unstructured<'_>,
+) -> Result<(), Error>
+    requires room { length types.old.types < config.now.max_types }
+    requires few { config.now.max_types ≤ 2 ^ 31 }
+    ensures exact { OnOk result (rec_group_at config.now allow_empty types.old u.old ≡ (types.new, u.new)) }
+    ensures memory { IfErr result (λ e. e ≡ Error.Memory) }
+    ensures left { KeepsPieces u.old u.new }
+{
+    if !clone_wanted(config, types, u) {
+        return new_group(alloc, config, types, allow_empty, u);
+    }
+    let added = clone_group(alloc, config, types, allow_empty, u)?;
+    if added || allow_empty {
+        return Ok(());
+    }
+    new_group(alloc, config, types, allow_empty, u)
+}
+
+/// Adds groups while there are too few types.
+fn least_types(
     alloc: Global,
     config: &Config,
     types: &mut TypeSpace,
     u: &mut Unstructured<'_>,
 ) -> Result<(), Error>
-    requires covered { next_start types.old.groups ≡ length types.old.types }
+    requires ordered { config.now.min_types ≤ config.now.max_types }
+    requires few { config.now.max_types ≤ 2 ^ 31 }
+    ensures exact { OnOk result (least_types_at config.now config.now.min_types types.old u.old ≡ (types.new, u.new)) }
+    ensures memory { IfErr result (λ e. e ≡ Error.Memory) }
+    ensures left { KeepsPieces u.old u.new }
+{
+    while types.types().len() < config.min_types {
+        rec_group(alloc, config, types, false, u)?;
+    }
+    Ok(())
+}
+
+/// Adds groups while a bool asks for them.
+fn more_types(
+    alloc: Global,
+    config: &Config,
+    types: &mut TypeSpace,
+    u: &mut Unstructured<'_>,
+) -> Result<(), Error>
+    requires few { config.now.max_types ≤ 2 ^ 31 }
+    ensures exact { OnOk result (more_types_at config.now (length u.old + 1) types.old u.old ≡ (types.new, u.new)) }
+    ensures memory { IfErr result (λ e. e ≡ Error.Memory) }
+    ensures left { KeepsPieces u.old u.new }
+{
+    while types.types().len() < config.max_types {
+        if !u.arbitrary::<bool>() {
+            return Ok(());
+        }
+        rec_group(alloc, config, types, true, u)?;
+    }
+    Ok(())
+}
+
+#[tactic(auto, unfolding(crate::specs::RecGroups::types_at))]
+fn all_types(
+    alloc: Global,
+    config: &Config,
+    types: &mut TypeSpace,
+    u: &mut Unstructured<'_>,
+) -> Result<(), Error>
+    requires ordered { config.now.min_types ≤ config.now.max_types }
     requires few { config.now.max_types ≤ 2 ^ 31 }
     ensures exact { OnOk result (types_at config.now types.old u.old ≡ (types.new, u.new)) }
     ensures memory { IfErr result (λ e. e ≡ Error.Memory) }
     ensures left { KeepsPieces u.old u.new }
 {
-    for made in types.types().len()..config.max_types {
-        if !goes_on(u, made, config.min_types) {
-            return Ok(());
-        }
-        rec_group(alloc, config, types, u)?;
-    }
-    Ok(())
+    least_types(alloc, config, types, u)?;
+    more_types(alloc, config, types, u)
 }
 
-/// Adds one group, of at least a type where it may not be empty. Until types of garbage collection are drawn, it takes a
-/// configuration without them, and a group is one type.
+/// Adds a group again, chosen among those that stand, and gives whether it was added: not where it is empty and may not be, or
+/// has more types than there is room for.
+pub fn clone_rec_group(
+    alloc: Global,
+    config: &Config,
+    types: &mut TypeSpace,
+    _entities: &Entities<'_>,
+    allow_empty: bool,
+    u: &mut Unstructured<'_>,
+) -> Result<bool, Error>
+    requires passes { Passes config.now }
+    requires valid { AreTypesValid (features_of config.now) types.old }
+    requires room { length types.old.types < config.now.max_types }
+    requires some { 0 < length types.old.groups }
+    ensures exact { IfOk result (λ added. clone_rec_group_at config.now allow_empty types.old u.old ≡ (added, (types.new, u.new))) }
+    ensures valid { OnOk result (AreTypesValid (features_of config.now) types.new) }
+    ensures most { OnOk result (length types.new.types ≤ config.now.max_types) }
+    ensures kept { IfOk result (λ added. added ≡ false → types.new ≡ types.old) }
+    ensures memory { IfErr result (λ e. e ≡ Error.Memory) }
+    ensures left { KeepsPieces u.old u.new }
+{
+    clone_group(alloc, config, types, allow_empty, u)
+}
+
+/// Adds one group, of at least a type where it may not be empty: without garbage collection of one type, with it a clone one
+/// time of 255. Where the clone may not be added and a group may be empty, nothing is added.
 pub fn arbitrary_rec_group(
     alloc: Global,
     config: &Config,
     types: &mut TypeSpace,
     _entities: &Entities<'_>,
-    _allow_empty: bool,
+    allow_empty: bool,
     u: &mut Unstructured<'_>,
 ) -> Result<(), Error>
     requires passes { Passes config.now }
     requires sanitized { IsSanitized config.now }
-    requires without_gc { config.now.gc_enabled ≡ false }
     requires valid { AreTypesValid (features_of config.now) types.old }
     requires room { length types.old.types < config.now.max_types }
-    ensures exact { OnOk result (rec_group_at config.now types.old u.old ≡ (types.new, u.new)) }
+    ensures exact { OnOk result (rec_group_at config.now allow_empty types.old u.old ≡ (types.new, u.new)) }
     ensures valid { OnOk result (AreTypesValid (features_of config.now) types.new) }
+    ensures most { OnOk result (length types.new.types ≤ config.now.max_types) }
+    ensures some { OnOk result (allow_empty ≡ false → length types.old.types < length types.new.types) }
     ensures memory { IfErr result (λ e. e ≡ Error.Memory) }
     ensures left { KeepsPieces u.old u.new }
 {
-    rec_group(alloc, config, types, u)
+    rec_group(alloc, config, types, allow_empty, u)
 }
 
-/// Adds groups: at least as many types as are asked for, and at most as many as may be. Until types of garbage collection
-/// are drawn, it takes a configuration without them.
+/// Adds groups: at least as many types as are asked for, and at most as many as may be.
 pub fn arbitrary_types(
     alloc: Global,
     config: &Config,
@@ -105,7 +317,6 @@ pub fn arbitrary_types(
 ) -> Result<(), Error>
     requires passes { Passes config.now }
     requires sanitized { IsSanitized config.now }
-    requires without_gc { config.now.gc_enabled ≡ false }
     requires valid { AreTypesValid (features_of config.now) types.old }
     ensures exact { OnOk result (types_at config.now types.old u.old ≡ (types.new, u.new)) }
     ensures valid { OnOk result (AreTypesValid (features_of config.now) types.new) }
@@ -114,5 +325,5 @@ pub fn arbitrary_types(
     ensures memory { IfErr result (λ e. e ≡ Error.Memory) }
     ensures left { KeepsPieces u.old u.new }
 {
-    rec_groups(alloc, config, types, u)
+    all_types(alloc, config, types, u)
 }

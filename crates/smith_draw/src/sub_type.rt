@@ -1,41 +1,171 @@
-ghost use Rattle.std.specs.Prelude.{◌≡◌, false, None, IfOk, IfErr};
+ghost use Rattle.std.specs.Prelude.{◌≡◌, ◌<◌, ◌+◌, ◌^◌, None, Some, length, slice_get, IsTrue, IsSome, IfOk, IfErr};
 ghost use Rattle.smith_bytes.specs.Source.{KeepsPieces};
+ghost use Rattle.smith_types.specs.Space.{MayFollow};
+ghost use Rattle.smith_types.specs.OpenTypes.{AreTypesOpen};
 ghost use Rattle.smith_types.specs.ValidTypes.{IsTypeValid};
 ghost use Rattle.smith_config.specs.Features.{features_of};
 ghost use Rattle.smith_config.specs.Sanitized.{IsSanitized};
-ghost use Rattle.smith_draw.specs.SubTypes.{sub_type_at};
+ghost use Rattle.smith_draw.specs.SubTypes.{
+  may_have_subtypes,
+  supertypes,
+  is_final_at,
+  root_type_at,
+  sub_type_below_at,
+  sub_type_of_at,
+  supertype_wanted_at,
+  sub_type_at,
+  HasSuperType,
+};
 
 use crate::composite_type::composite_type;
+use crate::matching_composite::matching_composite_type;
 use crate::spaces::Spaces;
 use smith_bytes::{Error, Unstructured};
 use smith_config::Config;
-use smith_types::SubType;
+use smith_types::{Items, SubType, TypeSpace};
 use std::alloc::Global;
 
-/// Final, and without a supertype.
-#[tactic(auto, unfolding(crate::specs::SubTypes::sub_type_at))]
-pub(crate) fn sub_type(
+/// Whether the type of an index is not final, and below the greatest depth of a supertype.
+fn may_have_subtypes(space: &TypeSpace, index: u32, ty: &SubType) -> bool
+    requires { slice_get space.now.types index ≡ Some ty.now }
+    ensures { result ≡ may_have_subtypes space.now.types index ty.now }
+{
+    let _types = space.types();
+    let depth = space.depth(index);
+    !ty.is_final && depth < 60
+}
+
+/// The indices of the types that may have subtypes.
+#[tactic(auto, unfolding(crate::specs::SubTypes::supertypes))]
+fn supertypes(alloc: Global, space: &TypeSpace) -> Result<Items<u32>, Error>
+    ensures exact { IfOk result (λ indices. indices ≡ supertypes space.now.types) }
+    ensures memory { IfErr result (λ e. e ≡ Error.Memory) }
+{
+    let mut indices = Items::new(alloc);
+    let types = space.types();
+    for index in 0..types.len() {
+        let ty = &types[index];
+        if may_have_subtypes(space, index as u32, ty) {
+            indices.push(index as u32)?;
+        }
+    }
+    Ok(indices)
+}
+
+/// Whether a type is final: without garbage collection it is.
+fn is_final(config: &Config, u: &mut Unstructured<'_>) -> bool
+    ensures exact { is_final_at config.now u.old ≡ (result, u.new) }
+    ensures left { KeepsPieces u.old u.new }
+{
+    if config.gc_enabled {
+        return u.arbitrary();
+    }
+    true
+}
+
+/// A type without a supertype.
+#[tactic(auto, unfolding(crate::specs::SubTypes::root_type_at))]
+fn root_type(
     alloc: Global,
     config: &Config,
     types: &[SubType],
     limit: u32,
     u: &mut Unstructured<'_>,
 ) -> Result<SubType, Error>
-    ensures exact { IfOk result (λ drawn. sub_type_at config.now types.now limit u.old ≡ (drawn, u.new)) }
-    ensures root { IfOk result (λ drawn. drawn.supertype ≡ None) }
+    ensures exact { IfOk result (λ drawn. root_type_at config.now types.now limit u.old ≡ (drawn, u.new)) }
     ensures memory { IfErr result (λ e. e ≡ Error.Memory) }
     ensures left { KeepsPieces u.old u.new }
 {
+    let is_final = is_final(config, u);
     let composite_type = composite_type(alloc, config, types, limit, u)?;
     Ok(SubType {
-        is_final: true,
+        is_final,
         supertype: None,
         composite_type,
     })
 }
 
-/// A subtype: a function type that is final and has no supertype. Until subtypes with garbage collection are drawn, it takes
-/// a configuration without it. The standard's section Structure, Recursive Types.
+/// A type below the type of an index.
+fn sub_type_below(
+    alloc: Global,
+    config: &Config,
+    space: &TypeSpace,
+    limit: u32,
+    index: u32,
+    u: &mut Unstructured<'_>,
+) -> Result<SubType, Error>
+    ensures exact { IfOk result (λ drawn. sub_type_below_at config.now space.now.types limit index (slice_get space.now.types index) u.old ≡ (drawn, u.new)) }
+    ensures memory { IfErr result (λ e. e ≡ Error.Memory) }
+    ensures left { KeepsPieces u.old u.new }
+{
+    match space.types().get(index as usize) {
+        Some(supertype) => {
+            let upper = &supertype.composite_type;
+            let composite_type = matching_composite_type(alloc, config, space, limit, upper, u)?;
+            let is_final = u.arbitrary();
+            Ok(SubType {
+                is_final,
+                supertype: Some(index),
+                composite_type,
+            })
+        }
+        None => root_type(alloc, config, space.types(), limit, u),
+    }
+}
+
+/// A type below one of the types of these indices.
+#[tactic(auto, unfolding(crate::specs::SubTypes::sub_type_of_at, crate::specs::Choices::chosen_at))]
+fn sub_type_of(
+    alloc: Global,
+    config: &Config,
+    space: &TypeSpace,
+    limit: u32,
+    indices: &[u32],
+    u: &mut Unstructured<'_>,
+) -> Result<SubType, Error>
+    requires { 0 < length indices.now }
+    ensures exact { IfOk result (λ drawn. sub_type_of_at config.now space.now.types limit indices.now u.old ≡ (drawn, u.new)) }
+    ensures memory { IfErr result (λ e. e ≡ Error.Memory) }
+    ensures left { KeepsPieces u.old u.new }
+{
+    let index = indices[u.int_in_range(0..=indices.len() - 1)];
+    sub_type_below(alloc, config, space, limit, index, u)
+}
+
+/// Whether a supertype is asked for, where there are so many.
+fn supertype_wanted(config: &Config, count: usize, u: &mut Unstructured<'_>) -> bool
+    ensures exact { supertype_wanted_at config.now count u.old ≡ (result, u.new) }
+    ensures some { IsTrue result → 0 < count }
+    ensures left { KeepsPieces u.old u.new }
+{
+    if !config.gc_enabled || count == 0 {
+        return false;
+    }
+    u.ratio(1u32, 32)
+}
+
+/// A type below a supertype, or without one.
+#[tactic(auto, unfolding(crate::specs::SubTypes::sub_type_at))]
+pub(crate) fn sub_type(
+    alloc: Global,
+    config: &Config,
+    space: &TypeSpace,
+    limit: u32,
+    u: &mut Unstructured<'_>,
+) -> Result<SubType, Error>
+    ensures exact { IfOk result (λ drawn. sub_type_at config.now space.now.types limit u.old ≡ (drawn, u.new)) }
+    ensures memory { IfErr result (λ e. e ≡ Error.Memory) }
+    ensures left { KeepsPieces u.old u.new }
+{
+    let indices = supertypes(alloc, space)?;
+    if supertype_wanted(config, indices.len(), u) {
+        return sub_type_of(alloc, config, space, limit, indices.as_slice(), u);
+    }
+    root_type(alloc, config, space.types(), limit, u)
+}
+
+/// A subtype: below a type that may have subtypes, or without a supertype; without garbage collection a function type that is
+/// final and has none. The standard's section Structure, Recursive Types.
 pub fn arbitrary_sub_type(
     alloc: Global,
     config: &Config,
@@ -44,11 +174,35 @@ pub fn arbitrary_sub_type(
     u: &mut Unstructured<'_>,
 ) -> Result<SubType, Error>
     requires sanitized { IsSanitized config.now }
-    requires without_gc { config.now.gc_enabled ≡ false }
+    requires valid { AreTypesOpen (features_of config.now) limit spaces.now.types.now }
     ensures exact { IfOk result (λ drawn. sub_type_at config.now spaces.now.types.now.types limit u.old ≡ (drawn, u.new)) }
     ensures valid { IfOk result (IsTypeValid (features_of config.now) spaces.now.types.now.types limit) }
+    ensures follows { IfOk result (HasSuperType spaces.now.types.now.types) }
     ensures memory { IfErr result (λ e. e ≡ Error.Memory) }
     ensures left { KeepsPieces u.old u.new }
 {
-    sub_type(alloc, config, spaces.types.types(), limit, u)
+    sub_type(alloc, config, spaces.types, limit, u)
+}
+
+/// A type below one that may have subtypes. The standard's section Structure, Recursive Types.
+pub fn arbitrary_sub_type_of_super_type(
+    alloc: Global,
+    config: &Config,
+    spaces: &Spaces<'_>,
+    limit: u32,
+    u: &mut Unstructured<'_>,
+) -> Result<SubType, Error>
+    requires sanitized { IsSanitized config.now }
+    requires gc { IsTrue config.now.gc_enabled }
+    requires valid { AreTypesOpen (features_of config.now) limit spaces.now.types.now }
+    requires some { 0 < length (supertypes spaces.now.types.now.types) }
+    ensures exact { IfOk result (λ drawn. sub_type_of_at config.now spaces.now.types.now.types limit (supertypes spaces.now.types.now.types) u.old ≡ (drawn, u.new)) }
+    ensures below { IfOk result (λ drawn. IsSome drawn.supertype) }
+    ensures valid { IfOk result (IsTypeValid (features_of config.now) spaces.now.types.now.types limit) }
+    ensures follows { IfOk result (HasSuperType spaces.now.types.now.types) }
+    ensures memory { IfErr result (λ e. e ≡ Error.Memory) }
+    ensures left { KeepsPieces u.old u.new }
+{
+    let indices = supertypes(alloc, spaces.types)?;
+    sub_type_of(alloc, config, spaces.types, limit, indices.as_slice(), u)
 }

@@ -4,6 +4,7 @@ pub mod Lengths
 pub mod Paths
 pub mod Spaces
 pub mod Validity
+pub mod GroupGrowth
 pub mod Walk
 pub mod FeatureBits
 pub mod Parts

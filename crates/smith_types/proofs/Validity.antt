@@ -43,13 +43,13 @@ module _ (features : Features) (types more : List SubType) where
   }
 
 -- consecutive groups end within the last of them
-ends_within : (start : ℕ) (groups : List (Range ℕ)) → AreConsecutive start groups → (start ≤ end_from start groups) × ByRecursion (λ (g : Range ℕ). g.end ≤ end_from start groups) groups
+pub ends_within : (start : ℕ) (groups : List (Range ℕ)) → AreConsecutive start groups → (start ≤ end_from start groups) × ByRecursion (λ (g : Range ℕ). g.end ≤ end_from start groups) groups
 ends_within start [] c = (omega arith, tt)
 ends_within start (g ∷ groups) (begins, ordered, rest) =
     let (later, inside) = ends_within g.end groups rest in
     (omega arith, (later, inside))
 
-IsGroupValid-grown : (features : Features) (types : List SubType) (t : SubType) (group : Range ℕ) → group.end ≤ length types → IsGroupValid features types group → IsGroupValid features (types ++ t ∷ []) group
+pub IsGroupValid-grown : (features : Features) (types : List SubType) (t : SubType) (group : Range ℕ) → group.end ≤ length types → IsGroupValid features types group → IsGroupValid features (types ++ t ∷ []) group
 IsGroupValid-grown features types t group inside h = record {
   members = λ i u low high at. elim (slice_get-push types t i u at) [
     | inl old ↦ IsTypeValid-grown features types (t ∷ []) group.end u (h.members i u low high old)
@@ -93,13 +93,13 @@ AreTypesValid-single features types groups t orderly now h =
 pub no_types : (features : Features) → AreTypesValid features (record { types = []; groups = [] })
 no_types features = record { covered = record { consecutive = tt; whole = refl }; orderly = record { under = λ i s t at up. cc }; groups = All-nil (IsGroupValid features []) }
 
-before_or_not : (a b : ℕ) → (a < b) ⊎ (b ≤ a)
+pub before_or_not : (a b : ℕ) → (a < b) ⊎ (b ≤ a)
 before_or_not a zero = inr (omega arith)
 before_or_not zero (suc b) = inl (omega arith)
 before_or_not (suc a) (suc b) = elim (before_or_not a b) [ inl lt ↦ inl (omega arith) | inr le ↦ inr (omega arith) ]
 
 -- what holds of each of consecutive groups holds of one that an index is in
-group_at : (P : Range ℕ → Type 0) (start : ℕ) (groups : List (Range ℕ)) (i : ℕ) → AreConsecutive start groups → ByRecursion P groups → start ≤ i → i < end_from start groups → (group : Range ℕ) × P group × (group.start ≤ i) × (i < group.end)
+pub group_at : (P : Range ℕ → Type 0) (start : ℕ) (groups : List (Range ℕ)) (i : ℕ) → AreConsecutive start groups → ByRecursion P groups → start ≤ i → i < end_from start groups → (group : Range ℕ) × P group × (group.start ≤ i) × (i < group.end)
 group_at P start [] i c each low high = absurd (omega arith)
 group_at P start (group ∷ groups) i (begins, ordered, rest) (h, more) low high =
     elim (before_or_not i group.end) [

@@ -8,6 +8,7 @@ pub mod Matching
 pub mod Laws
 pub mod Flags
 pub mod ValidTypes
+pub mod OpenTypes
 pub mod Imports
 pub mod Entities
 pub mod Sizes

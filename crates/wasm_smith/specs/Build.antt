@@ -12,7 +12,7 @@ use Rattle.smith_types.specs.declared.composite_type.SubType.{SubType}
 use Rattle.smith_types.specs.declared.entity_type.MemoryType.{MemoryType}
 use Rattle.smith_config.specs.declared.config.Config.{Config}
 use Rattle.smith_draw.specs.Choices.{chosen_at}
-use Rattle.smith_draw.specs.SubTypes.{types_at}
+use Rattle.smith_draw.specs.RecGroups.{types_at}
 use Rattle.smith_draw.specs.Memories.{memtype_at}
 use Rattle.wasm_smith.specs.FuncTypes.{is_tag_type, func_types}
 use Rattle.wasm_smith.specs.Module.{Parts}

@@ -4,7 +4,7 @@ ghost use Rattle.smith_types.specs.ValidTypes.{AreTypesValid};
 ghost use Rattle.smith_config.specs.Faults.{Passes};
 ghost use Rattle.smith_config.specs.Features.{features_of};
 ghost use Rattle.smith_config.specs.Sanitized.{IsSanitized};
-ghost use Rattle.smith_draw.specs.SubTypes.{types_at};
+ghost use Rattle.smith_draw.specs.RecGroups.{types_at};
 ghost use Rattle.wasm_smith.specs.Build.{type_flag_at};
 
 use smith_bytes::{Error, Unstructured};
@@ -22,7 +22,6 @@ pub(crate) fn types(
 ) -> Result<TypeSpace, Error>
     requires passes { Passes config.now }
     requires sanitized { IsSanitized config.now }
-    requires without_gc { config.now.gc_enabled ≡ false }
     ensures exact { IfOk result (λ types. types_at config.now (record { types = []; groups = [] }) u.old ≡ (types, u.new)) }
     ensures valid { IfOk result (AreTypesValid (features_of config.now)) }
     ensures most { IfOk result (λ space. length space.types ≤ config.now.max_types) }

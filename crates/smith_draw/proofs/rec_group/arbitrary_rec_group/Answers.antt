@@ -1,16 +1,26 @@
-use Rattle.std.proofs.Common.{arith}
 use Rattle.std.proofs.lemmas.Result.{on_ok_weaker}
 use Rattle.smith_bytes.specs.declared.error.Count.TheVariants.{Types}
 use Rattle.smith_types.specs.ValidTypes.{AreTypesValid}
 use Rattle.smith_config.specs.Features.{features_of}
 use Rattle.smith_draw.proofs.ValueTypeLaws.{drawn_is}
-use Rattle.smith_draw.proofs.TypeLaws.{rec_group_valid}
+use Rattle.smith_draw.proofs.GroupSizes.{HasMore, rec_group_more}
+use Rattle.smith_draw.proofs.RecGroupLaws.{within_of, rec_group_valid}
 use Rattle.smith_draw.proofs.rec_group.arbitrary_rec_group.Goals as goal
 
-pub rec_group-requires-clause-room : goal.rec_group-requires-clause-room
-rec_group-requires-clause-room c = omega (arith, c.requires.passes.few Types)
+pub rec_group-requires-clause-few : goal.rec_group-requires-clause-few
+rec_group-requires-clause-few c = c.requires.passes.few Types
 
 pub returns-clause-valid : goal.returns-clause-valid
 returns-clause-valid c =
     on_ok_weaker c.rec_group.result
-    (drawn_is (AreTypesValid (features_of c.args.config.now)) _ (rec_group_valid _ _ _ c.requires.sanitized c.requires.valid)) c.rec_group.ensures.exact
+    (drawn_is (AreTypesValid (features_of c.args.config.now)) _ (rec_group_valid _ _ _ _ c.requires.sanitized c.requires.valid)) c.rec_group.ensures.exact
+
+pub returns-clause-most : goal.returns-clause-most
+returns-clause-most c =
+    on_ok_weaker c.rec_group.result
+    (λ drawn. (drawn_is (HasMore c.args.config.now c.args.allow_empty c.args.types.now) _ (rec_group_more _ _ _ _ (within_of _ _ c.requires.valid) c.requires.room) drawn).most) c.rec_group.ensures.exact
+
+pub returns-clause-some : goal.returns-clause-some
+returns-clause-some c =
+    on_ok_weaker c.rec_group.result
+    (λ drawn. (drawn_is (HasMore c.args.config.now c.args.allow_empty c.args.types.now) _ (rec_group_more _ _ _ _ (within_of _ _ c.requires.valid) c.requires.room) drawn).some) c.rec_group.ensures.exact

@@ -5,23 +5,26 @@ use Rattle.smith_types.specs.Space.{Space}
 use Rattle.smith_types.specs.ValidTypes.{AreTypesValid}
 use Rattle.smith_config.specs.Features.{features_of}
 use Rattle.smith_draw.proofs.ValueTypeLaws.{drawn_is}
-use Rattle.smith_draw.proofs.TypeLaws.{types_valid, types_most, types_least}
+use Rattle.smith_draw.proofs.RecGroupLaws.{types_valid, types_most, types_least}
 use Rattle.smith_draw.proofs.rec_group.arbitrary_types.Goals as goal
 
-pub rec_groups-requires-clause-few : goal.rec_groups-requires-clause-few
-rec_groups-requires-clause-few c = c.requires.passes.few Types
+pub all_types-requires-clause-ordered : goal.all_types-requires-clause-ordered
+all_types-requires-clause-ordered c = c.requires.passes.ordered Types tt
+
+pub all_types-requires-clause-few : goal.all_types-requires-clause-few
+all_types-requires-clause-few c = c.requires.passes.few Types
 
 pub returns-clause-valid : goal.returns-clause-valid
 returns-clause-valid c =
-    on_ok_weaker c.rec_groups.result
-    (drawn_is (AreTypesValid (features_of c.args.config.now)) _ (types_valid _ _ _ c.requires.sanitized c.requires.valid)) c.rec_groups.ensures.exact
+    on_ok_weaker c.all_types.result
+    (drawn_is (AreTypesValid (features_of c.args.config.now)) _ (types_valid _ _ _ c.requires.sanitized c.requires.valid)) c.all_types.ensures.exact
 
 pub returns-clause-most : goal.returns-clause-most
 returns-clause-most c =
-    on_ok_weaker c.rec_groups.result
-    (λ drawn few. drawn_is (λ (space : Space). length space.types ≤ c.args.config.now.max_types) _ (types_most _ _ _ few) drawn) c.rec_groups.ensures.exact
+    on_ok_weaker c.all_types.result
+    (λ drawn few. drawn_is (λ (space : Space). length space.types ≤ c.args.config.now.max_types) _ (types_most _ _ _ c.requires.sanitized (c.requires.passes.ordered Types tt) c.requires.valid few) drawn) c.all_types.ensures.exact
 
 pub returns-clause-least : goal.returns-clause-least
 returns-clause-least c =
-    on_ok_weaker c.rec_groups.result
-    (drawn_is (λ (space : Space). c.args.config.now.min_types ≤ length space.types) _ (types_least _ _ _ (c.requires.passes.ordered Types tt))) c.rec_groups.ensures.exact
+    on_ok_weaker c.all_types.result
+    (drawn_is (λ (space : Space). c.args.config.now.min_types ≤ length space.types) _ (types_least _ _ _ c.requires.sanitized (c.requires.passes.ordered Types tt) c.requires.valid)) c.all_types.ensures.exact

@@ -1,0 +1,26 @@
+use Rattle.std.proofs.Common.{◌≡◌, ℕ, ◌≤◌, Bool, List, length, subst, Result, Ok, Err}
+use Rattle.std.specs.Prelude.{IfOk, OnOk}
+use Rattle.smith_bytes.specs.declared.error.Error.{Error}
+use Rattle.smith_bytes.specs.declared.error.Count.TheVariants.{Types}
+use Rattle.smith_types.specs.Space.{Space}
+use Rattle.smith_types.specs.ValidTypes.{AreTypesValid}
+use Rattle.smith_config.specs.Features.{features_of}
+use Rattle.smith_draw.proofs.GroupSizes.{clone_rec_group_most}
+use Rattle.smith_draw.proofs.RecGroupLaws.{within_of, clone_rec_group_valid}
+use Rattle.smith_draw.proofs.rec_group.clone_rec_group.Goals as goal
+
+-- what holds of the drawn space holds of the space that stands where there is an answer
+drawn_space : (P : Space → Type 0) (result : Result Bool Error) (drawn : Bool × (Space × List ℕ)) (new : Space) (left : List ℕ) → P drawn.1.0 → IfOk result (λ added. drawn ≡ (added, (new, left))) → OnOk result (P new)
+drawn_space P (Ok added) drawn new left h exact = subst (λ (r : Bool × (Space × List ℕ)). P r.1.0) exact h
+drawn_space P (Err e) drawn new left h exact = tt
+
+pub clone_group-requires-clause-few : goal.clone_group-requires-clause-few
+clone_group-requires-clause-few c = c.requires.passes.few Types
+
+pub returns-clause-valid : goal.returns-clause-valid
+returns-clause-valid c = drawn_space (AreTypesValid (features_of c.args.config.now)) c.clone_group.result _ _ _ (clone_rec_group_valid _ _ _ _ c.requires.valid c.requires.some) c.clone_group.ensures.exact
+
+pub returns-clause-most : goal.returns-clause-most
+returns-clause-most c =
+    drawn_space (λ (space : Space). length space.types ≤ c.args.config.now.max_types) c.clone_group.result _ _ _
+    (clone_rec_group_most _ _ _ _ (within_of _ _ c.requires.valid) c.requires.some c.requires.room) c.clone_group.ensures.exact

@@ -1,0 +1,122 @@
+ghost use Rattle.std.specs.Prelude.{◌≡◌, ◌+◌, ◌≤◌, IsTrue, IfOk, IfErr, length, All};
+ghost use Rattle.smith_bytes.specs.Source.{KeepsPieces};
+ghost use Rattle.smith_types.specs.declared.composite_type.CompositeInnerType.TheVariants.{Struct};
+ghost use Rattle.smith_types.specs.Matching.{AreFieldsMatched};
+ghost use Rattle.smith_types.specs.ValidTypes.{values_of, IsValTypeValid, IsShareable};
+ghost use Rattle.smith_config.specs.Features.{features_of};
+ghost use Rattle.smith_config.specs.Sanitized.{IsSanitized};
+ghost use Rattle.smith_draw.specs.Kept.{IsSharingEnabled};
+ghost use Rattle.smith_draw.specs.MatchingComposites.{
+  matching_struct_type_at,
+  matching_inner_at,
+  matching_composite_type_at,
+};
+
+use crate::composite_type::fields_until;
+use crate::matching::{matched_fields, matching_field_type, matching_func_type};
+use crate::spaces::{Spaces, orderly};
+use smith_bytes::{Error, Unstructured};
+use smith_config::Config;
+use smith_types::{ArrayType, CompositeInnerType, CompositeType, StructType, TypeSpace};
+use std::alloc::Global;
+
+#[tactic(auto, unfolding(crate::specs::MatchingComposites::matching_struct_type_at))]
+fn matching_struct_type(
+    alloc: Global,
+    config: &Config,
+    space: &TypeSpace,
+    structure: &StructType,
+    must_share: bool,
+    limit: u32,
+    u: &mut Unstructured<'_>,
+) -> Result<StructType, Error>
+    ensures exact { IfOk result (λ drawn. matching_struct_type_at config.now space.now.types must_share limit structure.now u.old ≡ (drawn, u.new)) }
+    ensures memory { IfErr result (λ e. e ≡ Error.Memory) }
+    ensures left { KeepsPieces u.old u.new }
+{
+    let extra = u.int_in_range(0..=5usize);
+    let matched = matched_fields(alloc, config, space, structure.fields.as_slice(), u)?;
+    let end = matched.as_slice().len() + extra;
+    let fields = fields_until(config, space.types(), must_share, limit, end, matched, u)?;
+    Ok(StructType { fields })
+}
+
+/// An array, a function or a struct that matches one.
+fn matching_inner(
+    alloc: Global,
+    config: &Config,
+    space: &TypeSpace,
+    must_share: bool,
+    limit: u32,
+    inner: &CompositeInnerType,
+    u: &mut Unstructured<'_>,
+) -> Result<CompositeInnerType, Error>
+    ensures exact { IfOk result (λ drawn. matching_inner_at config.now space.now.types must_share limit inner.now u.old ≡ (drawn, u.new)) }
+    ensures memory { IfErr result (λ e. e ≡ Error.Memory) }
+    ensures left { KeepsPieces u.old u.new }
+{
+    match inner {
+        CompositeInnerType::Array(array) => {
+            let field = matching_field_type(alloc, config, space, array.0, u)?;
+            Ok(CompositeInnerType::Array(ArrayType(field)))
+        }
+        CompositeInnerType::Func(function) => {
+            let drawn = matching_func_type(alloc, config, space, function, u)?;
+            Ok(CompositeInnerType::Func(drawn))
+        }
+        CompositeInnerType::Struct(structure) => {
+            let drawn = matching_struct_type(
+                alloc, config, space, structure, must_share, limit, u,
+            )?;
+            Ok(CompositeInnerType::Struct(drawn))
+        }
+    }
+}
+
+/// A composite type that matches one, and is as shared.
+#[tactic(auto, unfolding(crate::specs::MatchingComposites::matching_composite_type_at))]
+pub(crate) fn matching_composite_type(
+    alloc: Global,
+    config: &Config,
+    space: &TypeSpace,
+    limit: u32,
+    composite: &CompositeType,
+    u: &mut Unstructured<'_>,
+) -> Result<CompositeType, Error>
+    ensures exact { IfOk result (λ drawn. matching_composite_type_at config.now space.now.types limit composite.now u.old ≡ (drawn, u.new)) }
+    ensures memory { IfErr result (λ e. e ≡ Error.Memory) }
+    ensures left { KeepsPieces u.old u.new }
+{
+    let shared = composite.shared;
+    let inner = matching_inner(alloc, config, space, shared, limit, &composite.inner, u)?;
+    Ok(CompositeType { inner, shared })
+}
+
+/// A struct type that matches this one: its matched fields, and at most 5 more behind them. The standard's section Validation,
+/// Matching, Composite Types.
+pub fn arbitrary_matching_struct_type(
+    alloc: Global,
+    config: &Config,
+    spaces: &Spaces<'_>,
+    structure: &StructType,
+    must_share: bool,
+    limit: u32,
+    u: &mut Unstructured<'_>,
+) -> Result<StructType, Error>
+    requires sanitized { IsSanitized config.now }
+    requires gc { IsTrue config.now.gc_enabled }
+    requires may_share { IsTrue must_share → IsTrue config.now.shared_everything_threads_enabled }
+    requires room { length spaces.now.types.now.types ≤ limit }
+    requires sharing { All (IsSharingEnabled (features_of config.now)) spaces.now.types.now.types }
+    requires valid { All (IsValTypeValid (features_of config.now) limit) (values_of (Struct structure.now)) }
+    ensures exact { IfOk result (λ drawn. matching_struct_type_at config.now spaces.now.types.now.types must_share limit structure.now u.old ≡ (drawn, u.new)) }
+    ensures below { IfOk result (λ drawn. AreFieldsMatched spaces.now.types.now.types drawn.fields structure.now.fields) }
+    ensures valid { IfOk result (λ drawn. All (IsValTypeValid (features_of config.now) limit) (values_of (Struct drawn))) }
+    ensures shared { IsTrue must_share → All (IsShareable spaces.now.types.now.types) (values_of (Struct structure.now))
+        → IfOk result (λ drawn. All (IsShareable spaces.now.types.now.types) (values_of (Struct drawn))) }
+    ensures memory { IfErr result (λ e. e ≡ Error.Memory) }
+    ensures left { KeepsPieces u.old u.new }
+{
+    orderly(spaces);
+    matching_struct_type(alloc, config, spaces.types, structure, must_share, limit, u)
+}
