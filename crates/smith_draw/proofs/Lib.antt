@@ -10,6 +10,8 @@ pub mod Chosen
 pub mod ValueTypeLaws
 pub mod SpelledValues
 pub mod SpelledTypes
+pub mod SpelledSubTypes
+pub mod SpelledGroups
 pub mod Taken
 pub mod FieldTypeLaws
 pub mod CompositeTypeLaws

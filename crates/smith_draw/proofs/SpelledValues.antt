@@ -29,13 +29,14 @@ chosen_read : {A : Type 0} (other : A) (items : List A) (item : A) (piece after 
 unfolding chosen_at
 chosen_read other items item piece after h = rw (number_read h.place 0 (length items - 1) piece after h.number, get_or_from_slice_get items h.place item other h.stands) refl
 
-unshared_where : (on : Bool) (piece after : List ℕ) → Where on (SpellsRefusal 4) piece → cond on (ratio_at 1 4 (piece ++ after)) (false, piece ++ after) ≡ (false, after)
-unshared_where true piece after h = refusal_read 4 piece after h
-unshared_where false piece after h = rw h refl
+-- a refusal, where one is asked for
+pub refused_where : (on : Bool) (chances : ℕ) (piece after : List ℕ) → Where on (SpellsRefusal chances) piece → cond on (ratio_at 1 chances (piece ++ after)) (false, piece ++ after) ≡ (false, after)
+refused_where true chances piece after h = refusal_read chances piece after h
+refused_where false chances piece after h = rw h refl
 
 pub unshared_read : (config : Config) (piece after : List ℕ) → SpellsUnshared config piece → sharedness_at config false (piece ++ after) ≡ (false, after)
 unfolding sharedness_at
-unshared_read config piece after h = unshared_where config.shared_everything_threads_enabled piece after h
+unshared_read config piece after h = refused_where config.shared_everything_threads_enabled 4 piece after h
 
 wanted_where : (on wanted : Bool) (piece after : List ℕ) → (IsTrue wanted → IsTrue on) → Where on (SpellsBool wanted) piece → cond on (bool_at (piece ++ after)) (false, piece ++ after) ≡ (wanted, after)
 wanted_where true wanted piece after may h = bool_read wanted piece after h

@@ -1,6 +1,6 @@
 -- Which bytes spell types: pieces of bytes, in the words of this project. Types that a spelling knows are unshared, without
 -- supertypes, and hold nullable references.
-use Rattle.std.specs.Prelude.{◌≡◌, ℕ, ◌+◌, ◌-◌, ◌&&◌, Bool, true, false, not, nat_lt, IsTrue, List, [], ◌∷◌, ◌++◌, Some, None, length, slice_get}
+use Rattle.std.specs.Prelude.{◌≡◌, ℕ, ◌<◌, ◌≤◌, ◌+◌, ◌-◌, ◌&&◌, Bool, true, false, not, nat_lt, IsTrue, List, [], ◌∷◌, ◌++◌, Some, None, length, slice_get}
 use Rattle.std.specs.List.{list_any}
 use Rattle.smith_bytes.specs.Spelling.{SpellsBool, SpellsNumber, SpellsRefusal, Where, Joined, Each, Listed}
 use Rattle.smith_types.specs.declared.value_type.HeapType.{HeapType}
@@ -17,6 +17,7 @@ use Rattle.smith_types.specs.declared.composite_type.CompositeInnerType.{Composi
 use Rattle.smith_types.specs.declared.composite_type.CompositeInnerType.TheVariants.{Array, Func, Struct}
 use Rattle.smith_types.specs.declared.composite_type.CompositeType.{CompositeType}
 use Rattle.smith_types.specs.declared.composite_type.SubType.{SubType}
+use Rattle.smith_types.specs.Matching.{IsInnerInRange}
 use Rattle.smith_config.specs.declared.config.Config.{Config}
 use Rattle.smith_draw.specs.declared.value_type.ValueClass.{ValueClass}
 use Rattle.smith_draw.specs.declared.value_type.ValueClass.TheVariants.{I32, I64, F32, F64, V128, Reference}
@@ -149,3 +150,18 @@ unfoldable pub SpellsGroups : Config → List SubType → Bool → List (List Su
 SpellsGroups config before stands [] piece = Where (nat_lt (length before) config.max_types) (SpellsBool false) piece
 SpellsGroups config before stands (group ∷ groups) piece =
     Joined (SpellsBool true) (Joined (SpellsGroup config before stands group) (SpellsGroups config (before ++ group) true groups)) piece
+
+-- a type without a supertype
+abbrev pub IsRoot : SubType → Type 0
+IsRoot t = t.supertype ≡ None
+
+-- types behind others, each of which refers to types before it alone
+abbrev pub ReferBack : List SubType → List SubType → Type 0
+ReferBack before [] = Unit {0}
+ReferBack before (t ∷ types) = IsInnerInRange before t.composite_type.inner × ReferBack (before ++ t ∷ []) types
+
+-- groups behind types: none is empty, there is room for all, and their types refer to types before them alone
+abbrev pub GroupsFit : ℕ → List SubType → List (List SubType) → Type 0
+GroupsFit most before [] = Unit {0}
+GroupsFit most before (group ∷ groups) =
+    (0 < length group) × (length before + length group ≤ most) × ReferBack before group × GroupsFit most (before ++ group) groups
