@@ -17,13 +17,16 @@ use Rattle.smith_types.specs.declared.composite_type.CompositeInnerType.{Composi
 use Rattle.smith_types.specs.declared.composite_type.CompositeInnerType.TheVariants.{Array, Func, Struct}
 use Rattle.smith_types.specs.declared.composite_type.CompositeType.{CompositeType}
 use Rattle.smith_types.specs.declared.composite_type.SubType.{SubType}
+use Rattle.smith_types.specs.Space.{Space}
 use Rattle.smith_types.specs.Matching.{IsInnerInRange}
 use Rattle.smith_config.specs.declared.config.Config.{Config}
+use Rattle.smith_config.specs.Shapes.{space_of}
 use Rattle.smith_draw.specs.declared.value_type.ValueClass.{ValueClass}
 use Rattle.smith_draw.specs.declared.value_type.ValueClass.TheVariants.{I32, I64, F32, F64, V128, Reference}
 use Rattle.smith_draw.specs.Choices.{enabled}
 use Rattle.smith_draw.specs.ValueTypes.{value_classes, abstract_heap_types}
 use Rattle.smith_draw.specs.CompositeTypes.{most_results}
+use Rattle.smith_draw.specs.RecGroups.{with_group}
 
 -- an item by its place in a list
 pub record SpellsPlace {A : Type 0} (items : List A) (item : A) (piece : List ℕ) : Type 0 where
@@ -165,3 +168,17 @@ abbrev pub GroupsFit : ℕ → List SubType → List (List SubType) → Type 0
 GroupsFit most before [] = Unit {0}
 GroupsFit most before (group ∷ groups) =
     (0 < length group) × (length before + length group ≤ most) × ReferBack before group × GroupsFit most (before ++ group) groups
+
+-- a space with one group more, of types that refer to types before them alone
+pub record SpellsAdded (config : Config) (before space : Space) (piece : List ℕ) : Type 0 where
+  pub added : List SubType
+  pub is_behind : space ≡ with_group (before.types ++ added) before.groups
+  pub back : ReferBack before.types added
+  pub spelled : SpellsGroup config before.types (nat_lt 0 (length before.groups)) added piece
+
+-- the space of groups that fit
+pub record SpellsSpace (config : Config) (space : Space) (piece : List ℕ) : Type 0 where
+  pub parts : List (List SubType)
+  pub is_of : space ≡ space_of parts
+  pub fit : GroupsFit config.max_types [] parts
+  pub spelled : SpellsGroups config [] false parts piece
