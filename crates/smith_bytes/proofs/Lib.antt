@@ -3,5 +3,6 @@ pub mod Endian
 pub mod Drawn
 pub mod Growing
 pub mod Grown
+pub mod Spelled
 pub mod MadeNew
 pub mod KebabShape

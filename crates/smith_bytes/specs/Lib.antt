@@ -2,6 +2,8 @@ pub mod Source
 pub mod Draws
 pub mod Growth
 pub mod Spelling
+pub mod Takes
+pub mod ReadLaws
 pub mod Names
 pub mod Kebab
 pub mod Loop

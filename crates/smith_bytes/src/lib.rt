@@ -6,6 +6,7 @@ mod digits;
 mod error;
 mod growth;
 mod kebab;
+pub mod laws;
 mod names;
 mod repeat;
 #[cfg(test)]

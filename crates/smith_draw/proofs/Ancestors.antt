@@ -25,7 +25,7 @@ stands types i s e = declares types i s (slice_get types i) refl e
 pub supertype_before : (types : List SubType) → IsOrderly types → (i s : ℕ) → supertype_at types i ≡ Some s → s < i
 supertype_before types orderly i s e = let (t, at, sup) = stands types i s e in (orderly.under i s t at sup).0
 
-within_none : (types : List SubType) (n i : ℕ) → supertype_at types i ≡ None → ancestors_within n types i ≡ []
+pub within_none : (types : List SubType) (n i : ℕ) → supertype_at types i ≡ None → ancestors_within n types i ≡ []
 within_none types zero i e = refl
 within_none types (suc n) i e = rw (e, ancestors_within) refl
 

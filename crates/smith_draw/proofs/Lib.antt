@@ -9,6 +9,11 @@ pub mod StandingLaws
 pub mod MatchingLaws
 pub mod Chosen
 pub mod ValueTypeLaws
+pub mod SpelledValues
+pub mod SpelledTypes
+pub mod SpelledSubTypes
+pub mod SpelledGroups
+pub mod Taken
 pub mod FieldTypeLaws
 pub mod CompositeTypeLaws
 pub mod Supertypes

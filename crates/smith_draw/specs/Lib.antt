@@ -1,8 +1,9 @@
 pub mod Choices
-pub mod Offered
 pub mod ValueTypes
 pub mod FieldTypes
 pub mod CompositeTypes
+pub mod Kept
+pub mod Offered
 pub mod MatchingTypes
 pub mod MatchingComposites
 pub mod SubTypes
@@ -11,4 +12,3 @@ pub mod Limits
 pub mod Bounds
 pub mod Memories
 pub mod Spelling
-pub mod Kept

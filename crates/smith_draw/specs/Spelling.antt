@@ -1,25 +1,32 @@
 -- Which bytes spell types: pieces of bytes, in the words of this project. Types that a spelling knows are unshared, without
 -- supertypes, and hold nullable references.
-use Rattle.std.specs.Prelude.{◌≡◌, ℕ, ◌+◌, ◌-◌, ◌&&◌, Bool, true, false, not, nat_lt, IsTrue, List, [], ◌∷◌, ◌++◌, Some, None, length, slice_get}
+use Rattle.std.specs.Prelude.{◌≡◌, ℕ, ◌<◌, ◌≤◌, ◌+◌, ◌-◌, ◌&&◌, Bool, true, false, not, nat_lt, IsTrue, List, [], ◌∷◌, ◌++◌, Some, None, length, slice_get}
 use Rattle.std.specs.List.{list_any}
 use Rattle.smith_bytes.specs.Spelling.{SpellsBool, SpellsNumber, SpellsRefusal, Where, Joined, Each, Listed}
 use Rattle.smith_types.specs.declared.value_type.HeapType.{HeapType}
 use Rattle.smith_types.specs.declared.value_type.HeapType.TheVariants.{Abstract, Concrete, Exact}
+use Rattle.smith_types.specs.declared.value_type.RefType.{RefType}
 use Rattle.smith_types.specs.declared.value_type.ValType.{ValType}
 use Rattle.smith_types.specs.declared.value_type.ValType.TheVariants as vals
 use Rattle.smith_types.specs.declared.composite_type.StorageType.{StorageType}
 use Rattle.smith_types.specs.declared.composite_type.StorageType.TheVariants.{I8, I16, Val}
 use Rattle.smith_types.specs.declared.composite_type.FieldType.{FieldType}
 use Rattle.smith_types.specs.declared.composite_type.FuncType.{FuncType}
+use Rattle.smith_types.specs.declared.composite_type.StructType.{StructType}
 use Rattle.smith_types.specs.declared.composite_type.CompositeInnerType.{CompositeInnerType}
 use Rattle.smith_types.specs.declared.composite_type.CompositeInnerType.TheVariants.{Array, Func, Struct}
+use Rattle.smith_types.specs.declared.composite_type.CompositeType.{CompositeType}
 use Rattle.smith_types.specs.declared.composite_type.SubType.{SubType}
+use Rattle.smith_types.specs.Space.{Space}
+use Rattle.smith_types.specs.Matching.{IsInnerInRange}
 use Rattle.smith_config.specs.declared.config.Config.{Config}
+use Rattle.smith_config.specs.Shapes.{space_of}
 use Rattle.smith_draw.specs.declared.value_type.ValueClass.{ValueClass}
 use Rattle.smith_draw.specs.declared.value_type.ValueClass.TheVariants.{I32, I64, F32, F64, V128, Reference}
 use Rattle.smith_draw.specs.Choices.{enabled}
 use Rattle.smith_draw.specs.ValueTypes.{value_classes, abstract_heap_types}
 use Rattle.smith_draw.specs.CompositeTypes.{most_results}
+use Rattle.smith_draw.specs.RecGroups.{with_group}
 
 -- an item by its place in a list
 pub record SpellsPlace {A : Type 0} (items : List A) (item : A) (piece : List ℕ) : Type 0 where
@@ -42,6 +49,12 @@ SpellsHeapType config limit (Abstract shared ty) piece =
 SpellsHeapType config limit (Concrete index) piece =
     IsTrue (config.gc_enabled && nat_lt index limit) × Joined (SpellsConcrete config limit true) (SpellsNumber index 0 (limit - 1)) piece
 SpellsHeapType config limit (Exact index) piece = ⊥
+
+-- a nullable reference, where there are reference types
+pub record SpellsRefType (config : Config) (limit : ℕ) (reference : RefType) (piece : List ℕ) : Type 0 where
+  pub enabled : IsTrue config.reference_types_enabled
+  pub nullable : IsTrue reference.nullable
+  pub heap_type : SpellsHeapType config limit reference.heap_type piece
 
 -- the class of a value type
 abbrev pub class_of : ValType → ValueClass
@@ -73,12 +86,31 @@ unfoldable pub SpellsFuncType : Config → ℕ → FuncType → List ℕ → Typ
 SpellsFuncType config limit function =
     Joined (Listed (SpellsValType config limit) 20 function.params) (Listed (SpellsValType config limit) (most_results config) function.results)
 
+-- the number of fields, then the fields
+unfoldable pub SpellsStructType : Config → ℕ → StructType → List ℕ → Type 0
+SpellsStructType config limit structure =
+    Joined (SpellsNumber (length structure.fields) 0 20) (Each (SpellsField config limit) structure.fields)
+
 -- with garbage collection a kind, and what is of it
 abbrev pub SpellsInner : Config → ℕ → CompositeInnerType → List ℕ → Type 0
 SpellsInner config limit (Array array) piece = Joined (SpellsNumber 0 0 2) (SpellsField config limit array.0) piece
 SpellsInner config limit (Func function) piece = Joined (SpellsNumber 1 0 2) (SpellsFuncType config limit function) piece
-SpellsInner config limit (Struct structure) piece =
-    Joined (SpellsNumber 2 0 2) (Joined (SpellsNumber (length structure.fields) 0 20) (Each (SpellsField config limit) structure.fields)) piece
+SpellsInner config limit (Struct structure) piece = Joined (SpellsNumber 2 0 2) (SpellsStructType config limit structure) piece
+
+-- without it the lists of a function type
+abbrev pub SpellsPlainFunction : Config → ℕ → CompositeInnerType → List ℕ → Type 0
+SpellsPlainFunction config limit (Func function) piece = SpellsFuncType config limit function piece
+SpellsPlainFunction config limit _ piece = ⊥
+
+-- with garbage collection or without
+abbrev pub SpellsKind : Bool → Config → ℕ → CompositeInnerType → List ℕ → Type 0
+SpellsKind true config limit inner piece = SpellsInner config limit inner piece
+SpellsKind false config limit inner piece = SpellsPlainFunction config limit inner piece
+
+-- a composite type: that it is not shared, and of which kind
+pub record SpellsCompositeType (config : Config) (limit : ℕ) (composite : CompositeType) (piece : List ℕ) : Type 0 where
+  pub unshared : composite.shared ≡ false
+  pub form : Joined (SpellsUnshared config) (SpellsKind config.gc_enabled config limit composite.inner) piece
 
 -- a type that may be a supertype: one that is not final
 abbrev pub is_open : SubType → Bool
@@ -89,11 +121,6 @@ abbrev pub SpellsDeclared : Config → List SubType → ℕ → SubType → List
 SpellsDeclared config before limit t =
     Joined (Where (list_any is_open before) (SpellsRefusal 32))
     (Joined (SpellsBool t.is_final) (Joined (SpellsUnshared config) (SpellsInner config limit t.composite_type.inner)))
-
--- without it: the lists of a function type
-abbrev pub SpellsPlainFunction : Config → ℕ → CompositeInnerType → List ℕ → Type 0
-SpellsPlainFunction config limit (Func function) piece = SpellsFuncType config limit function piece
-SpellsPlainFunction config limit _ piece = ⊥
 
 -- with garbage collection or without
 abbrev pub SpellsForm : Bool → Config → List SubType → ℕ → SubType → List ℕ → Type 0
@@ -126,3 +153,32 @@ unfoldable pub SpellsGroups : Config → List SubType → Bool → List (List Su
 SpellsGroups config before stands [] piece = Where (nat_lt (length before) config.max_types) (SpellsBool false) piece
 SpellsGroups config before stands (group ∷ groups) piece =
     Joined (SpellsBool true) (Joined (SpellsGroup config before stands group) (SpellsGroups config (before ++ group) true groups)) piece
+
+-- a type without a supertype
+abbrev pub IsRoot : SubType → Type 0
+IsRoot t = t.supertype ≡ None
+
+-- types behind others, each of which refers to types before it alone
+abbrev pub ReferBack : List SubType → List SubType → Type 0
+ReferBack before [] = Unit {0}
+ReferBack before (t ∷ types) = IsInnerInRange before t.composite_type.inner × ReferBack (before ++ t ∷ []) types
+
+-- groups behind types: none is empty, there is room for all, and their types refer to types before them alone
+abbrev pub GroupsFit : ℕ → List SubType → List (List SubType) → Type 0
+GroupsFit most before [] = Unit {0}
+GroupsFit most before (group ∷ groups) =
+    (0 < length group) × (length before + length group ≤ most) × ReferBack before group × GroupsFit most (before ++ group) groups
+
+-- a space with one group more, of types that refer to types before them alone
+pub record SpellsAdded (config : Config) (before space : Space) (piece : List ℕ) : Type 0 where
+  pub added : List SubType
+  pub is_behind : space ≡ with_group (before.types ++ added) before.groups
+  pub back : ReferBack before.types added
+  pub spelled : SpellsGroup config before.types (nat_lt 0 (length before.groups)) added piece
+
+-- the space of groups that fit
+pub record SpellsSpace (config : Config) (space : Space) (piece : List ℕ) : Type 0 where
+  pub parts : List (List SubType)
+  pub is_of : space ≡ space_of parts
+  pub fit : GroupsFit config.max_types [] parts
+  pub spelled : SpellsGroups config [] false parts piece

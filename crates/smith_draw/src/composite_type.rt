@@ -1,5 +1,6 @@
-ghost use Rattle.std.specs.Prelude.{◌≡◌, IsTrue, IfOk, IfErr, All, length, ◌≤◌};
+ghost use Rattle.std.specs.Prelude.{◌≡◌, false, IsTrue, IfOk, IfErr, All, length, ◌≤◌};
 ghost use Rattle.smith_bytes.specs.Source.{KeepsPieces};
+ghost use Rattle.smith_bytes.specs.Takes.{Takes, SpellsSuch};
 ghost use Rattle.smith_types.specs.declared.composite_type.CompositeInnerType.TheVariants.{Func, Struct};
 ghost use Rattle.smith_types.specs.Flags.{IsInnerEnabled};
 ghost use Rattle.smith_types.specs.Matching.{IsFuncInRange, IsFieldInRange, IsInnerInRange};
@@ -16,6 +17,7 @@ ghost use Rattle.smith_draw.specs.CompositeTypes.{
   inner_of_number_at,
   composite_type_at,
 };
+ghost use Rattle.smith_draw.specs.Spelling.{SpellsFuncType, SpellsStructType, SpellsCompositeType};
 
 use crate::field_type::field_type;
 use crate::spaces::Spaces;
@@ -193,6 +195,7 @@ pub fn arbitrary_func_type(
     ensures valid { IfOk result (IsFuncTypeValid (features_of config.now) limit) }
     ensures stands { IfOk result (IsFuncInRange spaces.now.types.now.types) }
     ensures shared { IsTrue must_share → IfOk result (λ drawn. All (IsShareable spaces.now.types.now.types) (values_of (Func drawn))) }
+    ensures reach { must_share ≡ false → IfOk result (λ drawn. Takes (SpellsSuch (IsFuncInRange spaces.now.types.now.types) (SpellsFuncType config.now limit)) u.old drawn u.new) }
     ensures memory { IfErr result (λ e. e ≡ Error.Memory) }
     ensures left { KeepsPieces u.old u.new }
 {
@@ -215,6 +218,7 @@ pub fn arbitrary_struct_type(
     ensures valid { IfOk result (λ drawn. All (IsValTypeValid (features_of config.now) limit) (values_of (Struct drawn))) }
     ensures stands { IfOk result (λ drawn. All (IsFieldInRange spaces.now.types.now.types) drawn.fields) }
     ensures shared { IsTrue must_share → IfOk result (λ drawn. All (IsShareable spaces.now.types.now.types) (values_of (Struct drawn))) }
+    ensures reach { must_share ≡ false → IfOk result (λ drawn. Takes (SpellsSuch (λ structure. All (IsFieldInRange spaces.now.types.now.types) structure.fields) (SpellsStructType config.now limit)) u.old drawn u.new) }
     ensures memory { IfErr result (λ e. e ≡ Error.Memory) }
     ensures left { KeepsPieces u.old u.new }
 {
@@ -237,6 +241,7 @@ pub fn arbitrary_composite_type(
     ensures valid { IfOk result (λ drawn. All (IsValTypeValid (features_of config.now) limit) (values_of drawn.inner)) }
     ensures stands { IfOk result (λ drawn. IsInnerInRange spaces.now.types.now.types drawn.inner) }
     ensures shared { IfOk result (λ drawn. IsTrue drawn.shared → All (IsShareable spaces.now.types.now.types) (values_of drawn.inner)) }
+    ensures reach { IfOk result (λ drawn. Takes (SpellsSuch (λ composite. IsInnerInRange spaces.now.types.now.types composite.inner) (SpellsCompositeType config.now limit)) u.old drawn u.new) }
     ensures memory { IfErr result (λ e. e ≡ Error.Memory) }
     ensures left { KeepsPieces u.old u.new }
 {

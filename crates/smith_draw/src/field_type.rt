@@ -1,10 +1,12 @@
-ghost use Rattle.std.specs.Prelude.{◌≡◌, IsTrue, IfOk, IfErr, All};
+ghost use Rattle.std.specs.Prelude.{◌≡◌, false, IsTrue, IfOk, IfErr, All};
 ghost use Rattle.smith_bytes.specs.Source.{KeepsPieces};
+ghost use Rattle.smith_bytes.specs.Takes.{Takes, SpellsSuch};
 ghost use Rattle.smith_types.specs.Matching.{IsStorageInRange, IsFieldInRange};
 ghost use Rattle.smith_types.specs.ValidTypes.{values_of_storage, IsValTypeValid, IsShareable};
 ghost use Rattle.smith_config.specs.Features.{features_of};
 ghost use Rattle.smith_config.specs.Sanitized.{IsSanitized};
 ghost use Rattle.smith_draw.specs.FieldTypes.{storage_of_number_at, storage_type_at, field_type_at};
+ghost use Rattle.smith_draw.specs.Spelling.{SpellsStorage, SpellsField};
 
 use crate::spaces::Spaces;
 use crate::value_type::val_type;
@@ -65,6 +67,7 @@ pub fn arbitrary_storage_type(
     ensures valid { IfOk result (λ drawn. All (IsValTypeValid (features_of config.now) limit) (values_of_storage drawn)) }
     ensures stands { IfOk result (IsStorageInRange spaces.now.types.now.types) }
     ensures shared { IsTrue must_share → IfOk result (λ drawn. All (IsShareable spaces.now.types.now.types) (values_of_storage drawn)) }
+    ensures reach { must_share ≡ false → IfOk result (λ drawn. Takes (SpellsSuch (IsStorageInRange spaces.now.types.now.types) (SpellsStorage config.now limit)) u.old drawn u.new) }
     ensures memory { IfErr result (λ e. e ≡ Error.Memory) }
     ensures left { KeepsPieces u.old u.new }
 {
@@ -86,6 +89,7 @@ pub fn arbitrary_field_type(
     ensures valid { IfOk result (λ drawn. All (IsValTypeValid (features_of config.now) limit) (values_of_storage drawn.element_type)) }
     ensures stands { IfOk result (IsFieldInRange spaces.now.types.now.types) }
     ensures shared { IsTrue must_share → IfOk result (λ drawn. All (IsShareable spaces.now.types.now.types) (values_of_storage drawn.element_type)) }
+    ensures reach { must_share ≡ false → IfOk result (λ drawn. Takes (SpellsSuch (IsFieldInRange spaces.now.types.now.types) (SpellsField config.now limit)) u.old drawn u.new) }
     ensures memory { IfErr result (λ e. e ≡ Error.Memory) }
     ensures left { KeepsPieces u.old u.new }
 {

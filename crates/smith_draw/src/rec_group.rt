@@ -1,10 +1,12 @@
-ghost use Rattle.std.specs.Prelude.{◌≡◌, ◌≤◌, ◌<◌, ◌+◌, ◌-◌, ◌^◌, ◌++◌, ◌∷◌, [], false, length, take, drop, Some, slice_get, slice_index_or, IsTrue, OnOk, OnErr, IfOk, IfErr};
+ghost use Rattle.std.specs.Prelude.{◌≡◌, ◌≤◌, ◌<◌, ◌+◌, ◌-◌, ◌^◌, ◌++◌, ◌∷◌, [], true, false, length, take, drop, Some, slice_get, slice_index_or, IsTrue, OnOk, OnErr, IfOk, IfErr, All};
 ghost use Rattle.smith_bytes.specs.Source.{KeepsPieces};
+ghost use Rattle.smith_bytes.specs.Takes.{Takes};
 ghost use Rattle.smith_types.specs.Space.{MayFollow};
 ghost use Rattle.smith_types.specs.ValidTypes.{AreTypesValid};
 ghost use Rattle.smith_config.specs.Faults.{Passes};
 ghost use Rattle.smith_config.specs.Features.{features_of};
 ghost use Rattle.smith_config.specs.Sanitized.{IsSanitized};
+ghost use Rattle.smith_config.specs.Shapes.{space_of};
 ghost use Rattle.smith_draw.specs.RecGroups.{
   types_left,
   types_until_at,
@@ -18,6 +20,7 @@ ghost use Rattle.smith_draw.specs.RecGroups.{
   more_types_at,
   types_at,
 };
+ghost use Rattle.smith_draw.specs.Spelling.{IsRoot, SpellsAdded, SpellsSpace};
 
 use crate::spaces::Entities;
 use crate::sub_type::sub_type;
@@ -301,6 +304,7 @@ pub fn arbitrary_rec_group(
     ensures valid { OnOk result (AreTypesValid (features_of config.now) types.new) }
     ensures most { OnOk result (length types.new.types ≤ config.now.max_types) }
     ensures some { OnOk result (allow_empty ≡ false → length types.old.types < length types.new.types) }
+    ensures reach { allow_empty ≡ true → All IsRoot types.old.types → OnOk result (Takes (SpellsAdded config.now types.old) u.old types.new u.new) }
     ensures memory { IfErr result (λ e. e ≡ Error.Memory) }
     ensures left { KeepsPieces u.old u.new }
 {
@@ -322,6 +326,7 @@ pub fn arbitrary_types(
     ensures valid { OnOk result (AreTypesValid (features_of config.now) types.new) }
     ensures most { OnOk result (length types.old.types ≤ config.now.max_types → length types.new.types ≤ config.now.max_types) }
     ensures least { OnOk result (config.now.min_types ≤ length types.new.types) }
+    ensures reach { config.now.min_types ≡ 0 → types.old ≡ space_of [] → OnOk result (Takes (SpellsSpace config.now) u.old types.new u.new) }
     ensures memory { IfErr result (λ e. e ≡ Error.Memory) }
     ensures left { KeepsPieces u.old u.new }
 {

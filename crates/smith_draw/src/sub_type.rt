@@ -1,5 +1,7 @@
-ghost use Rattle.std.specs.Prelude.{◌≡◌, ◌<◌, ◌+◌, ◌^◌, None, Some, length, slice_get, IsTrue, IsSome, IfOk, IfErr};
+ghost use Rattle.std.specs.Prelude.{◌≡◌, ◌<◌, ◌+◌, ◌^◌, None, Some, length, slice_get, IsTrue, IsSome, IfOk, IfErr, All};
 ghost use Rattle.smith_bytes.specs.Source.{KeepsPieces};
+ghost use Rattle.smith_bytes.specs.Takes.{Takes, SpellsSuch};
+ghost use Rattle.smith_types.specs.Matching.{IsInnerInRange};
 ghost use Rattle.smith_types.specs.Space.{MayFollow};
 ghost use Rattle.smith_types.specs.OpenTypes.{AreTypesOpen};
 ghost use Rattle.smith_types.specs.ValidTypes.{IsTypeValid};
@@ -16,6 +18,7 @@ ghost use Rattle.smith_draw.specs.SubTypes.{
   sub_type_at,
   HasSuperType,
 };
+ghost use Rattle.smith_draw.specs.Spelling.{IsRoot, SpellsSubType};
 
 use crate::composite_type::composite_type;
 use crate::matching_composite::matching_composite_type;
@@ -178,6 +181,7 @@ pub fn arbitrary_sub_type(
     ensures exact { IfOk result (λ drawn. sub_type_at config.now spaces.now.types.now.types limit u.old ≡ (drawn, u.new)) }
     ensures valid { IfOk result (IsTypeValid (features_of config.now) spaces.now.types.now.types limit) }
     ensures follows { IfOk result (HasSuperType spaces.now.types.now.types) }
+    ensures reach { All IsRoot spaces.now.types.now.types → IfOk result (λ drawn. Takes (SpellsSuch (λ t. IsInnerInRange spaces.now.types.now.types t.composite_type.inner) (SpellsSubType config.now spaces.now.types.now.types limit)) u.old drawn u.new) }
     ensures memory { IfErr result (λ e. e ≡ Error.Memory) }
     ensures left { KeepsPieces u.old u.new }
 {

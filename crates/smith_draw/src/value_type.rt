@@ -1,5 +1,6 @@
-ghost use Rattle.std.specs.Prelude.{◌≡◌, ◌<◌, IsTrue, IfOk, IfErr, slice_get};
+ghost use Rattle.std.specs.Prelude.{◌≡◌, false, ◌<◌, IsTrue, IfOk, IfErr, slice_get};
 ghost use Rattle.smith_bytes.specs.Source.{KeepsPieces};
+ghost use Rattle.smith_bytes.specs.Takes.{Takes, SpellsSuch};
 ghost use Rattle.smith_types.specs.Subtyping.{IsInRange, IsValInRange};
 ghost use Rattle.smith_types.specs.ValidTypes.{
   IsHeapTypeValid,
@@ -21,6 +22,7 @@ ghost use Rattle.smith_draw.specs.ValueTypes.{
   value_of_class_at,
   val_type_at,
 };
+ghost use Rattle.smith_draw.specs.Spelling.{SpellsHeapType, SpellsRefType, SpellsValType};
 
 use crate::choice::choose_enabled;
 use crate::spaces::Spaces;
@@ -227,6 +229,7 @@ pub fn arbitrary_heap_type(
     ensures valid { IfOk result (IsHeapTypeValid (features_of config.now) limit) }
     ensures stands { IfOk result (IsInRange spaces.now.types.now.types) }
     ensures shared { IsTrue must_share → IfOk result (IsHeapTypeShared spaces.now.types.now.types) }
+    ensures reach { must_share ≡ false → IfOk result (λ drawn. Takes (SpellsSuch (IsInRange spaces.now.types.now.types) (SpellsHeapType config.now limit)) u.old drawn u.new) }
     ensures memory { IfErr result (λ e. e ≡ Error.Memory) }
     ensures left { KeepsPieces u.old u.new }
 {
@@ -248,6 +251,7 @@ pub fn arbitrary_ref_type(
     ensures valid { IfOk result (IsRefTypeValid (features_of config.now) limit) }
     ensures stands { IfOk result (λ drawn. IsInRange spaces.now.types.now.types drawn.heap_type) }
     ensures shared { IsTrue must_share → IfOk result (λ drawn. IsHeapTypeShared spaces.now.types.now.types drawn.heap_type) }
+    ensures reach { must_share ≡ false → IfOk result (λ drawn. Takes (SpellsSuch (λ reference. IsInRange spaces.now.types.now.types reference.heap_type) (SpellsRefType config.now limit)) u.old drawn u.new) }
     ensures memory { IfErr result (λ e. e ≡ Error.Memory) }
     ensures left { KeepsPieces u.old u.new }
 {
@@ -269,6 +273,7 @@ pub fn arbitrary_valtype(
     ensures valid { IfOk result (IsValTypeValid (features_of config.now) limit) }
     ensures stands { IfOk result (IsValInRange spaces.now.types.now.types) }
     ensures shared { IsTrue must_share → IfOk result (IsShareable spaces.now.types.now.types) }
+    ensures reach { must_share ≡ false → IfOk result (λ drawn. Takes (SpellsSuch (IsValInRange spaces.now.types.now.types) (SpellsValType config.now limit)) u.old drawn u.new) }
     ensures memory { IfErr result (λ e. e ≡ Error.Memory) }
     ensures left { KeepsPieces u.old u.new }
 {

@@ -3,6 +3,7 @@ use Rattle.smith_types.specs.declared.composite_type.CompositeType.{CompositeTyp
 use Rattle.smith_types.specs.ValidTypes.{values_of}
 use Rattle.smith_draw.proofs.ValueTypeLaws.{drawn_is, values_valid, values_shared}
 use Rattle.smith_draw.proofs.CompositeTypeLaws.{IsCompositeDrawn, composite_type_drawn}
+use Rattle.smith_draw.proofs.Taken.{composite_type_taken}
 use Rattle.smith_draw.proofs.composite_type.arbitrary_composite_type.Goals as goal
 
 pub returns : goal.returns
@@ -20,6 +21,7 @@ returns c =
       valid = IfOk-weaker c.composite_type.result P _ (λ composite h. values_valid config types composite.shared limit (values_of composite.inner) h.inner.values) drawn;
       stands = IfOk-weaker c.composite_type.result P _ (λ composite h. h.inner.stands) drawn;
       shared = IfOk-weaker c.composite_type.result P _ (λ composite h must. values_shared config types composite.shared limit (values_of composite.inner) must h.inner.values) drawn;
+      reach = IfOk-weaker c.composite_type.result _ _ (λ _ e. composite_type_taken _ _ _ _ _ _ e) exact;
       memory = c.composite_type.ensures.memory;
       left = c.composite_type.ensures.left;
     }

@@ -4,6 +4,7 @@ use Rattle.smith_types.specs.declared.composite_type.FuncType.{FuncType}
 use Rattle.smith_types.specs.ValidTypes.{values_of}
 use Rattle.smith_draw.proofs.ValueTypeLaws.{drawn_is, values_shared}
 use Rattle.smith_draw.proofs.CompositeTypeLaws.{IsFuncTypeDrawn, func_type_drawn, func_type_valid, func_drawn}
+use Rattle.smith_draw.proofs.Taken.{func_type_taken}
 use Rattle.smith_draw.proofs.composite_type.arbitrary_func_type.Goals as goal
 
 pub returns : goal.returns
@@ -20,6 +21,7 @@ returns c =
       shared = λ must.
           IfOk-weaker c.func_type.result P _
           (λ f h. values_shared config types c.args.must_share c.args.limit (values_of (Func f)) must (func_drawn config types c.args.must_share c.args.limit f h).values) drawn;
+      reach = λ no. IfOk-weaker c.func_type.result _ _ (λ _ e. func_type_taken _ _ _ _ _ _ _ no e) exact;
       memory = c.func_type.ensures.memory;
       left = c.func_type.ensures.left;
     }

@@ -7,6 +7,7 @@ use Rattle.smith_types.specs.ValidTypes.{values_of}
 use Rattle.smith_draw.proofs.ValueTypeLaws.{drawn_is, values_valid, values_shared}
 use Rattle.smith_draw.proofs.FieldTypeLaws.{IsFieldDrawn}
 use Rattle.smith_draw.proofs.CompositeTypeLaws.{IsStructTypeDrawn, struct_type_drawn, field_values_drawn}
+use Rattle.smith_draw.proofs.Taken.{struct_type_taken}
 use Rattle.smith_draw.proofs.composite_type.arbitrary_struct_type.Goals as goal
 
 pub returns : goal.returns
@@ -24,6 +25,7 @@ returns c =
       valid = IfOk-weaker c.struct_type.result P _ (λ s h. values_valid config types must_share limit (values_of (Struct s)) (field_values_drawn config types must_share limit s h.fields)) drawn;
       stands = IfOk-weaker c.struct_type.result P _ (λ s h. All-weaker (IsFieldDrawn config types must_share limit) (IsFieldInRange types) (λ field d. d.stands) s.fields h.fields) drawn;
       shared = λ must. IfOk-weaker c.struct_type.result P _ (λ s h. values_shared config types must_share limit (values_of (Struct s)) must (field_values_drawn config types must_share limit s h.fields)) drawn;
+      reach = λ no. IfOk-weaker c.struct_type.result _ _ (λ _ e. struct_type_taken _ _ _ _ _ _ _ no e) exact;
       memory = c.struct_type.ensures.memory;
       left = c.struct_type.ensures.left;
     }

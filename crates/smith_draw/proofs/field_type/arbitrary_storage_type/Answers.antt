@@ -2,6 +2,7 @@ use Rattle.smith_types.specs.ValidTypes.{values_of_storage}
 use Rattle.smith_types.specs.declared.composite_type.StorageType.{StorageType}
 use Rattle.smith_draw.proofs.ValueTypeLaws.{drawn_is, values_valid, values_shared}
 use Rattle.smith_draw.proofs.FieldTypeLaws.{IsStorageDrawn, storage_type_drawn}
+use Rattle.smith_draw.proofs.Taken.{storage_type_taken}
 use Rattle.smith_draw.proofs.field_type.arbitrary_storage_type.Goals as goal
 
 pub returns : goal.returns
@@ -16,6 +17,7 @@ returns c =
       valid = values_valid config types c.args.must_share c.args.limit values drawn.values;
       stands = drawn.stands;
       shared = λ must. values_shared config types c.args.must_share c.args.limit values must drawn.values;
+      reach = λ no. storage_type_taken _ _ _ _ _ _ _ no exact;
       memory = tt;
       left = c.storage_type.ensures.left;
     }

@@ -5,6 +5,7 @@ use Rattle.smith_config.specs.Features.{features_of}
 use Rattle.smith_draw.proofs.ValueTypeLaws.{drawn_is}
 use Rattle.smith_draw.proofs.GroupSizes.{HasMore, rec_group_more}
 use Rattle.smith_draw.proofs.RecGroupLaws.{within_of, rec_group_valid}
+use Rattle.smith_draw.proofs.Taken.{rec_group_taken}
 use Rattle.smith_draw.proofs.rec_group.arbitrary_rec_group.Goals as goal
 
 pub rec_group-requires-clause-few : goal.rec_group-requires-clause-few
@@ -24,3 +25,6 @@ pub returns-clause-some : goal.returns-clause-some
 returns-clause-some c =
     on_ok_weaker c.rec_group.result
     (λ drawn. (drawn_is (HasMore c.args.config.now c.args.allow_empty c.args.types.now) _ (rec_group_more _ _ _ _ (within_of _ _ c.requires.valid) c.requires.room) drawn).some) c.rec_group.ensures.exact
+
+pub returns-clause-reach : goal.returns-clause-reach
+returns-clause-reach c = λ may roots. on_ok_weaker c.rec_group.result (rec_group_taken _ _ _ _ _ _ c.requires.sanitized may roots) c.rec_group.ensures.exact

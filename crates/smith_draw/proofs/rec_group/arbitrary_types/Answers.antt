@@ -6,6 +6,7 @@ use Rattle.smith_types.specs.ValidTypes.{AreTypesValid}
 use Rattle.smith_config.specs.Features.{features_of}
 use Rattle.smith_draw.proofs.ValueTypeLaws.{drawn_is}
 use Rattle.smith_draw.proofs.RecGroupLaws.{types_valid, types_most, types_least}
+use Rattle.smith_draw.proofs.Taken.{types_taken}
 use Rattle.smith_draw.proofs.rec_group.arbitrary_types.Goals as goal
 
 pub all_types-requires-clause-ordered : goal.all_types-requires-clause-ordered
@@ -28,3 +29,6 @@ pub returns-clause-least : goal.returns-clause-least
 returns-clause-least c =
     on_ok_weaker c.all_types.result
     (drawn_is (λ (space : Space). c.args.config.now.min_types ≤ length space.types) _ (types_least _ _ _ c.requires.sanitized (c.requires.passes.ordered Types tt) c.requires.valid)) c.all_types.ensures.exact
+
+pub returns-clause-reach : goal.returns-clause-reach
+returns-clause-reach c = λ least empty. on_ok_weaker c.all_types.result (types_taken _ _ _ _ _ c.requires.sanitized least empty) c.all_types.ensures.exact

@@ -4,6 +4,7 @@ use Rattle.smith_config.specs.Features.{features_of}
 use Rattle.smith_draw.specs.SubTypes.{HasSuperType}
 use Rattle.smith_draw.proofs.ValueTypeLaws.{drawn_is}
 use Rattle.smith_draw.proofs.SubTypeLaws.{sub_type_valid, sub_type_follows}
+use Rattle.smith_draw.proofs.Taken.{sub_type_taken}
 use Rattle.smith_draw.proofs.sub_type.arbitrary_sub_type.Goals as goal
 
 pub returns-clause-valid : goal.returns-clause-valid
@@ -12,3 +13,6 @@ returns-clause-valid c =
 
 pub returns-clause-follows : goal.returns-clause-follows
 returns-clause-follows c = IfOk-weaker c.sub_type.result _ _ (λ _ e. drawn_is (HasSuperType c.args.spaces.now.types.now.types) _ (sub_type_follows _ _ _ _) e) c.sub_type.ensures.exact
+
+pub returns-clause-reach : goal.returns-clause-reach
+returns-clause-reach c = λ roots. IfOk-weaker c.sub_type.result _ _ (λ _ e. sub_type_taken _ _ _ _ _ _ c.requires.sanitized roots e) c.sub_type.ensures.exact

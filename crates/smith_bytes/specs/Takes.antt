@@ -1,0 +1,12 @@
+-- Draws that read what is spelled.
+use Rattle.std.specs.Prelude.{◌≡◌, List, ◌++◌, ℕ}
+
+-- from a source that begins with a piece that spells a value, that value was drawn, and what follows the piece is left
+pub record Takes {A : Type 0} (Spelled : A → List ℕ → Type 0) (old : List ℕ) (drawn : A) (new : List ℕ) : Type 0 where
+  pub made : (value : A) (piece after : List ℕ) → Spelled value piece → old ≡ piece ++ after → drawn ≡ value
+  pub left : (value : A) (piece after : List ℕ) → Spelled value piece → old ≡ piece ++ after → new ≡ after
+
+-- spells a value for which this holds
+pub record SpellsSuch {A : Type 0} (Holds : A → Type 0) (Spelled : A → List ℕ → Type 0) (value : A) (piece : List ℕ) : Type 0 where
+  pub holds : Holds value
+  pub spelled : Spelled value piece
