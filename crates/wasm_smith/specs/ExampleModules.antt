@@ -1,22 +1,28 @@
 -- Modules that the examples speak of.
-use Rattle.std.specs.Prelude.{ℕ, Bool, true, false, List, [], ◌∷◌, Option, Some, None, codes, length, replicate}
+use Rattle.std.specs.Prelude.{ℕ, Bool, true, false, ℤ, pos, negsuc, List, [], ◌∷◌, Option, Some, None, codes}
 use Rattle.std.specs.declared.ops.Range.{Range}
+use Rattle.smith_types.specs.Flags.{funcref}
+use Rattle.smith_types.specs.ExampleTypes.{plain, nullable, anyref, eqref, constant}
 use Rattle.smith_types.specs.declared.value_type.AbstractHeapType.TheVariants as heap
-use Rattle.smith_types.specs.declared.value_type.HeapType.{HeapType}
-use Rattle.smith_types.specs.declared.value_type.HeapType.TheVariants.{Abstract, Concrete}
-use Rattle.smith_types.specs.declared.value_type.RefType.{RefType}
+use Rattle.smith_types.specs.declared.value_type.HeapType.TheVariants.{Concrete}
 use Rattle.smith_types.specs.declared.value_type.ValType.{ValType}
-use Rattle.smith_types.specs.declared.value_type.ValType.TheVariants.{I32, Ref}
+use Rattle.smith_types.specs.declared.value_type.ValType.TheVariants.{I32, I64, F32, Ref}
 use Rattle.smith_types.specs.declared.composite_type.StorageType.TheVariants.{I8, Val}
 use Rattle.smith_types.specs.declared.composite_type.CompositeInnerType.{CompositeInnerType}
 use Rattle.smith_types.specs.declared.composite_type.CompositeInnerType.TheVariants.{Array, Func, Struct}
 use Rattle.smith_types.specs.declared.composite_type.SubType.{SubType}
-use Rattle.smith_types.specs.declared.entity_type.MemoryType.{MemoryType}
-use Rattle.smith_types.specs.declared.code.Code.{Code}
-use Rattle.smith_types.specs.declared.code.Instructions.TheVariants.{Unreachable}
+use Rattle.smith_types.specs.declared.entity_type.EntityType.TheVariants as entity
+use Rattle.smith_types.specs.declared.entity_type.ExportKind.TheVariants as kind
+use Rattle.smith_types.specs.declared.imports.Imports.{Imports}
+use Rattle.smith_types.specs.declared.imports.Imports.TheVariants.{Single, Compact1, Compact2}
+use Rattle.smith_types.specs.declared.const_instr.ConstInstr.TheVariants.{I32Const, F32Const, GlobalGet, RefNull}
+use Rattle.smith_types.specs.declared.segments.Elements.TheVariants.{Functions, Expressions}
+use Rattle.smith_types.specs.declared.segments.DataSegmentKind.TheVariants as data_kind
+use Rattle.smith_types.specs.declared.code.Instructions.TheVariants.{Arbitrary}
 use Rattle.smith_config.specs.declared.config.Config.{Config}
 use Rattle.smith_config.specs.Config.{default_config}
 use Rattle.wasm_smith.specs.Module.{Parts}
+use Rattle.wasm_smith.specs.ExampleParts.{memory, shared_memory, table, global, number, import_named, no_function, passive_elements, active_data, trapping}
 
 -- a module without anything
 abbrev pub empty_module : Config → Parts
@@ -78,6 +84,104 @@ one_function = record (empty_module default_config) {
   groups = group_of 0 1 ∷ [];
   funcs = 0 ∷ [];
   num_defined_funcs = 1;
-  code = record { locals = []; instructions = Unreachable } ∷ [];
+  code = trapping ∷ [];
   encodes_types = true;
 }
+
+-- a group without types
+abbrev pub empty_group : Parts
+empty_group = record (empty_module default_config) { groups = group_of 0 0 ∷ [] }
+
+-- two array types below a first one, in two groups
+abbrev pub three_arrays : Parts
+three_arrays = record (empty_module (record default_config { min_types = 3; max_types = 3 })) {
+  types = a_type bytes_array false None ∷ a_type bytes_array false (Some 0) ∷ a_type bytes_array false (Some 0) ∷ [];
+  groups = group_of 0 2 ∷ group_of 2 3 ∷ [];
+  encodes_types = true;
+}
+
+-- a table of references to no function
+abbrev pub one_table : Parts
+one_table = record (empty_module (record default_config { disallow_traps = true; max_table_elements = 0; min_tables = 1 })) {
+  tables = table funcref 1 None ∷ [];
+  defined_tables = Some no_function ∷ [];
+}
+
+-- a segment of two references to no function
+abbrev pub two_elements : Parts
+two_elements = record (empty_module default_config) { elems = passive_elements (Expressions (no_function ∷ no_function ∷ [])) ∷ [] }
+
+-- an import of a number
+abbrev pub one_import : Parts
+one_import = record (empty_module (record default_config { min_imports = 1 })) {
+  imports = Single (import_named [] (entity.Global number)) ∷ [];
+  num_imports = 1;
+  globals = number ∷ [];
+  encodes_imports = true;
+  type_size = 2;
+}
+
+-- two imports of numbers in one group
+abbrev pub two_imports : Parts
+two_imports = record (empty_module (record default_config { max_imports = 2; min_globals = 1 })) {
+  imports = Compact2 [] (entity.Global number) ([] ∷ codes "b" ∷ []) ∷ [];
+  num_imports = 2;
+  globals = number ∷ number ∷ [];
+  encodes_imports = true;
+  type_size = 4;
+}
+
+-- a memory
+abbrev pub one_memory : Parts
+one_memory = record (empty_module (record default_config { min_memories = 1 })) { memories = shared_memory 0 ∷ []; num_defined_memories = 1 }
+
+-- three imports of memories in two groups
+abbrev pub three_memories : Parts
+three_memories = record (empty_module (record default_config { max_memories = 3 })) {
+  imports = Compact1 [] (record { name = codes "a"; entity_type = entity.Memory (memory 1 None) } ∷ []) ∷ Compact2 [] (entity.Memory (memory 1 None)) (codes "b" ∷ codes "c" ∷ []) ∷ [];
+  num_imports = 3;
+  memories = memory 1 None ∷ memory 1 None ∷ memory 1 None ∷ [];
+  encodes_imports = true;
+}
+
+-- a function whose body is raw bytes
+abbrev pub raw_body : Parts
+raw_body = record one_function {
+  config = record default_config { allow_invalid_funcs = true };
+  code = record { locals = []; instructions = Arbitrary (7 ∷ 8 ∷ []) } ∷ [];
+}
+
+-- a memory of a page, and no bytes that are copied to its start
+abbrev pub one_data_segment : Parts
+one_data_segment = record (empty_module (record default_config { disallow_traps = true; bulk_memory_enabled = false; min_memories = 1; min_data_segments = 1 })) {
+  memories = shared_memory 1 ∷ [];
+  num_defined_memories = 1;
+  segments = active_data (pos 0) [] ∷ [];
+}
+
+-- a tag and a function of one type, which is exported, and a segment without references
+abbrev pub one_tag : Parts
+one_tag = record one_function {
+  config = record default_config { min_tags = 1; min_funcs = 1; min_exports = 1; min_element_segments = 1 };
+  tags = 0 ∷ [];
+  num_defined_tags = 1;
+  exports = ([], kind.Func, 0) ∷ [];
+  elems = passive_elements (Expressions []) ∷ [];
+  type_size = 2;
+}
+
+-- globals that count fuel, beside a function
+abbrev pub counting_fuel : Parts
+counting_fuel = record one_function {
+  globals = global I32 true ∷ global I32 true ∷ [];
+  defined_globals = (0, I32Const (negsuc 0) ∷ []) ∷ (1, I32Const (pos 5) ∷ []) ∷ [];
+  fuel_globals = 0 ∷ 1 ∷ [];
+}
+
+-- a number that may be changed
+abbrev pub one_number : Parts
+one_number = record (empty_module default_config) { globals = global I32 true ∷ []; defined_globals = (0, I32Const (pos 7) ∷ []) ∷ [] }
+
+-- bytes that are copied nowhere
+abbrev pub passive_bytes : Parts
+passive_bytes = record (empty_module default_config) { segments = record { kind = data_kind.Passive; init = 42 ∷ [] } ∷ [] }
