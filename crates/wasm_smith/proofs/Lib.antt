@@ -5,3 +5,4 @@ pub mod Bodies
 pub mod Alone
 pub mod Spelled
 pub mod Places
+pub mod ExampleParts

@@ -1,5 +1,5 @@
 -- Modules that the examples speak of.
-use Rattle.std.specs.Prelude.{ℕ, Bool, true, false, ℤ, pos, negsuc, List, [], ◌∷◌, Option, Some, None, codes}
+use Rattle.std.specs.Prelude.{ℕ, Bool, true, false, ℤ, pos, negsuc, List, [], ◌∷◌, Option, Some, None, codes, length}
 use Rattle.std.specs.declared.ops.Range.{Range}
 use Rattle.smith_types.specs.Flags.{funcref}
 use Rattle.smith_types.specs.ExampleTypes.{plain, nullable, anyref, eqref, constant}
@@ -16,6 +16,7 @@ use Rattle.smith_types.specs.declared.entity_type.ExportKind.TheVariants as kind
 use Rattle.smith_types.specs.declared.imports.Imports.{Imports}
 use Rattle.smith_types.specs.declared.imports.Imports.TheVariants.{Single, Compact1, Compact2}
 use Rattle.smith_types.specs.declared.const_instr.ConstInstr.TheVariants.{I32Const, F32Const, GlobalGet, RefNull}
+use Rattle.smith_types.specs.declared.segments.Elements.{Elements}
 use Rattle.smith_types.specs.declared.segments.Elements.TheVariants.{Functions, Expressions}
 use Rattle.smith_types.specs.declared.segments.DataSegmentKind.TheVariants as data_kind
 use Rattle.smith_types.specs.declared.code.Instructions.TheVariants.{Arbitrary}
@@ -185,3 +186,85 @@ one_number = record (empty_module default_config) { globals = global I32 true �
 -- bytes that are copied nowhere
 abbrev pub passive_bytes : Parts
 passive_bytes = record (empty_module default_config) { segments = record { kind = data_kind.Passive; init = 42 ∷ [] } ∷ [] }
+
+-- a table that begins with the reference in a global, which is imported, or defined
+abbrev pub table_from_import : Parts
+table_from_import = record (empty_module default_config) {
+  imports = Single (import_named [] (entity.Global (global (Ref funcref) false))) ∷ [];
+  num_imports = 1;
+  tables = table funcref 1 None ∷ [];
+  defined_tables = Some (GlobalGet 0 ∷ []) ∷ [];
+  globals = global (Ref funcref) false ∷ [];
+  encodes_imports = true;
+  type_size = 2;
+}
+
+abbrev pub table_from_definition : Parts
+table_from_definition = record (empty_module default_config) {
+  tables = table funcref 1 None ∷ [];
+  defined_tables = Some (GlobalGet 0 ∷ []) ∷ [];
+  globals = global (Ref funcref) false ∷ [];
+  defined_globals = (0, no_function) ∷ [];
+}
+
+-- a table that begins with the reference to no function, without garbage collection
+abbrev pub table_without_gc : Parts
+table_without_gc = record one_table { config = record default_config { gc_enabled = false } }
+
+-- types in one group
+abbrev pub types_together : List SubType → Parts
+types_together types = record (empty_module default_config) { types = types; groups = group_of 0 (length types) ∷ []; encodes_types = true }
+
+-- two types, each in a group of its own
+abbrev pub types_apart : SubType → SubType → Parts
+types_apart one other = record (empty_module default_config) { types = one ∷ other ∷ []; groups = group_of 0 1 ∷ group_of 1 2 ∷ []; encodes_types = true }
+
+-- a function type that takes this
+abbrev pub taking : ValType → CompositeInnerType
+taking param = Func (record { params = param ∷ []; results = [] })
+
+-- a struct of a reference to the type of this index
+abbrev pub referring_to : ℕ → CompositeInnerType
+referring_to index = Struct (record { fields = constant (Val (Ref (nullable (Concrete index)))) ∷ [] })
+
+-- two memories where there may be so many
+abbrev pub two_memories : ℕ → Parts
+two_memories most = record (empty_module (record default_config { max_memories = most })) { memories = memory 1 None ∷ memory 1 None ∷ []; num_defined_memories = 2 }
+
+-- a function that is exported by these two names
+abbrev pub exported_twice : List ℕ → List ℕ → Parts
+exported_twice one other = record one_function { exports = (one, kind.Func, 0) ∷ (other, kind.Func, 0) ∷ []; type_size = 4 }
+
+-- a function without a body
+abbrev pub bodiless : Parts
+bodiless = record one_function { code = [] }
+
+-- two numbers that are defined in another order than that of their indices
+abbrev pub out_of_order : Parts
+out_of_order = record (empty_module default_config) {
+  globals = number ∷ number ∷ [];
+  defined_globals = (1, I32Const (pos 1) ∷ []) ∷ (0, I32Const (pos 0) ∷ []) ∷ [];
+}
+
+-- every function of two is exported
+abbrev pub two_exports : Parts
+two_exports = record one_function {
+  config = record default_config { export_everything = true; max_type_size = 4 };
+  funcs = 0 ∷ 0 ∷ [];
+  num_defined_funcs = 2;
+  code = trapping ∷ trapping ∷ [];
+  exports = ([], kind.Func, 0) ∷ (codes "1", kind.Func, 1) ∷ [];
+  type_size = 4;
+}
+
+-- two imports of these names
+abbrev pub named_imports : List ℕ → List ℕ → Parts
+named_imports one other = record two_imports { imports = Compact2 [] (entity.Global number) (one ∷ other ∷ []) ∷ [] }
+
+-- a memory of so many pages, and bytes that are copied to its last address
+abbrev pub last_bytes : ℕ → List ℕ → Parts
+last_bytes pages bytes = record (empty_module default_config) { memories = memory pages None ∷ []; num_defined_memories = 1; segments = active_data (negsuc 0) bytes ∷ [] }
+
+-- a segment of these references, where so many are asked for, beside a function
+abbrev pub elements_asked_for : ℕ → Elements → Parts
+elements_asked_for least items = record one_function { config = record default_config { min_elements = least }; elems = passive_elements items ∷ [] }
