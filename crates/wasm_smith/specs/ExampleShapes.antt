@@ -76,3 +76,12 @@ exporting = record empty_shape { memories = memory 1 (Some 10) ∷ []; globals =
 -- a module with these entities and with such exports
 abbrev pub exported : List (List ℕ × ExportKind × ℕ) → Parts
 exported exports = record (empty_module default_config) { memories = memory 1 (Some 10) ∷ []; num_defined_memories = 1; globals = global F32 false ∷ []; exports = exports }
+
+-- a global of references that may not be null
+abbrev pub non_nullable : Shape
+non_nullable = record empty_shape { globals = global (Ref (not_null (plain heap.Extern))) false ∷ []; exports = (codes "g", kind.Global, 0) ∷ [] }
+
+-- a minimum that is unmet of a part that is not drawn yet
+abbrev pub IsUnmetPart : Config → Error → Type 0
+IsUnmetPart config (IncorrectFormat (Unmet count)) = 0 < minimum_of config count
+IsUnmetPart config _ = ⊥

@@ -4,4 +4,6 @@ mod bounds;
 mod family;
 mod modules;
 mod refused_modules;
+mod promises;
+mod shapes;
 mod spelling;
