@@ -3,3 +3,6 @@ pub mod MemoryCounts
 pub mod Needless
 pub mod Bodies
 pub mod Alone
+pub mod Spelled
+pub mod Places
+pub mod ExampleParts

@@ -1,22 +1,29 @@
 -- Modules that the examples speak of.
-use Rattle.std.specs.Prelude.{ℕ, Bool, true, false, List, [], ◌∷◌, Option, Some, None, codes, length, replicate}
+use Rattle.std.specs.Prelude.{ℕ, Bool, true, false, ℤ, pos, negsuc, List, [], ◌∷◌, Option, Some, None, codes, length}
 use Rattle.std.specs.declared.ops.Range.{Range}
+use Rattle.smith_types.specs.Flags.{funcref}
+use Rattle.smith_types.specs.ExampleTypes.{plain, nullable, anyref, eqref, constant}
 use Rattle.smith_types.specs.declared.value_type.AbstractHeapType.TheVariants as heap
-use Rattle.smith_types.specs.declared.value_type.HeapType.{HeapType}
-use Rattle.smith_types.specs.declared.value_type.HeapType.TheVariants.{Abstract, Concrete}
-use Rattle.smith_types.specs.declared.value_type.RefType.{RefType}
+use Rattle.smith_types.specs.declared.value_type.HeapType.TheVariants.{Concrete}
 use Rattle.smith_types.specs.declared.value_type.ValType.{ValType}
-use Rattle.smith_types.specs.declared.value_type.ValType.TheVariants.{I32, Ref}
+use Rattle.smith_types.specs.declared.value_type.ValType.TheVariants.{I32, I64, F32, Ref}
 use Rattle.smith_types.specs.declared.composite_type.StorageType.TheVariants.{I8, Val}
 use Rattle.smith_types.specs.declared.composite_type.CompositeInnerType.{CompositeInnerType}
 use Rattle.smith_types.specs.declared.composite_type.CompositeInnerType.TheVariants.{Array, Func, Struct}
 use Rattle.smith_types.specs.declared.composite_type.SubType.{SubType}
-use Rattle.smith_types.specs.declared.entity_type.MemoryType.{MemoryType}
-use Rattle.smith_types.specs.declared.code.Code.{Code}
-use Rattle.smith_types.specs.declared.code.Instructions.TheVariants.{Unreachable}
+use Rattle.smith_types.specs.declared.entity_type.EntityType.TheVariants as entity
+use Rattle.smith_types.specs.declared.entity_type.ExportKind.TheVariants as kind
+use Rattle.smith_types.specs.declared.imports.Imports.{Imports}
+use Rattle.smith_types.specs.declared.imports.Imports.TheVariants.{Single, Compact1, Compact2}
+use Rattle.smith_types.specs.declared.const_instr.ConstInstr.TheVariants.{I32Const, F32Const, GlobalGet, RefNull}
+use Rattle.smith_types.specs.declared.segments.Elements.{Elements}
+use Rattle.smith_types.specs.declared.segments.Elements.TheVariants.{Functions, Expressions}
+use Rattle.smith_types.specs.declared.segments.DataSegmentKind.TheVariants as data_kind
+use Rattle.smith_types.specs.declared.code.Instructions.TheVariants.{Arbitrary}
 use Rattle.smith_config.specs.declared.config.Config.{Config}
 use Rattle.smith_config.specs.Config.{default_config}
 use Rattle.wasm_smith.specs.Module.{Parts}
+use Rattle.wasm_smith.specs.ExampleParts.{memory, shared_memory, table, global, number, import_named, no_function, passive_elements, active_data, trapping}
 
 -- a module without anything
 abbrev pub empty_module : Config → Parts
@@ -78,6 +85,186 @@ one_function = record (empty_module default_config) {
   groups = group_of 0 1 ∷ [];
   funcs = 0 ∷ [];
   num_defined_funcs = 1;
-  code = record { locals = []; instructions = Unreachable } ∷ [];
+  code = trapping ∷ [];
   encodes_types = true;
 }
+
+-- a group without types
+abbrev pub empty_group : Parts
+empty_group = record (empty_module default_config) { groups = group_of 0 0 ∷ [] }
+
+-- two array types below a first one, in two groups
+abbrev pub three_arrays : Parts
+three_arrays = record (empty_module (record default_config { min_types = 3; max_types = 3 })) {
+  types = a_type bytes_array false None ∷ a_type bytes_array false (Some 0) ∷ a_type bytes_array false (Some 0) ∷ [];
+  groups = group_of 0 2 ∷ group_of 2 3 ∷ [];
+  encodes_types = true;
+}
+
+-- a table of references to no function
+abbrev pub one_table : Parts
+one_table = record (empty_module (record default_config { disallow_traps = true; max_table_elements = 0; min_tables = 1 })) {
+  tables = table funcref 1 None ∷ [];
+  defined_tables = Some no_function ∷ [];
+}
+
+-- a segment of two references to no function
+abbrev pub two_elements : Parts
+two_elements = record (empty_module default_config) { elems = passive_elements (Expressions (no_function ∷ no_function ∷ [])) ∷ [] }
+
+-- an import of a number
+abbrev pub one_import : Parts
+one_import = record (empty_module (record default_config { min_imports = 1 })) {
+  imports = Single (import_named [] (entity.Global number)) ∷ [];
+  num_imports = 1;
+  globals = number ∷ [];
+  encodes_imports = true;
+  type_size = 2;
+}
+
+-- two imports of numbers in one group
+abbrev pub two_imports : Parts
+two_imports = record (empty_module (record default_config { max_imports = 2; min_globals = 1 })) {
+  imports = Compact2 [] (entity.Global number) ([] ∷ codes "b" ∷ []) ∷ [];
+  num_imports = 2;
+  globals = number ∷ number ∷ [];
+  encodes_imports = true;
+  type_size = 4;
+}
+
+-- a memory
+abbrev pub one_memory : Parts
+one_memory = record (empty_module (record default_config { min_memories = 1 })) { memories = shared_memory 0 ∷ []; num_defined_memories = 1 }
+
+-- three imports of memories in two groups
+abbrev pub three_memories : Parts
+three_memories = record (empty_module (record default_config { max_memories = 3 })) {
+  imports = Compact1 [] (record { name = codes "a"; entity_type = entity.Memory (memory 1 None) } ∷ []) ∷ Compact2 [] (entity.Memory (memory 1 None)) (codes "b" ∷ codes "c" ∷ []) ∷ [];
+  num_imports = 3;
+  memories = memory 1 None ∷ memory 1 None ∷ memory 1 None ∷ [];
+  encodes_imports = true;
+}
+
+-- a function whose body is raw bytes
+abbrev pub raw_body : Parts
+raw_body = record one_function {
+  config = record default_config { allow_invalid_funcs = true };
+  code = record { locals = []; instructions = Arbitrary (7 ∷ 8 ∷ []) } ∷ [];
+}
+
+-- a memory of a page, and no bytes that are copied to its start
+abbrev pub one_data_segment : Parts
+one_data_segment = record (empty_module (record default_config { disallow_traps = true; bulk_memory_enabled = false; min_memories = 1; min_data_segments = 1 })) {
+  memories = shared_memory 1 ∷ [];
+  num_defined_memories = 1;
+  segments = active_data (pos 0) [] ∷ [];
+}
+
+-- a tag and a function of one type, which is exported, and a segment without references
+abbrev pub one_tag : Parts
+one_tag = record one_function {
+  config = record default_config { min_tags = 1; min_funcs = 1; min_exports = 1; min_element_segments = 1 };
+  tags = 0 ∷ [];
+  num_defined_tags = 1;
+  exports = ([], kind.Func, 0) ∷ [];
+  elems = passive_elements (Expressions []) ∷ [];
+  type_size = 2;
+}
+
+-- globals that count fuel, beside a function
+abbrev pub counting_fuel : Parts
+counting_fuel = record one_function {
+  globals = global I32 true ∷ global I32 true ∷ [];
+  defined_globals = (0, I32Const (negsuc 0) ∷ []) ∷ (1, I32Const (pos 5) ∷ []) ∷ [];
+  fuel_globals = 0 ∷ 1 ∷ [];
+}
+
+-- a number that may be changed
+abbrev pub one_number : Parts
+one_number = record (empty_module default_config) { globals = global I32 true ∷ []; defined_globals = (0, I32Const (pos 7) ∷ []) ∷ [] }
+
+-- bytes that are copied nowhere
+abbrev pub passive_bytes : Parts
+passive_bytes = record (empty_module default_config) { segments = record { kind = data_kind.Passive; init = 42 ∷ [] } ∷ [] }
+
+-- a table that begins with the reference in a global, which is imported, or defined
+abbrev pub table_from_import : Parts
+table_from_import = record (empty_module default_config) {
+  imports = Single (import_named [] (entity.Global (global (Ref funcref) false))) ∷ [];
+  num_imports = 1;
+  tables = table funcref 1 None ∷ [];
+  defined_tables = Some (GlobalGet 0 ∷ []) ∷ [];
+  globals = global (Ref funcref) false ∷ [];
+  encodes_imports = true;
+  type_size = 2;
+}
+
+abbrev pub table_from_definition : Parts
+table_from_definition = record (empty_module default_config) {
+  tables = table funcref 1 None ∷ [];
+  defined_tables = Some (GlobalGet 0 ∷ []) ∷ [];
+  globals = global (Ref funcref) false ∷ [];
+  defined_globals = (0, no_function) ∷ [];
+}
+
+-- a table that begins with the reference to no function, without garbage collection
+abbrev pub table_without_gc : Parts
+table_without_gc = record one_table { config = record default_config { gc_enabled = false } }
+
+-- types in one group
+abbrev pub types_together : List SubType → Parts
+types_together types = record (empty_module default_config) { types = types; groups = group_of 0 (length types) ∷ []; encodes_types = true }
+
+-- two types, each in a group of its own
+abbrev pub types_apart : SubType → SubType → Parts
+types_apart one other = record (empty_module default_config) { types = one ∷ other ∷ []; groups = group_of 0 1 ∷ group_of 1 2 ∷ []; encodes_types = true }
+
+-- a function type that takes this
+abbrev pub taking : ValType → CompositeInnerType
+taking param = Func (record { params = param ∷ []; results = [] })
+
+-- a struct of a reference to the type of this index
+abbrev pub referring_to : ℕ → CompositeInnerType
+referring_to index = Struct (record { fields = constant (Val (Ref (nullable (Concrete index)))) ∷ [] })
+
+-- two memories where there may be so many
+abbrev pub two_memories : ℕ → Parts
+two_memories most = record (empty_module (record default_config { max_memories = most })) { memories = memory 1 None ∷ memory 1 None ∷ []; num_defined_memories = 2 }
+
+-- a function that is exported by these two names
+abbrev pub exported_twice : List ℕ → List ℕ → Parts
+exported_twice one other = record one_function { exports = (one, kind.Func, 0) ∷ (other, kind.Func, 0) ∷ []; type_size = 4 }
+
+-- a function without a body
+abbrev pub bodiless : Parts
+bodiless = record one_function { code = [] }
+
+-- two numbers that are defined in another order than that of their indices
+abbrev pub out_of_order : Parts
+out_of_order = record (empty_module default_config) {
+  globals = number ∷ number ∷ [];
+  defined_globals = (1, I32Const (pos 1) ∷ []) ∷ (0, I32Const (pos 0) ∷ []) ∷ [];
+}
+
+-- every function of two is exported
+abbrev pub two_exports : Parts
+two_exports = record one_function {
+  config = record default_config { export_everything = true; max_type_size = 4 };
+  funcs = 0 ∷ 0 ∷ [];
+  num_defined_funcs = 2;
+  code = trapping ∷ trapping ∷ [];
+  exports = ([], kind.Func, 0) ∷ (codes "1", kind.Func, 1) ∷ [];
+  type_size = 4;
+}
+
+-- two imports of these names
+abbrev pub named_imports : List ℕ → List ℕ → Parts
+named_imports one other = record two_imports { imports = Compact2 [] (entity.Global number) (one ∷ other ∷ []) ∷ [] }
+
+-- a memory of so many pages, and bytes that are copied to its last address
+abbrev pub last_bytes : ℕ → List ℕ → Parts
+last_bytes pages bytes = record (empty_module default_config) { memories = memory pages None ∷ []; num_defined_memories = 1; segments = active_data (negsuc 0) bytes ∷ [] }
+
+-- a segment of these references, where so many are asked for, beside a function
+abbrev pub elements_asked_for : ℕ → Elements → Parts
+elements_asked_for least items = record one_function { config = record default_config { min_elements = least }; elems = passive_elements items ∷ [] }

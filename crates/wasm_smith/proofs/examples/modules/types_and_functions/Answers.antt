@@ -1,0 +1,90 @@
+use Rattle.std.proofs.Common.{rules, arith, [], ◌∷◌, Some, None, true, false, refl}
+use Rattle.std.proofs.lemmas.List.Elements.{All-from_recursion}
+use Rattle.smith_types.specs.ValidTypes.{IsGroupValid, AreTypesValid}
+use Rattle.wasm_smith.specs.Module.{module_features, module_types}
+use Rattle.wasm_smith.specs.ExampleModules.{group_of, arrays, three_arrays, one_function, raw_body}
+use Rattle.wasm_smith.proofs.ExampleParts.{function_types, functions_valid, array_valid, array_below, group_valid}
+use Rattle.wasm_smith.proofs.examples.modules.types_and_functions.Goals as goal
+
+two_types : AreTypesValid (module_features arrays) (module_types arrays)
+two_types =
+    let features = module_features arrays in
+    record {
+      covered = search rules;
+      orderly = search rules;
+      groups = All-from_recursion (IsGroupValid features arrays.types) (group_of 0 2 ∷ [])
+          (group_valid features arrays.types (group_of 0 2) ((λ from below. array_valid features arrays.types 2 refl), ((λ from below. array_below features _ 2 refl), tt)) (λ never. cc), tt);
+    }
+
+three_types : AreTypesValid (module_features three_arrays) (module_types three_arrays)
+three_types =
+    let features = module_features three_arrays in
+    let types = three_arrays.types in
+    record {
+      covered = search rules;
+      orderly = search rules;
+      groups = All-from_recursion (IsGroupValid features types) (group_of 0 2 ∷ group_of 2 3 ∷ []) (
+        group_valid features types (group_of 0 2) ((λ from below. array_valid features types 2 refl), ((λ from below. array_below features _ 2 refl), ((λ from below. array_below features _ 2 refl), tt))) (λ never. cc),
+        (group_valid features types (group_of 2 3) ((λ from below. array_valid features types 3 refl), ((λ from below. array_below features _ 3 refl), ((λ from below. array_below features _ 3 refl), tt))) (λ never. cc), tt),
+      );
+    }
+
+pub returns-clause-an_array_and_one_below_it : goal.returns-clause-an_array_and_one_below_it
+returns-clause-an_array_and_one_below_it c = record {
+  types = two_types;
+  imports = search rules;
+  spaces = search rules;
+  entities = search rules;
+  counts = search rules;
+  definitions = search rules;
+  exports = search rules;
+  start = tt;
+  elements = search rules;
+  data_segments = search rules;
+  bodies = search rules;
+}
+
+pub returns-clause-two_below_one : goal.returns-clause-two_below_one
+returns-clause-two_below_one c = record {
+  types = three_types;
+  imports = search rules;
+  spaces = search rules;
+  entities = search rules;
+  counts = search rules;
+  definitions = search rules;
+  exports = search rules;
+  start = tt;
+  elements = search rules;
+  data_segments = search rules;
+  bodies = search rules;
+}
+
+pub returns-clause-a_function : goal.returns-clause-a_function
+returns-clause-a_function c = record {
+  types = function_types (module_features one_function);
+  imports = search rules;
+  spaces = search rules;
+  entities = record { tags = search rules; funcs = functions_valid; tables = search rules; memories = search rules; globals = search rules };
+  counts = search rules;
+  definitions = search rules;
+  exports = search rules;
+  start = tt;
+  elements = search rules;
+  data_segments = search rules;
+  bodies = search rules;
+}
+
+pub returns-clause-raw_bytes : goal.returns-clause-raw_bytes
+returns-clause-raw_bytes c = record {
+  types = function_types (module_features raw_body);
+  imports = search rules;
+  spaces = search rules;
+  entities = record { tags = search rules; funcs = functions_valid; tables = search rules; memories = search rules; globals = search rules };
+  counts = search rules;
+  definitions = search rules;
+  exports = search rules;
+  start = tt;
+  elements = search rules;
+  data_segments = search rules;
+  bodies = search rules;
+}

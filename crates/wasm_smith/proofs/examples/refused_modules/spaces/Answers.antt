@@ -1,0 +1,23 @@
+use Rattle.std.proofs.Common.{rules, arith, ◌≡◌, ℕ, List, [], ◌∷◌, refl}
+use Rattle.std.specs.Prelude.{codes}
+use Rattle.std.proofs.lemmas.List.Elements.{All-from_recursion}
+use Rattle.smith_types.specs.Exports.{IsEntityAt, AreDistinct}
+use Rattle.smith_types.specs.declared.entity_type.EntityType.{EntityType}
+use Rattle.smith_types.specs.declared.entity_type.EntityType.TheVariants as entity
+use Rattle.smith_types.specs.declared.entity_type.ExportKind.{ExportKind}
+use Rattle.wasm_smith.specs.Module.{module_spaces}
+use Rattle.wasm_smith.specs.ExampleModules.{exported_twice}
+use Rattle.wasm_smith.proofs.examples.refused_modules.spaces.Goals as goal
+
+two : AreDistinct {A = List ℕ} (codes "a" ∷ codes "b" ∷ [])
+two = search rules
+
+pub returns-clause-two_names : goal.returns-clause-two_names
+returns-clause-two_names c = record {
+  stand = All-from_recursion (λ (one : List ℕ × ExportKind × ℕ). (ty : EntityType) × IsEntityAt (module_spaces (exported_twice [] [])) one.1 one.2 ty) (exported_twice (codes "a") (codes "b")).exports
+      ((entity.Func 0, (0, refl, refl)), ((entity.Func 0, (0, refl, refl)), tt));
+  distinct = two;
+}
+
+pub returns-clause-a_name_twice : goal.returns-clause-a_name_twice
+returns-clause-a_name_twice c = λ valid. let same : 0 ≡ 1 = valid.distinct.once 0 1 (codes "a") refl refl in omega (arith, same)

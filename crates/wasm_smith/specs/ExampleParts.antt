@@ -1,0 +1,63 @@
+-- Parts of modules that the examples speak of.
+use Rattle.std.specs.Prelude.{ℕ, Bool, true, false, ℤ, List, [], ◌∷◌, Option, Some, None, codes}
+use Rattle.smith_types.specs.Flags.{funcref}
+use Rattle.smith_types.specs.ExampleTypes.{plain, nullable}
+use Rattle.smith_types.specs.declared.value_type.AbstractHeapType.TheVariants as heap
+use Rattle.smith_types.specs.declared.value_type.RefType.{RefType}
+use Rattle.smith_types.specs.declared.value_type.ValType.{ValType}
+use Rattle.smith_types.specs.declared.value_type.ValType.TheVariants.{I32, Ref}
+use Rattle.smith_types.specs.declared.entity_type.EntityType.{EntityType}
+use Rattle.smith_types.specs.declared.entity_type.MemoryType.{MemoryType}
+use Rattle.smith_types.specs.declared.entity_type.TableType.{TableType}
+use Rattle.smith_types.specs.declared.entity_type.GlobalType.{GlobalType}
+use Rattle.smith_types.specs.declared.imports.Import.{Import}
+use Rattle.smith_types.specs.declared.const_instr.ConstInstr.{ConstInstr}
+use Rattle.smith_types.specs.declared.const_instr.ConstInstr.TheVariants.{RefNull}
+use Rattle.smith_types.specs.declared.segments.Elements.{Elements}
+use Rattle.smith_types.specs.declared.segments.ElementKind.TheVariants as element
+use Rattle.smith_types.specs.declared.segments.ElementSegment.{ElementSegment}
+use Rattle.smith_types.specs.declared.segments.DataSegmentKind.TheVariants as data_kind
+use Rattle.smith_types.specs.declared.segments.DataSegment.{DataSegment}
+use Rattle.smith_types.specs.declared.segments.Offset.TheVariants.{Const32}
+use Rattle.smith_types.specs.declared.code.Code.{Code}
+use Rattle.smith_types.specs.declared.code.Instructions.TheVariants.{Unreachable}
+
+-- a memory of 32-bit addresses that is not shared
+abbrev pub memory : ℕ → Option ℕ → MemoryType
+memory minimum maximum = record { minimum = minimum; maximum = maximum; memory64 = false; shared = false; page_size_log2 = None }
+
+-- a shared memory of exactly so many pages
+abbrev pub shared_memory : ℕ → MemoryType
+shared_memory pages = record { minimum = pages; maximum = Some pages; memory64 = false; shared = true; page_size_log2 = None }
+
+-- a table of 32-bit indices that is not shared
+abbrev pub table : RefType → ℕ → Option ℕ → TableType
+table element minimum maximum = record { element_type = element; minimum = minimum; maximum = maximum; table64 = false; shared = false }
+
+-- a global that is not shared, constant or not
+abbrev pub global : ValType → Bool → GlobalType
+global ty mutable = record { val_type = ty; mutable = mutable; shared = false }
+
+-- a constant number
+abbrev pub number : GlobalType
+number = global I32 false
+
+-- an import of this name from the module without a name
+abbrev pub import_named : List ℕ → EntityType → Import
+import_named name ty = record { «module» = []; name = name; entity_type = ty }
+
+-- the reference to no function
+abbrev pub no_function : List ConstInstr
+no_function = RefNull (plain heap.Func) ∷ []
+
+-- references to functions that are copied nowhere
+abbrev pub passive_elements : Elements → ElementSegment
+passive_elements items = record { kind = element.Passive; ty = funcref; items = items }
+
+-- bytes that are copied into the first memory from here on
+abbrev pub active_data : ℤ → List ℕ → DataSegment
+active_data offset bytes = record { kind = data_kind.Active 0 (Const32 offset); init = bytes }
+
+-- a body that only traps
+abbrev pub trapping : Code
+trapping = record { locals = []; instructions = Unreachable }

@@ -1,0 +1,87 @@
+-- Shapes that the examples speak of, and modules that have them or not.
+use Rattle.std.specs.Prelude.{ℕ, true, false, List, [], ◌∷◌, Some, None, codes}
+use Rattle.smith_types.specs.ExampleTypes.{plain, nullable}
+use Rattle.smith_types.specs.declared.value_type.AbstractHeapType.TheVariants as heap
+use Rattle.smith_types.specs.declared.value_type.ValType.TheVariants.{I32, F32, Ref}
+use Rattle.smith_types.specs.declared.entity_type.EntityType.TheVariants as entity
+use Rattle.smith_types.specs.declared.entity_type.ExportKind.{ExportKind}
+use Rattle.smith_types.specs.declared.entity_type.ExportKind.TheVariants as kind
+use Rattle.smith_types.specs.declared.imports.Import.{Import}
+use Rattle.smith_types.specs.declared.imports.Imports.TheVariants.{Single, Compact1, Compact2}
+use Rattle.smith_config.specs.Config.{default_config}
+use Rattle.smith_config.specs.Shapes.{Shapes, no_shapes}
+use Rattle.smith_config.specs.declared.shape.Shape.{Shape}
+use Rattle.wasm_smith.specs.Module.{Parts}
+use Rattle.wasm_smith.specs.ExampleParts.{memory, table, global}
+use Rattle.wasm_smith.specs.ExampleModules.{empty_module, group_of, three_memories, two_memories}
+use Rattle.wasm_smith.specs.ExampleMembers.{alone, final, taking_a_number}
+
+-- a shape of nothing
+abbrev pub empty_shape : Shape
+empty_shape = record { groups = []; imports = []; funcs = []; tags = []; tables = []; memories = []; globals = []; exports = [] }
+
+-- shapes for one use alone
+abbrev pub for_module : Shape → Shapes
+for_module shape = record no_shapes { module_shape = Some shape }
+
+abbrev pub for_imports : Shape → Shapes
+for_imports shape = record no_shapes { available_imports = Some shape }
+
+abbrev pub for_exports : Shape → Shapes
+for_exports shape = record no_shapes { exports = Some shape }
+
+-- groups of imported memories, two of them empty
+abbrev pub imported_memories : Shape
+imported_memories = record empty_shape {
+  imports =
+      Compact1 [] (record { name = codes "a"; entity_type = entity.Memory (memory 1 None) } ∷ []) ∷ Compact1 [] [] ∷ Compact2 [] (entity.Memory (memory 1 None)) (codes "b" ∷ codes "c" ∷ [])
+      ∷ Compact2 [] (entity.Memory (memory 1 None)) [] ∷ [];
+}
+
+-- these memories one by one
+abbrev pub memory_named : List ℕ → Import
+memory_named name = record { «module» = []; name = name; entity_type = entity.Memory (memory 1 None) }
+
+-- a function that takes a number, and a memory
+abbrev pub ping : Import
+ping = record { «module» = codes "env"; name = codes "ping"; entity_type = entity.Func 0 }
+
+abbrev pub shared_bytes : Import
+shared_bytes = record { «module» = codes "env"; name = codes "memory"; entity_type = entity.Memory (memory 1 None) }
+
+abbrev pub environment : Shape
+environment = record empty_shape { groups = alone taking_a_number ∷ []; imports = Single ping ∷ Single shared_bytes ∷ [] }
+
+-- a module that imports both, and one that imports the first
+abbrev pub with_environment : Parts
+with_environment = record (empty_module default_config) {
+  types = final taking_a_number ∷ [];
+  groups = group_of 0 1 ∷ [];
+  imports = Single ping ∷ Single shared_bytes ∷ [];
+  num_imports = 2;
+  funcs = 0 ∷ [];
+  memories = memory 1 None ∷ [];
+  encodes_types = true;
+  encodes_imports = true;
+  type_size = 3;
+}
+
+abbrev pub with_ping : Parts
+with_ping = record with_environment { imports = Single ping ∷ []; num_imports = 1; memories = []; type_size = 2 }
+
+-- a global and a memory that are exported
+abbrev pub exporting : Shape
+exporting = record empty_shape { memories = memory 1 (Some 10) ∷ []; globals = global F32 false ∷ []; exports = (codes "bar", kind.Global, 0) ∷ (codes "baz", kind.Memory, 0) ∷ [] }
+
+-- a module with these entities and with such exports
+abbrev pub exported : List (List ℕ × ExportKind × ℕ) → Parts
+exported exports = record (empty_module default_config) { memories = memory 1 (Some 10) ∷ []; num_defined_memories = 1; globals = global F32 false ∷ []; exports = exports }
+
+-- a global of references that may not be null
+abbrev pub non_nullable : Shape
+non_nullable = record empty_shape { globals = global (Ref (not_null (plain heap.Extern))) false ∷ []; exports = (codes "g", kind.Global, 0) ∷ [] }
+
+-- a minimum that is unmet of a part that is not drawn yet
+abbrev pub IsUnmetPart : Config → Error → Type 0
+IsUnmetPart config (IncorrectFormat (Unmet count)) = 0 < minimum_of config count
+IsUnmetPart config _ = ⊥

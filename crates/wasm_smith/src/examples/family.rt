@@ -1,0 +1,63 @@
+ghost use Rattle.std.specs.Prelude.{[], ◌∷◌, true, false, Some, None};
+ghost use Rattle.smith_types.specs.declared.value_type.AbstractHeapType.TheVariants as heap;
+ghost use Rattle.smith_types.specs.declared.value_type.HeapType.TheVariants.{Abstract, Concrete, Exact};
+ghost use Rattle.smith_types.specs.declared.value_type.ValType.TheVariants.{F32, V128, Ref};
+ghost use Rattle.smith_types.specs.ExampleTypes.{plain, nullable, not_null};
+ghost use Rattle.smith_config.specs.Config.{default_config};
+ghost use Rattle.wasm_smith.specs.Family.{IsInFamily, IsMemberType, IsMemberInner, IsMemberValType, IsMemberHeapType};
+ghost use Rattle.wasm_smith.specs.ExampleModules.{a_type, bytes_array, plain_function};
+ghost use Rattle.wasm_smith.specs.ExampleMembers.{
+  final,
+  alone,
+  one_function_type,
+  array_and_struct,
+  taking_a_number,
+  giving_two,
+  struct_of,
+  struct_of_bytes,
+  one_of_each_without_gc,
+  single_results,
+};
+
+fn members()
+    ensures a_function { IsInFamily default_config one_function_type (0 ∷ []) }
+    ensures full_without_gc { IsInFamily one_of_each_without_gc (alone taking_a_number ∷ []) (0 ∷ []) }
+    ensures array_and_struct { IsInFamily default_config array_and_struct [] }
+    ensures nothing { IsInFamily default_config [] [] }
+    ensures an_empty_group { ¬ IsInFamily default_config ([] ∷ []) [] }
+    ensures two_in_a_group_without_gc { ¬ IsInFamily (record default_config { gc_enabled = false }) ((final plain_function ∷ final plain_function ∷ []) ∷ []) [] }
+    ensures too_many_types { ¬ IsInFamily (record default_config { max_types = 0 }) one_function_type [] }
+    ensures too_many_functions { ¬ IsInFamily (record default_config { max_funcs = 0 }) one_function_type (0 ∷ []) }
+    ensures a_function_of_an_array_type { ¬ IsInFamily default_config (alone bytes_array ∷ []) (0 ∷ []) }
+    ensures a_function_of_no_type { ¬ IsInFamily default_config one_function_type (1 ∷ []) }
+    ensures a_type_that_refers_to_itself { ¬ IsInFamily default_config (alone (struct_of 0) ∷ []) [] }
+    ensures a_type_that_refers_forward { ¬ IsInFamily default_config ((final (struct_of 1) ∷ final bytes_array ∷ []) ∷ []) [] }
+{}
+
+fn types()
+    ensures not_final { IsMemberType default_config 0 (a_type bytes_array false None) }
+    ensures not_final_without_gc { ¬ IsMemberType one_of_each_without_gc 0 (a_type plain_function false None) }
+    ensures below_another { ¬ IsMemberType default_config 1 (a_type bytes_array true (Some 0)) }
+    ensures shared { ¬ IsMemberType default_config 0 (record (final plain_function) { composite_type = record { inner = plain_function; shared = true } }) }
+    ensures an_array_without_gc { ¬ IsMemberInner one_of_each_without_gc 0 bytes_array }
+    ensures twenty_fields { IsMemberInner default_config 0 (struct_of_bytes 20) }
+    ensures too_many_fields { ¬ IsMemberInner default_config 0 (struct_of_bytes 21) }
+    ensures two_results { IsMemberInner default_config 0 giving_two }
+    ensures one_result_too_many { ¬ IsMemberInner single_results 0 giving_two }
+{}
+
+fn values()
+    ensures a_float { IsMemberValType default_config 0 F32 }
+    ensures a_float_where_floats_are_off { ¬ IsMemberValType (record default_config { allow_floats = false }) 0 F32 }
+    ensures a_vector_without_simd { ¬ IsMemberValType (record default_config { simd_enabled = false }) 0 V128 }
+    ensures a_reference { IsMemberValType default_config 0 (Ref (nullable (plain heap.Extern))) }
+    ensures a_reference_that_is_not_null { ¬ IsMemberValType default_config 0 (Ref (not_null (plain heap.Extern))) }
+    ensures a_reference_without_its_feature { ¬ IsMemberValType (record default_config { reference_types_enabled = false; gc_enabled = false }) 0 (Ref (nullable (plain heap.Func))) }
+    ensures an_exception { IsMemberHeapType default_config 0 (plain heap.Exn) }
+    ensures no_exception { ¬ IsMemberHeapType default_config 0 (plain heap.NoExn) }
+    ensures a_shared_type { ¬ IsMemberHeapType default_config 0 (Abstract true heap.Func) }
+    ensures a_smaller_index { IsMemberHeapType default_config 1 (Concrete 0) }
+    ensures its_own_index { ¬ IsMemberHeapType default_config 1 (Concrete 1) }
+    ensures an_exact_type { ¬ IsMemberHeapType default_config 1 (Exact 0) }
+    ensures an_index_without_gc { ¬ IsMemberHeapType one_of_each_without_gc 1 (Concrete 0) }
+{}

@@ -1,0 +1,56 @@
+ghost use Rattle.std.specs.Prelude.{[], ◌∷◌, true, false, pos, negsuc};
+ghost use Rattle.smith_bytes.specs.Spelling.{SpellsBool, SpellsNumber, SpellsRefusal};
+ghost use Rattle.smith_config.specs.Config.{default_config};
+ghost use Rattle.smith_draw.specs.Spelling.{SpellsGroups};
+ghost use Rattle.wasm_smith.specs.Spelling.{SpellsMember, SpellsRest, SpellsI32, SpellsFuncs, IsRest};
+ghost use Rattle.wasm_smith.specs.ExampleModules.{plain_function};
+ghost use Rattle.wasm_smith.specs.ExampleMembers.{final, one_function_type, array_and_struct, taking_a_number, alone, one_of_each_without_gc, no_types_and_imports, nothing_may_be};
+
+fn members()
+    ensures a_function { SpellsMember default_config one_function_type (0 ∷ []) (1 ∷ 1 ∷ 1 ∷ 1 ∷ 0 ∷ 0 ∷ 0 ∷ 0 ∷ 0 ∷ 0 ∷ 1 ∷ 0 ∷ []) }
+    ensures in_other_bytes { SpellsMember default_config one_function_type (0 ∷ []) (3 ∷ 102 ∷ 255 ∷ 4 ∷ 2 ∷ 4 ∷ 8 ∷ 6 ∷ 9 ∷ 2 ∷ 5 ∷ 200 ∷ []) }
+    ensures full_without_gc { SpellsMember one_of_each_without_gc (alone taking_a_number ∷ []) (0 ∷ []) (1 ∷ 1 ∷ 0 ∷ 0 ∷ 0 ∷ 0 ∷ 0 ∷ 0 ∷ 1 ∷ []) }
+    ensures array_and_struct { SpellsMember default_config array_and_struct [] (1 ∷ 1 ∷ 1 ∷ 0 ∷ 0 ∷ 0 ∷ 1 ∷ 1 ∷ 1 ∷ 1 ∷ 2 ∷ 1 ∷ 2 ∷ 5 ∷ 1 ∷ 0 ∷ 1 ∷ 0 ∷ 0 ∷ 0 ∷ []) }
+    ensures nothing { SpellsMember default_config [] [] (0 ∷ 0 ∷ 0 ∷ []) }
+    ensures nothing_where_nothing_may_be { SpellsMember no_types_and_imports [] [] (0 ∷ []) }
+{}
+
+fn rests()
+    ensures a_number { SpellsRest default_config [] [] (pos 7 ∷ []) [] (0 ∷ 0 ∷ 1 ∷ 0 ∷ 1 ∷ 0 ∷ 7 ∷ 0 ∷ 0 ∷ 0 ∷ 0 ∷ 0 ∷ 0 ∷ 0 ∷ 0 ∷ []) }
+    ensures data { SpellsRest default_config [] [] [] ((42 ∷ []) ∷ []) (0 ∷ 0 ∷ 0 ∷ 0 ∷ 0 ∷ 0 ∷ 1 ∷ 1 ∷ 42 ∷ 0 ∷ 0 ∷ []) }
+    ensures no_start { SpellsRest default_config one_function_type (0 ∷ []) [] [] (0 ∷ 0 ∷ 0 ∷ 0 ∷ 0 ∷ 0 ∷ 0 ∷ []) }
+    ensures nothing_but_a_flag { SpellsRest nothing_may_be [] [] [] [] (1 ∷ []) }
+    ensures byte_lists_need_bulk_memory { ¬ IsRest (record default_config { bulk_memory_enabled = false }) [] ((42 ∷ []) ∷ []) }
+    ensures no_more_numbers_than_globals { ¬ IsRest (record default_config { max_globals = 0 }) (pos 7 ∷ []) [] }
+    ensures a_number_and_a_list { IsRest default_config (pos 7 ∷ []) ((42 ∷ []) ∷ []) }
+{}
+
+fn pieces()
+    ensures true_is_odd { SpellsBool true (3 ∷ []) }
+    ensures true_is_not_even { ¬ SpellsBool true (2 ∷ []) }
+    ensures no_byte_is_no_bool { ¬ SpellsBool false [] }
+    ensures one_byte { SpellsNumber 5 0 200 (206 ∷ []) }
+    ensures another_number { ¬ SpellsNumber 6 0 200 (206 ∷ []) }
+    ensures highest_byte_first { SpellsNumber 258 0 1000 (1 ∷ 2 ∷ []) }
+    ensures too_few_bytes { ¬ SpellsNumber 2 0 1000 (2 ∷ []) }
+    ensures no_choice_no_byte { SpellsNumber 4 4 4 [] }
+    ensures a_byte_without_choice { ¬ SpellsNumber 4 4 4 (0 ∷ []) }
+    ensures not_the_first_chance { SpellsRefusal 32 (33 ∷ []) }
+    ensures the_first_chance { ¬ SpellsRefusal 32 (32 ∷ []) }
+    ensures number_of_four_bytes { SpellsI32 (negsuc 0) (255 ∷ 255 ∷ 255 ∷ 255 ∷ []) }
+    ensures number_of_three_bytes { ¬ SpellsI32 (pos 7) (7 ∷ 0 ∷ 0 ∷ []) }
+    ensures highest_byte_of_a_number_first { ¬ SpellsI32 (pos 7) (0 ∷ 0 ∷ 0 ∷ 7 ∷ []) }
+{}
+
+fn other_spellings()
+    ensures first_byte_even { ¬ SpellsMember default_config one_function_type (0 ∷ []) (0 ∷ 1 ∷ 1 ∷ 1 ∷ 0 ∷ 0 ∷ 0 ∷ 0 ∷ 0 ∷ 0 ∷ 1 ∷ 0 ∷ []) }
+    ensures size_of_two { ¬ SpellsMember default_config one_function_type (0 ∷ []) (1 ∷ 2 ∷ 1 ∷ 1 ∷ 0 ∷ 0 ∷ 0 ∷ 0 ∷ 0 ∷ 0 ∷ 1 ∷ 0 ∷ []) }
+    ensures not_final { ¬ SpellsMember default_config one_function_type (0 ∷ []) (1 ∷ 1 ∷ 0 ∷ 1 ∷ 0 ∷ 0 ∷ 0 ∷ 0 ∷ 0 ∷ 0 ∷ 1 ∷ 0 ∷ []) }
+    ensures kind_of_an_array { ¬ SpellsMember default_config one_function_type (0 ∷ []) (1 ∷ 1 ∷ 1 ∷ 0 ∷ 0 ∷ 0 ∷ 0 ∷ 0 ∷ 0 ∷ 0 ∷ 1 ∷ 0 ∷ []) }
+    ensures no_group_but_a_bool { SpellsGroups default_config [] false [] (0 ∷ []) }
+    ensures no_group_and_no_byte { ¬ SpellsGroups default_config [] false [] [] }
+    ensures another_group { ¬ SpellsGroups default_config [] false [] (1 ∷ []) }
+    ensures a_full_list { SpellsGroups no_types_and_imports [] false [] [] }
+    ensures a_full_list_and_a_bool { ¬ SpellsGroups no_types_and_imports [] false [] (0 ∷ []) }
+    ensures a_function_too_many { ¬ SpellsFuncs (record default_config { max_funcs = 0 }) (final plain_function ∷ []) (0 ∷ []) (1 ∷ []) }
+{}
