@@ -3,3 +3,4 @@ pub mod MemoryCounts
 pub mod Needless
 pub mod Bodies
 pub mod Alone
+pub mod FamilyFits
