@@ -60,9 +60,10 @@ at_seam (b ∷ before) t more = at_seam before t more
 refer_back : (config : Config) (before group more : List SubType) → AreMembers config (before ++ (group ++ more)) → ReferBack before group
 unfolding AreMembers
 refer_back config before [] more each = tt
-refer_back config before (t ∷ group) more each =
-    (inner_stands config before t.composite_type.inner (each (length before) t (at_seam before t (group ++ more))).inner,
-     refer_back config (before ++ t ∷ []) group more (same_members config ((before ++ t ∷ []) ++ (group ++ more)) (before ++ t ∷ (group ++ more)) (append_assoc before (t ∷ []) (group ++ more)) each))
+refer_back config before (t ∷ group) more each = (
+  inner_stands config before t.composite_type.inner (each (length before) t (at_seam before t (group ++ more))).inner,
+  refer_back config (before ++ t ∷ []) group more (same_members config ((before ++ t ∷ []) ++ (group ++ more)) (before ++ t ∷ (group ++ more)) (append_assoc before (t ∷ []) (group ++ more)) each),
+)
 
 groups_fit : (config : Config) (before : List SubType) (groups : List (List SubType)) → ByRecursion (λ (group : List SubType). 0 < length group) groups → length (before ++ flat_map (λ group. group) groups) ≤ config.max_types
     → AreMembers config (before ++ flat_map (λ group. group) groups) → GroupsFit config.max_types before groups
@@ -72,9 +73,12 @@ groups_fit config before (group ∷ groups) filled few each =
     let same = append_assoc before group more in
     let all = length-append before (group ++ more) in
     let inner = length-append group more in
-    let fewer : length ((before ++ group) ++ more) ≤ config.max_types = subst (λ (types : List SubType). length types ≤ config.max_types) (sym same) few in
-    (filled.0, omega arith, refer_back config before group more each,
-     groups_fit config (before ++ group) groups filled.1 fewer (same_members config ((before ++ group) ++ more) (before ++ (group ++ more)) same each))
+    let fewer : length ((before ++ group) ++ more) ≤ config.max_types = subst (λ (types : List SubType). length types ≤ config.max_types) (sym same) few in (
+      filled.0,
+      omega arith,
+      refer_back config before group more each,
+      groups_fit config (before ++ group) groups filled.1 fewer (same_members config ((before ++ group) ++ more) (before ++ (group ++ more)) same each),
+    )
 
 pub family_fits : (config : Config) (groups : List (List SubType)) (funcs : List ℕ) → IsInFamily config groups funcs → GroupsFit config.max_types [] groups
 unfolding AreMembers
