@@ -23,3 +23,4 @@ pub mod GroupSizes
 pub mod Groups
 pub mod RecGroupLaws
 pub mod MemoryLaws
+pub mod OneFunction
