@@ -24,3 +24,4 @@ pub mod GroupSizes
 pub mod Groups
 pub mod RecGroupLaws
 pub mod MemoryLaws
+pub mod OneFunction

@@ -12,3 +12,4 @@ pub mod Limits
 pub mod Bounds
 pub mod Memories
 pub mod Spelling
+pub mod ExampleSpellings

@@ -42,6 +42,7 @@ SpellsUnshared config = Where config.shared_everything_threads_enabled (SpellsRe
 abbrev pub SpellsConcrete : Config → ℕ → Bool → List ℕ → Type 0
 SpellsConcrete config limit concrete = Where (config.gc_enabled && nat_lt 0 limit) (SpellsBool concrete)
 
+-- a heap type: whether it is concrete, then its index, or that it is not shared and its place
 abbrev pub SpellsHeapType : Config → ℕ → HeapType → List ℕ → Type 0
 SpellsHeapType config limit (Abstract shared ty) piece =
     (shared ≡ false)
@@ -70,14 +71,17 @@ abbrev pub SpellsRest : Config → ℕ → ValType → List ℕ → Type 0
 SpellsRest config limit (vals.Ref reference) piece = IsTrue reference.nullable × SpellsHeapType config limit reference.heap_type piece
 SpellsRest config limit _ piece = piece ≡ []
 
+-- a value type: the place of its class, and what follows it
 unfoldable pub SpellsValType : Config → ℕ → ValType → List ℕ → Type 0
 SpellsValType config limit value = Joined (SpellsPlace (enabled (value_classes config)) (class_of value)) (SpellsRest config limit value)
 
+-- a storage type: its number, and of an unpacked one its value type
 abbrev pub SpellsStorage : Config → ℕ → StorageType → List ℕ → Type 0
 SpellsStorage config limit I8 piece = SpellsNumber 0 0 2 piece
 SpellsStorage config limit I16 piece = SpellsNumber 1 0 2 piece
 SpellsStorage config limit (Val value) piece = Joined (SpellsNumber 2 0 2) (SpellsValType config limit value) piece
 
+-- a storage type, then whether it is mutable
 unfoldable pub SpellsField : Config → ℕ → FieldType → List ℕ → Type 0
 SpellsField config limit field = Joined (SpellsStorage config limit field.element_type) (SpellsBool field.mutable)
 
@@ -143,6 +147,7 @@ abbrev pub SpellsSize : Bool → Config → Bool → ℕ → ℕ → List ℕ �
 SpellsSize true config stands room size piece = Joined (Where stands (SpellsRefusal 255)) (SpellsNumber size 0 room) piece
 SpellsSize false config stands room size piece = (size ≡ 1) × (piece ≡ [])
 
+-- its size, then its types
 unfoldable pub SpellsGroup : Config → List SubType → Bool → List SubType → List ℕ → Type 0
 SpellsGroup config before stands group =
     Joined (SpellsSize config.gc_enabled config stands (config.max_types - length before) (length group))

@@ -4,6 +4,7 @@
 mod choice;
 mod composite_type;
 mod entity_type;
+mod examples;
 mod field_type;
 mod limits;
 mod matching;

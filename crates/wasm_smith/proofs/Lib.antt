@@ -6,3 +6,4 @@ pub mod Alone
 pub mod Spelled
 pub mod Places
 pub mod ExampleParts
+pub mod FamilyFits

@@ -3,6 +3,7 @@
 
 mod build;
 mod examples;
+pub mod laws;
 mod module;
 
 pub use module::Module;

@@ -1,0 +1,9 @@
+// Bytes that spell types, and bytes that do not. The clauses are proved; nothing calls these functions.
+
+ghost use Rattle.smith_draw.specs.ExampleSpellings.{OneFunctionIsSpelled, MoreIsAskedFor};
+
+/// A list of groups, and a byte that spells none.
+fn spelled_groups()
+    ensures one_function { OneFunctionIsSpelled }
+    ensures asks_for_more { MoreIsAskedFor }
+{}
