@@ -1,23 +1,21 @@
 -- Modules that the examples speak of.
-use Rattle.std.specs.Prelude.{ℕ, Bool, true, false, ℤ, pos, negsuc, List, [], ◌∷◌, Option, Some, None, codes, length}
+use Rattle.std.specs.Prelude.{ℕ, Bool, true, false, pos, negsuc, List, [], ◌∷◌, Option, Some, None, codes, length}
 use Rattle.std.specs.declared.ops.Range.{Range}
 use Rattle.smith_types.specs.Flags.{funcref}
-use Rattle.smith_types.specs.ExampleTypes.{plain, nullable, anyref, eqref, constant}
-use Rattle.smith_types.specs.declared.value_type.AbstractHeapType.TheVariants as heap
+use Rattle.smith_types.specs.ExampleTypes.{nullable, constant}
 use Rattle.smith_types.specs.declared.value_type.HeapType.TheVariants.{Concrete}
 use Rattle.smith_types.specs.declared.value_type.ValType.{ValType}
-use Rattle.smith_types.specs.declared.value_type.ValType.TheVariants.{I32, I64, F32, Ref}
+use Rattle.smith_types.specs.declared.value_type.ValType.TheVariants.{I32, Ref}
 use Rattle.smith_types.specs.declared.composite_type.StorageType.TheVariants.{I8, Val}
 use Rattle.smith_types.specs.declared.composite_type.CompositeInnerType.{CompositeInnerType}
 use Rattle.smith_types.specs.declared.composite_type.CompositeInnerType.TheVariants.{Array, Func, Struct}
 use Rattle.smith_types.specs.declared.composite_type.SubType.{SubType}
 use Rattle.smith_types.specs.declared.entity_type.EntityType.TheVariants as entity
 use Rattle.smith_types.specs.declared.entity_type.ExportKind.TheVariants as kind
-use Rattle.smith_types.specs.declared.imports.Imports.{Imports}
 use Rattle.smith_types.specs.declared.imports.Imports.TheVariants.{Single, Compact1, Compact2}
-use Rattle.smith_types.specs.declared.const_instr.ConstInstr.TheVariants.{I32Const, F32Const, GlobalGet, RefNull}
+use Rattle.smith_types.specs.declared.const_instr.ConstInstr.TheVariants.{I32Const, GlobalGet}
 use Rattle.smith_types.specs.declared.segments.Elements.{Elements}
-use Rattle.smith_types.specs.declared.segments.Elements.TheVariants.{Functions, Expressions}
+use Rattle.smith_types.specs.declared.segments.Elements.TheVariants.{Expressions}
 use Rattle.smith_types.specs.declared.segments.DataSegmentKind.TheVariants as data_kind
 use Rattle.smith_types.specs.declared.code.Instructions.TheVariants.{Arbitrary}
 use Rattle.smith_config.specs.declared.config.Config.{Config}

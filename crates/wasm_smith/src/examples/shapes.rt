@@ -12,10 +12,8 @@ ghost use Rattle.wasm_smith.specs.ExampleShapes.{imported_memories, memory_named
 
 fn module_shapes()
     ensures without_empty_groups { kept_groups default_config imported_memories ≡ three_memories.imports }
-    ensures one_by_one {
-        kept_groups (record default_config { compact_imports_enabled = false }) imported_memories
-        ≡ Single (memory_named (codes "a")) ∷ Single (memory_named (codes "b")) ∷ Single (memory_named (codes "c")) ∷ []
-    }
+    ensures one_by_one { kept_groups (record default_config { compact_imports_enabled = false }) imported_memories
+        ≡ Single (memory_named (codes "a")) ∷ Single (memory_named (codes "b")) ∷ Single (memory_named (codes "c")) ∷ [] }
     ensures kept { KeepsModuleShape imported_memories three_memories }
     ensures one_left_out { ¬ KeepsModuleShape imported_memories (record three_memories { imports = [] }) }
     ensures another_type_first { ¬ KeepsModuleShape environment one_function }
@@ -28,9 +26,7 @@ fn available_imports()
     ensures past_the_end { taken_from default_config (final taking_a_number ∷ []) (1 ∷ []) 0 [] (ping ∷ shared_bytes ∷ []) ≡ ping ∷ [] }
     ensures no_room_for_a_memory { taken_from (record default_config { max_memories = 0 }) (final taking_a_number ∷ []) (1 ∷ 1 ∷ []) 0 [] (shared_bytes ∷ ping ∷ []) ≡ ping ∷ [] }
     ensures too_large { taken_from (record default_config { max_type_size = 1 }) (final taking_a_number ∷ []) (1 ∷ 1 ∷ []) 0 [] (ping ∷ shared_bytes ∷ []) ≡ shared_bytes ∷ [] }
-    ensures tag_without_exceptions {
-        taken_from (record default_config { exceptions_enabled = false }) (final taking_a_number ∷ []) (1 ∷ []) 0 [] (record ping { entity_type = entity.Tag 0 } ∷ []) ≡ []
-    }
+    ensures tag_without_exceptions { taken_from (record default_config { exceptions_enabled = false }) (final taking_a_number ∷ []) (1 ∷ []) 0 [] (record ping { entity_type = entity.Tag 0 } ∷ []) ≡ [] }
     ensures kept { KeepsAvailableImports (1 ∷ 1 ∷ []) environment with_environment }
     ensures the_first_kept { KeepsAvailableImports (3 ∷ 2 ∷ []) environment with_ping }
     ensures all_skipped { ¬ KeepsAvailableImports (1 ∷ 1 ∷ []) environment (record with_ping { imports = [] }) }

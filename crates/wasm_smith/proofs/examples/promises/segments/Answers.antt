@@ -1,11 +1,11 @@
-use Rattle.std.proofs.Common.{rules, arith, ◌≡◌, ◌*◌, ◌^◌, ◌≤◌, ℕ, [], ◌∷◌, None, refl, sym, ap, subst, negsuc}
+use Rattle.std.proofs.Common.{rules, arith, ◌*◌, ◌^◌, ◌≤◌, [], ◌∷◌, None, refl, sym, subst, negsuc}
 use Rattle.std.proofs.lemmas.Option.{same_Some}
 use Rattle.std.proofs.lemmas.List.Elements.{All-from_recursion, All-head}
 use Rattle.smith_types.specs.Entities.{page_log2}
 use Rattle.smith_types.specs.Segments.{IsDataInside}
 use Rattle.smith_types.specs.declared.entity_type.MemoryType.{MemoryType}
 use Rattle.wasm_smith.specs.ExampleParts.{memory, shared_memory, active_data}
-use Rattle.wasm_smith.specs.ExampleModules.{one_data_segment, last_bytes}
+use Rattle.wasm_smith.specs.ExampleModules.{one_data_segment}
 use Rattle.wasm_smith.proofs.examples.promises.segments.Goals as goal
 
 pub returns-clause-no_bytes : goal.returns-clause-no_bytes

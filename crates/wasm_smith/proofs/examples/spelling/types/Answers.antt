@@ -1,5 +1,5 @@
-use Rattle.std.proofs.Common.{arith, ◌≡◌, ◌+◌, ◌-◌, ◌%◌, [], ◌∷◌, refl}
-use Rattle.smith_bytes.specs.Draws.{big_endian, digit_count}
+use Rattle.std.proofs.Common.{arith, ◌≡◌, [], ◌∷◌, refl}
+use Rattle.smith_bytes.specs.Draws.{digit_count}
 use Rattle.smith_bytes.specs.Spelling.{SpellsNumber, Joined}
 use Rattle.wasm_smith.proofs.Spelled.{joined, digit_first, no_clone}
 use Rattle.wasm_smith.proofs.examples.spelling.types.Goals as goal
@@ -25,7 +25,7 @@ unfolding digit_count
 returns-clause-a_group_that_is_cloned c = λ both.
     let refusal = both.is_first in
     let numbered : Joined (SpellsNumber refusal.drawn 1 255) (SpellsNumber 1 0 99) (0 ∷ 1 ∷ []) =
-        record { first = both.first; second = both.second; is_first = refusal.number; is_second = both.is_second; whole = both.whole } in
+    record { first = both.first; second = both.second; is_first = refusal.number; is_second = both.is_second; whole = both.whole } in
     let (first, rest) = digit_first refl numbered in
     let one : refusal.drawn ≡ 1 = first in
     let later = refusal.later in
