@@ -1,12 +1,12 @@
-ghost use Rattle.std.specs.Prelude.{[], ◌∷◌, ◌≡◌, false, None, codes};
+ghost use Rattle.std.specs.Prelude.{[], ◌∷◌, ◌≡◌, false, Some, None, codes};
 ghost use Rattle.smith_types.specs.declared.entity_type.EntityType.TheVariants as entity;
 ghost use Rattle.smith_types.specs.declared.entity_type.ExportKind.TheVariants as kind;
 ghost use Rattle.smith_types.specs.declared.imports.Imports.TheVariants.{Single, Compact1, Compact2};
 ghost use Rattle.smith_config.specs.Config.{default_config};
 ghost use Rattle.smith_config.specs.Shapes.{no_shapes};
-ghost use Rattle.wasm_smith.specs.ShapesKept.{kept_groups, taken_from, KeepsModuleShape, KeepsAvailableImports, KeepsExports, KeepsShapes};
+ghost use Rattle.wasm_smith.specs.ShapesKept.{kept_groups, taken_from, KeepsModuleShape, KeepsAvailableImports, KeepsExports, KeepsShapes, IsSameType};
 ghost use Rattle.wasm_smith.specs.ExampleParts.{memory};
-ghost use Rattle.wasm_smith.specs.ExampleModules.{empty_module, one_function, three_memories};
+ghost use Rattle.wasm_smith.specs.ExampleModules.{one_function, three_memories, foo_type, quux_type};
 ghost use Rattle.wasm_smith.specs.ExampleMembers.{final, taking_a_number};
 ghost use Rattle.wasm_smith.specs.ExampleShapes.{imported_memories, memory_named, ping, shared_bytes, environment, with_environment, with_ping, exporting, exported};
 
@@ -39,4 +39,13 @@ fn exports()
     ensures one_left_out { ¬ KeepsExports exporting (exported ((codes "bar", kind.Global, 0) ∷ [])) }
     ensures another_type { ¬ KeepsExports exporting (record (exported exporting.exports) { memories = memory 0 None ∷ [] }) }
     ensures no_shape { KeepsShapes [] no_shapes one_function }
+{}
+
+fn types_of_exports()
+    ensures the_same_function_type { IsSameType (foo_type ∷ []) (quux_type ∷ foo_type ∷ []) (entity.Func 0) (entity.Func 1) }
+    ensures another_function_type { ¬ IsSameType (foo_type ∷ []) (quux_type ∷ []) (entity.Func 0) (entity.Func 0) }
+    ensures not_final { ¬ IsSameType (record foo_type { is_final = false } ∷ []) (foo_type ∷ []) (entity.Func 0) (entity.Func 0) }
+    ensures below_another { ¬ IsSameType (record foo_type { supertype = Some 0 } ∷ []) (foo_type ∷ []) (entity.Func 0) (entity.Func 0) }
+    ensures a_tag_for_a_function { ¬ IsSameType (foo_type ∷ []) (foo_type ∷ []) (entity.Tag 0) (entity.Func 0) }
+    ensures another_limit { ¬ IsSameType [] [] (entity.Memory (memory 0 None)) (entity.Memory (memory 1 None)) }
 {}
