@@ -1,5 +1,5 @@
 -- What holds of each item of a list, with its place.
-use Rattle.std.proofs.Common.{◌≡◌, ℕ, zero, suc, ◌+◌, List, [], ◌∷◌, Some, refl, subst}
+use Rattle.std.proofs.Common.{◌≡◌, ℕ, zero, suc, List, [], ◌∷◌, Some, refl, subst}
 use Rattle.std.specs.Prelude.{slice_get}
 use Rattle.std.proofs.lemmas.Option.{same_Some}
 use Rattle.smith_types.specs.Exports.{AreDistinct}
@@ -13,7 +13,7 @@ pub each_place : {A : Type 0} (P : ℕ → A → Type 0) (xs : List A) → EachF
 each_place P [] each place x at = cc at
 each_place P (y ∷ ys) each zero x at = subst (P 0) (same_Some y x at) each.0
 each_place P (y ∷ ys) each (suc place) x at = each_place (λ k. P (suc k)) ys (moved P ys 0 each.1) place x at
-    where
+  where
     moved : {A : Type 0} (P : ℕ → A → Type 0) (xs : List A) (start : ℕ) → EachFrom P (suc start) xs → EachFrom (λ k. P (suc k)) start xs
     moved P [] start each = tt
     moved P (x ∷ xs) start each = (each.0, moved P xs (suc start) each.1)
@@ -21,7 +21,7 @@ each_place P (y ∷ ys) each (suc place) x at = each_place (λ k. P (suc k)) ys 
 -- one item alone is distinct
 pub distinct_alone : {A : Type 0} (x : A) → AreDistinct (x ∷ [])
 distinct_alone x = record { once = same }
-    where
+  where
     same : (i j : ℕ) (item : _) → slice_get (x ∷ []) i ≡ Some item → slice_get (x ∷ []) j ≡ Some item → i ≡ j
     same zero zero item at also = refl
     same zero (suc j) item at also = cc also

@@ -1,5 +1,5 @@
 -- Pieces of bytes put together to a spelling, and what a spelling says of its first byte.
-use Rattle.std.proofs.Common.{arith, ◌≡◌, ℕ, zero, suc, ◌+◌, ◌-◌, ◌%◌, Bool, true, false, List, [], ◌∷◌, ◌++◌, length, refl, ap, sym, ◌∙◌, subst, append_assoc}
+use Rattle.std.proofs.Common.{arith, ◌≡◌, ℕ, suc, ◌+◌, ◌-◌, ◌%◌, Bool, true, false, List, [], ◌∷◌, ◌++◌, length, refl, ap, sym, ◌∙◌, subst, append_assoc}
 use Rattle.std.specs.Prelude.{if◌then◌else◌}
 use Rattle.smith_bytes.specs.Draws.{big_endian, digit_count}
 use Rattle.smith_bytes.specs.Spelling.{SpellsBool, SpellsNumber, SpellsAnyByte, SpellsRefusal, SpellsNothing, Joined, Listed}
@@ -44,14 +44,14 @@ unfolding SpellsMember SpellsGroups SpellsGroup SpellsSubTypes SpellsFuncType Li
 one_function_spelled next size final kind no_param no_result no_group no_import flag no_tag more no_more a b c d e f g h i j k =
     let lists = joined (no_param ∷ []) (no_result ∷ []) (even no_param e) (even no_result f) in
     let declared = joined [] (final ∷ kind ∷ no_param ∷ no_result ∷ []) refl (joined (final ∷ []) (kind ∷ no_param ∷ no_result ∷ []) (odd final c)
-        (joined [] (kind ∷ no_param ∷ no_result ∷ []) refl (joined (kind ∷ []) (no_param ∷ no_result ∷ []) d lists))) in
+    (joined [] (kind ∷ no_param ∷ no_result ∷ []) refl (joined (kind ∷ []) (no_param ∷ no_result ∷ []) d lists))) in
     let types = joined (final ∷ kind ∷ no_param ∷ no_result ∷ []) [] (record { root = refl; unshared = refl; form = declared }) refl in
     let group = joined (size ∷ []) (final ∷ kind ∷ no_param ∷ no_result ∷ []) (joined [] (size ∷ []) refl b) types in
     let groups = joined (next ∷ []) (size ∷ final ∷ kind ∷ no_param ∷ no_result ∷ no_group ∷ []) (odd next a) (joined (size ∷ final ∷ kind ∷ no_param ∷ no_result ∷ []) (no_group ∷ []) group (even no_group g)) in
     let funcs = joined (more ∷ []) (no_more ∷ []) (odd more j) (joined [] (no_more ∷ []) (record { place = 0; stands = refl; number = record { digits = refl; read = refl } }) (even no_more k)) in
     joined (next ∷ size ∷ final ∷ kind ∷ no_param ∷ no_result ∷ no_group ∷ []) (no_import ∷ flag ∷ no_tag ∷ more ∷ no_more ∷ []) groups
-      (joined (no_import ∷ []) (flag ∷ no_tag ∷ more ∷ no_more ∷ []) (even no_import h)
-        (joined (flag ∷ []) (no_tag ∷ more ∷ no_more ∷ []) (any_byte flag) (joined (no_tag ∷ []) (more ∷ no_more ∷ []) (even no_tag i) funcs)))
+    (joined (no_import ∷ []) (flag ∷ no_tag ∷ more ∷ no_more ∷ []) (even no_import h)
+    (joined (flag ∷ []) (no_tag ∷ more ∷ no_more ∷ []) (any_byte flag) (joined (no_tag ∷ []) (more ∷ no_more ∷ []) (even no_tag i) funcs)))
 
 -- pieces in another order of brackets
 pub regrouped : {First Second Third : List ℕ → Type 0} {piece : List ℕ} → Joined (Joined First Second) Third piece → Joined First (Joined Second Third) piece
@@ -88,7 +88,7 @@ bool_first {Second = Second} {byte = byte} {rest = rest} both =
 pub digit_first : {value lo hi : ℕ} {Second : List ℕ → Type 0} {byte : ℕ} {rest : List ℕ}
     → digit_count (hi - lo) ≡ 1 → Joined (SpellsNumber value lo hi) Second (byte ∷ rest) → (value ≡ lo + big_endian (byte ∷ []) % (hi - lo + 1)) × Second rest
 digit_first {value} {lo} {hi} {Second} {byte} {rest} one both = of both.first both.is_first.digits both.is_first.read both.whole
-    where
+  where
     of : (first : List ℕ) → length first ≡ digit_count (hi - lo) → value ≡ lo + big_endian first % (hi - lo + 1) → byte ∷ rest ≡ first ++ both.second
         → (value ≡ lo + big_endian (byte ∷ []) % (hi - lo + 1)) × Second rest
     of [] digits read whole = let never : 0 ≡ 1 = digits ∙ one in cc never

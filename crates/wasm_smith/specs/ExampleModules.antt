@@ -1,23 +1,22 @@
 -- Modules that the examples speak of.
-use Rattle.std.specs.Prelude.{ℕ, Bool, true, false, ℤ, pos, negsuc, List, [], ◌∷◌, Option, Some, None, codes, length}
+use Rattle.std.specs.Prelude.{ℕ, Bool, true, false, pos, negsuc, List, [], ◌∷◌, Option, Some, None, codes, length}
 use Rattle.std.specs.declared.ops.Range.{Range}
 use Rattle.smith_types.specs.Flags.{funcref}
-use Rattle.smith_types.specs.ExampleTypes.{plain, nullable, anyref, eqref, constant}
-use Rattle.smith_types.specs.declared.value_type.AbstractHeapType.TheVariants as heap
+use Rattle.smith_types.specs.ExampleTypes.{nullable, constant, plain}
 use Rattle.smith_types.specs.declared.value_type.HeapType.TheVariants.{Concrete}
+use Rattle.smith_types.specs.declared.value_type.AbstractHeapType.TheVariants as heap
 use Rattle.smith_types.specs.declared.value_type.ValType.{ValType}
-use Rattle.smith_types.specs.declared.value_type.ValType.TheVariants.{I32, I64, F32, Ref}
+use Rattle.smith_types.specs.declared.value_type.ValType.TheVariants.{I32, Ref, I64, F32}
 use Rattle.smith_types.specs.declared.composite_type.StorageType.TheVariants.{I8, Val}
 use Rattle.smith_types.specs.declared.composite_type.CompositeInnerType.{CompositeInnerType}
 use Rattle.smith_types.specs.declared.composite_type.CompositeInnerType.TheVariants.{Array, Func, Struct}
 use Rattle.smith_types.specs.declared.composite_type.SubType.{SubType}
 use Rattle.smith_types.specs.declared.entity_type.EntityType.TheVariants as entity
 use Rattle.smith_types.specs.declared.entity_type.ExportKind.TheVariants as kind
-use Rattle.smith_types.specs.declared.imports.Imports.{Imports}
 use Rattle.smith_types.specs.declared.imports.Imports.TheVariants.{Single, Compact1, Compact2}
-use Rattle.smith_types.specs.declared.const_instr.ConstInstr.TheVariants.{I32Const, F32Const, GlobalGet, RefNull}
+use Rattle.smith_types.specs.declared.const_instr.ConstInstr.TheVariants.{I32Const, GlobalGet, F32Const, RefNull}
 use Rattle.smith_types.specs.declared.segments.Elements.{Elements}
-use Rattle.smith_types.specs.declared.segments.Elements.TheVariants.{Functions, Expressions}
+use Rattle.smith_types.specs.declared.segments.Elements.TheVariants.{Expressions}
 use Rattle.smith_types.specs.declared.segments.DataSegmentKind.TheVariants as data_kind
 use Rattle.smith_types.specs.declared.code.Instructions.TheVariants.{Arbitrary}
 use Rattle.smith_config.specs.declared.config.Config.{Config}
@@ -268,3 +267,30 @@ last_bytes pages bytes = record (empty_module default_config) { memories = memor
 -- a segment of these references, where so many are asked for, beside a function
 abbrev pub elements_asked_for : ℕ → Elements → Parts
 elements_asked_for least items = record one_function { config = record default_config { min_elements = least }; elems = passive_elements items ∷ [] }
+
+-- a function type from a number to another, and one from a float to nothing
+abbrev pub foo_type : SubType
+foo_type = a_type (Func (record { params = I32 ∷ []; results = I64 ∷ [] })) true None
+
+abbrev pub quux_type : SubType
+quux_type = a_type (Func (record { params = F32 ∷ []; results = [] })) true None
+
+-- one of each kind, all of them exported
+abbrev pub one_of_each : Parts
+one_of_each = record (empty_module (record default_config { max_memories = 2 })) {
+  types = foo_type ∷ quux_type ∷ [];
+  groups = group_of 0 1 ∷ group_of 1 2 ∷ [];
+  tags = 1 ∷ [];
+  funcs = 0 ∷ [];
+  tables = table (nullable (plain heap.Extern)) 5 (Some 10) ∷ [];
+  defined_tables = Some (RefNull (plain heap.Extern) ∷ []) ∷ [];
+  memories = memory 1 (Some 10) ∷ [];
+  globals = global F32 false ∷ [];
+  defined_globals = (0, F32Const 0 ∷ []) ∷ [];
+  num_defined_tags = 1;
+  num_defined_funcs = 1;
+  num_defined_memories = 1;
+  exports = (codes "foo", kind.Func, 0) ∷ (codes "bar", kind.Global, 0) ∷ (codes "baz", kind.Memory, 0) ∷ (codes "qux", kind.Table, 0) ∷ (codes "quux", kind.Tag, 0) ∷ [];
+  code = trapping ∷ [];
+  encodes_types = true;
+}

@@ -1,19 +1,26 @@
 -- Shapes that the examples speak of, and modules that have them or not.
-use Rattle.std.specs.Prelude.{ℕ, true, false, List, [], ◌∷◌, Some, None, codes}
-use Rattle.smith_types.specs.ExampleTypes.{plain, nullable}
+use Rattle.std.specs.Prelude.{ℕ, ◌<◌, true, false, List, [], ◌∷◌, Some, None, codes}
+use Rattle.smith_bytes.specs.declared.error.Error.{Error}
+use Rattle.smith_bytes.specs.declared.error.Error.TheVariants.{IncorrectFormat}
+use Rattle.smith_bytes.specs.declared.error.Why.TheVariants.{Unmet}
+use Rattle.smith_bytes.specs.declared.error.Count.{Count}
+use Rattle.smith_bytes.specs.declared.error.Count.TheVariants as counts
+use Rattle.smith_types.specs.ExampleTypes.{plain, not_null}
 use Rattle.smith_types.specs.declared.value_type.AbstractHeapType.TheVariants as heap
-use Rattle.smith_types.specs.declared.value_type.ValType.TheVariants.{I32, F32, Ref}
+use Rattle.smith_types.specs.declared.value_type.ValType.TheVariants.{F32, Ref}
 use Rattle.smith_types.specs.declared.entity_type.EntityType.TheVariants as entity
 use Rattle.smith_types.specs.declared.entity_type.ExportKind.{ExportKind}
 use Rattle.smith_types.specs.declared.entity_type.ExportKind.TheVariants as kind
 use Rattle.smith_types.specs.declared.imports.Import.{Import}
 use Rattle.smith_types.specs.declared.imports.Imports.TheVariants.{Single, Compact1, Compact2}
+use Rattle.smith_config.specs.declared.config.Config.{Config}
 use Rattle.smith_config.specs.Config.{default_config}
+use Rattle.smith_config.specs.Faults.{minimum_of}
 use Rattle.smith_config.specs.Shapes.{Shapes, no_shapes}
 use Rattle.smith_config.specs.declared.shape.Shape.{Shape}
 use Rattle.wasm_smith.specs.Module.{Parts}
-use Rattle.wasm_smith.specs.ExampleParts.{memory, table, global}
-use Rattle.wasm_smith.specs.ExampleModules.{empty_module, group_of, three_memories, two_memories}
+use Rattle.wasm_smith.specs.ExampleParts.{memory, global}
+use Rattle.wasm_smith.specs.ExampleModules.{empty_module, group_of}
 use Rattle.wasm_smith.specs.ExampleMembers.{alone, final, taking_a_number}
 
 -- a shape of nothing
@@ -81,7 +88,17 @@ exported exports = record (empty_module default_config) { memories = memory 1 (S
 abbrev pub non_nullable : Shape
 non_nullable = record empty_shape { globals = global (Ref (not_null (plain heap.Extern))) false ∷ []; exports = (codes "g", kind.Global, 0) ∷ [] }
 
--- a minimum that is unmet of a part that is not drawn yet
-abbrev pub IsUnmetPart : Config → Error → Type 0
-IsUnmetPart config (IncorrectFormat (Unmet count)) = 0 < minimum_of config count
-IsUnmetPart config _ = ⊥
+-- a part that is not drawn yet, whose minimum may stay unmet where it may not when all is drawn
+abbrev pub IsToCome : Count → Type 0
+IsToCome counts.Imports = Unit {0}
+IsToCome counts.Tables = Unit {0}
+IsToCome counts.Globals = Unit {0}
+IsToCome counts.Exports = Unit {0}
+IsToCome counts.ElementSegments = Unit {0}
+IsToCome counts.DataSegments = Unit {0}
+IsToCome _ = ⊥
+
+-- its minimum is unmet
+abbrev pub IsUnmetToCome : Config → Error → Type 0
+IsUnmetToCome config (IncorrectFormat (Unmet count)) = IsToCome count × (0 < minimum_of config count)
+IsUnmetToCome config _ = ⊥

@@ -3,7 +3,8 @@
 mod bounds;
 mod family;
 mod modules;
-mod refused_modules;
 mod promises;
+mod refusals;
+mod refused_modules;
 mod shapes;
 mod spelling;

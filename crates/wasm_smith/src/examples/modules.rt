@@ -18,6 +18,7 @@ ghost use Rattle.wasm_smith.specs.ExampleModules.{
   counting_fuel,
   one_number,
   passive_bytes,
+  one_of_each,
 };
 
 fn types_and_functions()
@@ -44,4 +45,8 @@ fn segments()
     ensures copied_bytes { IsValid one_data_segment }
     ensures bytes { IsValid passive_bytes }
     ensures beside_a_tag_and_an_export { IsValid one_tag }
+{}
+
+fn all_kinds()
+    ensures valid { IsValid one_of_each }
 {}

@@ -1,4 +1,4 @@
-ghost use Rattle.std.specs.Prelude.{[], ◌∷◌, ◌<◌, ◌⊎◌, true, false, Some};
+ghost use Rattle.std.specs.Prelude.{◌≡◌, ◌⊎◌, true, false};
 ghost use Rattle.smith_bytes.specs.declared.error.Error.{Error};
 ghost use Rattle.smith_bytes.specs.declared.error.Error.TheVariants.{EmptyChoose, NotEnoughData, IncorrectFormat, Config as Faulty, Memory};
 ghost use Rattle.smith_bytes.specs.declared.error.ConfigFault.TheVariants.{MinAboveMax};
@@ -9,14 +9,14 @@ ghost use Rattle.smith_config.specs.declared.config.Config.{Config};
 ghost use Rattle.smith_config.specs.Shapes.{no_shapes};
 ghost use Rattle.wasm_smith.specs.Refusals.{MayRefuse, AsksNothingImpossible};
 ghost use Rattle.wasm_smith.specs.ToCome.{MayComeOut, accepted};
-ghost use Rattle.wasm_smith.specs.ExampleShapes.{for_module, for_imports, for_exports, imported_memories, exporting, environment, non_nullable};
+ghost use Rattle.wasm_smith.specs.ExampleShapes.{for_module, for_imports, for_exports, imported_memories, exporting, environment, non_nullable, IsUnmetToCome};
 
 fn refusals()
     ensures choice_from_nothing { MayRefuse (for_exports non_nullable) default_config EmptyChoose }
     ensures choice_without_shapes { ¬ MayRefuse no_shapes default_config EmptyChoose }
     ensures choice_of_nullable_references { ¬ MayRefuse (for_exports exporting) default_config EmptyChoose }
     ensures too_few_bytes { ¬ MayRefuse no_shapes default_config NotEnoughData }
-    ensures loop { ¬ MayRefuse no_shapes default_config (IncorrectFormat Loop) }
+    ensures stopped_loop { ¬ MayRefuse no_shapes default_config (IncorrectFormat Loop) }
     ensures raw_body { ¬ MayRefuse no_shapes default_config (IncorrectFormat RawBody) }
     ensures type_size { MayRefuse no_shapes (record default_config { export_everything = true }) (IncorrectFormat TypeSize) }
     ensures type_size_of_drawn_exports { ¬ MayRefuse no_shapes default_config (IncorrectFormat TypeSize) }
@@ -55,8 +55,8 @@ fn nothing_impossible()
     ensures a_reference_that_is_not_null { ¬ AsksNothingImpossible (for_exports non_nullable) (record default_config { max_memories = 2 }) }
 {}
 
-fn until_all_is_drawn(config: &Config, e: &Error)
-    ensures allowed_later { MayComeOut config.now e.now → MayRefuse no_shapes config.now e.now ⊎ IsUnmetPart config.now e.now }
+fn until_all_is_drawn()
+    ensures allowed_later { (config : Config) (e : Error) → MayComeOut config e → MayRefuse no_shapes config e ⊎ IsUnmetToCome config e }
     ensures garbage_collection_is_off { (accepted default_config).gc_enabled ≡ false }
     ensures tables_are_refused { MayComeOut (accepted (record default_config { min_tables = 1 })) (IncorrectFormat (Unmet counts.Tables)) }
     ensures memories_are_not { ¬ MayComeOut (accepted (record default_config { min_memories = 1 })) (IncorrectFormat (Unmet counts.Memories)) }

@@ -1,7 +1,12 @@
 ghost use Rattle.std.specs.Prelude.{[], ◌∷◌, true, false, pos, negsuc};
 ghost use Rattle.smith_bytes.specs.Spelling.{SpellsBool, SpellsNumber, SpellsRefusal};
 ghost use Rattle.smith_config.specs.Config.{default_config};
-ghost use Rattle.smith_draw.specs.Spelling.{SpellsGroups};
+ghost use Rattle.smith_types.specs.declared.value_type.AbstractHeapType.TheVariants as heap;
+ghost use Rattle.smith_types.specs.declared.value_type.HeapType.TheVariants.{Concrete, Exact};
+ghost use Rattle.smith_types.specs.declared.value_type.ValType.TheVariants.{Ref};
+ghost use Rattle.smith_types.specs.declared.composite_type.StorageType.TheVariants.{I8, I16};
+ghost use Rattle.smith_types.specs.ExampleTypes.{plain, not_null};
+ghost use Rattle.smith_draw.specs.Spelling.{SpellsGroups, SpellsStorage, SpellsHeapType, SpellsUnshared, SpellsSize, SpellsRest as SpellsBehindClass};
 ghost use Rattle.wasm_smith.specs.Spelling.{SpellsMember, SpellsRest, SpellsI32, SpellsFuncs, IsRest};
 ghost use Rattle.wasm_smith.specs.ExampleModules.{plain_function};
 ghost use Rattle.wasm_smith.specs.ExampleMembers.{final, one_function_type, array_and_struct, taking_a_number, alone, one_of_each_without_gc, no_types_and_imports, nothing_may_be};
@@ -53,4 +58,19 @@ fn other_spellings()
     ensures a_full_list { SpellsGroups no_types_and_imports [] false [] [] }
     ensures a_full_list_and_a_bool { ¬ SpellsGroups no_types_and_imports [] false [] (0 ∷ []) }
     ensures a_function_too_many { ¬ SpellsFuncs (record default_config { max_funcs = 0 }) (final plain_function ∷ []) (0 ∷ []) (1 ∷ []) }
+{}
+
+fn types()
+    ensures byte_field { SpellsStorage default_config 0 I8 (0 ∷ []) }
+    ensures another_field { ¬ SpellsStorage default_config 0 I16 (0 ∷ []) }
+    ensures abstract_type { SpellsHeapType default_config 0 (plain heap.Func) (0 ∷ []) }
+    ensures type_of_an_index { ¬ SpellsHeapType default_config 1 (Concrete 1) (1 ∷ 1 ∷ []) }
+    ensures exact_type { ¬ SpellsHeapType default_config 1 (Exact 0) (1 ∷ []) }
+    ensures not_null { ¬ SpellsBehindClass default_config 0 (Ref (not_null (plain heap.Func))) (0 ∷ []) }
+    ensures sharedness { SpellsUnshared (record default_config { shared_everything_threads_enabled = true }) (1 ∷ []) }
+    ensures no_sharedness { ¬ SpellsUnshared default_config (1 ∷ []) }
+    ensures one_type_without_gc { SpellsSize false default_config false 100 1 [] }
+    ensures two_types_without_gc { ¬ SpellsSize false default_config false 100 2 [] }
+    ensures a_group_behind_another { SpellsSize true default_config true 99 1 (1 ∷ 1 ∷ []) }
+    ensures a_group_that_is_cloned { ¬ SpellsSize true default_config true 99 1 (0 ∷ 1 ∷ []) }
 {}

@@ -5,7 +5,6 @@ use Rattle.std.proofs.lemmas.List.Elements.{All-head}
 use Rattle.smith_bytes.specs.declared.error.Count.TheVariants as counts
 use Rattle.smith_types.specs.declared.entity_type.MemoryType.{MemoryType}
 use Rattle.smith_config.specs.Config.{default_config}
-use Rattle.smith_config.specs.declared.config.Config.{Config}
 use Rattle.smith_draw.specs.Bounds.{IsMemoryWithin}
 use Rattle.wasm_smith.specs.ExampleParts.{memory}
 use Rattle.wasm_smith.proofs.examples.bounds.most.Goals as goal

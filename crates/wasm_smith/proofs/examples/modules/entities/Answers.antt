@@ -1,4 +1,4 @@
-use Rattle.std.proofs.Common.{rules, arith, ◌≡◌, ℕ, List, [], ◌∷◌, Some, None, pos, negsuc, true, false, refl}
+use Rattle.std.proofs.Common.{rules, ℕ, List, None, pos, negsuc, true, refl}
 use Rattle.smith_types.specs.Flags.{funcref}
 use Rattle.smith_types.specs.declared.value_type.ValType.TheVariants.{I32}
 use Rattle.smith_types.specs.declared.const_instr.ConstInstr.{ConstInstr}

@@ -1,4 +1,4 @@
-use Rattle.std.proofs.Common.{rules, arith, ◌≡◌, ℕ, List, [], ◌∷◌, Some, None, pos, true, false, refl}
+use Rattle.std.proofs.Common.{rules, ℕ, List, [], ◌∷◌, refl}
 use Rattle.std.proofs.lemmas.List.Elements.{All-from_recursion}
 use Rattle.smith_types.specs.Flags.{funcref}
 use Rattle.smith_types.specs.Entities.{IsTagValid}
@@ -10,8 +10,8 @@ use Rattle.smith_types.specs.declared.entity_type.EntityType.TheVariants as enti
 use Rattle.smith_types.specs.declared.entity_type.ExportKind.{ExportKind}
 use Rattle.smith_types.specs.declared.value_type.ValType.TheVariants.{Ref}
 use Rattle.wasm_smith.specs.Module.{module_features, module_spaces, segment_context}
-use Rattle.wasm_smith.specs.ExampleParts.{no_function, shared_memory, passive_elements, active_data}
-use Rattle.wasm_smith.specs.ExampleModules.{a_type, plain_function, two_elements, one_data_segment, one_tag}
+use Rattle.wasm_smith.specs.ExampleParts.{no_function, shared_memory}
+use Rattle.wasm_smith.specs.ExampleModules.{two_elements, one_data_segment, one_tag}
 use Rattle.wasm_smith.proofs.Places.{distinct_alone}
 use Rattle.wasm_smith.proofs.ExampleParts.{no_function_given, function_types, functions_valid, function_at}
 use Rattle.wasm_smith.proofs.examples.modules.segments.Goals as goal

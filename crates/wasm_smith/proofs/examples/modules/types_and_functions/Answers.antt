@@ -1,4 +1,4 @@
-use Rattle.std.proofs.Common.{rules, arith, [], ◌∷◌, Some, None, true, false, refl}
+use Rattle.std.proofs.Common.{rules, [], ◌∷◌, refl}
 use Rattle.std.proofs.lemmas.List.Elements.{All-from_recursion}
 use Rattle.smith_types.specs.ValidTypes.{IsGroupValid, AreTypesValid}
 use Rattle.wasm_smith.specs.Module.{module_features, module_types}

@@ -1,4 +1,4 @@
-use Rattle.std.proofs.Common.{rules, arith, ◌≡◌, true, false, [], ◌∷◌, Some, None, refl, sym, ap, subst}
+use Rattle.std.proofs.Common.{arith, ◌≡◌, true, false, [], ◌∷◌, Some, None, refl, sym, subst}
 use Rattle.std.proofs.lemmas.Option.{same_Some}
 use Rattle.std.proofs.lemmas.List.Elements.{All-head}
 use Rattle.smith_types.specs.declared.value_type.AbstractHeapType.TheVariants as heap
@@ -9,7 +9,7 @@ use Rattle.smith_types.specs.ExampleTypes.{plain, nullable, anyref, eqref}
 use Rattle.smith_types.specs.ValidTypes.{IsValTypeValid, IsGroupValid, IsSupertypeValid}
 use Rattle.smith_types.proofs.Walk.{by_cases_from_below}
 use Rattle.wasm_smith.specs.Module.{module_features}
-use Rattle.wasm_smith.specs.ExampleModules.{a_type, bytes_array, taking, referring_to, types_together, types_apart, group_of}
+use Rattle.wasm_smith.specs.ExampleModules.{a_type, bytes_array, taking, referring_to, types_together, group_of}
 use Rattle.wasm_smith.proofs.examples.refused_modules.types.Goals as goal
 
 pub returns-clause-below_a_final_type : goal.returns-clause-below_a_final_type

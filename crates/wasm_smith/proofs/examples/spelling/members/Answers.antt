@@ -1,7 +1,6 @@
 use Rattle.std.proofs.Common.{[], ◌∷◌, refl}
 use Rattle.smith_bytes.specs.Spelling.{Listed, Each}
 use Rattle.smith_bytes.specs.Draws.{digit_count}
-use Rattle.smith_config.specs.Config.{default_config}
 use Rattle.smith_draw.specs.Spelling.{SpellsGroups, SpellsGroup, SpellsSubTypes, SpellsFuncType, SpellsValType, SpellsField}
 use Rattle.wasm_smith.specs.FuncTypes.{is_tag_type, is_unshared_function}
 use Rattle.wasm_smith.specs.Spelling.{SpellsMember}
@@ -40,19 +39,19 @@ pub returns-clause-array_and_struct : goal.returns-clause-array_and_struct
 unfolding SpellsMember SpellsGroups SpellsGroup SpellsSubTypes SpellsValType SpellsField Each digit_count is_tag_type is_unshared_function
 returns-clause-array_and_struct c =
     let array = joined [] (1 ∷ 0 ∷ 0 ∷ 0 ∷ []) refl (joined (1 ∷ []) (0 ∷ 0 ∷ 0 ∷ []) go (joined [] (0 ∷ 0 ∷ 0 ∷ []) refl
-        (joined (0 ∷ []) (0 ∷ 0 ∷ []) (record { digits = refl; read = refl }) (joined (0 ∷ []) (0 ∷ []) (record { digits = refl; read = refl }) stop)))) in
+    (joined (0 ∷ []) (0 ∷ 0 ∷ []) (record { digits = refl; read = refl }) (joined (0 ∷ []) (0 ∷ []) (record { digits = refl; read = refl }) stop)))) in
     let arrays = joined (1 ∷ 0 ∷ 0 ∷ 0 ∷ []) [] (record { root = refl; unshared = refl; form = array }) refl in
     let reference = joined (1 ∷ []) (0 ∷ []) go (record { digits = refl; read = refl }) in
     let value = joined (5 ∷ []) (1 ∷ 0 ∷ []) (record { place = 5; stands = refl; number = record { digits = refl; read = refl } }) (refl, (refl, reference)) in
     let field = joined (2 ∷ 5 ∷ 1 ∷ 0 ∷ []) (1 ∷ []) (joined (2 ∷ []) (5 ∷ 1 ∷ 0 ∷ []) (record { digits = refl; read = refl }) value) go in
     let fields = joined (1 ∷ []) (2 ∷ 5 ∷ 1 ∷ 0 ∷ 1 ∷ []) (record { digits = refl; read = refl }) (joined (2 ∷ 5 ∷ 1 ∷ 0 ∷ 1 ∷ []) [] field refl) in
     let structure = joined [] (1 ∷ 2 ∷ 1 ∷ 2 ∷ 5 ∷ 1 ∷ 0 ∷ 1 ∷ []) refl (joined (1 ∷ []) (2 ∷ 1 ∷ 2 ∷ 5 ∷ 1 ∷ 0 ∷ 1 ∷ []) go (joined [] (2 ∷ 1 ∷ 2 ∷ 5 ∷ 1 ∷ 0 ∷ 1 ∷ []) refl
-        (joined (2 ∷ []) (1 ∷ 2 ∷ 5 ∷ 1 ∷ 0 ∷ 1 ∷ []) (record { digits = refl; read = refl }) fields))) in
+    (joined (2 ∷ []) (1 ∷ 2 ∷ 5 ∷ 1 ∷ 0 ∷ 1 ∷ []) (record { digits = refl; read = refl }) fields))) in
     let structures = joined (1 ∷ 2 ∷ 1 ∷ 2 ∷ 5 ∷ 1 ∷ 0 ∷ 1 ∷ []) [] (record { root = refl; unshared = refl; form = structure }) refl in
     let second = joined (1 ∷ 1 ∷ []) (1 ∷ 2 ∷ 1 ∷ 2 ∷ 5 ∷ 1 ∷ 0 ∷ 1 ∷ []) (joined (1 ∷ []) (1 ∷ []) no_clone (record { digits = refl; read = refl })) structures in
     let first = joined (1 ∷ []) (1 ∷ 0 ∷ 0 ∷ 0 ∷ []) (joined [] (1 ∷ []) refl (record { digits = refl; read = refl })) arrays in
     let more = joined (1 ∷ []) (1 ∷ 1 ∷ 1 ∷ 2 ∷ 1 ∷ 2 ∷ 5 ∷ 1 ∷ 0 ∷ 1 ∷ 0 ∷ []) go (joined (1 ∷ 1 ∷ 1 ∷ 2 ∷ 1 ∷ 2 ∷ 5 ∷ 1 ∷ 0 ∷ 1 ∷ []) (0 ∷ []) second stop) in
     let groups = joined (1 ∷ []) (1 ∷ 1 ∷ 0 ∷ 0 ∷ 0 ∷ 1 ∷ 1 ∷ 1 ∷ 1 ∷ 2 ∷ 1 ∷ 2 ∷ 5 ∷ 1 ∷ 0 ∷ 1 ∷ 0 ∷ []) go
-        (joined (1 ∷ 1 ∷ 0 ∷ 0 ∷ 0 ∷ []) (1 ∷ 1 ∷ 1 ∷ 1 ∷ 2 ∷ 1 ∷ 2 ∷ 5 ∷ 1 ∷ 0 ∷ 1 ∷ 0 ∷ []) first more) in
+    (joined (1 ∷ 1 ∷ 0 ∷ 0 ∷ 0 ∷ []) (1 ∷ 1 ∷ 1 ∷ 1 ∷ 2 ∷ 1 ∷ 2 ∷ 5 ∷ 1 ∷ 0 ∷ 1 ∷ 0 ∷ []) first more) in
     joined (1 ∷ 1 ∷ 1 ∷ 0 ∷ 0 ∷ 0 ∷ 1 ∷ 1 ∷ 1 ∷ 1 ∷ 2 ∷ 1 ∷ 2 ∷ 5 ∷ 1 ∷ 0 ∷ 1 ∷ 0 ∷ []) (0 ∷ 0 ∷ []) groups
-      (joined (0 ∷ []) (0 ∷ []) stop (joined (0 ∷ []) [] (any_byte 0) (joined [] [] refl refl)))
+    (joined (0 ∷ []) (0 ∷ []) stop (joined (0 ∷ []) [] (any_byte 0) (joined [] [] refl refl)))
