@@ -8,7 +8,7 @@ ghost use Rattle.smith_config.specs.Config.{default_config};
 ghost use Rattle.smith_config.specs.declared.config.Config.{Config};
 ghost use Rattle.smith_config.specs.Shapes.{no_shapes};
 ghost use Rattle.wasm_smith.specs.Refusals.{MayRefuse, AsksNothingImpossible};
-ghost use Rattle.wasm_smith.specs.ToCome.{MayComeOut, accepted};
+ghost use Rattle.wasm_smith.specs.ToCome.{MayComeOut};
 ghost use Rattle.wasm_smith.specs.ExampleShapes.{for_module, for_imports, for_exports, imported_memories, exporting, environment, non_nullable, IsUnmetToCome};
 
 fn refusals()
@@ -57,7 +57,6 @@ fn nothing_impossible()
 
 fn until_all_is_drawn()
     ensures allowed_later { (config : Config) (e : Error) → MayComeOut config e → MayRefuse no_shapes config e ⊎ IsUnmetToCome config e }
-    ensures garbage_collection_is_off { (accepted default_config).gc_enabled ≡ false }
-    ensures tables_are_refused { MayComeOut (accepted (record default_config { min_tables = 1 })) (IncorrectFormat (Unmet counts.Tables)) }
-    ensures memories_are_not { ¬ MayComeOut (accepted (record default_config { min_memories = 1 })) (IncorrectFormat (Unmet counts.Memories)) }
+    ensures tables_are_refused { MayComeOut (record default_config { min_tables = 1 }) (IncorrectFormat (Unmet counts.Tables)) }
+    ensures memories_are_not { ¬ MayComeOut (record default_config { min_memories = 1 }) (IncorrectFormat (Unmet counts.Memories)) }
 {}

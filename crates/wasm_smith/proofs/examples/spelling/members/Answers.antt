@@ -1,7 +1,7 @@
 use Rattle.std.proofs.Common.{[], ◌∷◌, refl}
 use Rattle.smith_bytes.specs.Spelling.{Listed, Each}
 use Rattle.smith_bytes.specs.Draws.{digit_count}
-use Rattle.smith_draw.specs.Spelling.{SpellsGroups, SpellsGroup, SpellsSubTypes, SpellsFuncType, SpellsValType, SpellsField}
+use Rattle.smith_draw.specs.Spelling.{SpellsGroups, SpellsGroup, SpellsSubTypes, SpellsFuncType, SpellsValType, SpellsField, SpellsStructType}
 use Rattle.wasm_smith.specs.FuncTypes.{is_tag_type, is_unshared_function}
 use Rattle.wasm_smith.specs.Spelling.{SpellsMember}
 use Rattle.wasm_smith.proofs.Spelled.{joined, go, stop, any_byte, no_clone, one_function_spelled}
@@ -36,7 +36,7 @@ returns-clause-full_without_gc c =
     joined (1 ∷ 1 ∷ 0 ∷ 0 ∷ 0 ∷ []) (0 ∷ 0 ∷ 0 ∷ 1 ∷ []) groups (joined (0 ∷ []) (0 ∷ 0 ∷ 1 ∷ []) stop (joined (0 ∷ []) (0 ∷ 1 ∷ []) (any_byte 0) (joined (0 ∷ []) (1 ∷ []) stop funcs)))
 
 pub returns-clause-array_and_struct : goal.returns-clause-array_and_struct
-unfolding SpellsMember SpellsGroups SpellsGroup SpellsSubTypes SpellsValType SpellsField Each digit_count is_tag_type is_unshared_function
+unfolding SpellsMember SpellsGroups SpellsGroup SpellsSubTypes SpellsValType SpellsField SpellsStructType Each digit_count is_tag_type is_unshared_function
 returns-clause-array_and_struct c =
     let array = joined [] (1 ∷ 0 ∷ 0 ∷ 0 ∷ []) refl (joined (1 ∷ []) (0 ∷ 0 ∷ 0 ∷ []) go (joined [] (0 ∷ 0 ∷ 0 ∷ []) refl
     (joined (0 ∷ []) (0 ∷ 0 ∷ []) (record { digits = refl; read = refl }) (joined (0 ∷ []) (0 ∷ []) (record { digits = refl; read = refl }) stop)))) in
