@@ -1,8 +1,9 @@
 -- The types that may have subtypes.
-use Rattle.std.proofs.Common.{◌≡◌, ℕ, suc, ◌+◌, ◌-◌, ◌<◌, Bool, true, false, cond, List, [], ◌∷◌, Some, None, length, refl, ap, subst, arith}
+use Rattle.std.proofs.Common.{◌≡◌, ℕ, zero, suc, ◌+◌, ◌-◌, ◌<◌, Bool, true, false, cond, List, [], ◌∷◌, Some, None, length, refl, sym, ap, subst, arith}
 use Rattle.std.specs.Prelude.{slice_get, All}
 use Rattle.std.specs.List.{AllByRecursion as Each}
 use Rattle.std.proofs.lemmas.List.Elements.{All-from_recursion}
+use Rattle.std.proofs.lemmas.Bool.{lt-ltb}
 use Rattle.smith_bytes.specs.Draws.{range_at}
 use Rattle.smith_bytes.proofs.Drawn.{range_within}
 use Rattle.smith_types.specs.declared.composite_type.SubType.{SubType}
@@ -10,7 +11,7 @@ use Rattle.smith_types.specs.Types.{IsOrderly}
 use Rattle.smith_types.specs.Space.{HasDepth, root, deeper}
 use Rattle.smith_draw.specs.Choices.{chosen_at}
 use Rattle.smith_draw.specs.Offered.{supertype_at}
-use Rattle.smith_draw.specs.SubTypes.{depth_at, may_have_subtypes, supertypes_from, supertypes}
+use Rattle.smith_draw.specs.SubTypes.{depth_at, may_have_subtypes, supertypes_from, supertypes, SomeMayHaveSubtypes}
 use Rattle.smith_draw.proofs.Ancestors.{ancestors_up, ancestors_none}
 
 -- the depth of a type, by the list of the types above it
@@ -52,3 +53,28 @@ unfolding chosen_at
 chosen_of P other items bytes some each =
     let place = range_at 0 (length items - 1) bytes in
     each place.0 other (omega (arith, range_within 0 (length items - 1) bytes (omega arith)))
+
+longer : (b : Bool) (start : ℕ) (others : List ℕ) → (b ≡ false → 0 < length others) → 0 < length (cond b (start ∷ others) others)
+longer true start others h = omega arith
+longer false start others h = h refl
+
+listed : (types : List SubType) (start : ℕ) (rest : List SubType) (j : ℕ) (t : SubType) → slice_get rest j ≡ Some t → may_have_subtypes types (start + j) t ≡ true → 0 < length (supertypes_from types start rest)
+listed types start [] j t at may = cc
+listed types start (u ∷ rest) zero t at may =
+    let first : start + 0 ≡ start = omega arith in
+    let same : t ≡ u = cc in
+    let here : may_have_subtypes types start u ≡ true = subst (λ (v : SubType). may_have_subtypes types start v ≡ true) same (subst (λ (n : ℕ). may_have_subtypes types n t ≡ true) first may) in
+    longer (may_have_subtypes types start u) start (supertypes_from types (start + 1) rest) (λ off. cc)
+listed types start (u ∷ rest) (suc j) t at may =
+    let later : start + suc j ≡ start + 1 + j = omega arith in
+    longer (may_have_subtypes types start u) start (supertypes_from types (start + 1) rest)
+    (λ off. listed types (start + 1) rest j t at (subst (λ (n : ℕ). may_have_subtypes types n t ≡ true) later may))
+
+-- a type that may have subtypes is listed
+pub some_listed : (types : List SubType) → IsOrderly types → SomeMayHaveSubtypes types → 0 < length (supertypes types)
+unfolding supertypes
+some_listed types orderly some =
+    let same : depth_at types some.index ≡ some.depth = sym (depth_is types orderly some.deep) in
+    let may : may_have_subtypes types some.index some.ty ≡ true = rw (some.not_final, same, lt-ltb some.depth 60 some.above) refl in
+    let place : some.index ≡ 0 + some.index = omega arith in
+    listed types 0 types some.index some.ty some.stands (subst (λ (n : ℕ). may_have_subtypes types n some.ty ≡ true) place may)

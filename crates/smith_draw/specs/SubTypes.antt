@@ -1,7 +1,8 @@
 -- Drawn subtypes, and the types that may have subtypes.
-use Rattle.std.specs.Prelude.{◌≡◌, ℕ, suc, ◌+◌, Bool, true, false, not, ◌&&◌, nat_lt, Option, Some, None, List, [], ◌∷◌, length, slice_get, if◌then◌else◌}
+use Rattle.std.specs.Prelude.{◌≡◌, ℕ, suc, ◌<◌, ◌+◌, Bool, true, false, not, ◌&&◌, nat_lt, Option, Some, None, List, [], ◌∷◌, length, slice_get, if◌then◌else◌}
 use Rattle.smith_types.specs.declared.composite_type.SubType.{SubType}
 use Rattle.smith_types.specs.Types.{IsAlike}
+use Rattle.smith_types.specs.Space.{HasDepth}
 use Rattle.smith_config.specs.declared.config.Config.{Config}
 use Rattle.smith_bytes.specs.Draws.{bool_at, ratio_at}
 use Rattle.smith_draw.specs.Choices.{chosen_at}
@@ -21,6 +22,16 @@ may_have_subtypes types index t = not t.is_final && nat_lt (depth_at types index
 pub record HasSuperType (types : List SubType) (t : SubType) : Type 0 where
   pub below : (s : ℕ) → t.supertype ≡ Some s → (u : SubType) × (slice_get types s ≡ Some u) × IsAlike t u
   pub allowed : (s : ℕ) (u : SubType) → t.supertype ≡ Some s → slice_get types s ≡ Some u → may_have_subtypes types s u ≡ true
+
+-- a type stands that may have subtypes: one that is not final, of a depth below 60 (own rule)
+pub record SomeMayHaveSubtypes (types : List SubType) : Type 0 where
+  pub index : ℕ
+  pub ty : SubType
+  pub depth : ℕ
+  pub stands : slice_get types index ≡ Some ty
+  pub not_final : ty.is_final ≡ false
+  pub deep : HasDepth types index depth
+  pub above : depth < 60
 
 -- the indices, from there on, of the types that may have subtypes (own rule)
 abbrev pub supertypes_from : List SubType → ℕ → List SubType → List ℕ

@@ -17,6 +17,7 @@ ghost use Rattle.smith_draw.specs.SubTypes.{
   supertype_wanted_at,
   sub_type_at,
   HasSuperType,
+  SomeMayHaveSubtypes,
 };
 ghost use Rattle.smith_draw.specs.Spelling.{IsRoot, SpellsSubType};
 
@@ -199,7 +200,7 @@ pub fn arbitrary_sub_type_of_super_type(
     requires sanitized { IsSanitized config.now }
     requires gc { IsTrue config.now.gc_enabled }
     requires valid { AreTypesOpen (features_of config.now) limit spaces.now.types.now }
-    requires some { 0 < length (supertypes spaces.now.types.now.types) }
+    requires some { SomeMayHaveSubtypes spaces.now.types.now.types }
     ensures exact { IfOk result (λ drawn. sub_type_of_at config.now spaces.now.types.now.types limit (supertypes spaces.now.types.now.types) u.old ≡ (drawn, u.new)) }
     ensures below { IfOk result (λ drawn. IsSome drawn.supertype) }
     ensures valid { IfOk result (IsTypeValid (features_of config.now) spaces.now.types.now.types limit) }
