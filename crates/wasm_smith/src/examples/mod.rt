@@ -2,6 +2,7 @@
 
 mod bounds;
 mod family;
+mod func_types;
 mod modules;
 mod promises;
 mod refusals;
