@@ -7,7 +7,7 @@ use std::alloc::Global;
 use std::test::Fail;
 use wasm_smith::{
     Config, Entities, Error, Spaces, Unstructured, arbitrary_func_type, arbitrary_heap_type,
-    arbitrary_rec_group, arbitrary_ref_type, arbitrary_sub_type, arbitrary_valtype,
+    arbitrary_rec_group, arbitrary_ref_type, arbitrary_valtype,
 };
 
 const NO_ENTITIES: Entities<'static> = Entities {
@@ -145,26 +145,6 @@ fn a_function_type(rt: HostRuntime) -> Result<(), Fail> {
 fn a_function_type_of_one_result(rt: HostRuntime) -> Result<(), Fail> {
     let drawn = is_func_type(rt.alloc(), true, &[0, 1, 1, 1, 1], &[], &[ValType::I64])?;
     assert_eq!(rt; drawn, (true, 2));
-    Ok(())
-}
-
-// Whether a drawn subtype is of functions that take and give these.
-fn is_sub_type(
-    alloc: Global,
-    input: &[u8],
-    params: &[ValType],
-    results: &[ValType],
-) -> Result<bool, Error> {
-    let types = TypeSpace::new(alloc);
-    let mut u = Unstructured::new(input);
-    let config = without_gc(false);
-    let drawn = arbitrary_sub_type(alloc, &config, &spaces_of(&types), 0, &mut u)?;
-    Ok(is_function(&drawn, params, results))
-}
-
-#[test]
-fn a_subtype_is_a_function_type(rt: HostRuntime) -> Result<(), Fail> {
-    assert!(rt; is_sub_type(rt.alloc(), &[1, 3], &[ValType::F64], &[])?);
     Ok(())
 }
 

@@ -18,4 +18,6 @@ mod matching_types;
 #[cfg(test)]
 mod modules;
 #[cfg(test)]
+mod subtypes;
+#[cfg(test)]
 mod type_space;

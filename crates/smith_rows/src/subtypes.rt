@@ -1,0 +1,122 @@
+ghost use Rattle.std.specs.Prelude.{◌≡◌, ◌<◌, length, IsTrue, IfOk};
+ghost use Rattle.smith_types.specs.ValidTypes.{AreTypesValid};
+ghost use Rattle.smith_config.specs.Faults.{Passes};
+ghost use Rattle.smith_config.specs.Features.{features_of};
+ghost use Rattle.smith_config.specs.Sanitized.{IsSanitized};
+
+use crate::function_types::is_function;
+use smith_types::{
+    ArrayType, CompositeInnerType, FieldType, Items, StorageType, StructType, SubType, TypeSpace,
+    ValType,
+};
+use std::alloc::Global;
+use std::test::Fail;
+use wasm_smith::{
+    Config, Entities, Error, Spaces, Unstructured, arbitrary_matching_struct_type,
+    arbitrary_sub_type, arbitrary_sub_type_of_super_type, arbitrary_types, clone_rec_group,
+};
+
+const NO_ENTITIES: Entities<'static> = Entities {
+    tags: &[],
+    funcs: &[],
+    tables: &[],
+    memories: &[],
+    globals: &[],
+    imported_funcs: 0,
+    imported_globals: 0,
+};
+
+fn spaces_of<'a>(types: &'a TypeSpace) -> Spaces<'a>
+    ensures types { result.types.now ≡ types.now }
+{
+    Spaces {
+        types,
+        entities: NO_ENTITIES,
+    }
+}
+
+// The defaults, with garbage collection or without.
+fn settled(gc: bool) -> Result<Config, Error>
+    ensures passes { IfOk result Passes }
+    ensures sanitized { IfOk result IsSanitized }
+    ensures gc { IfOk result (λ config. config.gc_enabled ≡ gc) }
+{
+    let mut config = Config::default();
+    config.gc_enabled = gc;
+    config.sanitize();
+    if let Err(fault) = config.check() {
+        return Err(Error::Config(fault));
+    }
+    Ok(config)
+}
+
+// The types that bytes give.
+#[tactic(auto, using(smith_types::proofs::Validity::no_types))]
+fn types_from(alloc: Global, config: &Config, input: &[u8]) -> Result<TypeSpace, Error>
+    requires passes { Passes config.now }
+    requires sanitized { IsSanitized config.now }
+    ensures valid { IfOk result (AreTypesValid (features_of config.now)) }
+{
+    let mut types = TypeSpace::new(alloc);
+    arbitrary_types(alloc, config, &mut types, &NO_ENTITIES, &mut Unstructured::new(input))?;
+    Ok(types)
+}
+
+// One more type behind these, in a group that ends with them.
+fn one_more(
+    alloc: Global,
+    config: &Config,
+    types: &TypeSpace,
+    input: &[u8],
+) -> Result<SubType, Error>
+    requires sanitized { IsSanitized config.now }
+    requires valid { AreTypesValid (features_of config.now) types.now }
+{
+    let limit = types.types().len() as u32;
+    let mut u = Unstructured::new(input);
+    arbitrary_sub_type(alloc, config, &spaces_of(types), limit, &mut u)
+}
+
+#[test]
+fn a_subtype_without_gc(rt: HostRuntime) -> Result<(), Fail> {
+    let config = settled(false)?;
+    let types = types_from(rt.alloc(), &config, &[])?;
+    let drawn = one_more(rt.alloc(), &config, &types, &[1, 3])?;
+    assert!(rt; is_function(&drawn, &[ValType::F64], &[]));
+    Ok(())
+}
+
+// One more type below some of these, where the first may have subtypes.
+fn one_below(
+    alloc: Global,
+    config: &Config,
+    types: &TypeSpace,
+    input: &[u8],
+) -> Result<Option<SubType>, Error>
+    requires sanitized { IsSanitized config.now }
+    requires gc { IsTrue config.now.gc_enabled }
+    requires valid { AreTypesValid (features_of config.now) types.now }
+{
+    let limit = types.types().len() as u32;
+    if limit == 0 || types.types()[0].is_final || types.depth(0) >= 60 {
+        return Ok(None);
+    }
+    let mut u = Unstructured::new(input);
+    let drawn =
+        arbitrary_sub_type_of_super_type(alloc, config, &spaces_of(types), limit, &mut u)?;
+    Ok(Some(drawn))
+}
+
+// Whether a type is final and directly below the one of an index.
+fn is_last_below(ty: &SubType, index: u32) -> bool {
+    ty.is_final && ty.supertype == Some(index)
+}
+
+#[test]
+fn a_subtype_of_a_chosen_type(rt: HostRuntime) -> Result<(), Fail> {
+    let config = settled(true)?;
+    let types = types_from(rt.alloc(), &config, &[1, 2])?;
+    let drawn = one_below(rt.alloc(), &config, &types, &[1, 1])?;
+    assert!(rt; drawn.as_ref().is_some_and(|ty| is_last_below(ty, 1)));
+    Ok(())
+}
