@@ -6,8 +6,7 @@ ghost use Rattle.smith_config.specs.Sanitized.{IsSanitized};
 
 use crate::function_types::is_function;
 use smith_types::{
-    ArrayType, CompositeInnerType, FieldType, Items, StorageType, StructType, SubType, TypeSpace,
-    ValType,
+    FieldType, Items, StorageType, StructType, SubType, TypeSpace, ValType,
 };
 use std::alloc::Global;
 use std::test::Fail;
@@ -118,5 +117,57 @@ fn a_subtype_of_a_chosen_type(rt: HostRuntime) -> Result<(), Fail> {
     let types = types_from(rt.alloc(), &config, &[1, 2])?;
     let drawn = one_below(rt.alloc(), &config, &types, &[1, 1])?;
     assert!(rt; drawn.as_ref().is_some_and(|ty| is_last_below(ty, 1)));
+    Ok(())
+}
+
+// How many types and groups there are when one group is added again, where it may be.
+fn counts_with_clone(
+    alloc: Global,
+    config: &Config,
+    mut types: TypeSpace,
+) -> Result<Option<(usize, usize)>, Error>
+    requires passes { Passes config.now }
+    requires valid { AreTypesValid (features_of config.now) types }
+{
+    if types.types().len() >= config.max_types || types.rec_groups().is_empty() {
+        return Ok(None);
+    }
+    let mut u = Unstructured::new(&[]);
+    if !clone_rec_group(alloc, config, &mut types, &NO_ENTITIES, true, &mut u)? {
+        return Ok(None);
+    }
+    Ok(Some((types.types().len(), types.rec_groups().len())))
+}
+
+#[test]
+fn a_group_is_added_again(rt: HostRuntime) -> Result<(), Fail> {
+    let config = settled(true)?;
+    let types = types_from(rt.alloc(), &config, &[1, 2])?;
+    assert_eq!(rt; counts_with_clone(rt.alloc(), &config, types)?, Some((4, 2)));
+    Ok(())
+}
+
+// A struct type that matches one without fields.
+fn extended(alloc: Global, config: &Config, input: &[u8]) -> Result<StructType, Error>
+    requires sanitized { IsSanitized config.now }
+    requires gc { IsTrue config.now.gc_enabled }
+{
+    let types = TypeSpace::new(alloc);
+    let structure = StructType {
+        fields: Items::new(alloc),
+    };
+    let mut u = Unstructured::new(input);
+    arbitrary_matching_struct_type(alloc, config, &spaces_of(&types), &structure, false, 0, &mut u)
+}
+
+#[test]
+fn a_struct_with_an_extra_field(rt: HostRuntime) -> Result<(), Fail> {
+    let config = settled(true)?;
+    let StructType { fields } = extended(rt.alloc(), &config, &[1, 0, 1])?;
+    let expected = [FieldType {
+        element_type: StorageType::I8,
+        mutable: true,
+    }];
+    assert!(rt; fields.as_slice() == expected.as_slice());
     Ok(())
 }

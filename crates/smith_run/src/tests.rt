@@ -120,6 +120,27 @@ fn empty_input_makes_the_empty_module(rt: HostRuntime) -> Result<(), Fail> {
     Ok(())
 }
 
+// Whether an input is told by a line that begins with these counts.
+fn is_told(alloc: Global, input: &[u8], counts: &str) -> bool {
+    let mut out = Vec::new(alloc);
+    let mut source = FromRead::new(input);
+    let mut sink = FromWrite::new(&mut out);
+    let ended = run(alloc, false, &mut source, &mut sink);
+    ended == Ok(Outcome::Made) && out.as_slice().starts_with(counts.as_bytes())
+}
+
+#[test]
+fn groups_of_types_are_counted(rt: HostRuntime) -> Result<(), Fail> {
+    let alloc = rt.alloc();
+    assert!(rt; is_told(alloc, &[1], "types 0 groups 1 imports 0 tags 0 funcs 0 "));
+    assert!(rt; is_told(alloc, &[1, 2], "types 2 groups 1 imports 0 tags 0 funcs 0 "));
+    let with_a_clone = [1, 1, 0, 0, 0, 0, 1];
+    assert!(rt; is_told(alloc, &with_a_clone, "types 2 groups 2 imports 0 tags 0 funcs 0 "));
+    let with_a_function = [1, 1, 1, 1, 0, 0, 0, 0, 0, 0, 1, 0];
+    assert!(rt; is_told(alloc, &with_a_function, "types 1 groups 1 imports 0 tags 0 funcs 1 "));
+    Ok(())
+}
+
 #[test]
 fn a_line_goes_out_whole_a_byte_at_a_time(rt: HostRuntime) -> Result<(), Fail> {
     let mut writer = ByteWriter::new(rt.alloc());

@@ -76,6 +76,10 @@ ExportsEverything m =
     ++ (numbered_from kind.Table 0 (length m.tables)
     ++ (numbered_from kind.Memory 0 (length m.memories) ++ (numbered_from kind.Global 0 (length m.globals) ++ numbered_from kind.Tag 0 (length m.tags))))
 
+-- no function starts the module
+abbrev pub HasNoStart : Parts → Type 0
+HasNoStart m = m.start ≡ None
+
 -- each segment that is copied has a constant offset and lies within the least size of its table or memory
 pub record IsInside (m : Parts) : Type 0 where
   pub elements : All (IsElementInside m.tables) m.elems

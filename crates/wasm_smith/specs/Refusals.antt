@@ -1,5 +1,5 @@
 -- When a module is refused, and when it is not. Rules of this project.
-use Rattle.std.specs.Prelude.{◌≡◌, ◌*◌, ◌+◌, ◌<◌, ◌≤◌, ◌⊎◌, false, IsTrue, IfSome, IsSome, IsSomeAnd, Option, length}
+use Rattle.std.specs.Prelude.{◌≡◌, ◌*◌, ◌+◌, ◌<◌, ◌≤◌, ◌⊎◌, false, IsTrue, IfSome, IsSome, IsSomeAnd, Option, is_some, ◌||◌, if◌then◌else◌}
 use Rattle.std.specs.List.{Any}
 use Rattle.smith_bytes.specs.declared.error.Error.{Error}
 use Rattle.smith_bytes.specs.declared.error.Error.TheVariants as errors
@@ -16,7 +16,14 @@ use Rattle.smith_config.specs.declared.shape.Shape.{Shape}
 use Rattle.smith_config.specs.Faults.{IsFirstFault, Passes, minimum_of}
 use Rattle.smith_config.specs.Shapes.{Shapes, IsShapeValid, shape_values, shape_spaces}
 use Rattle.smith_config.specs.ShapeFaults.{HasShapeFault}
-use Rattle.wasm_smith.specs.Bounds.{FixesExports}
+use Rattle.wasm_smith.specs.Bounds.{FixesExports, where_given, exported_of, brought_by_module}
+
+-- the configuration as it is checked beside shapes: a minimum that a shape replaces asks for nothing
+abbrev pub checked_beside : Shapes → Config → Config
+checked_beside shapes config = record config {
+  min_imports = if is_some shapes.available_imports || is_some shapes.module_shape then 0 else config.min_imports;
+  min_exports = if is_some shapes.exports || is_some shapes.module_shape then 0 else config.min_exports;
+}
 
 -- nothing is asked for at least
 abbrev pub HasNoMinimums : Config → Type 0
@@ -76,19 +83,14 @@ MayBeShort shapes config counts.Elements = Unit {0}
 abbrev pub MayBeUnmet : Shapes → Config → Count → Type 0
 MayBeUnmet shapes config count = (0 < minimum_of config count) × MayBeShort shapes config count
 
--- a shape has a memory, or a table
-abbrev pub HasMemory : Shape → Type 0
-HasMemory shape = 0 < length (shape_spaces shape).memories
-
-abbrev pub HasTable : Shape → Type 0
-HasTable shape = 0 < length (shape_spaces shape).tables
-
--- a shape for exports or for a module brings a memory, or a table
+-- the exports of a shape, or a module shape, bring a memory, or a table
 abbrev pub BringsMemory : Shapes → Type 0
-BringsMemory shapes = IsSomeAnd shapes.exports HasMemory ⊎ IsSomeAnd shapes.module_shape HasMemory
+BringsMemory shapes =
+    (0 < where_given (exported_of counts.Memories) shapes.exports) ⊎ (0 < where_given (brought_by_module counts.Memories) shapes.module_shape)
 
 abbrev pub BringsTable : Shapes → Type 0
-BringsTable shapes = IsSomeAnd shapes.exports HasTable ⊎ IsSomeAnd shapes.module_shape HasTable
+BringsTable shapes =
+    (0 < where_given (exported_of counts.Tables) shapes.exports) ⊎ (0 < where_given (brought_by_module counts.Tables) shapes.module_shape)
 
 -- why a module may be found to be out of shape
 abbrev pub MayBeOutOfShape : Shapes → Config → Why → Type 0
@@ -105,7 +107,7 @@ abbrev pub MayRefuse : Shapes → Config → Error → Type 0
 MayRefuse shapes config errors.EmptyChoose = HoldsNonNullable shapes
 MayRefuse shapes config errors.NotEnoughData = ⊥
 MayRefuse shapes config (errors.IncorrectFormat why) = MayBeOutOfShape shapes config why
-MayRefuse shapes config (errors.Config fault) = IsFirstFault config fault
+MayRefuse shapes config (errors.Config fault) = IsFirstFault (checked_beside shapes config) fault
 MayRefuse shapes config (errors.Shape for_use fault) = IsSomeAnd (shape_for shapes for_use) (λ shape. HasShapeFault for_use config shape fault)
 MayRefuse shapes config errors.Memory = Unit {0}
 
@@ -113,11 +115,15 @@ MayRefuse shapes config errors.Memory = Unit {0}
 abbrev pub AreShapesValid : Shapes → Config → Type 0
 AreShapesValid shapes config = (for_use : Which) → IfSome (shape_for shapes for_use) (λ shape. IsShapeValid for_use config shape)
 
--- where only want of memory refuses: configuration and shapes may be handed in, nothing is asked for at least, not everything
--- is exported, and a shape holds nullable references alone, where there may be several tables and memories
-pub record AsksNothingImpossible (shapes : Shapes) (config : Config) : Type 0 where
-  pub passes : Passes config
+-- where a module may be given at all: configuration and shapes may be handed in
+pub record MayGive (shapes : Shapes) (config : Config) : Type 0 where
+  pub passes : Passes (checked_beside shapes config)
   pub shapes_valid : AreShapesValid shapes config
+
+-- where only want of memory refuses: a module may be given, nothing is asked for at least, not everything is exported, and a
+-- shape holds nullable references alone, where there may be several tables and memories
+pub record AsksNothingImpossible (shapes : Shapes) (config : Config) : Type 0 where
+  pub may_give : MayGive shapes config
   pub no_minimums : HasNoMinimums config
   pub not_everything : config.export_everything ≡ false
   pub nullable : HoldsNonNullable shapes → ⊥

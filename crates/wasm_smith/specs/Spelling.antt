@@ -1,7 +1,7 @@
 -- Which bytes spell a module's types and functions, and the rest of a module that has no more than globals and passive data.
 -- A rule of this project. One pair of lists has many spellings.
 use Rattle.std.specs.Prelude.{◌≡◌, ℕ, ◌-◌, ◌≤◌, ◌==◌, ◌&&◌, nat_lt, Bool, true, false, ℤ, List, [], ◌∷◌, None, map, length, slice_get, option_to_list}
-use Rattle.std.specs.Int.{cast_unsigned, w32}
+use Rattle.std.specs.Int.{cast_signed, w32}
 use Rattle.std.specs.List.{list_any}
 use Rattle.smith_bytes.specs.Draws.{little_endian}
 use Rattle.smith_bytes.specs.Spelling.{SpellsBool, SpellsNumber, SpellsAnyByte, Where, Joined, Listed}
@@ -40,10 +40,10 @@ SpellsMember config groups funcs =
     Joined (SpellsGroups config [] false groups)
     (Joined (SpellsNone config.max_imports) (Joined SpellsAnyByte (Joined (SpellsNoTag config types) (SpellsFuncs config types funcs))))
 
--- a number of 32 bits: its four bytes, the lowest first
+-- a number of 32 bits, with sign: its four bytes, the lowest first
 pub record SpellsI32 (value : ℤ) (piece : List ℕ) : Type 0 where
   pub four : length piece ≡ 4
-  pub read : cast_unsigned w32 value ≡ little_endian piece
+  pub read : value ≡ cast_signed w32 (little_endian piece)
 
 -- a mutable global with this number: the first class, unshared, mutable, a constant, where there is a choice the first one
 unfoldable pub SpellsGlobal : Config → ℤ → List ℕ → Type 0

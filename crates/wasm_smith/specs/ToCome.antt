@@ -38,6 +38,7 @@ pub record IsDrawn (config : Config) (m : Parts) : Type 0 where
   pub bounds : KeepsBounds no_shapes m
   pub minimums : MeetsMinimums no_shapes m
   pub sections : WritesSections m
+  pub no_more : HasNoMore m
 
 -- where a minimum may stay unmet: it is above zero, that of types and memories never, and that of functions without garbage
 -- collection only where no type is asked for; that of a part which is not drawn yet always

@@ -87,7 +87,7 @@ impl Module {
     ghost use Rattle.wasm_smith.specs.Bounds.{KeepsBounds, MeetsMinimums};
     ghost use Rattle.wasm_smith.specs.Promises.{WritesSections};
     ghost use Rattle.wasm_smith.specs.Refusals.{HasNoMinimums};
-    ghost use Rattle.wasm_smith.specs.ToCome.{MayComeOut};
+    ghost use Rattle.wasm_smith.specs.ToCome.{HasNoMore, MayComeOut};
 
     /// Draws a module from the bytes. The configuration is sanitised and checked first.
     ///
@@ -99,6 +99,7 @@ impl Module {
         ensures bounds { IfOk result (KeepsBounds no_shapes) }
         ensures minimums { IfOk result (MeetsMinimums no_shapes) }
         ensures sections { IfOk result WritesSections }
+        ensures no_more { IfOk result HasNoMore }
         ensures refusals { IfErr result (MayComeOut (sanitized config)) }
         ensures needless { Passes (sanitized config) → HasNoMinimums (sanitized config) → IfErr result (λ e. e ≡ Error.Memory) }
         ensures source { IsPiece u.old u.new }

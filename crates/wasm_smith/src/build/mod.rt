@@ -9,7 +9,7 @@ ghost use Rattle.smith_config.specs.Shapes.{no_shapes};
 ghost use Rattle.wasm_smith.specs.Module.{IsValid};
 ghost use Rattle.wasm_smith.specs.Bounds.{KeepsBounds, MeetsMinimums};
 ghost use Rattle.wasm_smith.specs.Promises.{WritesSections};
-ghost use Rattle.wasm_smith.specs.ToCome.{MayComeOut};
+ghost use Rattle.wasm_smith.specs.ToCome.{HasNoMore, MayComeOut};
 
 mod code;
 mod funcs;
@@ -38,6 +38,7 @@ pub(crate) fn build(
     ensures bounds { IfOk result (KeepsBounds no_shapes) }
     ensures minimums { IfOk result (MeetsMinimums no_shapes) }
     ensures sections { IfOk result WritesSections }
+    ensures no_more { IfOk result HasNoMore }
     ensures refusal { IfErr result (MayComeOut config) }
     ensures left { KeepsPieces u.old u.new }
 {

@@ -1,4 +1,4 @@
-ghost use Rattle.std.specs.Prelude.{◌≡◌, ◌⊎◌, true, false};
+ghost use Rattle.std.specs.Prelude.{◌≡◌, ◌⊎◌, true, false, []};
 ghost use Rattle.smith_bytes.specs.declared.error.Error.{Error};
 ghost use Rattle.smith_bytes.specs.declared.error.Error.TheVariants.{EmptyChoose, NotEnoughData, IncorrectFormat, Config as Faulty, Memory};
 ghost use Rattle.smith_bytes.specs.declared.error.ConfigFault.TheVariants.{MinAboveMax};
@@ -24,6 +24,7 @@ fn refusals()
     ensures several_memories { MayRefuse (for_module imported_memories) default_config (IncorrectFormat SeveralMemories) }
     ensures memories_that_may_be_several { ¬ MayRefuse (for_module imported_memories) (record default_config { max_memories = 2 }) (IncorrectFormat SeveralMemories) }
     ensures memories_of_available_imports { ¬ MayRefuse (for_imports environment) default_config (IncorrectFormat SeveralMemories) }
+    ensures memory_that_nothing_exports { ¬ MayRefuse (for_exports (record exporting { exports = [] })) default_config (IncorrectFormat SeveralMemories) }
     ensures no_table_of_a_shape { ¬ MayRefuse (for_exports exporting) (record default_config { reference_types_enabled = false; gc_enabled = false }) (IncorrectFormat SeveralTables) }
     ensures memory { MayRefuse no_shapes default_config Memory }
     ensures no_fault { ¬ MayRefuse no_shapes default_config (Faulty (MinAboveMax counts.Tags)) }
