@@ -5,8 +5,8 @@ use smith_types::{
 };
 use std::test::Fail;
 use wasm_smith::{
-    Config, Entities, Spaces, Unstructured, arbitrary_composite_type,
-    arbitrary_field_type, arbitrary_storage_type, arbitrary_struct_type,
+    Config, Entities, Spaces, Unstructured, arbitrary_composite_type, arbitrary_field_type,
+    arbitrary_storage_type, arbitrary_struct_type,
 };
 
 const NO_ENTITIES: Entities<'static> = Entities {
@@ -46,8 +46,14 @@ const fn field(element_type: StorageType, mutable: bool) -> FieldType {
 fn storage_types(rt: HostRuntime) -> Result<(), Fail> {
     let types = TypeSpace::new(rt.alloc());
     let mut u = Unstructured::new(&[1, 3]);
-    let drawn =
-        arbitrary_storage_type(rt.alloc(), &defaults(), &spaces_of(&types), false, 0, &mut u)?;
+    let drawn = arbitrary_storage_type(
+        rt.alloc(),
+        &defaults(),
+        &spaces_of(&types),
+        false,
+        0,
+        &mut u,
+    )?;
     assert_eq!(rt; drawn, StorageType::I16);
     assert_eq!(rt; u.len(), 1);
     Ok(())
@@ -57,7 +63,14 @@ fn storage_types(rt: HostRuntime) -> Result<(), Fail> {
 fn field_types(rt: HostRuntime) -> Result<(), Fail> {
     let types = TypeSpace::new(rt.alloc());
     let mut u = Unstructured::new(&[3, 1, 9]);
-    let drawn = arbitrary_field_type(rt.alloc(), &defaults(), &spaces_of(&types), false, 0, &mut u)?;
+    let drawn = arbitrary_field_type(
+        rt.alloc(),
+        &defaults(),
+        &spaces_of(&types),
+        false,
+        0,
+        &mut u,
+    )?;
     assert_eq!(rt; drawn, field(StorageType::I8, true));
     assert_eq!(rt; u.len(), 1);
     Ok(())
@@ -67,8 +80,14 @@ fn field_types(rt: HostRuntime) -> Result<(), Fail> {
 fn struct_types(rt: HostRuntime) -> Result<(), Fail> {
     let types = TypeSpace::new(rt.alloc());
     let mut u = Unstructured::new(&[2, 0, 0, 1, 1]);
-    let StructType { fields } =
-        arbitrary_struct_type(rt.alloc(), &defaults(), &spaces_of(&types), false, 0, &mut u)?;
+    let StructType { fields } = arbitrary_struct_type(
+        rt.alloc(),
+        &defaults(),
+        &spaces_of(&types),
+        false,
+        0,
+        &mut u,
+    )?;
     let expected = [field(StorageType::I8, false), field(StorageType::I16, true)];
     assert!(rt; fields.as_slice() == expected.as_slice());
     assert!(rt; u.is_empty());
@@ -88,7 +107,10 @@ fn composite_types(rt: HostRuntime) -> Result<(), Fail> {
     let types = TypeSpace::new(rt.alloc());
     let mut u = Unstructured::new(&[0, 1, 1, 5]);
     let drawn = arbitrary_composite_type(rt.alloc(), &defaults(), &spaces_of(&types), 0, &mut u)?;
-    assert_eq!(rt; array_of(&drawn), Some(ArrayType(field(StorageType::I16, true))));
+    assert_eq!(rt;
+        array_of(&drawn),
+        Some(ArrayType(field(StorageType::I16, true)))
+    );
     assert_eq!(rt; u.len(), 1);
     Ok(())
 }

@@ -125,7 +125,15 @@ fn three_types() -> Config {
 #[test]
 fn a_minimum_of_types(rt: HostRuntime) -> Result<(), Fail> {
     let made = types_from(rt.alloc(), three_types(), &[1])?;
-    assert!(rt; made.types.as_slice() == [bytes_below(None), bytes_below(Some(0)), bytes_below(Some(0))].as_slice());
+    assert!(rt;
+        made.types.as_slice()
+            == [
+                bytes_below(None),
+                bytes_below(Some(0)),
+                bytes_below(Some(0))
+            ]
+            .as_slice()
+    );
     assert!(rt; made.groups.as_slice() == [(0, 2), (2, 3)].as_slice());
     Ok(())
 }

@@ -101,7 +101,10 @@ fn heap_types_below_any(rt: HostRuntime) -> Result<(), Fail> {
     let config = Config::default();
     let any = plain(AbstractHeapType::Any);
     let none = plain(AbstractHeapType::None);
-    assert_eq!(rt; below(rt.alloc(), &config, any, &[7])?, (HeapType::Concrete(1), 0));
+    assert_eq!(rt;
+        below(rt.alloc(), &config, any, &[7])?,
+        (HeapType::Concrete(1), 0)
+    );
     assert_eq!(rt; below(rt.alloc(), &config, any, &[5])?, (none, 0));
     Ok(())
 }
@@ -111,7 +114,10 @@ fn heap_types_below_a_struct(rt: HostRuntime) -> Result<(), Fail> {
     let config = Config::default();
     let first = HeapType::Concrete(0);
     let none = plain(AbstractHeapType::None);
-    assert_eq!(rt; below(rt.alloc(), &config, first, &[1])?, (HeapType::Concrete(1), 0));
+    assert_eq!(rt;
+        below(rt.alloc(), &config, first, &[1])?,
+        (HeapType::Concrete(1), 0)
+    );
     assert_eq!(rt; below(rt.alloc(), &config, first, &[2])?, (none, 0));
     Ok(())
 }
@@ -121,9 +127,18 @@ fn heap_types_below_with_descriptors(rt: HostRuntime) -> Result<(), Fail> {
     let config = with_descriptors();
     let first = HeapType::Concrete(0);
     let unknown = HeapType::Concrete(9);
-    assert_eq!(rt; below(rt.alloc(), &config, first, &[2])?, (HeapType::Exact(0), 0));
-    assert_eq!(rt; below(rt.alloc(), &config, first, &[3])?, (HeapType::Concrete(1), 0));
-    assert_eq!(rt; below(rt.alloc(), &config, unknown, &[1])?, (HeapType::Exact(9), 0));
+    assert_eq!(rt;
+        below(rt.alloc(), &config, first, &[2])?,
+        (HeapType::Exact(0), 0)
+    );
+    assert_eq!(rt;
+        below(rt.alloc(), &config, first, &[3])?,
+        (HeapType::Concrete(1), 0)
+    );
+    assert_eq!(rt;
+        below(rt.alloc(), &config, unknown, &[1])?,
+        (HeapType::Exact(9), 0)
+    );
     Ok(())
 }
 
@@ -137,8 +152,14 @@ fn heap_types_stay_without_gc(rt: HostRuntime) -> Result<(), Fail> {
 #[test]
 fn heap_types_above(rt: HostRuntime) -> Result<(), Fail> {
     let none = plain(AbstractHeapType::None);
-    assert_eq!(rt; above(rt.alloc(), HeapType::Concrete(1), &[4])?, HeapType::Concrete(0));
-    assert_eq!(rt; above(rt.alloc(), HeapType::Concrete(1), &[0])?, HeapType::Concrete(1));
+    assert_eq!(rt;
+        above(rt.alloc(), HeapType::Concrete(1), &[4])?,
+        HeapType::Concrete(0)
+    );
+    assert_eq!(rt;
+        above(rt.alloc(), HeapType::Concrete(1), &[0])?,
+        HeapType::Concrete(1)
+    );
     assert_eq!(rt; above(rt.alloc(), none, &[7])?, HeapType::Concrete(1));
     Ok(())
 }
@@ -168,7 +189,13 @@ fn function_types(rt: HostRuntime) -> Result<(), Fail> {
     let function = from_second_to_first(alloc)?;
     let mut u = Unstructured::new(&[4, 1]);
     let config = Config::default();
-    let drawn = arbitrary_matching_func_type(alloc, &config, &spaces_of(&types), &function, &mut u)?;
+    let drawn = arbitrary_matching_func_type(
+        alloc,
+        &config,
+        &spaces_of(&types),
+        &function,
+        &mut u,
+    )?;
     let first = ValType::Ref(RefType {
         nullable: true,
         heap_type: HeapType::Concrete(0),

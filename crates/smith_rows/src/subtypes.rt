@@ -5,9 +5,7 @@ ghost use Rattle.smith_config.specs.Features.{features_of};
 ghost use Rattle.smith_config.specs.Sanitized.{IsSanitized};
 
 use crate::function_types::is_function;
-use smith_types::{
-    FieldType, Items, StorageType, StructType, SubType, TypeSpace, ValType,
-};
+use smith_types::{FieldType, Items, StorageType, StructType, SubType, TypeSpace, ValType};
 use std::alloc::Global;
 use std::test::Fail;
 use wasm_smith::{
@@ -57,7 +55,13 @@ fn types_from(alloc: Global, config: &Config, input: &[u8]) -> Result<TypeSpace,
     ensures valid { IfOk result (AreTypesValid (features_of config.now)) }
 {
     let mut types = TypeSpace::new(alloc);
-    arbitrary_types(alloc, config, &mut types, &NO_ENTITIES, &mut Unstructured::new(input))?;
+    arbitrary_types(
+        alloc,
+        config,
+        &mut types,
+        &NO_ENTITIES,
+        &mut Unstructured::new(input),
+    )?;
     Ok(types)
 }
 
@@ -101,8 +105,7 @@ fn one_below(
         return Ok(None);
     }
     let mut u = Unstructured::new(input);
-    let drawn =
-        arbitrary_sub_type_of_super_type(alloc, config, &spaces_of(types), limit, &mut u)?;
+    let drawn = arbitrary_sub_type_of_super_type(alloc, config, &spaces_of(types), limit, &mut u)?;
     Ok(Some(drawn))
 }
 
@@ -143,7 +146,10 @@ fn counts_with_clone(
 fn a_group_is_added_again(rt: HostRuntime) -> Result<(), Fail> {
     let config = settled(true)?;
     let types = types_from(rt.alloc(), &config, &[1, 2])?;
-    assert_eq!(rt; counts_with_clone(rt.alloc(), &config, types)?, Some((4, 2)));
+    assert_eq!(rt;
+        counts_with_clone(rt.alloc(), &config, types)?,
+        Some((4, 2))
+    );
     Ok(())
 }
 
@@ -157,7 +163,15 @@ fn extended(alloc: Global, config: &Config, input: &[u8]) -> Result<StructType, 
         fields: Items::new(alloc),
     };
     let mut u = Unstructured::new(input);
-    arbitrary_matching_struct_type(alloc, config, &spaces_of(&types), &structure, false, 0, &mut u)
+    arbitrary_matching_struct_type(
+        alloc,
+        config,
+        &spaces_of(&types),
+        &structure,
+        false,
+        0,
+        &mut u,
+    )
 }
 
 #[test]

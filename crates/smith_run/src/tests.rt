@@ -135,9 +135,21 @@ fn groups_of_types_are_counted(rt: HostRuntime) -> Result<(), Fail> {
     assert!(rt; is_told(alloc, &[1], "types 0 groups 1 imports 0 tags 0 funcs 0 "));
     assert!(rt; is_told(alloc, &[1, 2], "types 2 groups 1 imports 0 tags 0 funcs 0 "));
     let with_a_clone = [1, 1, 0, 0, 0, 0, 1];
-    assert!(rt; is_told(alloc, &with_a_clone, "types 2 groups 2 imports 0 tags 0 funcs 0 "));
+    assert!(rt;
+        is_told(
+            alloc,
+            &with_a_clone,
+            "types 2 groups 2 imports 0 tags 0 funcs 0 "
+        )
+    );
     let with_a_function = [1, 1, 1, 1, 0, 0, 0, 0, 0, 0, 1, 0];
-    assert!(rt; is_told(alloc, &with_a_function, "types 1 groups 1 imports 0 tags 0 funcs 1 "));
+    assert!(rt;
+        is_told(
+            alloc,
+            &with_a_function,
+            "types 1 groups 1 imports 0 tags 0 funcs 1 "
+        )
+    );
     Ok(())
 }
 

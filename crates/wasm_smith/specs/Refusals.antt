@@ -14,7 +14,7 @@ use Rattle.smith_types.specs.declared.value_type.ValType.TheVariants.{Ref}
 use Rattle.smith_config.specs.declared.config.Config.{Config}
 use Rattle.smith_config.specs.declared.shape.Shape.{Shape}
 use Rattle.smith_config.specs.Faults.{IsFirstFault, Passes, minimum_of}
-use Rattle.smith_config.specs.Shapes.{Shapes, IsShapeValid, shape_values, shape_spaces}
+use Rattle.smith_config.specs.Shapes.{Shapes, IsShapeValid, shape_values}
 use Rattle.smith_config.specs.ShapeFaults.{HasShapeFault}
 use Rattle.wasm_smith.specs.Bounds.{FixesExports, where_given, exported_of, brought_by_module}
 
