@@ -1,6 +1,7 @@
 //! Drawn types and entities, over the type space and the index spaces that stand so far.
 #![tactic(auto)]
 
+mod bounds_examples;
 mod choice;
 mod composite_type;
 mod entity_type;

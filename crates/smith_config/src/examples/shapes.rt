@@ -1,4 +1,4 @@
-// Values that meet the definitions of shapes, and values that do not. The clauses are proved; nothing calls these functions.
+// Shapes, which may be handed in for which use, and what is wrong with others.
 
 ghost use Rattle.std.specs.Prelude.{◌≡◌, [], ◌∷◌, true, false, Some, None, codes};
 ghost use Rattle.smith_bytes.specs.declared.error.Which.TheVariants.{AvailableImports, Exports, ModuleShape};

@@ -1,6 +1,6 @@
 use Rattle.std.proofs.Common.{◌≤◌, arith}
 use Rattle.smith_config.proofs.Chains.{chain_deep, chain_shallow}
-use Rattle.smith_config.proofs.examples.depths.Goals as goal
+use Rattle.smith_config.proofs.examples.shapes.depths.Goals as goal
 
 pub returns-clause-of_63_types : goal.returns-clause-of_63_types
 returns-clause-of_63_types c = chain_shallow 63 (omega arith)

@@ -3,7 +3,7 @@ use Rattle.smith_config.specs.Config.{default_config}
 use Rattle.smith_config.specs.Features.{features_of}
 use Rattle.smith_config.specs.declared.config.Config.{Config}
 use Rattle.smith_config.proofs.ShapeExamples.{types_valid, shallow, entities_valid, exports_valid}
-use Rattle.smith_config.proofs.examples.compact_imports.Goals as goal
+use Rattle.smith_config.proofs.examples.shapes.compact_imports.Goals as goal
 
 abbrev config : Config
 config = record default_config { compact_imports_enabled = false }

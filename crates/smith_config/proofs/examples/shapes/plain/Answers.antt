@@ -1,6 +1,6 @@
 use Rattle.std.proofs.Common.{◌≡◌, true, false, None, arith}
 use Rattle.smith_types.specs.ExampleTypes.{open_type, final_type, empty_struct, plain_func}
-use Rattle.smith_config.proofs.examples.plain.Goals as goal
+use Rattle.smith_config.proofs.examples.shapes.plain.Goals as goal
 
 pub returns-clause-not_final : goal.returns-clause-not_final
 returns-clause-not_final c = λ plain. let never : false ≡ true = (plain.types 0 (open_type None plain_func) (omega arith)).final in cc never

@@ -9,7 +9,7 @@ use Rattle.smith_types.proofs.Validity.{no_types}
 use Rattle.smith_config.specs.Config.{default_config}
 use Rattle.smith_config.specs.Features.{features_of}
 use Rattle.smith_config.specs.ShapeFaults.{IsGlobalOn, every_feature}
-use Rattle.smith_config.proofs.examples.faults.Goals as goal
+use Rattle.smith_config.proofs.examples.shapes.faults.Goals as goal
 
 -- a shared global of numbers
 abbrev shared_number : GlobalType

@@ -5,7 +5,7 @@ use Rattle.smith_config.specs.Features.{features_of}
 use Rattle.smith_config.specs.Shapes.{IsShort, HasNothingLeftOut, IsConsistent, IsPlain}
 use Rattle.smith_config.specs.ExampleShapes.{passed_on}
 use Rattle.smith_config.proofs.ShapeExamples.{types_valid, shallow, entities_valid, exports_valid}
-use Rattle.smith_config.proofs.examples.uses.Goals as goal
+use Rattle.smith_config.proofs.examples.shapes.uses.Goals as goal
 
 short : IsShort passed_on
 short = search rules

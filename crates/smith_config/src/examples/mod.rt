@@ -1,0 +1,4 @@
+// Values that meet the definitions, and values that do not. The clauses are proved; nothing calls these functions.
+
+mod configurations;
+mod shapes;

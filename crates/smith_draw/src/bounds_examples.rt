@@ -1,0 +1,27 @@
+// Tables and memories within the bounds of a configuration, and past them.
+
+ghost use Rattle.std.specs.Prelude.{true, Some, None};
+ghost use Rattle.smith_types.specs.Flags.{funcref};
+ghost use Rattle.smith_types.specs.ExampleEntities.{memory, table, all_addresses};
+ghost use Rattle.smith_config.specs.Config.{default_config};
+ghost use Rattle.smith_draw.specs.Bounds.{IsMemoryWithin, IsTableWithin};
+
+fn memories()
+    ensures every_byte { IsMemoryWithin default_config (memory 65536 None) }
+    ensures a_page_more { ¬ IsMemoryWithin default_config (memory 65537 None) }
+    ensures a_maximum_past_the_bytes { ¬ IsMemoryWithin default_config (memory 0 (Some 65537)) }
+    ensures by_64_bits { IsMemoryWithin default_config all_addresses }
+    ensures a_page_of_no_bytes { ¬ IsMemoryWithin (record default_config { max_memory32_bytes = 0 }) (memory 1 None) }
+    ensures a_page_where_nothing_traps { IsMemoryWithin (record default_config { max_memory32_bytes = 0; disallow_traps = true }) (memory 1 None) }
+    ensures two_pages_where_nothing_traps { ¬ IsMemoryWithin (record default_config { max_memory32_bytes = 0; disallow_traps = true }) (memory 2 None) }
+    ensures no_maximum_where_one_is_required { ¬ IsMemoryWithin (record default_config { memory_max_size_required = true }) (memory 1 None) }
+    ensures a_maximum_where_one_is_required { IsMemoryWithin (record default_config { memory_max_size_required = true }) (memory 1 (Some 1)) }
+{}
+
+fn tables()
+    ensures every_element { IsTableWithin default_config (table funcref 1000000 None) }
+    ensures an_element_more { ¬ IsTableWithin default_config (table funcref 1000001 None) }
+    ensures an_element_where_nothing_traps { IsTableWithin (record default_config { max_table_elements = 0; disallow_traps = true }) (table funcref 1 None) }
+    ensures an_element_of_none { ¬ IsTableWithin (record default_config { max_table_elements = 0 }) (table funcref 1 None) }
+    ensures no_maximum_where_one_is_required { ¬ IsTableWithin (record default_config { table_max_size_required = true }) (table funcref 0 None) }
+{}
