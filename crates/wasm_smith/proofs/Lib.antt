@@ -7,3 +7,4 @@ pub mod Spelled
 pub mod Places
 pub mod ExampleParts
 pub mod FamilyFits
+pub mod NearNumbers

@@ -65,6 +65,12 @@ abbrev pub ◌>>=◌ : {A B : Type 0} → Result A Count → (A → Result B Cou
 (Ok x) >>= f = f x
 (Err count) >>= f = Err count
 
+-- the bytes left behind element segments and their items
+unfoldable pub elements_at : Config → List ℕ → Result (List ℕ) Count
+elements_at config bytes = do
+  segments ← passed_at counts.ElementSegments config.min_element_segments 0 bytes
+  passed_at counts.Elements config.min_elements 0 segments
+
 -- the module that the bytes give, step by step, and what they leave
 unfoldable pub module_at : Config → List ℕ → Result (Parts × List ℕ) Count
 module_at config bytes = do
@@ -78,8 +84,7 @@ module_at config bytes = do
   globals ← passed_at counts.Globals config.min_globals config.max_globals memories.1
   exports ← passed_at counts.Exports config.min_exports 0 globals
   let type_flag = type_flag_at (length types.0.types) exports
-  segments ← passed_at counts.ElementSegments config.min_element_segments 0 type_flag.1
-  elements ← passed_at counts.Elements config.min_elements 0 segments
+  elements ← elements_at config type_flag.1
   rest ← passed_at counts.DataSegments config.min_data_segments 0 elements
   Ok (
     record {
@@ -107,6 +112,8 @@ module_at config bytes = do
       encodes_types = type_flag.0;
       encodes_imports = import_flag.0;
       type_size = 0;
+      interesting_values32 = [];
+      interesting_values64 = [];
     },
     rest,
   )

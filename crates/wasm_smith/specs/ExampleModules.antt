@@ -51,6 +51,8 @@ empty_module configuration = record {
   encodes_types = false;
   encodes_imports = false;
   type_size = 0;
+  interesting_values32 = [];
+  interesting_values64 = [];
 }
 
 -- the types from one index up to another

@@ -51,6 +51,8 @@ pub record Parts : Type 0 where
   pub encodes_types : Bool
   pub encodes_imports : Bool
   pub type_size : ℕ
+  pub interesting_values32 : List ℕ
+  pub interesting_values64 : List ℕ
 
 -- the features of a module's configuration
 abbrev pub module_features : Parts → Features

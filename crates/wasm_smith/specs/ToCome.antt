@@ -29,6 +29,8 @@ pub record HasNoMore (m : Parts) : Type 0 where
   pub segments : m.segments ≡ []
   pub fuel_globals : m.fuel_globals ≡ []
   pub type_size : m.type_size ≡ 0
+  pub interesting_values32 : m.interesting_values32 ≡ []
+  pub interesting_values64 : m.interesting_values64 ≡ []
 
 -- all that holds of a module that is drawn for a configuration
 pub record IsDrawn (config : Config) (m : Parts) : Type 0 where

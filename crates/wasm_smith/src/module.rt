@@ -1,4 +1,4 @@
-ghost use Rattle.std.specs.Prelude.{◌≡◌, [], IfOk, IfErr};
+ghost use Rattle.std.specs.Prelude.{◌≡◌, IfOk, IfErr};
 ghost use Rattle.smith_bytes.specs.Source.{IsPiece};
 ghost use Rattle.smith_config.specs.Faults.{Passes};
 
@@ -12,11 +12,6 @@ use smith_types::{
 use std::alloc::Global;
 use std::marker::Model;
 use std::ops::Range;
-
-/// The interesting values, of which none are collected yet.
-const VALUES32: &[u32] = &[];
-
-const VALUES64: &[u64] = &[];
 
 /// A module: the types, imports, index spaces, definitions, exports, segments and bodies of the standard's section
 /// Structure, Modules. In each index space imported items come first.
@@ -45,6 +40,8 @@ pub struct Module {
     pub(crate) encodes_types: bool,
     pub(crate) encodes_imports: bool,
     pub(crate) type_size: u32,
+    pub(crate) interesting_values32: Items<u32>,
+    pub(crate) interesting_values64: Items<u64>,
 }
 
 impl Model for Module {
@@ -77,6 +74,8 @@ impl Model for Module {
       encodes_types = m.encodes_types;
       encodes_imports = m.encodes_imports;
       type_size = m.type_size;
+      interesting_values32 = m.interesting_values32;
+      interesting_values64 = m.interesting_values64;
     } };
 }
 
@@ -272,15 +271,15 @@ impl Module {
 
     /// Numbers of 32 bits that tests of this module should try. Until they are collected there are none.
     pub fn interesting_values32(&self) -> &[u32]
-        ensures { result.now ≡ [] }
+        ensures { result.now ≡ self.now.interesting_values32 }
     {
-        VALUES32
+        self.interesting_values32.as_slice()
     }
 
     /// Numbers of 64 bits that tests of this module should try. Until they are collected there are none.
     pub fn interesting_values64(&self) -> &[u64]
-        ensures { result.now ≡ [] }
+        ensures { result.now ≡ self.now.interesting_values64 }
     {
-        VALUES64
+        self.interesting_values64.as_slice()
     }
 }

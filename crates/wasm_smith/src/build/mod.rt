@@ -52,11 +52,10 @@ pub(crate) fn build(
     parts_to_come::globals(&config, u)?;
     parts_to_come::exports(&config, u)?;
     let encodes_types = types::type_flag(types.types().len(), u);
-    parts_to_come::element_segments(&config, u)?;
     parts_to_come::elements(&config, u)?;
     parts_to_come::data_segments(&config, u)?;
-    let code = code::code(alloc, funcs.len())?;
     Ok(Module {
+        code: code::code(alloc, funcs.len())?,
         num_imports: 0,
         imports: Items::new(alloc),
         tags: Items::new(alloc),
@@ -73,11 +72,12 @@ pub(crate) fn build(
         segments: Items::new(alloc),
         fuel_globals: Items::new(alloc),
         type_size: 0,
+        interesting_values32: Items::new(alloc),
+        interesting_values64: Items::new(alloc),
         config,
         types,
         funcs,
         memories,
-        code,
         encodes_types,
         encodes_imports,
     })

@@ -5,7 +5,7 @@ ghost use Rattle.std.specs.List.{list_any};
 ghost use Rattle.smith_bytes.specs.Source.{KeepsPieces};
 ghost use Rattle.wasm_smith.specs.ToCome.{MayComeOut};
 ghost use Rattle.wasm_smith.specs.FuncTypes.{gives_nothing, is_tag_type};
-ghost use Rattle.wasm_smith.specs.Build.{Gives, passed_at, may_have_tags, tags_at};
+ghost use Rattle.wasm_smith.specs.Build.{Gives, passed_at, may_have_tags, tags_at, elements_at};
 
 use smith_bytes::{Count, Error, Unstructured, Why};
 use smith_config::Config;
@@ -126,23 +126,16 @@ pub(crate) fn exports(config: &Config, u: &mut Unstructured<'_>) -> Result<(), E
     pass(Count::Exports, config.min_exports, 0, u)
 }
 
-/// Element segments, whose loop draws nothing yet.
-pub(crate) fn element_segments(config: &Config, u: &mut Unstructured<'_>) -> Result<(), Error>
-    ensures exact { Gives (λ _. u.new) result (passed_at Count.ElementSegments config.now.min_element_segments 0 u.old) }
-    ensures none { OnOk result (config.now.min_element_segments ≡ 0) }
-    ensures refusal { IfErr result (MayComeOut config.now) }
-    ensures left { KeepsPieces u.old u.new }
-{
-    pass(Count::ElementSegments, config.min_element_segments, 0, u)
-}
-
-/// The items of element segments, which draw nothing yet.
+/// Element segments, whose loop draws nothing yet, and their items.
+#[tactic(auto, unfolding(crate::specs::Build::elements_at))]
 pub(crate) fn elements(config: &Config, u: &mut Unstructured<'_>) -> Result<(), Error>
-    ensures exact { Gives (λ _. u.new) result (passed_at Count.Elements config.now.min_elements 0 u.old) }
-    ensures none { OnOk result (config.now.min_elements ≡ 0) }
+    ensures exact { Gives (λ _. u.new) result (elements_at config.now u.old) }
+    ensures no_segments { OnOk result (config.now.min_element_segments ≡ 0) }
+    ensures no_elements { OnOk result (config.now.min_elements ≡ 0) }
     ensures refusal { IfErr result (MayComeOut config.now) }
     ensures left { KeepsPieces u.old u.new }
 {
+    pass(Count::ElementSegments, config.min_element_segments, 0, u)?;
     pass(Count::Elements, config.min_elements, 0, u)
 }
 
