@@ -1,4 +1,4 @@
-use Rattle.std.proofs.Common.{[], ◌∷◌, arith, refl}
+use Rattle.std.proofs.Common.{◌∷◌, arith, refl}
 use Rattle.smith_bytes.specs.declared.error.Error.TheVariants.{EmptyChoose}
 use Rattle.smith_bytes.specs.Draws.{bool_at}
 use Rattle.smith_bytes.specs.Loop.{at_most, at_bool, at_false, too_few, at_error}

@@ -1,7 +1,6 @@
 use Rattle.std.proofs.Common.{[], ◌∷◌, refl}
 use Rattle.smith_bytes.specs.Draws.{digit_count}
-use Rattle.smith_bytes.specs.Spelling.{Joined, Listed}
-use Rattle.smith_bytes.specs.ExampleBytes.{SpellsByte}
+use Rattle.smith_bytes.specs.Spelling.{Listed}
 use Rattle.smith_bytes.proofs.examples.spelling.lists.Goals as goal
 
 pub returns-clause-stopped : goal.returns-clause-stopped
