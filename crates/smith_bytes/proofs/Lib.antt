@@ -1,4 +1,5 @@
 pub mod Pieces
+pub mod PieceTest
 pub mod Endian
 pub mod Drawn
 pub mod Growing

@@ -1,5 +1,6 @@
 -- A name that is made new grows at each turn, and is new once it is longer than each name there is.
-use Rattle.std.proofs.Common.{◌≡◌, ℕ, suc, ◌≤◌, ◌<◌, Bool, true, false, List, [], ◌∷◌, ◌++◌, length, max, refl, sym, ap, ◌||◌, ◌∙◌, arith, below_more, string_bytes}
+use Rattle.std.proofs.Common.{◌≡◌, ℕ, suc, ◌+◌, ◌≤◌, ◌<◌, Bool, true, false, List, [], ◌∷◌, ◌++◌, length, max, refl, sym, ap, ◌||◌, not, ◌∙◌, arith, below_more, string_bytes}
+use Rattle.std.specs.Prelude.{if◌then◌else◌}
 use Rattle.std.specs.Str.{bytes_eq}
 use Rattle.std.proofs.lemmas.Slice.Eq.{bytes_eq-Decides}
 use Rattle.std.specs.List.{list_any}
@@ -44,3 +45,20 @@ making_more {text = text} now is there size is_longer = record {
 pub making_done : {S : Type 0} {names : HashSet (String Global) S} {text name : List ℕ} {b : Bool}
     → IsMaking names text name → b ≡ contains_text names name → b ≡ false → IsMadeNew names text name
 making_done now is new = record { copies = now.copies; made = now.made; fresh = sym is ∙ new; needed = now.needed }
+
+no_sooner : {S : Type 0} {names : HashSet (String Global) S} {text first second : List ℕ} (a : IsMadeNew names text first) (b : IsMadeNew names text second) → a.copies < b.copies → ⊥
+no_sooner {names = names} {first = first} a b sooner =
+    let there : contains_text names first ≡ true = rw a.made (b.needed a.copies sooner) in
+    cc (sym a.fresh ∙ there)
+
+-- a text is made new in one way
+pub new_alone : {S : Type 0} {names : HashSet (String Global) S} {text first second : List ℕ} → IsMadeNew names text first → IsMadeNew names text second → first ≡ second
+new_alone a b =
+    let not_before = no_sooner a b in
+    let not_behind = no_sooner b a in
+    let same : a.copies ≡ b.copies = omega arith in
+    a.made ∙ (rw same (sym b.made))
+
+-- the size of a set to which what was not there was added
+pub added_size : {added there : Bool} (old new : ℕ) → new ≡ old + (if added then 1 else 0) → added ≡ not there → there ≡ false → new ≡ old + 1
+added_size old new size is fresh = size ∙ rw (is, fresh) refl

@@ -7,3 +7,4 @@ pub mod ReadLaws
 pub mod Names
 pub mod Kebab
 pub mod Loop
+pub mod ExampleBytes

@@ -1,5 +1,5 @@
 -- Texts and names that are drawn, and names that are made new.
-use Rattle.std.specs.Prelude.{◌≡◌, ◌<◌, ℕ, zero, suc, true, false, List, ◌++◌, take, drop, length, min, codes, if◌then◌else◌}
+use Rattle.std.specs.Prelude.{◌≡◌, ◌<◌, ℕ, zero, suc, ◌+◌, true, false, List, ◌++◌, take, drop, length, min, codes, if◌then◌else◌}
 use Rattle.std.specs.Str.{bytes_eq}
 use Rattle.std.specs.Str.Lossy.{utf8_valid_len}
 use Rattle.std.specs.Fmt.{decimal}
@@ -28,9 +28,10 @@ module _ {S : Type 0} where
     pub fresh : contains_text names name ≡ false
     pub needed : (n : ℕ) → n < copies → contains_text names (with_copies text (decimal (hash_set_len names)) n) ≡ true
 
-  -- new has the names of old and this one
-  abbrev pub AddsName : HashSet (String Global) S → HashSet (String Global) S → List ℕ → Type 0
-  AddsName old new name = (other : List ℕ) → contains_text new other ≡ (if bytes_eq name other then true else contains_text old other)
+  -- new has the names of old and this one, and is larger by one
+  pub record AddsName (old new : HashSet (String Global) S) (name : List ℕ) : Type 0 where
+    pub has : (other : List ℕ) → contains_text new other ≡ (if bytes_eq name other then true else contains_text old other)
+    pub size : hash_set_len new ≡ hash_set_len old + 1
 
 -- what stands before the path of an address
 abbrev pub url_front : List ℕ

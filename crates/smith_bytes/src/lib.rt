@@ -4,6 +4,7 @@
 mod arbitrary;
 mod digits;
 mod error;
+mod examples;
 mod growth;
 mod kebab;
 pub mod laws;

@@ -2,6 +2,7 @@ use Rattle.std.proofs.Common.{◌≡◌, ◌++◌, ℕ, List, string_bytes, true
 use Rattle.std.proofs.lemmas.Map.Text.{hash_set_updates_text}
 use Rattle.smith_bytes.specs.Names.{url_front, url_path}
 use Rattle.smith_bytes.proofs.KebabShape.{kebab_new}
+use Rattle.smith_bytes.proofs.MadeNew.{added_size}
 use Rattle.smith_bytes.proofs.names.unique_url.Goals as goal
 
 path_is : (url shown path : List ℕ) → url ≡ url_front ++ shown → shown ≡ path → url_path url ≡ path
@@ -15,4 +16,7 @@ returns-clause-shape c =
 pub returns-clause-added : goal.returns-clause-added
 returns-clause-added c =
     rw (path_is _ _ _ c.in_ok-url.ensures.exact c.deref.ensures)
-    (λ other. hash_set_updates_text (string_bytes c.in_ok-path.path) c.args.names.now c.insert.new.self true c.in_ok-insert.ensures.updates other)
+    (record {
+      has = λ other. hash_set_updates_text (string_bytes c.in_ok-path.path) c.args.names.now c.insert.new.self true c.in_ok-insert.ensures.updates other;
+      size = added_size _ _ c.in_ok-insert.ensures.len c.in_ok-insert.ensures.added c.in_ok-path.ensures.made.fresh;
+    })

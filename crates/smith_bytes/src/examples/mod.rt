@@ -1,0 +1,10 @@
+// Values that meet the definitions, and values that do not. The clauses are proved; nothing calls these functions.
+
+mod draws;
+mod growth;
+mod kebab;
+mod loops;
+mod names;
+mod source;
+mod spelling;
+mod takes;
