@@ -8,7 +8,7 @@ use Rattle.smith_types.specs.declared.code.Code.{Code}
 use Rattle.smith_types.specs.declared.code.Instructions.{Instructions}
 use Rattle.smith_types.specs.declared.code.Instructions.TheVariants.{Unreachable, Arbitrary}
 
--- `unreachable` is valid for every type (Validation, Control Instructions); raw bytes stand only where they may (own rule)
+-- `unreachable` is valid for every type (Validation, Instructions); raw bytes stand only where they may (own rule)
 abbrev pub AreInstructionsValid : Bool → Instructions → Type 0
 AreInstructionsValid raw Unreachable = Unit {0}
 AreInstructionsValid raw (Arbitrary bytes) = IsTrue raw

@@ -27,7 +27,7 @@ page_log2 None = 16
 abbrev pub addresses : Bool → ℕ
 addresses memory64 = if memory64 then 2 ^ 64 else 2 ^ 32
 
--- the most pages of a memory (Validation, Memory Types): those that it can address, and at least one less than its addresses (own rule)
+-- the most pages of a memory: as many as it can address (Validation, Memory Types), but fewer than its addresses (own rule)
 abbrev pub most_pages : Bool → Option ℕ → ℕ
 most_pages memory64 stated = min (addresses memory64 / 2 ^ page_log2 stated) (addresses memory64 - 1)
 

@@ -1,8 +1,8 @@
 -- Contexts that the examples speak of.
 use Rattle.std.specs.Prelude.{ℕ, List, [], ◌∷◌}
 use Rattle.smith_types.specs.declared.value_type.AbstractHeapType.TheVariants as heap
-use Rattle.smith_types.specs.declared.value_type.ValType.TheVariants.{I32, Ref}
-use Rattle.smith_types.specs.declared.composite_type.StorageType.TheVariants.{I8, Val}
+use Rattle.smith_types.specs.declared.value_type.ValType.TheVariants.{I32, I64, Ref}
+use Rattle.smith_types.specs.declared.composite_type.StorageType.TheVariants.{I8, I16, Val}
 use Rattle.smith_types.specs.declared.composite_type.CompositeInnerType.TheVariants.{Array}
 use Rattle.smith_types.specs.declared.composite_type.SubType.{SubType}
 use Rattle.smith_types.specs.Features.{Features}
@@ -10,11 +10,13 @@ use Rattle.smith_types.specs.Expressions.{Context}
 use Rattle.smith_types.specs.ExampleTypes.{final_type, plain_func, struct, constant, variable, not_null, plain}
 use Rattle.smith_types.specs.ExampleEntities.{constant_global, variable_global}
 
--- a function type, a struct of one packed field, an array of numbers, and a struct whose field may not be null
+-- a function type, a struct of one packed field, an array of numbers, a struct whose field may not be null, an array of such
+-- references, and a struct of a packed field and a number
 abbrev pub context_types : List SubType
 context_types =
     final_type plain_func ∷ final_type (struct (constant I8 ∷ [])) ∷ final_type (Array (record { 0 = variable (Val I32) }))
-    ∷ final_type (struct (constant (Val (Ref (not_null (plain heap.Func)))) ∷ [])) ∷ []
+    ∷ final_type (struct (constant (Val (Ref (not_null (plain heap.Func)))) ∷ [])) ∷ final_type (Array (record { 0 = constant (Val (Ref (not_null (plain heap.Func)))) }))
+    ∷ final_type (struct (constant I16 ∷ variable (Val I64) ∷ [])) ∷ []
 
 -- an imported function and a defined one; two imported globals, of which one is mutable, and a defined one
 abbrev pub context_with : Features → ℕ → Context

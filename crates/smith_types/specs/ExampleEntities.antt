@@ -47,6 +47,8 @@ one_of_each = record {
 abbrev pub item : List ℕ → EntityType → ImportItem
 item name entity_type = record { name = name; entity_type = entity_type }
 
--- imports of two functions, of a tag and of a memory
+-- imports of two functions, and of one entity of each other kind
 abbrev pub mixed_imports : List Import
-mixed_imports = import_of [] [] (entity.Func 3) ∷ import_of [] [] (entity.Tag 2) ∷ import_of [] [] (entity.Memory (memory 1 None)) ∷ import_of [] [] (entity.Func 1) ∷ []
+mixed_imports =
+    import_of [] [] (entity.Func 3) ∷ import_of [] [] (entity.Tag 2) ∷ import_of [] [] (entity.Memory (memory 1 None)) ∷ import_of [] [] (entity.Func 1)
+    ∷ import_of [] [] (entity.Table (table funcref 10 None)) ∷ import_of [] [] (entity.Global (constant_global I32)) ∷ []

@@ -35,7 +35,7 @@ pub record Context : Type 0 where
 abbrev pub reference_to : HeapType → ValType
 reference_to heap_type = Ref (record { nullable = false; heap_type = heap_type })
 
--- the reference that creates a value of a type, or names a defined function: exact with custom descriptors (own rule)
+-- the reference to a value that is created, or to a defined function, of a type: exact with custom descriptors (own rule)
 abbrev pub created : Context → ℕ → ValType
 created context index = reference_to (if context.features.custom_descriptors then Exact index else Concrete index)
 
@@ -72,7 +72,8 @@ abbrev pub IsVisible : Context → ℕ → ValType → Type 0
 IsVisible context index value =
     (global : GlobalType) × (slice_get context.globals index ≡ Some global) × (index < context.visible) × (global.mutable ≡ false) × (global.val_type ≡ value)
 
--- a conversion between references of inside and outside, which keeps null and sharedness (Validation, Reference Instructions)
+-- a conversion between references of inside and outside, which keeps null (Validation, Instructions, any.convert_extern and
+-- extern.convert_any) and sharedness (own rule)
 pub record IsConversion (operands : List ValType) (result : ValType) (from into : Bool → HeapType) : Type 0 where
   pub shared : Bool
   pub nullable : Bool
@@ -80,7 +81,7 @@ pub record IsConversion (operands : List ValType) (result : ValType) (from into 
   pub given : result ≡ Ref (record { nullable = nullable; heap_type = into shared })
 
 -- an instruction takes operands of these types, the last of them on top, and gives a value of that type (Validation,
--- Instructions: Numeric, Vector, Variable, Reference and Aggregate Instructions)
+-- Instructions); that of a shared i31 is an own rule
 abbrev pub HasType : Context → ConstInstr → List ValType → ValType → Type 0
 HasType context (instr.I32Const value) operands result = (operands ≡ []) × (result ≡ I32)
 HasType context (instr.I64Const value) operands result = (operands ≡ []) × (result ≡ I64)
@@ -142,11 +143,11 @@ pub record IsConstExpr (context : Context) (wanted : ValType) (expression : List
 abbrev pub seen_by_tables : Context → ℕ
 seen_by_tables context = context.imported_globals
 
--- those before it for a global of this index; without garbage collection, imported ones (Validation, Modules)
+-- those before it for a global of this index (Validation, Modules); without garbage collection, imported ones (own rule)
 abbrev pub seen_by_global : Context → ℕ → ℕ
 seen_by_global context index = if context.features.gc then index else context.imported_globals
 
--- all of them for segments; without garbage collection, imported ones (Validation, Modules)
+-- all of them for segments (Validation, Modules); without garbage collection, imported ones (own rule)
 abbrev pub seen_by_segments : Context → ℕ
 seen_by_segments context = if context.features.gc then length context.globals else context.imported_globals
 

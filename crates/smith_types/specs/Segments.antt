@@ -27,7 +27,8 @@ abbrev pub address_type : Bool → ValType
 address_type true = I64
 address_type false = I32
 
--- an offset into what has these addresses: a constant of their type, or a visible global of it (Validation, Modules)
+-- an offset into what has these addresses: a constant of their type, or a visible global of it (Validation,
+-- Element Segments and Data Segments)
 abbrev pub IsOffsetValid : Context → Bool → Offset → Type 0
 IsOffsetValid context wide (Const32 value) = wide ≡ false
 IsOffsetValid context wide (Const64 value) = wide ≡ true
@@ -46,7 +47,8 @@ AreItemsValid context ty (Expressions expressions) = IsTrue context.features.ref
 abbrev pub table_index : Option ℕ → ℕ
 table_index table = unwrap_or table 0
 
--- the segment's type is below that of the table's elements, and the offset is of its addresses (Validation, Modules)
+-- the segment's type is below that of the table's elements, and the offset is of its addresses (Validation, Element
+-- Segments)
 pub record IsActiveElement (context : Context) (tables : List TableType) (ty : RefType) (index : ℕ) (offset : Offset) : Type 0 where
   pub table : TableType
   pub stands : slice_get tables index ≡ Some table

@@ -1,4 +1,4 @@
--- Entities that a module imports, defines and exports.
+-- The sizes of the entities that a module imports and exports.
 use Rattle.std.specs.Prelude.{ℕ, ◌+◌, ◌<◌, List, length, slice_get}
 use Rattle.std.specs.Option.{option_map, unwrap_or}
 use Rattle.smith_types.specs.declared.composite_type.CompositeInnerType.{CompositeInnerType}

@@ -17,6 +17,7 @@ fn bodies()
     ensures a_hundred_locals { IsBodyValid usual_features 0 false (record { locals = replicate 100 I32; instructions = Unreachable }) }
     ensures one_local_more { ¬ IsBodyValid usual_features 0 false (record { locals = replicate 101 I32; instructions = Unreachable }) }
     ensures a_local_of_an_unknown_type { ¬ IsBodyValid usual_features 0 false (record { locals = Ref (nullable (Concrete 0)) ∷ []; instructions = Unreachable }) }
+    ensures raw_bytes { IsBodyValid usual_features 0 true (record { locals = []; instructions = Arbitrary [] }) }
     ensures raw_bytes_not_allowed { ¬ IsBodyValid usual_features 0 false (record { locals = []; instructions = Arbitrary [] }) }
 {}
 
@@ -24,5 +25,7 @@ fn fuel()
     ensures defined_and_mutable { IsFuel (constant_global I32 ∷ variable_global I32 ∷ []) 1 1 }
     ensures imported { ¬ IsFuel (variable_global I32 ∷ []) 1 0 }
     ensures immutable { ¬ IsFuel (constant_global I32 ∷ []) 0 0 }
+    ensures shared { ¬ IsFuel (record (variable_global I32) { shared = true } ∷ []) 0 0 }
+    ensures past_the_globals { ¬ IsFuel (variable_global I32 ∷ []) 0 1 }
     ensures wide { ¬ IsFuel (variable_global I64 ∷ []) 0 0 }
 {}

@@ -8,3 +8,6 @@ returns-clause-imported c = (constant_global I32, refl, omega arith, refl, refl)
 
 pub returns-clause-defined : goal.returns-clause-defined
 returns-clause-defined c = (constant_global I32, refl, omega arith, refl, refl)
+
+pub returns-clause-before_a_global : goal.returns-clause-before_a_global
+returns-clause-before_a_global c = (constant_global I32, refl, omega arith, refl, refl)

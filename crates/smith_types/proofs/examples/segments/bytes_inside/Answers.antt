@@ -10,3 +10,9 @@ returns-clause-last_byte c = (memory 65536 None, refl, omega arith)
 
 pub returns-clause-last_of_all_addresses : goal.returns-clause-last_of_all_addresses
 returns-clause-last_of_all_addresses c = (all_addresses, refl, omega arith)
+
+pub returns-clause-nothing_at_the_end : goal.returns-clause-nothing_at_the_end
+returns-clause-nothing_at_the_end c = (memory 1 None, refl, omega arith)
+
+pub returns-clause-within_a_second_memory : goal.returns-clause-within_a_second_memory
+returns-clause-within_a_second_memory c = (memory 1 None, refl, omega arith)

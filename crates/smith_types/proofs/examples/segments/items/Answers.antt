@@ -1,7 +1,7 @@
 use Rattle.std.proofs.Common.{rules, [], ◌∷◌, refl}
 use Rattle.std.proofs.lemmas.List.Elements.{All-from_recursion}
 use Rattle.smith_types.specs.declared.value_type.AbstractHeapType.TheVariants as heap
-use Rattle.smith_types.specs.declared.value_type.HeapType.TheVariants.{Concrete}
+use Rattle.smith_types.specs.declared.value_type.HeapType.TheVariants.{Concrete, Exact}
 use Rattle.smith_types.specs.declared.value_type.ValType.TheVariants.{Ref}
 use Rattle.smith_types.specs.declared.const_instr.ConstInstr.TheVariants.{RefNull}
 use Rattle.smith_types.specs.Flags.{funcref}
@@ -9,7 +9,7 @@ use Rattle.smith_types.specs.Subtyping.{IsRefBelow}
 use Rattle.smith_types.specs.Segments.{IsItem}
 use Rattle.smith_types.specs.Expressions.{IsConstExpr}
 use Rattle.smith_types.specs.ExampleFeatures.{usual_features}
-use Rattle.smith_types.specs.ExampleTypes.{final_type, plain_func, plain, not_null}
+use Rattle.smith_types.specs.ExampleTypes.{final_type, shared_type, plain_func, plain, not_null}
 use Rattle.smith_types.specs.ExampleContexts.{context_types, context_with}
 use Rattle.smith_types.proofs.Growth.{IsRefBelow-refl}
 use Rattle.smith_types.proofs.Paths.{below_kind}
@@ -30,3 +30,9 @@ returns-clause-list c = All-from_recursion (IsItem (context_with usual_features 
 
 pub returns-clause-expression : goal.returns-clause-expression
 returns-clause-expression c = (refl, All-from_recursion (IsConstExpr (context_with usual_features 3) (Ref funcref)) ((RefNull (plain heap.Func) ∷ []) ∷ []) (null, tt))
+
+pub returns-clause-exact_function : goal.returns-clause-exact_function
+returns-clause-exact_function c = (0, refl, IsRefBelow-refl context_types (not_null (Exact 0)))
+
+pub returns-clause-shared_function : goal.returns-clause-shared_function
+returns-clause-shared_function c = (0, refl, record { heap = below_kind (shared_type plain_func ∷ []) 0 (shared_type plain_func) refl; nullable = λ never. refl })
