@@ -103,9 +103,13 @@ giving results = Func (record { params = []; results = results })
 abbrev pub taking : List ValType → CompositeInnerType
 taking params = Func (record { params = params; results = [] })
 
+-- a constant field for a reference to the type of this index
+abbrev pub refers_to : ℕ → FieldType
+refers_to index = constant (Val (Ref (nullable (Concrete index))))
+
 -- a struct type that refers to the type behind it
 abbrev pub referring_type : SubType
-referring_type = final_type (struct (constant (Val (Ref (nullable (Concrete 1)))) ∷ []))
+referring_type = final_type (struct (refers_to 1 ∷ []))
 
 -- that type, and a type behind it
 abbrev pub referring : List SubType

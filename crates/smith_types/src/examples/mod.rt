@@ -9,6 +9,8 @@ mod flags;
 mod grown;
 mod imports;
 mod matching;
+mod open_types;
+mod refused_types;
 mod segments;
 mod subtyping;
 mod types;
