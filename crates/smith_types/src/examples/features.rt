@@ -1,6 +1,6 @@
 ghost use Rattle.std.specs.Prelude.{◌≡◌, true, false, IsTrue};
 ghost use Rattle.smith_types.specs.FeatureBits.{has, joined, features_in};
-ghost use Rattle.smith_types.specs.ExampleFeatures.{usual_features, with_descriptors, no_features, gc_alone};
+ghost use Rattle.smith_types.specs.ExampleFeatures.{with_descriptors, no_features};
 
 #[tactic(auto, unfolding(crate::specs::FeatureBits::joined))]
 fn bits()

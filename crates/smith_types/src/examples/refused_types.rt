@@ -1,5 +1,5 @@
 // Types that one rule alone refuses: the other rules hold of them, and of each a neighbour is valid.
-ghost use Rattle.std.specs.Prelude.{◌≡◌, [], ◌∷◌, false, Some, None};
+ghost use Rattle.std.specs.Prelude.{◌≡◌, [], ◌∷◌, false, Some};
 ghost use Rattle.smith_types.specs.declared.value_type.HeapType.TheVariants.{Concrete};
 ghost use Rattle.smith_types.specs.Types.{IsOrderly, AreCovered};
 ghost use Rattle.smith_types.specs.Matching.{AreBelow, IsCompositeMatch};

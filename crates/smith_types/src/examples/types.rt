@@ -1,5 +1,4 @@
-ghost use Rattle.std.specs.Prelude.{◌≡◌, ℕ, ◌+◌, ◌^◌, ◌≤◌, List, [], ◌∷◌, Some, None, length};
-ghost use Rattle.std.specs.declared.ops.Range.{Range};
+ghost use Rattle.std.specs.Prelude.{◌≡◌, ◌+◌, ◌^◌, List, [], ◌∷◌, Some, None, length};
 ghost use Rattle.smith_types.specs.declared.composite_type.SubType.{SubType};
 ghost use Rattle.smith_types.specs.Types.{IsAlike, IsOrderly, AreConsecutive, AreCovered, end_from, next_start, next_group};
 ghost use Rattle.smith_types.specs.Space.{IsSound, MayFollow, HasDepth, AreDepths};

@@ -18,33 +18,7 @@ ghost use Rattle.smith_types.specs.ValidTypes.{
   values_of,
 };
 ghost use Rattle.smith_types.specs.ExampleFeatures.{usual_features, without_gc, with_descriptors, no_features, gc_alone};
-ghost use Rattle.smith_types.specs.ExampleTypes.{
-  open_type,
-  final_type,
-  shared_type,
-  array,
-  struct,
-  empty_struct,
-  plain_func,
-  struct_and_below,
-  below_itself,
-  below_final,
-  referring,
-  in_one_group,
-  range,
-  plain,
-  nullable,
-  not_null,
-  anyref,
-  eqref,
-  shared_anyref,
-  constant,
-  variable,
-  func,
-  taking,
-  giving,
-  refers_to,
-};
+ghost use Rattle.smith_types.specs.ExampleTypes.{open_type, final_type, shared_type, array, struct, empty_struct, plain_func, struct_and_below, below_final, referring, range, plain, nullable, not_null, anyref, eqref, shared_anyref, constant, variable, func, taking, giving, refers_to};
 
 fn heap_types()
     ensures abstract_one { IsHeapTypeValid gc_alone 0 (plain heap.Any) }
