@@ -2,10 +2,10 @@ ghost use Rattle.std.specs.Prelude.{◌≡◌, [], ◌∷◌, true, IsTrue, None
 ghost use Rattle.smith_types.specs.declared.value_type.AbstractHeapType.TheVariants as heap;
 ghost use Rattle.smith_types.specs.declared.value_type.HeapType.TheVariants.{Abstract, Concrete, Exact};
 ghost use Rattle.smith_types.specs.declared.value_type.ValType.TheVariants.{I32, I64, F32, F64, V128, Ref};
+ghost use Rattle.smith_types.specs.declared.composite_type.StorageType.TheVariants.{I8};
 ghost use Rattle.smith_types.specs.Kinds.{kind, bottom, shared};
 ghost use Rattle.smith_types.specs.Subtyping.{IsBelow, IsRefBelow, IsValBelow, IsInRange, IsValInRange};
 ghost use Rattle.smith_types.specs.ExampleTypes.{final_type, shared_type, array, empty_struct, plain_func, struct_and_below, plain, nullable, not_null, anyref, eqref, variable};
-ghost use Rattle.smith_types.specs.declared.composite_type.StorageType.TheVariants.{I8};
 
 fn kinds()
     ensures of_a_struct { kind (final_type empty_struct) ≡ heap.Struct }

@@ -100,6 +100,8 @@ fn types()
     ensures packed_and_shared { IsTypeValid usual_features [] 0 (shared_type (struct (constant I8 ∷ []))) }
     ensures holding_shared { IsTypeValid usual_features [] 0 (shared_type (struct (constant (Val shared_anyref) ∷ []))) }
     ensures holding_unshared { ¬ IsTypeValid usual_features [] 0 (shared_type (struct (constant (Val anyref) ∷ []))) }
+    ensures holding_a_shared_type_behind { IsTypeValid usual_features (shared_type (struct (refers_to 1 ∷ [])) ∷ shared_type plain_func ∷ []) 2 (shared_type (struct (refers_to 1 ∷ []))) }
+    ensures holding_an_unshared_type_behind { ¬ IsTypeValid usual_features (shared_type (struct (refers_to 1 ∷ [])) ∷ final_type plain_func ∷ []) 2 (shared_type (struct (refers_to 1 ∷ []))) }
     ensures taking_unshared { ¬ IsTypeValid usual_features [] 0 (shared_type (taking (anyref ∷ []))) }
     ensures giving_unshared { ¬ IsTypeValid usual_features [] 0 (shared_type (giving (anyref ∷ []))) }
 {}
@@ -108,6 +110,7 @@ fn groups()
     ensures empty { IsGroupValid gc_alone [] (range 0 0) }
     ensures referring_within { IsGroupValid usual_features referring (range 0 2) }
     ensures referring_behind { ¬ IsGroupValid usual_features referring (range 0 1) }
+    ensures second_referring_behind { ¬ IsGroupValid usual_features (final_type plain_func ∷ final_type (struct (refers_to 2 ∷ [])) ∷ []) (range 0 2) }
     ensures single_without_gc { IsGroupValid no_features (final_type plain_func ∷ final_type plain_func ∷ []) (range 0 1) }
     ensures two_without_gc { ¬ IsGroupValid without_gc (final_type plain_func ∷ final_type plain_func ∷ []) (range 0 2) }
     ensures none_without_gc { ¬ IsGroupValid without_gc [] (range 0 0) }
