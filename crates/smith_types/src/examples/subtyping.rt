@@ -1,11 +1,11 @@
-ghost use Rattle.std.specs.Prelude.{◌≡◌, [], ◌∷◌, true, IsTrue, None};
+ghost use Rattle.std.specs.Prelude.{◌≡◌, [], ◌∷◌, true, IsTrue, Some, None};
 ghost use Rattle.smith_types.specs.declared.value_type.AbstractHeapType.TheVariants as heap;
 ghost use Rattle.smith_types.specs.declared.value_type.HeapType.TheVariants.{Abstract, Concrete, Exact};
 ghost use Rattle.smith_types.specs.declared.value_type.ValType.TheVariants.{I32, I64, F32, F64, V128, Ref};
 ghost use Rattle.smith_types.specs.declared.composite_type.StorageType.TheVariants.{I8};
 ghost use Rattle.smith_types.specs.Kinds.{kind, bottom, shared};
 ghost use Rattle.smith_types.specs.Subtyping.{IsBelow, IsRefBelow, IsValBelow, IsInRange, IsValInRange};
-ghost use Rattle.smith_types.specs.ExampleTypes.{final_type, shared_type, array, empty_struct, plain_func, struct_and_below, plain, nullable, not_null, anyref, eqref, variable};
+ghost use Rattle.smith_types.specs.ExampleTypes.{open_type, final_type, shared_type, array, empty_struct, plain_func, struct_and_below, plain, nullable, not_null, anyref, eqref, variable};
 
 fn kinds()
     ensures of_a_struct { kind (final_type empty_struct) ≡ heap.Struct }
@@ -53,6 +53,7 @@ fn abstract_types()
 
 fn concrete_types()
     ensures declared { IsBelow struct_and_below (Concrete 1) (Concrete 0) }
+    ensures declared_twice { IsBelow (open_type None plain_func ∷ open_type (Some 0) plain_func ∷ open_type (Some 1) plain_func ∷ []) (Concrete 2) (Concrete 0) }
     ensures itself { IsBelow struct_and_below (Concrete 1) (Concrete 1) }
     ensures not_upwards { ¬ IsBelow struct_and_below (Concrete 0) (Concrete 1) }
     ensures equal_types_apart { ¬ IsBelow (final_type plain_func ∷ final_type plain_func ∷ []) (Concrete 1) (Concrete 0) }
@@ -67,6 +68,7 @@ fn concrete_types()
     ensures bottom { IsBelow struct_and_below (plain heap.None) (Concrete 1) }
     ensures not_another_bottom { ¬ IsBelow struct_and_below (plain heap.NoFunc) (Concrete 0) }
     ensures no_kind_below_its_types { ¬ IsBelow struct_and_below (plain heap.Struct) (Concrete 0) }
+    ensures bottom_of_a_shared_one { IsBelow (shared_type plain_func ∷ []) (Abstract true heap.NoFunc) (Concrete 0) }
     ensures shared_bottom { ¬ IsBelow struct_and_below (Abstract true heap.None) (Concrete 0) }
 {}
 
@@ -79,6 +81,7 @@ fn exact_types()
     ensures not_its_type { ¬ IsBelow struct_and_below (Concrete 0) (Exact 0) }
     ensures bottom { IsBelow struct_and_below (plain heap.None) (Exact 0) }
     ensures not_another_bottom { ¬ IsBelow struct_and_below (plain heap.NoFunc) (Exact 0) }
+    ensures shared_bottom { ¬ IsBelow struct_and_below (Abstract true heap.None) (Exact 0) }
 {}
 
 fn references()

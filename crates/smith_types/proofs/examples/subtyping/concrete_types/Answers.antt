@@ -71,3 +71,11 @@ returns-clause-shared_bottom c = λ below.
     let (t, at, shares, bottoms) = by_cases_from_below struct_and_below struct_orderly (Abstract true heap.None) (Concrete 0) below in
     let never : true ≡ false = shares ∙ sym (ap shared (same_Some (open_type None empty_struct) t at)) in
     cc never
+
+pub returns-clause-declared_twice : goal.returns-clause-declared_twice
+returns-clause-declared_twice c =
+    let types = open_type None plain_func ∷ open_type (Some 0) plain_func ∷ open_type (Some 1) plain_func ∷ [] in
+    IsBelow-trans types (below_declared types 2 1 (open_type (Some 1) plain_func) refl refl) (below_declared types 1 0 (open_type (Some 0) plain_func) refl refl)
+
+pub returns-clause-bottom_of_a_shared_one : goal.returns-clause-bottom_of_a_shared_one
+returns-clause-bottom_of_a_shared_one c = above_bottom (shared_type plain_func ∷ []) true heap.NoFunc 0 (shared_type plain_func) refl refl refl

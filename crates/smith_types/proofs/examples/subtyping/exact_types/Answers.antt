@@ -1,8 +1,8 @@
-use Rattle.std.proofs.Common.{arith, false, ◌≡◌, Some, None, sym, ap, ◌∙◌, refl}
+use Rattle.std.proofs.Common.{arith, true, false, ◌≡◌, Some, None, sym, ap, ◌∙◌, refl}
 use Rattle.std.proofs.lemmas.Option.{same_Some}
 use Rattle.smith_types.specs.declared.value_type.AbstractHeapType.TheVariants as heap
-use Rattle.smith_types.specs.declared.value_type.HeapType.TheVariants.{Concrete, Exact}
-use Rattle.smith_types.specs.Kinds.{bottom}
+use Rattle.smith_types.specs.declared.value_type.HeapType.TheVariants.{Abstract, Concrete, Exact}
+use Rattle.smith_types.specs.Kinds.{bottom, shared}
 use Rattle.smith_types.specs.Subtyping.{itself}
 use Rattle.smith_types.specs.ExampleTypes.{open_type, empty_struct, struct_and_below, plain}
 use Rattle.smith_types.proofs.Growth.{IsBelow-trans}
@@ -39,4 +39,10 @@ pub returns-clause-not_another_bottom : goal.returns-clause-not_another_bottom
 returns-clause-not_another_bottom c = λ below.
     let (t, at, shares, bottoms) = by_cases_from_below struct_and_below struct_orderly (plain heap.NoFunc) (Exact 0) below in
     let never : heap.NoFunc ≡ heap.None = bottoms ∙ sym (ap bottom (same_Some (open_type None empty_struct) t at)) in
+    cc never
+
+pub returns-clause-shared_bottom : goal.returns-clause-shared_bottom
+returns-clause-shared_bottom c = λ below.
+    let (t, at, shares, bottoms) = by_cases_from_below struct_and_below struct_orderly (Abstract true heap.None) (Exact 0) below in
+    let never : true ≡ false = shares ∙ sym (ap shared (same_Some (open_type None empty_struct) t at)) in
     cc never
