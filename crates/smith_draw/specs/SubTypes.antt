@@ -18,7 +18,7 @@ depth_at types index = suc (length (ancestors types index))
 abbrev pub may_have_subtypes : List SubType → ℕ → SubType → Bool
 may_have_subtypes types index t = not t.is_final && nat_lt (depth_at types index) 60
 
--- a declared supertype stands, may have subtypes, and is like its subtype (Validation, Types, Sub Types)
+-- a declared supertype stands, is like its subtype (Validation, Recursive Types), and may have subtypes (own rule)
 pub record HasSuperType (types : List SubType) (t : SubType) : Type 0 where
   pub below : (s : ℕ) → t.supertype ≡ Some s → (u : SubType) × (slice_get types s ≡ Some u) × IsAlike t u
   pub allowed : (s : ℕ) (u : SubType) → t.supertype ≡ Some s → slice_get types s ≡ Some u → may_have_subtypes types s u ≡ true

@@ -1,5 +1,5 @@
 -- Types that the examples speak of.
-use Rattle.std.specs.Prelude.{ℕ, true, false, List, [], ◌∷◌, Option, Some, None}
+use Rattle.std.specs.Prelude.{ℕ, true, false, List, [], ◌∷◌, Option, Some, None, length}
 use Rattle.std.specs.declared.ops.Range.{Range}
 use Rattle.smith_types.specs.declared.value_type.AbstractHeapType.{AbstractHeapType}
 use Rattle.smith_types.specs.declared.value_type.AbstractHeapType.TheVariants as heap
@@ -13,8 +13,9 @@ use Rattle.smith_types.specs.declared.composite_type.StorageType.TheVariants.{Va
 use Rattle.smith_types.specs.declared.composite_type.FieldType.{FieldType}
 use Rattle.smith_types.specs.declared.composite_type.FuncType.{FuncType}
 use Rattle.smith_types.specs.declared.composite_type.CompositeInnerType.{CompositeInnerType}
-use Rattle.smith_types.specs.declared.composite_type.CompositeInnerType.TheVariants.{Func, Struct}
+use Rattle.smith_types.specs.declared.composite_type.CompositeInnerType.TheVariants.{Array, Func, Struct}
 use Rattle.smith_types.specs.declared.composite_type.SubType.{SubType}
+use Rattle.smith_types.specs.Space.{Space}
 
 -- a type that is not final and not shared
 abbrev pub open_type : Option ℕ → CompositeInnerType → SubType
@@ -36,6 +37,10 @@ struct fields = Struct (record { fields = fields })
 abbrev pub empty_struct : CompositeInnerType
 empty_struct = Struct (record { fields = [] })
 
+-- an array type of this field
+abbrev pub array : FieldType → CompositeInnerType
+array field = Array (record { 0 = field })
+
 -- a function type that takes and gives nothing
 abbrev pub plain_func : CompositeInnerType
 plain_func = Func (record { params = []; results = [] })
@@ -43,6 +48,14 @@ plain_func = Func (record { params = []; results = [] })
 -- a struct type, and one declared below it
 abbrev pub struct_and_below : List SubType
 struct_and_below = open_type None empty_struct ∷ open_type (Some 0) empty_struct ∷ []
+
+-- a struct type declared below itself
+abbrev pub below_itself : List SubType
+below_itself = open_type (Some 0) empty_struct ∷ []
+
+-- a final struct type, and one declared below it
+abbrev pub below_final : List SubType
+below_final = final_type empty_struct ∷ open_type (Some 0) empty_struct ∷ []
 
 -- the indices of a group
 abbrev pub range : ℕ → ℕ → Range ℕ
@@ -90,10 +103,22 @@ giving results = Func (record { params = []; results = results })
 abbrev pub taking : List ValType → CompositeInnerType
 taking params = Func (record { params = params; results = [] })
 
+-- a constant field for a reference to the type of this index
+abbrev pub refers_to : ℕ → FieldType
+refers_to index = constant (Val (Ref (nullable (Concrete index))))
+
 -- a struct type that refers to the type behind it
 abbrev pub referring_type : SubType
-referring_type = final_type (struct (constant (Val (Ref (nullable (Concrete 1)))) ∷ []))
+referring_type = final_type (struct (refers_to 1 ∷ []))
 
 -- that type, and a type behind it
 abbrev pub referring : List SubType
 referring = referring_type ∷ final_type empty_struct ∷ []
+
+-- a function type, and another declared below it
+abbrev pub func_and_below : FuncType → FuncType → List SubType
+func_and_below upper lower = open_type None (Func upper) ∷ open_type (Some 0) (Func lower) ∷ []
+
+-- these types in one group
+abbrev pub in_one_group : List SubType → Space
+in_one_group types = record { types = types; groups = range 0 (length types) ∷ [] }

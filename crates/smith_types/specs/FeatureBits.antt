@@ -36,7 +36,7 @@ feature_table =
     (codes "CUSTOM_DESCRIPTORS", 8388608) ∷
     []
 
--- whether these bits are all among those
+-- whether the wanted bits are all among these
 abbrev pub has : ℕ → ℕ → Bool
 has bits wanted = bit_and bits wanted == wanted
 

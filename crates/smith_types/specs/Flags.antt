@@ -46,7 +46,7 @@ pub record IsSubTypeEnabled (features : Features) (t : SubType) : Type 0 where
 abbrev pub funcref : RefType
 funcref = record { nullable = true; heap_type = Abstract false abstract.Func }
 
--- the element type of a table or a segment: other than references to functions only with reference types (own rule)
+-- the element type of a table or a segment: other than funcref only with reference types (own rule)
 abbrev pub IsElementEnabled : Features → RefType → Type 0
 IsElementEnabled features element = (element ≡ funcref → ⊥) → IsTrue features.reference_types
 

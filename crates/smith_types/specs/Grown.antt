@@ -13,7 +13,7 @@ pub record Extends {A : Type 0} (old new : List A) : Type 0 where
   pub more : List A
   pub parts : new ≡ old ++ more
 
--- a context with more types, functions and globals at their ends, where as much is visible as before or more
+-- a context with more types, functions and globals at their ends, the same features and imports, and as much visible or more
 pub record IsContextGrown (old new : Context) : Type 0 where
   pub features : new.features ≡ old.features
   pub types : Extends old.types new.types

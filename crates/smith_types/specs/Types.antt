@@ -9,11 +9,11 @@ pub record IsAlike (t u : SubType) : Type 0 where
   pub kind : kind t ≡ kind u
   pub shared : shared t ≡ shared u
 
--- each declared supertype stands before its subtype and is like it (Validation, Types, Sub Types)
+-- each declared supertype stands before its subtype and is like it (Validation, Recursive Types; sharedness: own rule)
 pub record IsOrderly (types : List SubType) : Type 0 where
   pub under : (i s : ℕ) (t : SubType) → slice_get types i ≡ Some t → t.supertype ≡ Some s → (s < i) × ((u : SubType) → slice_get types s ≡ Some u → IsAlike t u)
 
--- where the next group begins, after one that ended there
+-- where the last of these groups ends, or that start where there is none
 abbrev pub end_from : ℕ → List (Range ℕ) → ℕ
 end_from start [] = start
 end_from start (group ∷ groups) = end_from group.end groups

@@ -64,18 +64,19 @@ abbrev pub IsShareable : List SubType → ValType → Type 0
 IsShareable types (Ref reference) = IsHeapTypeShared types reference.heap_type
 IsShareable types _ = Unit {0}
 
--- a function type, of values that are valid (Validation, Composite Types)
+-- a function type, of values that are valid (Validation, Composite Types), and enabled (own rule)
 pub record IsFuncTypeValid (features : Features) (end : ℕ) (function : FuncType) : Type 0 where
   pub results : IsInnerEnabled features (Func function)
   pub params_valid : All (IsValTypeValid features end) function.params
   pub results_valid : All (IsValTypeValid features end) function.results
 
--- a declared supertype is not final, and its subtype matches it (Validation, Sub Types)
+-- a declared supertype is not final, and its subtype matches it (Validation, Recursive Types)
 pub record IsSupertypeValid (types : List SubType) (t supertype : SubType) : Type 0 where
   pub not_final : supertype.is_final ≡ false
   pub matched : IsCompositeMatch types t.composite_type supertype.composite_type
 
--- a type of a group that ends at `end` (Validation, Sub Types); a shared one holds what may stand there (own rule)
+-- a type of a group that ends at `end` (Validation, Recursive Types), which is enabled, and where it is shared holds what may
+-- stand there (own rules)
 pub record IsTypeValid (features : Features) (types : List SubType) (end : ℕ) (t : SubType) : Type 0 where
   pub enabled : IsSubTypeEnabled features t
   pub values : All (IsValTypeValid features end) (values_of t.composite_type.inner)
@@ -87,7 +88,7 @@ pub record IsGroupValid (features : Features) (types : List SubType) (group : Ra
   pub members : (i : ℕ) (t : SubType) → group.start ≤ i → i < group.end → slice_get types i ≡ Some t → IsTypeValid features types group.end t
   pub single : features.gc ≡ false → group.end ≡ group.start + 1
 
--- valid types, in groups that follow one another and cover them, each supertype before its subtypes (Validation, Types)
+-- valid types, in groups that follow one another and cover them, each supertype before its subtypes (Validation, Modules)
 pub record AreTypesValid (features : Features) (space : Space) : Type 0 where
   pub covered : AreCovered space.types space.groups
   pub orderly : IsOrderly space.types
