@@ -2,13 +2,13 @@ use Rattle.std.proofs.Common.{rules, arith, ◌≡◌, ◌≤◌, true, false, S
 use Rattle.std.proofs.lemmas.List.Elements.{All-cons, All-nil}
 use Rattle.smith_types.specs.declared.value_type.ValType.TheVariants.{I32}
 use Rattle.smith_types.specs.declared.entity_type.GlobalType.{GlobalType}
-use Rattle.smith_types.specs.Entities.{AreLimitsValid}
+use Rattle.smith_types.specs.Entities.{AreLimitsValid, IsGlobalValid}
 use Rattle.smith_types.specs.Flags.{funcref}
 use Rattle.smith_types.specs.ExampleEntities.{constant_global, table}
 use Rattle.smith_types.proofs.Validity.{no_types}
 use Rattle.smith_config.specs.Config.{default_config}
 use Rattle.smith_config.specs.Features.{features_of}
-use Rattle.smith_config.specs.ShapeFaults.{IsGlobalOn, every_feature}
+use Rattle.smith_config.specs.ShapeFaults.{every_feature}
 use Rattle.smith_config.proofs.examples.shapes.faults.Goals as goal
 
 -- a shared global of numbers
@@ -29,8 +29,8 @@ returns-clause-shared_table c = λ none.
     let never : true ≡ false = none.tables 0 (record (table funcref 1 None) { shared = true }) (omega arith) in
     cc never
 
-number_on : IsGlobalOn every_feature [] shared_number
-number_on = record { unshared = search rules; shared = λ _. refl }
+number_valid : IsGlobalValid every_feature [] shared_number
+number_valid = search rules
 
 pub returns-clause-shared_global : goal.returns-clause-shared_global
 returns-clause-shared_global c = (
@@ -38,11 +38,11 @@ returns-clause-shared_global c = (
     types = no_types every_feature;
     tables = search rules;
     memories = search rules;
-    globals = All-cons (IsGlobalOn every_feature []) shared_number [] number_on (All-nil (IsGlobalOn every_feature []));
+    globals = All-cons (IsGlobalValid every_feature []) shared_number [] number_valid (All-nil (IsGlobalValid every_feature []));
     counts = search rules;
   },
   λ on.
-      let one : IsGlobalOn (features_of default_config) [] shared_number = on.globals 0 shared_number (omega arith) in
-      let never : false ≡ true = one.shared refl in
+      let one : IsGlobalValid (features_of default_config) [] shared_number = on.globals 0 shared_number (omega arith) in
+      let never : false ≡ true = (one.shared refl).0 in
       cc never,
 )
