@@ -2,3 +2,4 @@ pub mod FaultLemmas
 pub mod DrawnConfig
 pub mod Chains
 pub mod ShapeExamples
+pub mod ShapeLaws
