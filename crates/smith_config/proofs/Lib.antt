@@ -2,4 +2,5 @@ pub mod FaultLemmas
 pub mod DrawnConfig
 pub mod Chains
 pub mod ShapeExamples
+pub mod ShapeFaultExamples
 pub mod ShapeLaws

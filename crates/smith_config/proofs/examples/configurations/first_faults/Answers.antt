@@ -1,9 +1,7 @@
-use Rattle.std.proofs.Common.{rules, refl, arith, ◌^◌, ◌+◌, true, false, take, drop, [], ◌∷◌}
-use Rattle.std.specs.List.{All}
+use Rattle.std.proofs.Common.{rules, refl, ◌^◌, ◌+◌, take, drop, []}
 use Rattle.std.proofs.lemmas.List.Elements.{All-from_recursion}
 use Rattle.smith_config.specs.Config.{default_config}
 use Rattle.smith_config.specs.Faults.{HasFault, faults}
-use Rattle.smith_config.specs.declared.config.Config.{Config}
 use Rattle.smith_config.proofs.examples.configurations.first_faults.Goals as goal
 
 pub returns-clause-alone : goal.returns-clause-alone

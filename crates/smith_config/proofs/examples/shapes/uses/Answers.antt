@@ -1,5 +1,7 @@
 use Rattle.std.proofs.Common.{rules, ◌≡◌, arith, refl}
 use Rattle.std.specs.Prelude.{codes}
+use Rattle.smith_types.specs.declared.value_type.AbstractHeapType.TheVariants as heap
+use Rattle.smith_types.specs.ExampleTypes.{final_type, empty_struct}
 use Rattle.smith_config.specs.Config.{default_config}
 use Rattle.smith_config.specs.Features.{features_of}
 use Rattle.smith_config.specs.Shapes.{IsShort, HasNothingLeftOut, IsConsistent, IsPlain}
@@ -30,3 +32,6 @@ returns-clause-as_a_module_shape c = record { short = short; nothing_left_out = 
 
 pub returns-clause-a_name_twice : goal.returns-clause-a_name_twice
 returns-clause-a_name_twice c = λ valid. let same : 0 ≡ 1 = valid.consistent.exports.distinct.once 0 1 (codes "a") refl refl in omega (arith, same)
+
+pub returns-clause-exported_struct_type : goal.returns-clause-exported_struct_type
+returns-clause-exported_struct_type c = λ valid. let never : heap.Struct ≡ heap.Func = ((valid.plain refl).types 0 (final_type empty_struct) (omega arith)).function in cc never

@@ -8,4 +8,4 @@ use Rattle.smith_types.proofs.examples.valid_types.type_spaces.Goals as goal
 
 pub returns-clause-two_groups : goal.returns-clause-two_groups
 returns-clause-two_groups c = λ valid.
-    referring_behind (All-head (IsGroupValid usual_features referring) (range 0 1) (range 1 2 ∷ []) valid.groups)
+    referring_behind usual_features (All-head (IsGroupValid usual_features referring) (range 0 1) (range 1 2 ∷ []) valid.groups)
