@@ -6,5 +6,6 @@ pub mod OffsetChoices
 pub mod Shapes
 pub mod ShapeFaults
 pub mod Laws
+pub mod ExampleConfigs
 pub mod ExampleShapes
 pub mod Arbitrary

@@ -1,11 +1,13 @@
-// Configurations: sanitised, passing, with their features and faults; and offset choices as text.
+// Configurations: sanitised, passing, drawn, with their features and faults; and offset choices as text.
 
-ghost use Rattle.std.specs.Prelude.{◌≡◌, ◌+◌, ◌^◌, true, false, codes, Ok, Err};
+ghost use Rattle.std.specs.Prelude.{◌≡◌, ◌+◌, ◌^◌, true, false, [], ◌∷◌, codes, Ok, Err};
 ghost use Rattle.smith_bytes.specs.declared.error.Count.TheVariants as counts;
 ghost use Rattle.smith_bytes.specs.declared.error.ConfigFault.TheVariants.{MinAboveMax, MaxTooLarge, Memory32Bytes, Memory64Bytes};
 ghost use Rattle.smith_types.specs.Instructions.{every_kind};
 ghost use Rattle.smith_config.specs.Config.{default_config};
 ghost use Rattle.smith_config.specs.ShapeFaults.{every_feature};
+ghost use Rattle.smith_config.specs.Arbitrary.{config_at};
+ghost use Rattle.smith_config.specs.ExampleConfigs.{least_config, counting_bytes, counting_config};
 ghost use Rattle.smith_config.specs.Sanitized.{sanitized, IsSanitized, IsLowered};
 ghost use Rattle.smith_config.specs.Features.{features_of};
 ghost use Rattle.smith_config.specs.Faults.{Passes, HasFault, IsFirstFault};
@@ -204,4 +206,11 @@ fn offset_choices()
     ensures two_are_too_few { ¬ AreReadChoices (codes "1,2") (Err TooMany) }
     ensures four_are_enough { ¬ AreReadChoices (codes "1,2,3,4") (Err NeedThree) }
     ensures no_weight_is_no_choice { ¬ AreReadChoices (codes "0,0,0") (Ok zero_choices) }
+{}
+
+fn drawn()
+    ensures of_no_bytes { config_at [] ≡ (least_config, []) }
+    ensures of_two_numbers { config_at (0 ∷ 5 ∷ 3 ∷ 232 ∷ []) ≡ (record least_config { max_types = 5; max_imports = 1000 }, []) }
+    ensures past_the_greatest { config_at (3 ∷ 233 ∷ []) ≡ (least_config, []) }
+    ensures in_order { config_at counting_bytes ≡ (counting_config, 98 ∷ 99 ∷ []) }
 {}
