@@ -1,4 +1,4 @@
--- The features that a configuration turns on.
+-- The features that a configuration turns on. Rules of this project.
 use Rattle.std.specs.Prelude.{true, nat_lt}
 use Rattle.smith_types.specs.Features.{Features}
 use Rattle.smith_config.specs.declared.config.Config.{Config}

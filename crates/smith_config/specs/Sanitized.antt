@@ -1,4 +1,4 @@
--- Configurations whose fields agree with one another.
+-- Configurations whose fields agree with one another. Rules of this project.
 use Rattle.std.specs.Prelude.{◌≡◌, ◌≤◌, false, ◌&&◌, IsTrue, min, if◌then◌else◌}
 use Rattle.smith_config.specs.declared.config.Config.{Config}
 

@@ -36,7 +36,7 @@ ghost use Rattle.smith_config.specs.Shapes.{
   AreCountsFit,
   IsShapeValid,
 };
-ghost use Rattle.smith_config.specs.ExampleShapes.{empty_shape, of_types, of_global, imported_tag, passed_on, imported_memory, chain};
+ghost use Rattle.smith_config.specs.ExampleShapes.{empty_shape, of_types, of_global, imported_tag, passed_on, imported_memory, memory_passed_on, exported_table, one_of_each_kind, chain};
 
 fn ranges()
     ensures one_behind_another { ranges_from 0 (chain 2 ∷ [] ∷ chain 1 ∷ []) ≡ range 0 2 ∷ range 2 2 ∷ range 2 3 ∷ [] }
@@ -71,6 +71,11 @@ fn short_lists()
 fn uses()
     ensures as_available_imports { IsShapeValid AvailableImports default_config passed_on }
     ensures as_exports { IsShapeValid Exports default_config passed_on }
+    ensures one_of_each_kind { IsShapeValid Exports (record default_config { max_memories = 2 }) one_of_each_kind }
+    ensures memory_passed_on { IsShapeValid ModuleShape default_config memory_passed_on }
+    ensures table_without_references { IsShapeValid Exports (record default_config { reference_types_enabled = false; gc_enabled = false }) exported_table }
+    ensures available_tag_without_exceptions { IsShapeValid AvailableImports (record default_config { exceptions_enabled = false }) imported_tag }
+    ensures depth_of_63 { IsShapeValid ModuleShape default_config (of_types (chain 63)) }
     ensures as_a_module_shape { IsShapeValid ModuleShape default_config passed_on }
     ensures too_long { (tags : List ℕ) → length tags ≡ 2 ^ 29 + 1 → ¬ IsShapeValid AvailableImports default_config (record empty_shape { tags = tags }) }
     ensures something_left_out { ¬ IsShapeValid AvailableImports (record default_config { shared_everything_threads_enabled = true }) (of_global shared_anyref) }
