@@ -1,13 +1,13 @@
 -- What the examples of shapes come to.
 use Rattle.std.proofs.Common.{rules, ℕ, List, [], ◌∷◌, refl, arith}
 use Rattle.std.specs.Prelude.{codes}
-use Rattle.std.proofs.lemmas.List.Elements.{All-cons, All-nil, All-from_recursion}
+use Rattle.std.proofs.lemmas.List.Elements.{All-cons, All-nil}
 use Rattle.smith_types.specs.Features.{Features}
 use Rattle.smith_types.specs.Types.{IsOrderly}
 use Rattle.smith_types.specs.ValidTypes.{IsTypeValid, AreTypesValid}
 use Rattle.smith_types.specs.Imports.{IndexSpaces}
 use Rattle.smith_types.specs.Entities.{IsFuncValid, AreEntitiesValid}
-use Rattle.smith_types.specs.Exports.{IsEntityAt, AreExportsValid}
+use Rattle.smith_types.specs.Exports.{IsEntityAt, AreExportsStanding, AreExportsValid}
 use Rattle.smith_types.specs.declared.composite_type.SubType.{SubType}
 use Rattle.smith_types.specs.declared.entity_type.EntityType.{EntityType}
 use Rattle.smith_types.specs.declared.entity_type.EntityType.TheVariants as entity
@@ -48,8 +48,11 @@ module _ (features : Features) where
     globals = search rules;
   }
 
+-- the one export stands
+pub stand_alone : (spaces : IndexSpaces) (one : List ℕ × ExportKind × ℕ) (ty : EntityType) → IsEntityAt spaces one.1 one.2 ty → AreExportsStanding spaces (one ∷ [])
+stand_alone spaces one ty h =
+    let P : List ℕ × ExportKind × ℕ → Type 0 = λ one. (ty : EntityType) × IsEntityAt spaces one.1 one.2 ty in
+    All-cons P one [] (ty, h) (All-nil P)
+
 pub exports_valid : AreExportsValid one_func ((codes "a", kind.Func, 0) ∷ [])
-exports_valid = record {
-  stand = All-from_recursion (λ (one : List ℕ × ExportKind × ℕ). (ty : EntityType) × IsEntityAt one_func one.1 one.2 ty) ((codes "a", kind.Func, 0) ∷ []) ((entity.Func 0, (0, refl, refl)), tt);
-  distinct = search rules;
-}
+exports_valid = record { stand = stand_alone one_func (codes "a", kind.Func, 0) (entity.Func 0) (0, refl, refl); distinct = search rules }

@@ -1,4 +1,4 @@
--- The configuration that bytes give.
+-- The configuration that bytes give. Rules of this project.
 use Rattle.std.specs.Prelude.{ℕ, ◌^◌, Bool, false, List, [], ◌∷◌}
 use Rattle.smith_bytes.specs.Draws.{range_at, bool_at}
 use Rattle.smith_types.specs.Instructions.{no_kind, with_kind}

@@ -1,4 +1,4 @@
--- The configuration that is asked for where nothing else is said.
+-- The configuration that is asked for where nothing else is said. Rules of this project.
 use Rattle.std.specs.Prelude.{true, false, ◌^◌}
 use Rattle.smith_types.specs.Instructions.{every_kind}
 use Rattle.smith_config.specs.OffsetChoices.{default_choices}

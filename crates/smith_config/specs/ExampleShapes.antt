@@ -1,18 +1,37 @@
 -- Shapes that the examples speak of.
 use Rattle.std.specs.Prelude.{ℕ, zero, suc, List, [], ◌∷◌, ◌++◌, Option, Some, None, codes}
 use Rattle.smith_types.specs.declared.composite_type.SubType.{SubType}
+use Rattle.smith_types.specs.declared.value_type.ValType.{ValType}
+use Rattle.smith_types.specs.declared.value_type.ValType.TheVariants.{I32, I64, F32}
+use Rattle.smith_types.specs.declared.value_type.AbstractHeapType.TheVariants as heap
+use Rattle.smith_types.specs.declared.composite_type.CompositeInnerType.TheVariants.{Func}
 use Rattle.smith_types.specs.declared.entity_type.EntityType.TheVariants as entity
 use Rattle.smith_types.specs.declared.entity_type.ExportKind.TheVariants as kind
 use Rattle.smith_types.specs.declared.imports.Imports.{Imports}
 use Rattle.smith_types.specs.declared.imports.Imports.TheVariants.{Single}
 use Rattle.smith_types.specs.Imports.{import_of}
-use Rattle.smith_types.specs.ExampleTypes.{open_type, final_type, empty_struct, plain_func}
-use Rattle.smith_types.specs.ExampleEntities.{memory}
+use Rattle.smith_types.specs.ExampleTypes.{open_type, final_type, empty_struct, plain_func, taking, func, plain, nullable}
+use Rattle.smith_types.specs.Flags.{funcref}
+use Rattle.smith_types.specs.ExampleEntities.{memory, table, constant_global}
 use Rattle.smith_config.specs.declared.shape.Shape.{Shape}
 
 -- nothing is asked for
 abbrev pub empty_shape : Shape
 empty_shape = record { groups = []; imports = []; funcs = []; tags = []; tables = []; memories = []; globals = []; exports = [] }
+
+-- types in one group, and a global
+abbrev pub of_types : List SubType → Shape
+of_types types = record empty_shape { groups = types ∷ [] }
+
+abbrev pub of_global : ValType → Shape
+of_global value = record empty_shape { globals = constant_global value ∷ [] }
+
+-- a tag of a type that takes a number
+abbrev pub imported_tag : Shape
+imported_tag = record empty_shape {
+  groups = (final_type (taking (I32 ∷ [])) ∷ []) ∷ [];
+  imports = Single (import_of (codes "m") (codes "t") (entity.Tag 0)) ∷ [];
+}
 
 -- a function is imported and exported
 abbrev pub passed_on : Shape
@@ -25,6 +44,33 @@ passed_on = record empty_shape {
 -- an import of a memory of one page
 abbrev pub imported_memory : Imports
 imported_memory = Single (import_of (codes "m") (codes "n") (entity.Memory (memory 1 None)))
+
+-- a memory is imported and exported
+abbrev pub memory_passed_on : Shape
+memory_passed_on = record empty_shape { imports = imported_memory ∷ []; exports = (codes "m", kind.Memory, 0) ∷ [] }
+
+-- a table of functions is exported
+abbrev pub exported_table : Shape
+exported_table = record empty_shape { tables = table funcref 0 None ∷ []; exports = (codes "t", kind.Table, 0) ∷ [] }
+
+-- one item of each kind is exported
+abbrev pub one_of_each_kind : Shape
+one_of_each_kind = record {
+  groups = (final_type (Func (func I32 I64)) ∷ []) ∷ (final_type (taking (F32 ∷ [])) ∷ []) ∷ [];
+  imports = [];
+  funcs = 0 ∷ [];
+  tags = 1 ∷ [];
+  tables = table (nullable (plain heap.Extern)) 5 (Some 10) ∷ [];
+  memories = memory 1 (Some 10) ∷ [];
+  globals = constant_global F32 ∷ [];
+  exports =
+      (codes "foo", kind.Func, 0) ∷
+      (codes "bar", kind.Global, 0) ∷
+      (codes "baz", kind.Memory, 0) ∷
+      (codes "qux", kind.Table, 0) ∷
+      (codes "quux", kind.Tag, 0) ∷
+      [];
+}
 
 -- the type before this index
 abbrev pub before : ℕ → Option ℕ

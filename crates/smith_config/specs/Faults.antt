@@ -1,4 +1,4 @@
--- What is wrong with a configuration.
+-- What is wrong with a configuration. Rules of this project.
 use Rattle.std.specs.Prelude.{◌≡◌, ℕ, ◌≤◌, ◌<◌, ◌^◌, false, ⊤, List, [], ◌∷◌, ◌++◌, map, All}
 use Rattle.smith_bytes.specs.declared.error.Count.{Count}
 use Rattle.smith_bytes.specs.declared.error.Count.TheVariants.{

@@ -1,10 +1,10 @@
--- The features that a configuration turns on.
+-- The features that a configuration turns on. Rules of this project.
 use Rattle.std.specs.Prelude.{true, nat_lt}
 use Rattle.smith_types.specs.Features.{Features}
 use Rattle.smith_config.specs.declared.config.Config.{Config}
 
--- mutable globals and what was there from the start always, two memories where there may be two, each other feature as its
--- field says
+-- mutable globals and what was there from the start always, several memories where there may be several, function references
+-- with garbage collection, each other feature as its field says
 abbrev pub features_of : Config → Features
 features_of config = record {
   mutable_global = true;

@@ -1,4 +1,4 @@
--- How often an offset is inside a memory, and how that is written.
+-- How often an offset is inside a memory, and how that is written. Rules of this project.
 use Rattle.std.specs.Prelude.{◌≡◌, ℕ, ◌<◌, ◌≢◌, List, [], ◌∷◌, length, take, Result, Ok, Err, slice_get, Some}
 use Rattle.std.specs.List.{AllZip}
 use Rattle.smith_types.specs.Parts.{parts_of}

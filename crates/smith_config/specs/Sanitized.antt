@@ -1,8 +1,8 @@
--- Configurations whose fields agree with one another.
+-- Configurations whose fields agree with one another. Rules of this project.
 use Rattle.std.specs.Prelude.{◌≡◌, ◌≤◌, false, ◌&&◌, IsTrue, min, if◌then◌else◌}
 use Rattle.smith_config.specs.declared.config.Config.{Config}
 
--- each field that needs others is on only where these are
+-- each field that needs others is on only where these are; without reference types there is one table at most
 abbrev pub sanitized : Config → Config
 sanitized config =
     let gc = config.reference_types_enabled && config.gc_enabled in
@@ -16,7 +16,7 @@ sanitized config =
       acquire_release_atomics_enabled = config.threads_enabled && config.acquire_release_atomics_enabled;
     }
 
--- nothing is on that needs what is off
+-- nothing is on that needs what is off, and several tables need reference types
 pub record IsSanitized (config : Config) : Type 0 where
   pub one_table : config.reference_types_enabled ≡ false → config.max_tables ≤ 1
   pub gc : IsTrue config.gc_enabled → IsTrue config.reference_types_enabled

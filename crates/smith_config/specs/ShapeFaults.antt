@@ -1,14 +1,14 @@
 -- What is wrong with a shape: which of its faults is told. Rules of this project.
-use Rattle.std.specs.Prelude.{◌≡◌, ℕ, true, false, IsTrue, List, length, map, All}
+use Rattle.std.specs.Prelude.{◌≡◌, ℕ, true, IsTrue, List, length, map, All}
 use Rattle.smith_bytes.specs.declared.error.Which.{Which}
 use Rattle.smith_bytes.specs.declared.error.Which.TheVariants.{Exports}
 use Rattle.smith_bytes.specs.declared.error.ShapeFault.{ShapeFault}
 use Rattle.smith_bytes.specs.declared.error.ShapeFault.TheVariants as fault
 use Rattle.smith_types.specs.Features.{Features}
-use Rattle.smith_types.specs.ValidTypes.{AreTypesValid, IsValTypeValid}
+use Rattle.smith_types.specs.ValidTypes.{AreTypesValid, IsValTypeValid, IsShareable}
 use Rattle.smith_types.specs.Entities.{AreLimitsValid, most_elements, IsTagValid, IsFuncValid, IsTableValid, IsMemoryValid, IsGlobalValid}
 use Rattle.smith_types.specs.Exports.{AreDistinct, AreExportsStanding}
-use Rattle.smith_types.specs.declared.composite_type.SubType.{SubType}
+use Rattle.smith_types.specs.declared.value_type.ValType.TheVariants.{Ref}
 use Rattle.smith_types.specs.declared.entity_type.ExportKind.{ExportKind}
 use Rattle.smith_types.specs.declared.entity_type.GlobalType.{GlobalType}
 use Rattle.smith_types.specs.declared.entity_type.TableType.{TableType}
@@ -46,10 +46,12 @@ every_feature = record {
   custom_descriptors = true;
 }
 
--- types, and what refers to them, are right where every feature is on
+-- types, and what refers to them, are right where every feature is on; what is shared holds what may be shared
 pub record AreTypesRight (shape : Shape) : Type 0 where
   pub types : AreTypesValid every_feature (space_of shape.groups)
   pub values : All (IsValTypeValid every_feature (length (shape_types shape))) (shape_values shape)
+  pub tables : All (λ (table : TableType). IsTrue table.shared → IsShareable (shape_types shape) (Ref table.element_type)) (shape_spaces shape).tables
+  pub globals : All (λ (global : GlobalType). IsTrue global.shared → IsShareable (shape_types shape) global.val_type) (shape_spaces shape).globals
 
 -- functions, tags and exports name what stands and is of the right kind
 pub record AreIndicesRight (shape : Shape) : Type 0 where
@@ -63,21 +65,12 @@ pub record AreLimitsRight (shape : Shape) : Type 0 where
   pub memories : All (IsMemoryValid every_feature) (shape_spaces shape).memories
   pub shallow : IsShallow (shape_types shape)
 
--- a table and a global have their features, whatever is shared in them: sharedness is left out on its own account
-pub record IsTableOn (features : Features) (types : List SubType) (table : TableType) : Type 0 where
-  pub unshared : IsTableValid features types (record table { shared = false })
-  pub shared : IsTrue table.shared → IsTrue features.shared_everything_threads
-
-pub record IsGlobalOn (features : Features) (types : List SubType) (global : GlobalType) : Type 0 where
-  pub unshared : IsGlobalValid features types (record global { shared = false })
-  pub shared : IsTrue global.shared → IsTrue features.shared_everything_threads
-
 -- the features of a configuration are enough
 pub record AreFeaturesOn (which : Which) (features : Features) (shape : Shape) : Type 0 where
   pub types : AreTypesValid features (space_of shape.groups)
-  pub tables : All (IsTableOn features (shape_types shape)) (shape_spaces shape).tables
+  pub tables : All (IsTableValid features (shape_types shape)) (shape_spaces shape).tables
   pub memories : All (IsMemoryValid features) (shape_spaces shape).memories
-  pub globals : All (IsGlobalOn features (shape_types shape)) (shape_spaces shape).globals
+  pub globals : All (IsGlobalValid features (shape_types shape)) (shape_spaces shape).globals
   pub counts : AreCountsFit which features shape
 
 -- what each fault says; a missing feature is one only where every feature would do

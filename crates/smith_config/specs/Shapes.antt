@@ -6,11 +6,13 @@ use Rattle.std.specs.declared.ops.Range.{Range}
 use Rattle.smith_bytes.specs.declared.error.Which.{Which}
 use Rattle.smith_bytes.specs.declared.error.Which.TheVariants.{AvailableImports, Exports, ModuleShape}
 use Rattle.smith_types.specs.Features.{Features}
+use Rattle.smith_types.specs.Kinds.{kind}
 use Rattle.smith_types.specs.Space.{Space, HasDepth}
 use Rattle.smith_types.specs.ValidTypes.{AreTypesValid, values_of}
 use Rattle.smith_types.specs.Imports.{IndexSpaces, flattened, imported_spaces}
 use Rattle.smith_types.specs.Entities.{AreEntitiesValid, AreCountsEnabled}
 use Rattle.smith_types.specs.Exports.{AreExportsValid}
+use Rattle.smith_types.specs.declared.value_type.AbstractHeapType.TheVariants as heap
 use Rattle.smith_types.specs.declared.value_type.HeapType.{HeapType}
 use Rattle.smith_types.specs.declared.value_type.HeapType.TheVariants.{Abstract, Concrete, Exact}
 use Rattle.smith_types.specs.declared.value_type.ValType.{ValType}
@@ -99,33 +101,28 @@ shape_values shape =
     ++ (map (λ (table : TableType). Ref table.element_type) (shape_spaces shape).tables ++ map (λ (global : GlobalType). global.val_type) (shape_spaces shape).globals)
 
 -- a heap type that a shape may name: it is not exact and not shared
-abbrev pub IsHeapTypePlain : HeapType → Type 0
-IsHeapTypePlain (Abstract shared ty) = shared ≡ false
-IsHeapTypePlain (Concrete index) = Unit {0}
-IsHeapTypePlain (Exact index) = ⊥
+abbrev pub IsHeapTypeIncluded : HeapType → Type 0
+IsHeapTypeIncluded (Abstract shared ty) = shared ≡ false
+IsHeapTypeIncluded (Concrete index) = Unit {0}
+IsHeapTypeIncluded (Exact index) = ⊥
 
 -- a value type that a shape may name
-abbrev pub IsValTypePlain : ValType → Type 0
-IsValTypePlain (Ref reference) = IsHeapTypePlain reference.heap_type
-IsValTypePlain _ = Unit {0}
+abbrev pub IsValTypeIncluded : ValType → Type 0
+IsValTypeIncluded (Ref reference) = IsHeapTypeIncluded reference.heap_type
+IsValTypeIncluded _ = Unit {0}
 
 -- nothing is shared but memories, and no reference is exact
 pub record HasNothingLeftOut (shape : Shape) : Type 0 where
   pub types : All (λ (t : SubType). t.composite_type.shared ≡ false) (shape_types shape)
-  pub values : All IsValTypePlain (shape_values shape)
+  pub values : All IsValTypeIncluded (shape_values shape)
   pub tables : All (λ (table : TableType). table.shared ≡ false) (shape_spaces shape).tables
   pub globals : All (λ (global : GlobalType). global.shared ≡ false) (shape_spaces shape).globals
-
--- a function type
-abbrev pub IsFunction : CompositeInnerType → Type 0
-IsFunction (Func function) = Unit {0}
-IsFunction _ = ⊥
 
 -- a type that the exports of a module may name: a final function type without a supertype
 pub record IsTypePlain (t : SubType) : Type 0 where
   pub final : IsTrue t.is_final
   pub root : t.supertype ≡ None
-  pub function : IsFunction t.composite_type.inner
+  pub function : kind t ≡ heap.Func
 
 -- not the type of an index and those below it; an exact type is left out on its own account
 abbrev pub IsNotConcrete : HeapType → Type 0

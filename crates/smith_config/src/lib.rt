@@ -6,6 +6,7 @@ mod check;
 mod config;
 mod examples;
 mod features;
+pub mod laws;
 mod offset_choices;
 mod sanitize;
 mod shape;

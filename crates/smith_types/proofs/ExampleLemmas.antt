@@ -8,6 +8,7 @@ use Rattle.smith_types.specs.declared.value_type.AbstractHeapType.TheVariants as
 use Rattle.smith_types.specs.declared.value_type.HeapType.TheVariants.{Concrete}
 use Rattle.smith_types.specs.declared.value_type.ValType.TheVariants.{Ref}
 use Rattle.smith_types.specs.declared.composite_type.SubType.{SubType}
+use Rattle.smith_types.specs.Features.{Features}
 use Rattle.smith_types.specs.Types.{IsOrderly}
 use Rattle.smith_types.specs.Subtyping.{is_abstract_below, IsBelow, IsValBelow}
 use Rattle.smith_types.specs.ValidTypes.{IsValTypeValid, IsSupertypeValid, IsTypeValid, IsGroupValid, AreTypesValid}
@@ -37,14 +38,14 @@ pub eq_below_any : (types : List SubType) → IsValBelow types eqref anyref
 eq_below_any types = record { heap = below_abstract types false heap.Eq heap.Any refl; nullable = λ _. refl }
 
 -- a type that refers behind its group
-pub referring_alone : (types : List SubType) → ¬ IsTypeValid usual_features types 1 referring_type
-referring_alone types first =
-    let (on, held) = All-head (IsValTypeValid usual_features 1) (Ref (nullable (Concrete 1))) [] first.values in
+pub referring_alone : (features : Features) (types : List SubType) → ¬ IsTypeValid features types 1 referring_type
+referring_alone features types first =
+    let (on, held) = All-head (IsValTypeValid features 1) (Ref (nullable (Concrete 1))) [] first.values in
     let (enabled, inside) = held.heap_type in
     omega (arith, inside)
 
-pub referring_behind : ¬ IsGroupValid usual_features referring (range 0 1)
-referring_behind valid = referring_alone referring (valid.members 0 referring_type (omega arith) (omega arith) refl)
+pub referring_behind : (features : Features) → ¬ IsGroupValid features referring (range 0 1)
+referring_behind features valid = referring_alone features referring (valid.members 0 referring_type (omega arith) (omega arith) refl)
 
 -- what holds of two types holds of each of them
 of_both : (P : SubType → Type 0) (t u v : SubType) (i : ℕ) → P t → P u → slice_get (t ∷ u ∷ []) i ≡ Some v → P v

@@ -1,4 +1,5 @@
 // Values that meet the definitions, and values that do not. The clauses are proved; nothing calls these functions.
 
 mod configurations;
+mod shape_faults;
 mod shapes;

@@ -7,3 +7,6 @@ returns-clause-crossed c = λ passes. let ordered : 3 ≤ 2 = passes.ordered cou
 
 pub returns-clause-too_many_types : goal.returns-clause-too_many_types
 returns-clause-too_many_types c = λ passes. let few : 2147483649 ≤ 2147483648 = passes.few counts.Types in omega (arith, few)
+
+pub returns-clause-two_tables_without_references : goal.returns-clause-two_tables_without_references
+returns-clause-two_tables_without_references c = λ passes. let ordered : 2 ≤ 1 = passes.ordered counts.Tables tt in omega (arith, ordered)

@@ -9,7 +9,7 @@ use Rattle.smith_types.proofs.ExampleLemmas.{referring_behind}
 use Rattle.smith_types.proofs.examples.valid_types.groups.Goals as goal
 
 pub returns-clause-referring_behind : goal.returns-clause-referring_behind
-returns-clause-referring_behind c = referring_behind
+returns-clause-referring_behind c = referring_behind usual_features
 
 pub returns-clause-second_referring_behind : goal.returns-clause-second_referring_behind
 returns-clause-second_referring_behind c = λ valid.
