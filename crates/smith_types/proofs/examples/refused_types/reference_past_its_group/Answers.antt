@@ -6,11 +6,5 @@ use Rattle.smith_types.specs.ExampleTypes.{range, referring}
 use Rattle.smith_types.proofs.ExampleLemmas.{referring_behind}
 use Rattle.smith_types.proofs.examples.refused_types.reference_past_its_group.Goals as goal
 
-<<<<<<< HEAD:crates/smith_types/proofs/examples/refused_types/reference_past_its_group/Answers.antt
 pub returns-clause-refused : goal.returns-clause-refused
 returns-clause-refused c = λ valid. referring_behind usual_features (All-head (IsGroupValid usual_features referring) (range 0 1) (range 1 2 ∷ []) valid.groups)
-=======
-pub returns-clause-two_groups : goal.returns-clause-two_groups
-returns-clause-two_groups c = λ valid.
-    referring_behind usual_features (All-head (IsGroupValid usual_features referring) (range 0 1) (range 1 2 ∷ []) valid.groups)
->>>>>>> config:crates/smith_types/proofs/examples/valid_types/type_spaces/Answers.antt
