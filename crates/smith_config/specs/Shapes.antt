@@ -1,6 +1,6 @@
 -- Shapes that a module may be asked to have. What a module must meet is the standard's, by the definitions of validity; which
 -- shapes may be handed in is a rule of this project.
-use Rattle.std.specs.Prelude.{◌≡◌, ℕ, ◌+◌, ◌≤◌, ◌^◌, false, IsTrue, List, [], ◌∷◌, ◌++◌, Option, None, length, map, All}
+use Rattle.std.specs.Prelude.{◌≡◌, ℕ, ◌+◌, ◌≤◌, ◌^◌, false, IsTrue, List, [], ◌∷◌, ◌++◌, Option, None, is_some, length, map, All, if◌then◌else◌}
 use Rattle.std.specs.List.{flat_map}
 use Rattle.std.specs.declared.ops.Range.{Range}
 use Rattle.smith_bytes.specs.declared.error.Which.{Which}
@@ -36,6 +36,10 @@ pub record Shapes : Type 0 where
 -- none of them
 abbrev pub no_shapes : Shapes
 no_shapes = record { available_imports = None; exports = None; module_shape = None }
+
+-- those that are used: beside a module shape no other is. The definitions of modules speak of these
+abbrev pub in_use : Shapes → Shapes
+in_use shapes = if is_some shapes.module_shape then record no_shapes { module_shape = shapes.module_shape } else shapes
 
 -- the ranges of groups that follow one another
 abbrev pub ranges_from : ℕ → List (List SubType) → List (Range ℕ)

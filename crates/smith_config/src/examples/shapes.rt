@@ -23,6 +23,8 @@ ghost use Rattle.smith_types.specs.Imports.{import_of};
 ghost use Rattle.smith_config.specs.Config.{default_config};
 ghost use Rattle.smith_config.specs.Features.{features_of};
 ghost use Rattle.smith_config.specs.Shapes.{
+  no_shapes,
+  in_use,
   ranges_from,
   shape_types,
   shape_spaces,
@@ -37,6 +39,11 @@ ghost use Rattle.smith_config.specs.Shapes.{
   IsShapeValid,
 };
 ghost use Rattle.smith_config.specs.ExampleShapes.{empty_shape, of_types, of_global, imported_tag, passed_on, imported_memory, memory_passed_on, exported_table, one_of_each_kind, chain};
+
+fn used()
+    ensures a_module_shape_alone { in_use (record { available_imports = Some passed_on; exports = Some passed_on; module_shape = Some empty_shape }) ≡ record no_shapes { module_shape = Some empty_shape } }
+    ensures others { in_use (record no_shapes { available_imports = Some empty_shape; exports = Some passed_on }) ≡ record { available_imports = Some empty_shape; exports = Some passed_on; module_shape = None } }
+{}
 
 fn ranges()
     ensures one_behind_another { ranges_from 0 (chain 2 ∷ [] ∷ chain 1 ∷ []) ≡ range 0 2 ∷ range 2 2 ∷ range 2 3 ∷ [] }
