@@ -59,7 +59,6 @@ fn constants()
 {}
 
 fn constant_instructions()
-    ensures takes_nothing { ¬ HasType (context_with usual_features 2) (I32Const (pos 1)) (I32 ∷ []) I32 }
     ensures wide { HasType (context_with usual_features 2) (I64Const (pos 1)) [] I64 }
     ensures wide_is_not_narrow { ¬ HasType (context_with usual_features 2) (I64Const (pos 1)) [] I32 }
     ensures float { HasType (context_with usual_features 2) (F32Const 0) [] F32 }
@@ -70,18 +69,36 @@ fn constant_instructions()
     ensures vector_is_no_number { ¬ HasType (context_with usual_features 2) (V128Const (pos 0)) [] I64 }
 {}
 
+fn without_operands()
+    ensures number { ¬ HasType (context_with usual_features 2) (I32Const (pos 1)) (I32 ∷ []) I32 }
+    ensures wide_number { ¬ HasType (context_with usual_features 2) (I64Const (pos 1)) (I64 ∷ []) I64 }
+    ensures float { ¬ HasType (context_with usual_features 2) (F32Const 0) (F32 ∷ []) F32 }
+    ensures wide_float { ¬ HasType (context_with usual_features 2) (F64Const 0) (F64 ∷ []) F64 }
+    ensures vector { ¬ HasType (context_with usual_features 2) (V128Const (pos 0)) (V128 ∷ []) V128 }
+    ensures global { ¬ HasType (context_with usual_features 2) (GlobalGet 0) (I32 ∷ []) I32 }
+    ensures null { ¬ HasType (context_with usual_features 2) (RefNull (plain heap.Func)) (I32 ∷ []) (Ref funcref) }
+    ensures function { ¬ HasType (context_with usual_features 2) (RefFunc 1) (I32 ∷ []) (Ref (not_null (Concrete 0))) }
+    ensures struct_of_defaults { ¬ HasType (context_with usual_features 2) (StructNewDefault 1) (I32 ∷ []) (Ref (not_null (Concrete 1))) }
+{}
+
 fn arithmetic()
     ensures sum { HasType (context_with usual_features 2) I32Add (I32 ∷ I32 ∷ []) I32 }
+    ensures sum_is_not_wide { ¬ HasType (context_with usual_features 2) I32Add (I32 ∷ I32 ∷ []) I64 }
     ensures sum_of_wide { ¬ HasType (context_with usual_features 2) I32Add (I64 ∷ I64 ∷ []) I32 }
     ensures difference { HasType (context_with usual_features 2) I32Sub (I32 ∷ I32 ∷ []) I32 }
+    ensures difference_is_not_wide { ¬ HasType (context_with usual_features 2) I32Sub (I32 ∷ I32 ∷ []) I64 }
     ensures difference_of_wide { ¬ HasType (context_with usual_features 2) I32Sub (I64 ∷ I64 ∷ []) I32 }
     ensures product { HasType (context_with usual_features 2) I32Mul (I32 ∷ I32 ∷ []) I32 }
+    ensures product_of_wide { ¬ HasType (context_with usual_features 2) I32Mul (I64 ∷ I64 ∷ []) I32 }
     ensures product_is_not_wide { ¬ HasType (context_with usual_features 2) I32Mul (I32 ∷ I32 ∷ []) I64 }
     ensures wide_sum { HasType (context_with usual_features 2) I64Add (I64 ∷ I64 ∷ []) I64 }
+    ensures wide_sum_is_not_narrow { ¬ HasType (context_with usual_features 2) I64Add (I64 ∷ I64 ∷ []) I32 }
     ensures wide_sum_of_two_types { ¬ HasType (context_with usual_features 2) I64Add (I64 ∷ I32 ∷ []) I64 }
     ensures wide_difference { HasType (context_with usual_features 2) I64Sub (I64 ∷ I64 ∷ []) I64 }
+    ensures wide_difference_of_narrow { ¬ HasType (context_with usual_features 2) I64Sub (I32 ∷ I32 ∷ []) I64 }
     ensures wide_difference_is_not_narrow { ¬ HasType (context_with usual_features 2) I64Sub (I64 ∷ I64 ∷ []) I32 }
     ensures wide_product { HasType (context_with usual_features 2) I64Mul (I64 ∷ I64 ∷ []) I64 }
+    ensures wide_product_is_not_narrow { ¬ HasType (context_with usual_features 2) I64Mul (I64 ∷ I64 ∷ []) I32 }
     ensures wide_product_of_narrow { ¬ HasType (context_with usual_features 2) I64Mul (I32 ∷ I32 ∷ []) I64 }
     ensures wide_product_of_one_value { ¬ HasType (context_with usual_features 2) I64Mul (I64 ∷ []) I64 }
 {}
@@ -136,6 +153,8 @@ fn references()
     ensures past_the_functions { ¬ IsConstExpr (context_with usual_features 2) (Ref funcref) (RefFunc 2 ∷ []) }
     ensures i31 { IsConstExpr (context_with usual_features 2) anyref (I32Const (pos 1) ∷ RefI31 ∷ []) }
     ensures i31_of_a_wide_number { ¬ HasType (context_with usual_features 2) RefI31 (I64 ∷ []) (Ref (not_null (plain heap.I31))) }
+    ensures i31_is_not_null { ¬ HasType (context_with usual_features 2) RefI31 (I32 ∷ []) (Ref (nullable (plain heap.I31))) }
+    ensures shared_i31_of_a_wide_number { ¬ HasType (context_with usual_features 2) RefI31Shared (I64 ∷ []) (Ref (not_null (Abstract true heap.I31))) }
     ensures shared_i31 { HasType (context_with usual_features 2) RefI31Shared (I32 ∷ []) (Ref (not_null (Abstract true heap.I31))) }
     ensures i31_is_not_shared { ¬ HasType (context_with usual_features 2) RefI31Shared (I32 ∷ []) (Ref (not_null (plain heap.I31))) }
 {}
@@ -165,6 +184,7 @@ fn structs()
     ensures without_its_field { ¬ IsConstExpr (context_with usual_features 2) (Ref (not_null (Concrete 1))) (StructNew 1 ∷ []) }
     ensures of_its_fields { HasType (context_with usual_features 2) (StructNew 5) (I32 ∷ I64 ∷ []) (Ref (not_null (Concrete 5))) }
     ensures of_its_fields_the_other_way_round { ¬ HasType (context_with usual_features 2) (StructNew 5) (I64 ∷ I32 ∷ []) (Ref (not_null (Concrete 5))) }
+    ensures is_not_null { ¬ HasType (context_with usual_features 2) (StructNew 5) (I32 ∷ I64 ∷ []) (Ref (nullable (Concrete 5))) }
     ensures past_the_types { ¬ HasType (context_with usual_features 2) (StructNew 6) [] (Ref (not_null (Concrete 6))) }
     ensures of_defaults { IsConstExpr (context_with usual_features 2) (Ref (not_null (Concrete 1))) (StructNewDefault 1 ∷ []) }
     ensures of_another_type { ¬ HasType (context_with usual_features 2) (StructNewDefault 1) [] (Ref (not_null (Concrete 5))) }
@@ -175,6 +195,9 @@ fn structs()
 fn arrays()
     ensures of_an_element_and_a_length { HasType (context_with usual_features 2) (ArrayNew 4) (Ref (not_null (plain heap.Func)) ∷ I32 ∷ []) (Ref (not_null (Concrete 4))) }
     ensures of_a_length_and_an_element { ¬ HasType (context_with usual_features 2) (ArrayNew 4) (I32 ∷ Ref (not_null (plain heap.Func)) ∷ []) (Ref (not_null (Concrete 4))) }
+    ensures is_not_null { ¬ HasType (context_with usual_features 2) (ArrayNew 4) (Ref (not_null (plain heap.Func)) ∷ I32 ∷ []) (Ref (nullable (Concrete 4))) }
+    ensures of_defaults_is_not_null { ¬ HasType (context_with usual_features 2) (ArrayNewDefault 2) (I32 ∷ []) (Ref (nullable (Concrete 2))) }
+    ensures of_two_is_not_null { ¬ HasType (context_with usual_features 2) (ArrayNewFixed 2 2) (I32 ∷ I32 ∷ []) (Ref (nullable (Concrete 2))) }
     ensures of_a_struct_type { ¬ HasType (context_with usual_features 2) (ArrayNew 1) (I32 ∷ I32 ∷ []) (Ref (not_null (Concrete 1))) }
     ensures of_defaults { HasType (context_with usual_features 2) (ArrayNewDefault 2) (I32 ∷ []) (Ref (not_null (Concrete 2))) }
     ensures of_defaults_without_a_length { ¬ HasType (context_with usual_features 2) (ArrayNewDefault 2) [] (Ref (not_null (Concrete 2))) }
