@@ -32,11 +32,11 @@ returns-clause-tag_without_exceptions c = refl
 
 pub returns-clause-kept : goal.returns-clause-kept
 unfolding is_fitting
-returns-clause-kept c = record { types = record { types = record { rest = []; parts = refl }; groups = record { rest = []; parts = refl } }; imports = refl }
+returns-clause-kept c = record { types = record { types = record { more = []; parts = refl }; groups = record { more = []; parts = refl } }; imports = refl }
 
 pub returns-clause-the_first_kept : goal.returns-clause-the_first_kept
 unfolding is_fitting
-returns-clause-the_first_kept c = record { types = record { types = record { rest = []; parts = refl }; groups = record { rest = []; parts = refl } }; imports = refl }
+returns-clause-the_first_kept c = record { types = record { types = record { more = []; parts = refl }; groups = record { more = []; parts = refl } }; imports = refl }
 
 pub returns-clause-all_skipped : goal.returns-clause-all_skipped
 unfolding is_fitting
