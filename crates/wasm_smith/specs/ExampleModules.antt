@@ -18,7 +18,6 @@ use Rattle.smith_types.specs.declared.const_instr.ConstInstr.TheVariants.{I32Con
 use Rattle.smith_types.specs.declared.segments.Elements.{Elements}
 use Rattle.smith_types.specs.declared.segments.Elements.TheVariants.{Expressions}
 use Rattle.smith_types.specs.declared.segments.DataSegmentKind.TheVariants as data_kind
-use Rattle.smith_types.specs.declared.code.Instructions.TheVariants.{Arbitrary}
 use Rattle.smith_config.specs.declared.config.Config.{Config}
 use Rattle.smith_config.specs.Config.{default_config}
 use Rattle.wasm_smith.specs.Module.{Parts}
@@ -144,13 +143,6 @@ three_memories = record (empty_module (record default_config { max_memories = 3 
   encodes_imports = true;
 }
 
--- a function whose body is raw bytes
-abbrev pub raw_body : Parts
-raw_body = record one_function {
-  config = record default_config { allow_invalid_funcs = true };
-  code = record { locals = []; instructions = Arbitrary (7 ∷ 8 ∷ []) } ∷ [];
-}
-
 -- a memory of a page, and no bytes that are copied to its start
 abbrev pub one_data_segment : Parts
 one_data_segment = record (empty_module (record default_config { disallow_traps = true; bulk_memory_enabled = false; min_memories = 1; min_data_segments = 1 })) {
@@ -168,14 +160,6 @@ one_tag = record one_function {
   exports = ([], kind.Func, 0) ∷ [];
   elems = passive_elements (Expressions []) ∷ [];
   type_size = 2;
-}
-
--- globals that count fuel, beside a function
-abbrev pub counting_fuel : Parts
-counting_fuel = record one_function {
-  globals = global I32 true ∷ global I32 true ∷ [];
-  defined_globals = (0, I32Const (negsuc 0) ∷ []) ∷ (1, I32Const (pos 5) ∷ []) ∷ [];
-  fuel_globals = 0 ∷ 1 ∷ [];
 }
 
 -- a number that may be changed

@@ -3,6 +3,7 @@
 mod bounds;
 mod family;
 mod func_types;
+mod given_modules;
 mod modules;
 mod promises;
 mod refusals;

@@ -12,10 +12,8 @@ ghost use Rattle.wasm_smith.specs.ExampleModules.{
   two_imports,
   one_memory,
   three_memories,
-  raw_body,
   one_data_segment,
   one_tag,
-  counting_fuel,
   one_number,
   passive_bytes,
   one_of_each,
@@ -27,7 +25,6 @@ fn types_and_functions()
     ensures an_array_and_one_below_it { IsValid arrays }
     ensures two_below_one { IsValid three_arrays }
     ensures a_function { IsValid one_function }
-    ensures raw_bytes { IsValid raw_body }
 {}
 
 fn entities()
@@ -37,7 +34,6 @@ fn entities()
     ensures a_memory { IsValid one_memory }
     ensures groups_of_memories { IsValid three_memories }
     ensures a_number { IsValid one_number }
-    ensures counters_of_fuel { IsValid counting_fuel }
 {}
 
 fn segments()

@@ -4,7 +4,8 @@ ghost use Rattle.smith_types.specs.declared.const_instr.ConstInstr.TheVariants.{
 ghost use Rattle.wasm_smith.specs.Promises.{HasDistinctImports, HasNoFloats, ExportsEverything, IsInside, WritesSections};
 ghost use Rattle.wasm_smith.specs.ExampleParts.{global};
 ghost use Rattle.wasm_smith.specs.ExampleMembers.{final};
-ghost use Rattle.wasm_smith.specs.ExampleModules.{taking, one_function, one_number, one_data_segment, one_import, two_exports, named_imports, last_bytes, counting_fuel};
+ghost use Rattle.wasm_smith.specs.ExampleModules.{taking, one_function, one_number, one_data_segment, one_import, two_exports, named_imports, last_bytes};
+ghost use Rattle.wasm_smith.specs.ExampleGiven.{counting_fuel};
 
 fn names()
     ensures two_names { HasDistinctImports (named_imports [] (codes "1")) }
