@@ -18,6 +18,7 @@ use Rattle.smith_types.specs.declared.composite_type.SubType.{SubType}
 use Rattle.smith_types.specs.declared.const_instr.ConstInstr.{ConstInstr}
 use Rattle.smith_types.specs.declared.const_instr.ConstInstr.TheVariants.{I32Const, GlobalGet}
 use Rattle.smith_types.proofs.Growth.{IsRefBelow-refl}
+use Rattle.smith_types.proofs.ConstSteps.{alone as one_instruction}
 use Rattle.wasm_smith.specs.Module.{Parts, IsGlobalDefined}
 use Rattle.wasm_smith.specs.ExampleModules.{a_type, bytes_array, plain_function, group_of}
 use Rattle.wasm_smith.specs.ExampleParts.{no_function}
@@ -27,12 +28,8 @@ use Rattle.wasm_smith.proofs.Places.{EachFrom, each_place}
 -- an expression of one instruction that takes nothing
 pub alone : (context : Context) (instruction : ConstInstr) (result wanted : ValType)
     → HasType context instruction [] result → IsValBelow context.types result wanted → IsInstrEnabled context.features context.imported_globals instruction → IsConstExpr context wanted (instruction ∷ [])
-alone context instruction result wanted typed below enabled = record {
-  value = result;
-  steps = (result ∷ [], record { operands = []; result = result; typed = typed; rest = []; taken = []; on_top = refl; accepted = tt; pushed = refl }, refl);
-  below = below;
-  enabled = All-cons (IsInstrEnabled context.features context.imported_globals) instruction [] enabled (All-nil (IsInstrEnabled context.features context.imported_globals));
-}
+alone context instruction result wanted typed below enabled = one_instruction context instruction result wanted typed below
+    (All-cons (IsInstrEnabled context.features context.imported_globals) instruction [] enabled (All-nil (IsInstrEnabled context.features context.imported_globals)))
 
 -- the reference to no function
 pub no_function_given : (context : Context) → IsTrue context.features.reference_types → IsConstExpr context (Ref funcref) no_function

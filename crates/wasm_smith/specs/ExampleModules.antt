@@ -2,7 +2,7 @@
 use Rattle.std.specs.Prelude.{ℕ, Bool, true, false, pos, negsuc, List, [], ◌∷◌, Option, Some, None, codes, length}
 use Rattle.std.specs.declared.ops.Range.{Range}
 use Rattle.smith_types.specs.Flags.{funcref}
-use Rattle.smith_types.specs.ExampleTypes.{nullable, constant, plain}
+use Rattle.smith_types.specs.ExampleTypes.{nullable, not_null, constant, plain}
 use Rattle.smith_types.specs.declared.value_type.HeapType.TheVariants.{Concrete}
 use Rattle.smith_types.specs.declared.value_type.AbstractHeapType.TheVariants as heap
 use Rattle.smith_types.specs.declared.value_type.ValType.{ValType}
@@ -13,10 +13,14 @@ use Rattle.smith_types.specs.declared.composite_type.CompositeInnerType.TheVaria
 use Rattle.smith_types.specs.declared.composite_type.SubType.{SubType}
 use Rattle.smith_types.specs.declared.entity_type.EntityType.TheVariants as entity
 use Rattle.smith_types.specs.declared.entity_type.ExportKind.TheVariants as kind
+use Rattle.smith_types.specs.declared.entity_type.MemoryType.{MemoryType}
 use Rattle.smith_types.specs.declared.imports.Imports.TheVariants.{Single, Compact1, Compact2}
 use Rattle.smith_types.specs.declared.const_instr.ConstInstr.TheVariants.{I32Const, GlobalGet, F32Const, RefNull}
 use Rattle.smith_types.specs.declared.segments.Elements.{Elements}
-use Rattle.smith_types.specs.declared.segments.Elements.TheVariants.{Expressions}
+use Rattle.smith_types.specs.declared.segments.Elements.TheVariants.{Functions, Expressions}
+use Rattle.smith_types.specs.declared.segments.ElementKind.TheVariants as element
+use Rattle.smith_types.specs.declared.segments.Offset.{Offset}
+use Rattle.smith_types.specs.declared.segments.Offset.TheVariants.{Global}
 use Rattle.smith_types.specs.declared.segments.DataSegmentKind.TheVariants as data_kind
 use Rattle.smith_config.specs.declared.config.Config.{Config}
 use Rattle.smith_config.specs.Config.{default_config}
@@ -278,3 +282,35 @@ one_of_each = record (empty_module (record default_config { max_memories = 2 }))
   code = trapping ∷ [];
   encodes_types = true;
 }
+
+-- a function in a table from here on, which starts the module too
+abbrev pub filled_table : Offset → Parts
+filled_table offset = record one_function {
+  tables = table funcref 1 None ∷ [];
+  defined_tables = None ∷ [];
+  start = Some 0;
+  elems = record { kind = element.Active None offset; ty = funcref; items = Functions (0 ∷ []) } ∷ [];
+}
+
+-- the same from where a number says, with garbage collection or without
+abbrev pub table_from_a_number : Bool → Parts
+table_from_a_number gc = record (filled_table (Global 0)) { config = record default_config { gc_enabled = gc }; globals = number ∷ []; defined_globals = (0, I32Const (pos 0) ∷ []) ∷ [] }
+
+-- a memory that is imported, and these ones
+abbrev pub memories_behind : List MemoryType → Parts
+memories_behind memories = record (empty_module (record default_config { max_memories = 2 })) {
+  imports = Single (import_named [] (entity.Memory (memory 1 None))) ∷ [];
+  num_imports = 1;
+  memories = memories;
+  num_defined_memories = 1;
+  encodes_imports = true;
+  type_size = 2;
+}
+
+-- a global that counts fuel and is imported
+abbrev pub imported_counter : Parts
+imported_counter = record one_import { imports = Single (import_named [] (entity.Global (global I32 true))) ∷ []; globals = global I32 true ∷ []; fuel_globals = 0 ∷ [] }
+
+-- a table of references that may not be null, without an initialiser
+abbrev pub null_of_no_null : Parts
+null_of_no_null = record (empty_module default_config) { tables = table (not_null (plain heap.Func)) 1 None ∷ []; defined_tables = None ∷ [] }

@@ -1,3 +1,5 @@
+ghost use Rattle.std.specs.Prelude.{true, pos};
+ghost use Rattle.smith_types.specs.declared.segments.Offset.TheVariants.{Const32};
 ghost use Rattle.smith_config.specs.Config.{default_config};
 ghost use Rattle.wasm_smith.specs.Module.{IsValid};
 ghost use Rattle.wasm_smith.specs.ExampleModules.{
@@ -17,6 +19,8 @@ ghost use Rattle.wasm_smith.specs.ExampleModules.{
   one_number,
   passive_bytes,
   one_of_each,
+  filled_table,
+  table_from_a_number,
 };
 
 fn types_and_functions()
@@ -41,6 +45,11 @@ fn segments()
     ensures copied_bytes { IsValid one_data_segment }
     ensures bytes { IsValid passive_bytes }
     ensures beside_a_tag_and_an_export { IsValid one_tag }
+{}
+
+fn started()
+    ensures a_function_in_a_table { IsValid (filled_table (Const32 (pos 0))) }
+    ensures from_where_a_number_says { IsValid (table_from_a_number true) }
 {}
 
 fn all_kinds()
