@@ -114,6 +114,10 @@ one_table = record (empty_module (record default_config { disallow_traps = true;
 abbrev pub two_elements : Parts
 two_elements = record (empty_module default_config) { elems = passive_elements (Expressions (no_function ∷ no_function ∷ [])) ∷ [] }
 
+-- that segment, and one of one reference
+abbrev pub two_segments : Parts
+two_segments = record two_elements { elems = passive_elements (Expressions (no_function ∷ no_function ∷ [])) ∷ passive_elements (Expressions (no_function ∷ [])) ∷ [] }
+
 -- an import of a number
 abbrev pub one_import : Parts
 one_import = record (empty_module (record default_config { min_imports = 1 })) {

@@ -5,7 +5,7 @@ use Rattle.smith_bytes.specs.declared.error.Error.TheVariants.{IncorrectFormat}
 use Rattle.smith_bytes.specs.declared.error.Why.TheVariants.{Unmet}
 use Rattle.smith_bytes.specs.declared.error.Count.{Count}
 use Rattle.smith_bytes.specs.declared.error.Count.TheVariants as counts
-use Rattle.smith_types.specs.ExampleTypes.{plain, not_null}
+use Rattle.smith_types.specs.ExampleTypes.{plain, nullable, not_null}
 use Rattle.smith_types.specs.declared.value_type.AbstractHeapType.TheVariants as heap
 use Rattle.smith_types.specs.declared.value_type.ValType.TheVariants.{F32, Ref}
 use Rattle.smith_types.specs.declared.entity_type.EntityType.TheVariants as entity
@@ -19,8 +19,8 @@ use Rattle.smith_config.specs.Faults.{minimum_of}
 use Rattle.smith_config.specs.Shapes.{Shapes, no_shapes}
 use Rattle.smith_config.specs.declared.shape.Shape.{Shape}
 use Rattle.wasm_smith.specs.Module.{Parts}
-use Rattle.wasm_smith.specs.ExampleParts.{memory, global}
-use Rattle.wasm_smith.specs.ExampleModules.{empty_module, group_of}
+use Rattle.wasm_smith.specs.ExampleParts.{memory, table, global}
+use Rattle.wasm_smith.specs.ExampleModules.{empty_module, group_of, foo_type, quux_type}
 use Rattle.wasm_smith.specs.ExampleMembers.{alone, final, taking_a_number}
 
 -- a shape of nothing
@@ -44,6 +44,10 @@ imported_memories = record empty_shape {
       Compact1 [] (record { name = codes "a"; entity_type = entity.Memory (memory 1 None) } ∷ []) ∷ Compact1 [] [] ∷ Compact2 [] (entity.Memory (memory 1 None)) (codes "b" ∷ codes "c" ∷ [])
       ∷ Compact2 [] (entity.Memory (memory 1 None)) [] ∷ [];
 }
+
+-- these memories, and one that is exported
+abbrev pub memories_in_and_out : Shape
+memories_in_and_out = record imported_memories { memories = memory 1 None ∷ []; exports = (codes "d", kind.Memory, 3) ∷ [] }
 
 -- these memories one by one
 abbrev pub memory_named : List ℕ → Import
@@ -79,6 +83,18 @@ with_ping = record with_environment { imports = Single ping ∷ []; num_imports 
 -- a global and a memory that are exported
 abbrev pub exporting : Shape
 exporting = record empty_shape { memories = memory 1 (Some 10) ∷ []; globals = global F32 false ∷ []; exports = (codes "bar", kind.Global, 0) ∷ (codes "baz", kind.Memory, 0) ∷ [] }
+
+-- a function, a global, a memory, a table and a tag that are exported
+abbrev pub five_exports : Shape
+five_exports = record empty_shape {
+  groups = (foo_type ∷ []) ∷ (quux_type ∷ []) ∷ [];
+  funcs = 0 ∷ [];
+  tags = 1 ∷ [];
+  tables = table (nullable (plain heap.Extern)) 5 (Some 10) ∷ [];
+  memories = memory 1 (Some 10) ∷ [];
+  globals = global F32 false ∷ [];
+  exports = (codes "foo", kind.Func, 0) ∷ (codes "bar", kind.Global, 0) ∷ (codes "baz", kind.Memory, 0) ∷ (codes "qux", kind.Table, 0) ∷ (codes "quux", kind.Tag, 0) ∷ [];
+}
 
 -- a module with these entities and with such exports
 abbrev pub exported : List (List ℕ × ExportKind × ℕ) → Parts
