@@ -6,4 +6,5 @@ pub mod Alone
 pub mod Spelled
 pub mod Places
 pub mod ExampleParts
+pub mod ExampleShapes
 pub mod FamilyFits

@@ -12,20 +12,20 @@ use Rattle.smith_types.specs.declared.composite_type.CompositeInnerType.{Composi
 use Rattle.smith_types.specs.declared.composite_type.CompositeInnerType.TheVariants.{Array, Func, Struct}
 use Rattle.smith_types.specs.declared.composite_type.SubType.{SubType}
 use Rattle.smith_types.specs.declared.entity_type.EntityType.TheVariants as entity
+use Rattle.smith_types.specs.declared.entity_type.ExportKind.{ExportKind}
 use Rattle.smith_types.specs.declared.entity_type.ExportKind.TheVariants as kind
 use Rattle.smith_types.specs.declared.entity_type.MemoryType.{MemoryType}
 use Rattle.smith_types.specs.declared.imports.Imports.TheVariants.{Single, Compact1, Compact2}
 use Rattle.smith_types.specs.declared.const_instr.ConstInstr.TheVariants.{I32Const, GlobalGet, F32Const, RefNull}
 use Rattle.smith_types.specs.declared.segments.Elements.{Elements}
-use Rattle.smith_types.specs.declared.segments.Elements.TheVariants.{Functions, Expressions}
-use Rattle.smith_types.specs.declared.segments.ElementKind.TheVariants as element
+use Rattle.smith_types.specs.declared.segments.Elements.TheVariants.{Expressions}
 use Rattle.smith_types.specs.declared.segments.Offset.{Offset}
 use Rattle.smith_types.specs.declared.segments.Offset.TheVariants.{Global}
 use Rattle.smith_types.specs.declared.segments.DataSegmentKind.TheVariants as data_kind
 use Rattle.smith_config.specs.declared.config.Config.{Config}
 use Rattle.smith_config.specs.Config.{default_config}
 use Rattle.wasm_smith.specs.Module.{Parts}
-use Rattle.wasm_smith.specs.ExampleParts.{memory, shared_memory, table, global, number, import_named, no_function, passive_elements, active_data, trapping}
+use Rattle.wasm_smith.specs.ExampleParts.{memory, shared_memory, table, global, number, import_named, no_function, passive_elements, into_a_table, active_data, trapping}
 
 -- a module without anything
 abbrev pub empty_module : Config → Parts
@@ -293,7 +293,7 @@ filled_table offset = record one_function {
   tables = table funcref 1 None ∷ [];
   defined_tables = None ∷ [];
   start = Some 0;
-  elems = record { kind = element.Active None offset; ty = funcref; items = Functions (0 ∷ []) } ∷ [];
+  elems = into_a_table offset ∷ [];
 }
 
 -- the same from where a number says, with garbage collection or without
@@ -318,3 +318,7 @@ imported_counter = record one_import { imports = Single (import_named [] (entity
 -- a table of references that may not be null, without an initialiser
 abbrev pub null_of_no_null : Parts
 null_of_no_null = record (empty_module default_config) { tables = table (not_null (plain heap.Func)) 1 None ∷ []; defined_tables = None ∷ [] }
+
+-- exports of one of each kind, kind by kind
+abbrev pub all_of_each : List (List ℕ × ExportKind × ℕ)
+all_of_each = ([], kind.Func, 0) ∷ (codes "1", kind.Table, 0) ∷ (codes "2", kind.Memory, 0) ∷ (codes "3", kind.Global, 0) ∷ (codes "4", kind.Tag, 0) ∷ []

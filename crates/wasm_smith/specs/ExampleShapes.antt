@@ -19,8 +19,8 @@ use Rattle.smith_config.specs.Faults.{minimum_of}
 use Rattle.smith_config.specs.Shapes.{Shapes, no_shapes}
 use Rattle.smith_config.specs.declared.shape.Shape.{Shape}
 use Rattle.wasm_smith.specs.Module.{Parts}
-use Rattle.wasm_smith.specs.ExampleParts.{memory, table, global}
-use Rattle.wasm_smith.specs.ExampleModules.{empty_module, group_of, foo_type, quux_type}
+use Rattle.wasm_smith.specs.ExampleParts.{memory, table, global, trapping}
+use Rattle.wasm_smith.specs.ExampleModules.{empty_module, group_of, three_memories, foo_type, quux_type}
 use Rattle.wasm_smith.specs.ExampleMembers.{alone, final, taking_a_number}
 
 -- a shape of nothing
@@ -94,6 +94,36 @@ five_exports = record empty_shape {
   memories = memory 1 (Some 10) ∷ [];
   globals = global F32 false ∷ [];
   exports = (codes "foo", kind.Func, 0) ∷ (codes "bar", kind.Global, 0) ∷ (codes "baz", kind.Memory, 0) ∷ (codes "qux", kind.Table, 0) ∷ (codes "quux", kind.Tag, 0) ∷ [];
+}
+
+-- a function of the first of two equal types that is exported
+abbrev pub equal_types : Shape
+equal_types = record empty_shape { groups = (foo_type ∷ []) ∷ (foo_type ∷ []) ∷ []; funcs = 0 ∷ []; exports = (codes "f", kind.Func, 0) ∷ [] }
+
+-- a module that exports a function of the type of this index
+abbrev pub of_equal_types : ℕ → Parts
+of_equal_types index = record (empty_module default_config) {
+  types = foo_type ∷ foo_type ∷ [];
+  groups = group_of 0 1 ∷ group_of 1 2 ∷ [];
+  funcs = index ∷ [];
+  num_defined_funcs = 1;
+  exports = (codes "f", kind.Func, 0) ∷ [];
+  code = trapping ∷ [];
+  encodes_types = true;
+}
+
+-- a module that imports and exports such memories
+abbrev pub with_memories_in_and_out : Parts
+with_memories_in_and_out = record three_memories {
+  memories = memory 1 None ∷ memory 1 None ∷ memory 1 None ∷ memory 1 None ∷ [];
+  num_defined_memories = 1;
+  exports = (codes "d", kind.Memory, 3) ∷ [];
+}
+
+-- the function and the memory imported in one group
+abbrev pub in_one_group : Parts
+in_one_group = record with_environment {
+  imports = Compact1 (codes "env") (record { name = codes "ping"; entity_type = entity.Func 0 } ∷ record { name = codes "memory"; entity_type = entity.Memory (memory 1 None) } ∷ []) ∷ [];
 }
 
 -- a module with these entities and with such exports

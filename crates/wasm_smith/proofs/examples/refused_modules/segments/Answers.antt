@@ -1,23 +1,15 @@
-use Rattle.std.proofs.Common.{arith, [], None, ◌∷◌, pos, negsuc, false}
+use Rattle.std.proofs.Common.{arith, [], ◌∷◌, pos, negsuc, false}
 use Rattle.std.proofs.lemmas.List.Elements.{All-head}
-use Rattle.smith_types.specs.Flags.{funcref}
 use Rattle.smith_types.specs.Segments.{IsElementValid, IsDataValid}
-use Rattle.smith_types.specs.declared.segments.Elements.TheVariants.{Functions, Expressions}
-use Rattle.smith_types.specs.declared.segments.ElementKind.TheVariants as element
-use Rattle.smith_types.specs.declared.segments.ElementSegment.{ElementSegment}
+use Rattle.smith_types.specs.declared.segments.Elements.TheVariants.{Expressions}
 use Rattle.smith_types.specs.declared.segments.DataSegmentKind.TheVariants as data_kind
-use Rattle.smith_types.specs.declared.segments.Offset.{Offset}
 use Rattle.smith_types.specs.declared.segments.Offset.TheVariants.{Const32, Global}
 use Rattle.smith_config.specs.Config.{default_config}
 use Rattle.wasm_smith.specs.Module.{segment_context}
-use Rattle.wasm_smith.specs.ExampleParts.{no_function, passive_elements, active_data}
+use Rattle.wasm_smith.specs.ExampleParts.{no_function, passive_elements, into_a_table, active_data}
 use Rattle.wasm_smith.specs.ExampleModules.{two_elements, one_function, passive_bytes, table_from_a_number}
 use Rattle.wasm_smith.specs.ExampleGiven.{last_byte}
 use Rattle.wasm_smith.proofs.examples.refused_modules.segments.Goals as goal
-
--- a function that is copied into the first table from here on
-abbrev copied : Offset → ElementSegment
-copied offset = record { kind = element.Active None offset; ty = funcref; items = Functions (0 ∷ []) }
 
 pub returns-clause-elements_without_bulk_memory : goal.returns-clause-elements_without_bulk_memory
 returns-clause-elements_without_bulk_memory c = λ valid.
@@ -27,13 +19,13 @@ returns-clause-elements_without_bulk_memory c = λ valid.
 
 pub returns-clause-elements_in_no_table : goal.returns-clause-elements_in_no_table
 returns-clause-elements_in_no_table c = λ valid.
-    let segment = All-head (IsElementValid (segment_context one_function) []) (copied (Const32 (pos 0))) [] valid in
+    let segment = All-head (IsElementValid (segment_context one_function) []) (into_a_table (Const32 (pos 0))) [] valid in
     cc segment.kind.stands
 
 pub returns-clause-from_where_a_defined_number_says_without_gc : goal.returns-clause-from_where_a_defined_number_says_without_gc
 returns-clause-from_where_a_defined_number_says_without_gc c = λ valid.
     let m = table_from_a_number false in
-    let segment = All-head (IsElementValid (segment_context m) m.tables) (copied (Global 0)) [] valid in
+    let segment = All-head (IsElementValid (segment_context m) m.tables) (into_a_table (Global 0)) [] valid in
     let (read, stands, before, constant, ty) = segment.kind.offset_valid in
     omega (arith, before)
 
