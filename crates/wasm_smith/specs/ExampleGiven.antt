@@ -13,12 +13,13 @@ use Rattle.smith_types.specs.declared.imports.Imports.TheVariants.{Single}
 use Rattle.smith_types.specs.declared.const_instr.ConstInstr.{ConstInstr}
 use Rattle.smith_types.specs.declared.const_instr.ConstInstr.TheVariants.{I32Const, GlobalGet}
 use Rattle.smith_types.specs.declared.segments.Elements.TheVariants.{Expressions}
+use Rattle.smith_types.specs.declared.code.Code.{Code}
 use Rattle.smith_types.specs.declared.code.Instructions.TheVariants.{Arbitrary}
 use Rattle.smith_config.specs.declared.config.Config.{Config}
 use Rattle.smith_config.specs.Config.{default_config}
 use Rattle.wasm_smith.specs.Module.{Parts}
 use Rattle.wasm_smith.specs.ExampleParts.{memory, shared_memory, table, global, number, import_named, no_function, passive_elements, trapping}
-use Rattle.wasm_smith.specs.ExampleModules.{empty_module, group_of, a_type, bytes_array, types_together, types_apart, last_bytes}
+use Rattle.wasm_smith.specs.ExampleModules.{empty_module, group_of, a_type, bytes_array, types_together, types_apart, two_imports, last_bytes}
 use Rattle.wasm_smith.specs.ExampleMembers.{final, struct_of, taking_a_number, one_of_each_without_gc, nothing_may_be}
 
 -- an array type twice, the second time in a group of its own
@@ -51,14 +52,15 @@ without_gc = record (empty_module one_of_each_without_gc) {
   encodes_types = true;
 }
 
--- the same with raw bytes for its body
-abbrev pub raw_body : Parts
-raw_body = record without_gc {
-  config = record one_of_each_without_gc { allow_invalid_funcs = true };
-  code = record { locals = []; instructions = Arbitrary (7 ∷ 8 ∷ []) } ∷ [];
-}
+-- a body of raw bytes
+abbrev pub raw_bytes : Code
+raw_bytes = record { locals = []; instructions = Arbitrary (7 ∷ 8 ∷ []) }
 
--- the same with a global that counts fuel, and with two of them
+-- the same function with raw bytes for its body
+abbrev pub raw_body : Parts
+raw_body = record without_gc { config = record one_of_each_without_gc { allow_invalid_funcs = true }; code = raw_bytes ∷ [] }
+
+-- that function beside a global that counts fuel, and beside two of them
 abbrev pub counting_once : Parts
 counting_once = record without_gc { globals = global I32 true ∷ []; defined_globals = (0, I32Const (negsuc 0) ∷ []) ∷ []; fuel_globals = 0 ∷ [] }
 
@@ -68,6 +70,10 @@ counting_fuel = record without_gc {
   defined_globals = (0, I32Const (negsuc 0) ∷ []) ∷ (1, I32Const (pos 5) ∷ []) ∷ [];
   fuel_globals = 0 ∷ 1 ∷ [];
 }
+
+-- a global that counts fuel behind two imported numbers
+abbrev pub counting_behind : Parts
+counting_behind = record two_imports { globals = number ∷ number ∷ global I32 true ∷ []; defined_globals = (2, I32Const (pos 5) ∷ []) ∷ []; fuel_globals = 2 ∷ [] }
 
 -- an import of a number by this name
 abbrev pub number_named : List ℕ → Imports

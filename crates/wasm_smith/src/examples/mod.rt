@@ -10,3 +10,4 @@ mod refusals;
 mod refused_modules;
 mod shapes;
 mod spelling;
+mod termination;
