@@ -7,4 +7,5 @@ pub mod Spelled
 pub mod Places
 pub mod ExampleParts
 pub mod ExampleShapes
+pub mod ExamplePromises
 pub mod FamilyFits

@@ -1,5 +1,5 @@
 -- Modules that stated inputs give: each list is one that is wanted of a generator.
-use Rattle.std.specs.Prelude.{ℕ, Bool, true, false, pos, negsuc, List, [], ◌∷◌, Option, Some, None, codes, replicate}
+use Rattle.std.specs.Prelude.{ℕ, Bool, true, false, pos, negsuc, List, [], ◌∷◌, Some, None, codes, replicate}
 use Rattle.smith_types.specs.Flags.{funcref}
 use Rattle.smith_types.specs.ExampleTypes.{anyref, variable}
 use Rattle.smith_types.specs.declared.value_type.ValType.TheVariants.{I32}
@@ -11,7 +11,7 @@ use Rattle.smith_types.specs.declared.entity_type.MemoryType.{MemoryType}
 use Rattle.smith_types.specs.declared.imports.Imports.{Imports}
 use Rattle.smith_types.specs.declared.imports.Imports.TheVariants.{Single}
 use Rattle.smith_types.specs.declared.const_instr.ConstInstr.{ConstInstr}
-use Rattle.smith_types.specs.declared.const_instr.ConstInstr.TheVariants.{I32Const, GlobalGet}
+use Rattle.smith_types.specs.declared.const_instr.ConstInstr.TheVariants.{I32Const}
 use Rattle.smith_types.specs.declared.segments.Elements.TheVariants.{Expressions}
 use Rattle.smith_types.specs.declared.code.Code.{Code}
 use Rattle.smith_types.specs.declared.code.Instructions.TheVariants.{Arbitrary}

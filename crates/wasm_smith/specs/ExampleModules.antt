@@ -174,6 +174,10 @@ one_tag = record one_function {
 abbrev pub one_number : Parts
 one_number = record (empty_module default_config) { globals = global I32 true ∷ []; defined_globals = (0, I32Const (pos 7) ∷ []) ∷ [] }
 
+-- a float that may be changed
+abbrev pub a_float : Parts
+a_float = record (empty_module default_config) { globals = global F32 true ∷ []; defined_globals = (0, F32Const 0 ∷ []) ∷ [] }
+
 -- bytes that are copied nowhere
 abbrev pub passive_bytes : Parts
 passive_bytes = record (empty_module default_config) { segments = record { kind = data_kind.Passive; init = 42 ∷ [] } ∷ [] }

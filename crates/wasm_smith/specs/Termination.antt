@@ -1,5 +1,5 @@
 -- What is added to a module whose calls are to end: a global that counts fuel. Rules of this project.
-use Rattle.std.specs.Prelude.{◌≡◌, ℕ, true, false, List, [], ◌∷◌, ◌++◌, length, Result, Ok, Err}
+use Rattle.std.specs.Prelude.{◌≡◌, ℕ, true, false, [], ◌∷◌, ◌++◌, length, Result, Ok, Err}
 use Rattle.std.specs.Int.{cast_signed, w32}
 use Rattle.std.specs.List.{Any}
 use Rattle.smith_bytes.specs.declared.error.Error.{Error}

@@ -1,4 +1,4 @@
-use Rattle.std.proofs.Common.{rules, arith, [], ◌∷◌, None, true, false, pos, refl}
+use Rattle.std.proofs.Common.{rules, arith, [], ◌∷◌, None, true, pos, refl}
 use Rattle.std.proofs.lemmas.List.Elements.{All-from_recursion}
 use Rattle.smith_types.specs.Flags.{funcref}
 use Rattle.smith_types.specs.Subtyping.{IsRefBelow}

@@ -1,4 +1,4 @@
-use Rattle.std.proofs.Common.{[], ◌∷◌, None, refl}
+use Rattle.std.proofs.Common.{[], None, refl}
 use Rattle.smith_types.specs.declared.entity_type.EntityType.TheVariants as entity
 use Rattle.wasm_smith.specs.ExampleParts.{memory}
 use Rattle.wasm_smith.proofs.examples.shapes.module_shapes.Goals as goal
