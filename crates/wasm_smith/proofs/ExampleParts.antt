@@ -1,5 +1,5 @@
 -- What the examples of modules have in common.
-use Rattle.std.proofs.Common.{rules, ◌≡◌, ℕ, ◌+◌, ◌<◌, ◌≤◌, true, false, ℤ, List, [], ◌∷◌, Some, None, refl, subst}
+use Rattle.std.proofs.Common.{rules, ◌≡◌, ℕ, ◌+◌, ◌<◌, ◌≤◌, true, false, ℤ, List, [], ◌∷◌, ◌++◌, Some, None, refl, sym, subst, ◌∙◌}
 use Rattle.std.specs.Prelude.{slice_get, IsTrue}
 use Rattle.std.specs.List.{All}
 use Rattle.std.specs.declared.ops.Range.{Range}
@@ -30,6 +30,18 @@ pub alone : (context : Context) (instruction : ConstInstr) (result wanted : ValT
     → HasType context instruction [] result → IsValBelow context.types result wanted → IsInstrEnabled context.features context.imported_globals instruction → IsConstExpr context wanted (instruction ∷ [])
 alone context instruction result wanted typed below enabled = one_instruction context instruction result wanted typed below
     (All-cons (IsInstrEnabled context.features context.imported_globals) instruction [] enabled (All-nil (IsInstrEnabled context.features context.imported_globals)))
+
+-- one instruction alone gives what it pushes
+pub pushed_alone : (context : Context) (instruction : ConstInstr) (result wanted : ValType)
+    → ((operands : List ValType) (pushed : ValType) → HasType context instruction operands pushed → pushed ≡ result) → IsConstExpr context wanted (instruction ∷ []) → IsValBelow context.types result wanted
+pushed_alone context instruction result wanted pushes expression =
+    let (between, step, end) = expression.steps in
+    let same = on_top step.rest step.taken step.result expression.value step.on_top (sym step.pushed ∙ end) in
+    subst (λ value. IsValBelow context.types value wanted) (sym same ∙ pushes step.operands step.result step.typed) expression.below
+  where
+    on_top : (rest taken : List ValType) (result value : ValType) → [] ≡ rest ++ taken → rest ++ result ∷ [] ≡ value ∷ [] → result ≡ value
+    on_top [] taken result value first whole = cc
+    on_top (below ∷ rest) taken result value first whole = cc
 
 -- the reference to no function
 pub no_function_given : (context : Context) → IsTrue context.features.reference_types → IsConstExpr context (Ref funcref) no_function

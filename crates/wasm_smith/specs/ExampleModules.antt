@@ -16,6 +16,7 @@ use Rattle.smith_types.specs.declared.entity_type.ExportKind.{ExportKind}
 use Rattle.smith_types.specs.declared.entity_type.ExportKind.TheVariants as kind
 use Rattle.smith_types.specs.declared.entity_type.MemoryType.{MemoryType}
 use Rattle.smith_types.specs.declared.imports.Imports.TheVariants.{Single, Compact1, Compact2}
+use Rattle.smith_types.specs.declared.const_instr.ConstInstr.{ConstInstr}
 use Rattle.smith_types.specs.declared.const_instr.ConstInstr.TheVariants.{I32Const, GlobalGet, F32Const, RefNull}
 use Rattle.smith_types.specs.declared.segments.Elements.{Elements}
 use Rattle.smith_types.specs.declared.segments.Elements.TheVariants.{Expressions}
@@ -200,6 +201,17 @@ table_from_definition = record (empty_module default_config) {
   defined_tables = Some (GlobalGet 0 ∷ []) ∷ [];
   globals = global (Ref funcref) false ∷ [];
   defined_globals = (0, no_function) ∷ [];
+}
+
+-- a table of references to functions behind an imported one of others
+abbrev pub table_behind : List ConstInstr → Parts
+table_behind initial = record (empty_module default_config) {
+  imports = Single (import_named [] (entity.Table (table (nullable (plain heap.Extern)) 1 None))) ∷ [];
+  num_imports = 1;
+  tables = table (nullable (plain heap.Extern)) 1 None ∷ table funcref 1 None ∷ [];
+  defined_tables = Some initial ∷ [];
+  encodes_imports = true;
+  type_size = 2;
 }
 
 -- a table that begins with the reference to no function, without garbage collection

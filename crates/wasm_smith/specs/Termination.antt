@@ -11,7 +11,7 @@ use Rattle.smith_types.specs.declared.const_instr.ConstInstr.TheVariants.{I32Con
 use Rattle.smith_types.specs.declared.code.Code.{Code}
 use Rattle.smith_types.specs.declared.code.Instructions.{Instructions}
 use Rattle.smith_types.specs.declared.code.Instructions.TheVariants.{Unreachable, Arbitrary}
-use Rattle.wasm_smith.specs.Module.{Parts}
+use Rattle.wasm_smith.specs.Module.{Parts, IsValid}
 
 -- instructions that are raw bytes, before which no check can stand
 abbrev pub IsRaw : Instructions → Type 0
@@ -30,10 +30,11 @@ counter = record { val_type = I32; mutable = true; shared = false }
 -- fuel, and is the last that counts; nothing else is new
 pub record AddsFuel (fuel index : ℕ) (old new : Parts) : Type 0 where
   pub last : index ≡ length old.globals
-  pub globals : new.globals ≡ old.globals ++ counter ∷ []
-  pub defined : new.defined_globals ≡ old.defined_globals ++ (index, I32Const (cast_signed w32 fuel) ∷ []) ∷ []
-  pub counts : new.fuel_globals ≡ old.fuel_globals ++ index ∷ []
-  pub others : new ≡ record old { globals = new.globals; defined_globals = new.defined_globals; fuel_globals = new.fuel_globals }
+  pub added : new ≡ record old {
+    globals = old.globals ++ counter ∷ [];
+    defined_globals = old.defined_globals ++ (index, I32Const (cast_signed w32 fuel) ∷ []) ∷ [];
+    fuel_globals = old.fuel_globals ++ index ∷ [];
+  }
 
 -- why no counter is added: a body is raw bytes; only where none is, want of memory
 abbrev pub MayAddNone : Parts → Error → Type 0
@@ -45,3 +46,7 @@ MayAddNone m _ = ⊥
 abbrev pub AnswersFuel : ℕ → Parts → Parts → Result ℕ Error → Type 0
 AnswersFuel fuel old new (Ok index) = (HasRawBody old → ⊥) × AddsFuel fuel index old new
 AnswersFuel fuel old new (Err error) = MayAddNone old error × (new ≡ old)
+
+-- a valid module is still valid with a counter
+abbrev pub CountingIsValid : Type 0
+CountingIsValid = (fuel index : ℕ) (old new : Parts) → AddsFuel fuel index old new → IsValid old → IsValid new

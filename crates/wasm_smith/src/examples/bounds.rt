@@ -2,6 +2,7 @@ ghost use Rattle.std.specs.Prelude.{[], ◌∷◌, ◌≡◌, true, None};
 ghost use Rattle.smith_bytes.specs.declared.error.Count.TheVariants as counts;
 ghost use Rattle.smith_types.specs.declared.entity_type.ExportKind.TheVariants as kind;
 ghost use Rattle.smith_types.specs.declared.segments.Elements.TheVariants.{Functions, Expressions};
+ghost use Rattle.smith_types.specs.declared.const_instr.ConstInstr.TheVariants.{GlobalGet};
 ghost use Rattle.smith_config.specs.Config.{default_config};
 ghost use Rattle.smith_config.specs.Shapes.{no_shapes};
 ghost use Rattle.wasm_smith.specs.Bounds.{
@@ -24,11 +25,13 @@ ghost use Rattle.wasm_smith.specs.ExampleModules.{
   plain_function,
   foo_type,
   arrays,
+  three_arrays,
   one_function,
   one_table,
   one_tag,
   one_of_each,
   passive_bytes,
+  one_import,
   two_imports,
   two_exports,
   two_memories,
@@ -36,7 +39,7 @@ ghost use Rattle.wasm_smith.specs.ExampleModules.{
   three_memories,
   elements_asked_for,
 };
-ghost use Rattle.wasm_smith.specs.ExampleGiven.{nothing_allowed, exported_number, forced_page, null_table};
+ghost use Rattle.wasm_smith.specs.ExampleGiven.{nothing_allowed, two_singles, exported_number, three_numbers, forced_page, full_memory, null_table, last_byte, sixty_elements};
 ghost use Rattle.wasm_smith.specs.ExampleShapes.{
   for_module,
   for_imports,
@@ -160,4 +163,21 @@ fn least()
     ensures none_of_a_candidate { ¬ HasEnough (elements_asked_for 1 (Functions [])) (passive_elements (Functions [])) }
     ensures none_without_candidates { HasEnough (record (elements_asked_for 1 (Functions [])) { funcs = [] }) (passive_elements (Functions [])) }
     ensures no_expressions_without_candidates { ¬ HasEnough (record (elements_asked_for 1 (Functions [])) { funcs = [] }) (passive_elements (Expressions [])) }
+{}
+
+fn given_modules()
+    ensures three_types { MeetsMinimums no_shapes three_arrays }
+    ensures a_type_is_missing { ¬ MeetsMinimums no_shapes (record arrays { config = three_arrays.config }) }
+    ensures two_imports { MeetsMinimums no_shapes (two_singles []) }
+    ensures an_import_is_missing { ¬ MeetsMinimums no_shapes (record one_import { config = (two_singles []).config }) }
+    ensures a_table { MeetsMinimums no_shapes (null_table 6789) }
+    ensures a_table_is_missing { ¬ MeetsMinimums no_shapes (empty_module (null_table 6789).config) }
+    ensures a_memory { MeetsMinimums no_shapes full_memory }
+    ensures a_memory_is_missing { ¬ MeetsMinimums no_shapes (empty_module full_memory.config) }
+    ensures three_globals { MeetsMinimums no_shapes (three_numbers true (GlobalGet 0)) }
+    ensures a_byte { MeetsMinimums no_shapes last_byte }
+    ensures data_is_missing { ¬ MeetsMinimums no_shapes (record last_byte { segments = [] }) }
+    ensures sixty_elements { MeetsMinimums no_shapes sixty_elements }
+    ensures a_segment_is_missing { ¬ MeetsMinimums no_shapes (empty_module sixty_elements.config) }
+    ensures a_tag_is_missing { ¬ MeetsMinimums no_shapes (record one_tag { tags = [] }) }
 {}

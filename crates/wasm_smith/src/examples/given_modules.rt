@@ -12,6 +12,7 @@ ghost use Rattle.wasm_smith.specs.ExampleGiven.{
   raw_body,
   counting_once,
   counting_fuel,
+  counting_behind,
   two_singles,
   memories_one_by_one,
   null_table,
@@ -35,6 +36,7 @@ fn bodies()
     ensures raw_bytes { IsValid raw_body }
     ensures a_counter_of_fuel { IsValid counting_once }
     ensures counters_of_fuel { IsValid counting_fuel }
+    ensures a_counter_behind_imported_numbers { IsValid counting_behind }
 {}
 
 fn imports()

@@ -5,18 +5,19 @@ ghost use Rattle.smith_types.specs.Entities.{AreEntitiesValid, AreCountsEnabled}
 ghost use Rattle.smith_types.specs.Segments.{IsElementValid, IsDataValid};
 ghost use Rattle.smith_types.specs.Exports.{AreExportsValid, IsStartValid};
 ghost use Rattle.smith_types.specs.ValidTypes.{AreTypesValid};
-ghost use Rattle.smith_types.specs.ExampleTypes.{anyref, eqref, nullable};
+ghost use Rattle.smith_types.specs.ExampleTypes.{anyref, eqref, nullable, plain};
+ghost use Rattle.smith_types.specs.declared.value_type.AbstractHeapType.TheVariants as heap;
 ghost use Rattle.smith_types.specs.declared.value_type.HeapType.TheVariants.{Concrete};
 ghost use Rattle.smith_types.specs.declared.value_type.ValType.TheVariants.{I32, Ref};
 ghost use Rattle.smith_types.specs.declared.entity_type.EntityType.TheVariants as entity;
 ghost use Rattle.smith_types.specs.declared.entity_type.ExportKind.TheVariants as kind;
 ghost use Rattle.smith_types.specs.declared.imports.Imports.TheVariants.{Compact2};
-ghost use Rattle.smith_types.specs.declared.const_instr.ConstInstr.TheVariants.{I32Const, F64Const, GlobalGet};
+ghost use Rattle.smith_types.specs.declared.const_instr.ConstInstr.TheVariants.{I32Const, F64Const, GlobalGet, RefNull};
 ghost use Rattle.smith_types.specs.declared.segments.Offset.TheVariants.{Const32};
 ghost use Rattle.smith_config.specs.Config.{default_config};
 ghost use Rattle.smith_config.specs.Features.{features_of};
 ghost use Rattle.wasm_smith.specs.Module.{AreDefinitionsValid, AreBodiesValid, AreSpacesMade, module_features, module_types, module_spaces, segment_context};
-ghost use Rattle.wasm_smith.specs.ExampleParts.{memory, table, global, number};
+ghost use Rattle.wasm_smith.specs.ExampleParts.{memory, table, global, number, no_function};
 ghost use Rattle.wasm_smith.specs.ExampleModules.{
   a_type,
   bytes_array,
@@ -27,6 +28,7 @@ ghost use Rattle.wasm_smith.specs.ExampleModules.{
   table_from_import,
   table_from_definition,
   table_without_gc,
+  table_behind,
   null_of_no_null,
   one_table,
   one_memory,
@@ -47,7 +49,7 @@ ghost use Rattle.wasm_smith.specs.ExampleModules.{
   one_function,
   one_import,
 };
-ghost use Rattle.wasm_smith.specs.ExampleGiven.{without_gc, raw_body, counting_once, last_byte, three_numbers};
+ghost use Rattle.wasm_smith.specs.ExampleGiven.{without_gc, raw_body, counting_once, counting_behind, last_byte, three_numbers};
 
 fn types()
     ensures below_a_final_type { ¬ AreTypesValid (module_features (types_together [])) (module_types (types_together (a_type bytes_array true None ∷ a_type bytes_array true (Some 0) ∷ []))) }
@@ -94,11 +96,14 @@ fn tables()
     ensures from_a_definition { ¬ AreDefinitionsValid table_from_definition }
     ensures with_an_initialiser_without_gc { ¬ AreDefinitionsValid table_without_gc }
     ensures from_a_number { ¬ AreDefinitionsValid (record one_table { defined_tables = Some (I32Const (pos 0) ∷ []) ∷ [] }) }
+    ensures behind_an_imported_one { AreDefinitionsValid (table_behind no_function) }
+    ensures by_the_references_of_an_imported_one { ¬ AreDefinitionsValid (table_behind (RefNull (plain heap.Extern) ∷ [])) }
     ensures of_no_null_without_an_initialiser { ¬ AreDefinitionsValid null_of_no_null }
     ensures that_is_not_there { ¬ AreDefinitionsValid (record one_table { tables = [] }) }
 {}
 
 fn globals()
+    ensures counted_from_the_first_definition { ¬ AreDefinitionsValid (record counting_behind { defined_globals = (0, I32Const (pos 5) ∷ []) ∷ [] }) }
     ensures out_of_order { ¬ AreDefinitionsValid out_of_order }
     ensures that_is_not_there { ¬ AreDefinitionsValid (record one_number { globals = [] }) }
     ensures from_a_float { ¬ AreDefinitionsValid (record one_number { defined_globals = (0, F64Const 0 ∷ []) ∷ [] }) }

@@ -42,3 +42,6 @@ returns-clause-from_one_that_changes c = λ valid.
     let (operands, (read, stands, before, constant, ty)) = step.typed in
     let never : true ≡ false = subst (λ (g : GlobalType). g.mutable ≡ false) (sym (same_Some (global I32 true) read stands)) constant in
     cc never
+
+pub returns-clause-counted_from_the_first_definition : goal.returns-clause-counted_from_the_first_definition
+returns-clause-counted_from_the_first_definition c = λ valid. let never : 0 ≡ 2 + 0 = (valid.globals 0 0 (I32Const (pos 5) ∷ []) refl).in_order in cc never
