@@ -1,10 +1,11 @@
 -- Shapes that the examples speak of, and modules that have them or not.
-use Rattle.std.specs.Prelude.{ℕ, ◌<◌, true, false, List, [], ◌∷◌, Some, None, codes}
+use Rattle.std.specs.Prelude.{ℕ, ◌<◌, true, false, List, [], ◌∷◌, Some, None, codes, map}
 use Rattle.smith_bytes.specs.declared.error.Error.{Error}
 use Rattle.smith_bytes.specs.declared.error.Error.TheVariants.{IncorrectFormat}
 use Rattle.smith_bytes.specs.declared.error.Why.TheVariants.{Unmet}
 use Rattle.smith_bytes.specs.declared.error.Count.{Count}
 use Rattle.smith_bytes.specs.declared.error.Count.TheVariants as counts
+use Rattle.smith_types.specs.Flags.{funcref}
 use Rattle.smith_types.specs.ExampleTypes.{plain, nullable, not_null}
 use Rattle.smith_types.specs.declared.value_type.AbstractHeapType.TheVariants as heap
 use Rattle.smith_types.specs.declared.value_type.ValType.TheVariants.{F32, Ref}
@@ -19,7 +20,7 @@ use Rattle.smith_config.specs.Faults.{minimum_of}
 use Rattle.smith_config.specs.Shapes.{Shapes, no_shapes}
 use Rattle.smith_config.specs.declared.shape.Shape.{Shape}
 use Rattle.wasm_smith.specs.Module.{Parts}
-use Rattle.wasm_smith.specs.ExampleParts.{memory, table, global, trapping}
+use Rattle.wasm_smith.specs.ExampleParts.{import_named, memory, table, global, trapping}
 use Rattle.wasm_smith.specs.ExampleModules.{empty_module, group_of, three_memories, foo_type, quux_type}
 use Rattle.wasm_smith.specs.ExampleMembers.{alone, final, taking_a_number}
 
@@ -95,6 +96,16 @@ five_exports = record empty_shape {
   globals = global F32 false ∷ [];
   exports = (codes "foo", kind.Func, 0) ∷ (codes "bar", kind.Global, 0) ∷ (codes "baz", kind.Memory, 0) ∷ (codes "qux", kind.Table, 0) ∷ (codes "quux", kind.Tag, 0) ∷ [];
 }
+
+-- an import of each kind, in the order of tags, functions, tables, memories and globals
+abbrev pub imported_kinds : List Import
+imported_kinds =
+    import_named (codes "t") (entity.Tag 0) ∷ import_named (codes "f") (entity.Func 0) ∷ import_named (codes "e") (entity.Table (table funcref 1 None))
+    ∷ import_named (codes "m") (entity.Memory (memory 1 None)) ∷ import_named (codes "g") (entity.Global (global F32 false)) ∷ []
+
+-- these imports
+abbrev pub five_imports : Shape
+five_imports = record empty_shape { groups = alone taking_a_number ∷ []; imports = map Single imported_kinds }
 
 -- a function of the first of two equal types that is exported
 abbrev pub equal_types : Shape

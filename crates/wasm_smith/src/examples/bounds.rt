@@ -51,6 +51,7 @@ ghost use Rattle.wasm_smith.specs.ExampleShapes.{
   with_ping,
   exporting,
   exported,
+  five_imports,
   five_exports,
 };
 
@@ -90,12 +91,20 @@ fn shapes_bring()
     ensures types { brought (for_module five_exports) counts.Types ≡ 2 }
     ensures what_is_imported_and_what_is_exported { brought (for_module memories_in_and_out) counts.Memories ≡ 4 }
     ensures no_segments { brought (for_module five_exports) counts.ElementSegments ≡ 0 }
+    ensures an_imported_tag { brought (for_module five_imports) counts.Tags ≡ 1 }
+    ensures an_imported_function { brought (for_module five_imports) counts.Funcs ≡ 1 }
+    ensures an_imported_table { brought (for_module five_imports) counts.Tables ≡ 1 }
+    ensures an_imported_global { brought (for_module five_imports) counts.Globals ≡ 1 }
     ensures types_of_available_imports { brought (for_imports environment) counts.Types ≡ 1 }
     ensures no_memory_of_available_imports { brought (for_imports environment) counts.Memories ≡ 0 }
     ensures nothing_without_shapes { brought no_shapes counts.Types ≡ 0 }
     ensures nothing_past_the_maximum_by_exports { brought (for_exports five_exports) counts.Types ≡ 0 }
     ensures exports { added (for_exports exporting) counts.Globals ≡ 1 }
     ensures a_type_for_each_function_and_tag { added (for_exports five_exports) counts.Types ≡ 2 }
+    ensures an_exported_tag { added (for_exports five_exports) counts.Tags ≡ 1 }
+    ensures an_exported_function { added (for_exports five_exports) counts.Funcs ≡ 1 }
+    ensures an_exported_table { added (for_exports five_exports) counts.Tables ≡ 1 }
+    ensures an_exported_memory { added (for_exports five_exports) counts.Memories ≡ 1 }
     ensures no_imports_by_exports { added (for_exports five_exports) counts.Imports ≡ 0 }
     ensures nothing_added_by_a_module { added (for_module five_exports) counts.Types ≡ 0 }
     ensures exports_of_a_module { brought (for_module exporting) counts.Globals ≡ 1 }

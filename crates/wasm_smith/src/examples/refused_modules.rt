@@ -16,9 +16,10 @@ ghost use Rattle.smith_types.specs.declared.const_instr.ConstInstr.TheVariants.{
 ghost use Rattle.smith_types.specs.declared.segments.Offset.TheVariants.{Const32};
 ghost use Rattle.smith_config.specs.Config.{default_config};
 ghost use Rattle.smith_config.specs.Features.{features_of};
-ghost use Rattle.wasm_smith.specs.Module.{AreDefinitionsValid, AreBodiesValid, AreSpacesMade, module_features, module_types, module_spaces, segment_context};
+ghost use Rattle.wasm_smith.specs.Module.{IsValid, AreDefinitionsValid, AreBodiesValid, AreSpacesMade, module_features, module_types, module_spaces, segment_context};
 ghost use Rattle.wasm_smith.specs.ExampleParts.{memory, table, global, number, no_function};
 ghost use Rattle.wasm_smith.specs.ExampleModules.{
+  empty_module,
   a_type,
   bytes_array,
   taking,
@@ -133,4 +134,18 @@ fn bodies()
     ensures raw_bytes_that_are_not_allowed { ¬ AreBodiesValid (record raw_body { config = without_gc.config }) }
     ensures a_counter_that_does_not_change { ¬ AreBodiesValid (record counting_once { globals = number ∷ [] }) }
     ensures a_counter_that_is_imported { ¬ AreBodiesValid imported_counter }
+{}
+
+fn refused()
+    ensures by_its_types { ¬ IsValid (record one_function { groups = [] }) }
+    ensures by_its_imports { ¬ IsValid (record (empty_module default_config) { imports = Compact2 [] (entity.Global number) [] ∷ [] }) }
+    ensures by_its_spaces { ¬ IsValid (record one_import { num_imports = 0 }) }
+    ensures by_its_entities { ¬ IsValid (record one_memory { memories = memory 2 (Some 1) ∷ [] }) }
+    ensures by_their_counts { ¬ IsValid (two_memories 1) }
+    ensures by_its_definitions { ¬ IsValid null_of_no_null }
+    ensures by_its_exports { ¬ IsValid (exported_twice (codes "a") (codes "a")) }
+    ensures by_its_start { ¬ IsValid (record without_gc { start = Some 0 }) }
+    ensures by_its_elements { ¬ IsValid (record two_elements { config = record default_config { bulk_memory_enabled = false } }) }
+    ensures by_its_data { ¬ IsValid (record passive_bytes { config = record default_config { bulk_memory_enabled = false } }) }
+    ensures by_its_bodies { ¬ IsValid bodiless }
 {}

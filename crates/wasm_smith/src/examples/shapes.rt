@@ -1,4 +1,4 @@
-ghost use Rattle.std.specs.Prelude.{[], ◌∷◌, ◌≡◌, false, Some, None, codes};
+ghost use Rattle.std.specs.Prelude.{[], ◌∷◌, ◌≡◌, ◌++◌, take, drop, false, Some, None, codes};
 ghost use Rattle.smith_types.specs.declared.entity_type.EntityType.TheVariants as entity;
 ghost use Rattle.smith_types.specs.declared.entity_type.ExportKind.TheVariants as kind;
 ghost use Rattle.smith_types.specs.declared.imports.Imports.TheVariants.{Single, Compact1, Compact2};
@@ -25,6 +25,7 @@ ghost use Rattle.wasm_smith.specs.ExampleShapes.{
   in_one_group,
   exporting,
   exported,
+  imported_kinds,
   five_exports,
   equal_types,
   of_equal_types,
@@ -70,6 +71,15 @@ fn available_imports()
     ensures all_skipped { ¬ KeepsAvailableImports (1 ∷ 1 ∷ []) environment (record with_ping { imports = [] }) }
 {}
 
+fn full_kinds()
+    ensures none { taken_from default_config (final taking_a_number ∷ []) (1 ∷ 1 ∷ 1 ∷ 1 ∷ 1 ∷ []) 0 [] imported_kinds ≡ imported_kinds }
+    ensures tags { taken_from (record default_config { max_tags = 0 }) (final taking_a_number ∷ []) (1 ∷ 1 ∷ 1 ∷ 1 ∷ 1 ∷ []) 0 [] imported_kinds ≡ drop 1 imported_kinds }
+    ensures functions { taken_from (record default_config { max_funcs = 0 }) (final taking_a_number ∷ []) (1 ∷ 1 ∷ 1 ∷ 1 ∷ 1 ∷ []) 0 [] imported_kinds ≡ take 1 imported_kinds ++ drop 2 imported_kinds }
+    ensures tables { taken_from (record default_config { max_tables = 0 }) (final taking_a_number ∷ []) (1 ∷ 1 ∷ 1 ∷ 1 ∷ 1 ∷ []) 0 [] imported_kinds ≡ take 2 imported_kinds ++ drop 3 imported_kinds }
+    ensures memories { taken_from (record default_config { max_memories = 0 }) (final taking_a_number ∷ []) (1 ∷ 1 ∷ 1 ∷ 1 ∷ 1 ∷ []) 0 [] imported_kinds ≡ take 3 imported_kinds ++ drop 4 imported_kinds }
+    ensures globals { taken_from (record default_config { max_globals = 0 }) (final taking_a_number ∷ []) (1 ∷ 1 ∷ 1 ∷ 1 ∷ 1 ∷ []) 0 [] imported_kinds ≡ take 4 imported_kinds }
+{}
+
 fn exports()
     ensures kept { KeepsExports exporting (exported exporting.exports) }
     ensures sorted_otherwise { ¬ KeepsExports exporting (exported ((codes "baz", kind.Memory, 0) ∷ (codes "bar", kind.Global, 0) ∷ [])) }
@@ -95,6 +105,8 @@ fn types_of_exports()
     ensures the_same_function_type { IsSameType (foo_type ∷ []) (quux_type ∷ foo_type ∷ []) (entity.Func 0) (entity.Func 1) }
     ensures the_same_type_of_a_tag { IsSameType (quux_type ∷ []) (quux_type ∷ []) (entity.Tag 0) (entity.Tag 0) }
     ensures another_function_type { ¬ IsSameType (foo_type ∷ []) (quux_type ∷ []) (entity.Func 0) (entity.Func 0) }
+    ensures of_no_type { ¬ IsSameType [] (foo_type ∷ []) (entity.Func 0) (entity.Func 0) }
+    ensures as_no_type { ¬ IsSameType (foo_type ∷ []) [] (entity.Func 0) (entity.Func 0) }
     ensures not_final { ¬ IsSameType (record foo_type { is_final = false } ∷ []) (foo_type ∷ []) (entity.Func 0) (entity.Func 0) }
     ensures below_another { ¬ IsSameType (record foo_type { supertype = Some 0 } ∷ []) (foo_type ∷ []) (entity.Func 0) (entity.Func 0) }
     ensures a_tag_for_a_function { ¬ IsSameType (foo_type ∷ []) (foo_type ∷ []) (entity.Tag 0) (entity.Func 0) }
