@@ -5,6 +5,9 @@ pub mod Bodies
 pub mod Alone
 pub mod Spelled
 pub mod Places
+pub mod Counting
 pub mod ExampleParts
+pub mod ExampleShapes
+pub mod ExamplePromises
 pub mod FamilyFits
 pub mod NearNumbers

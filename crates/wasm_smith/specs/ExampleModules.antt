@@ -2,7 +2,7 @@
 use Rattle.std.specs.Prelude.{ℕ, Bool, true, false, pos, negsuc, List, [], ◌∷◌, Option, Some, None, codes, length}
 use Rattle.std.specs.declared.ops.Range.{Range}
 use Rattle.smith_types.specs.Flags.{funcref}
-use Rattle.smith_types.specs.ExampleTypes.{nullable, constant, plain}
+use Rattle.smith_types.specs.ExampleTypes.{nullable, not_null, constant, plain}
 use Rattle.smith_types.specs.declared.value_type.HeapType.TheVariants.{Concrete}
 use Rattle.smith_types.specs.declared.value_type.AbstractHeapType.TheVariants as heap
 use Rattle.smith_types.specs.declared.value_type.ValType.{ValType}
@@ -12,17 +12,21 @@ use Rattle.smith_types.specs.declared.composite_type.CompositeInnerType.{Composi
 use Rattle.smith_types.specs.declared.composite_type.CompositeInnerType.TheVariants.{Array, Func, Struct}
 use Rattle.smith_types.specs.declared.composite_type.SubType.{SubType}
 use Rattle.smith_types.specs.declared.entity_type.EntityType.TheVariants as entity
+use Rattle.smith_types.specs.declared.entity_type.ExportKind.{ExportKind}
 use Rattle.smith_types.specs.declared.entity_type.ExportKind.TheVariants as kind
+use Rattle.smith_types.specs.declared.entity_type.MemoryType.{MemoryType}
 use Rattle.smith_types.specs.declared.imports.Imports.TheVariants.{Single, Compact1, Compact2}
+use Rattle.smith_types.specs.declared.const_instr.ConstInstr.{ConstInstr}
 use Rattle.smith_types.specs.declared.const_instr.ConstInstr.TheVariants.{I32Const, GlobalGet, F32Const, RefNull}
 use Rattle.smith_types.specs.declared.segments.Elements.{Elements}
 use Rattle.smith_types.specs.declared.segments.Elements.TheVariants.{Expressions}
+use Rattle.smith_types.specs.declared.segments.Offset.{Offset}
+use Rattle.smith_types.specs.declared.segments.Offset.TheVariants.{Global}
 use Rattle.smith_types.specs.declared.segments.DataSegmentKind.TheVariants as data_kind
-use Rattle.smith_types.specs.declared.code.Instructions.TheVariants.{Arbitrary}
 use Rattle.smith_config.specs.declared.config.Config.{Config}
 use Rattle.smith_config.specs.Config.{default_config}
 use Rattle.wasm_smith.specs.Module.{Parts}
-use Rattle.wasm_smith.specs.ExampleParts.{memory, shared_memory, table, global, number, import_named, no_function, passive_elements, active_data, trapping}
+use Rattle.wasm_smith.specs.ExampleParts.{memory, shared_memory, table, global, number, import_named, no_function, passive_elements, into_a_table, active_data, trapping}
 
 -- a module without anything
 abbrev pub empty_module : Config → Parts
@@ -113,6 +117,10 @@ one_table = record (empty_module (record default_config { disallow_traps = true;
 abbrev pub two_elements : Parts
 two_elements = record (empty_module default_config) { elems = passive_elements (Expressions (no_function ∷ no_function ∷ [])) ∷ [] }
 
+-- that segment, and one of one reference
+abbrev pub two_segments : Parts
+two_segments = record two_elements { elems = passive_elements (Expressions (no_function ∷ no_function ∷ [])) ∷ passive_elements (Expressions (no_function ∷ [])) ∷ [] }
+
 -- an import of a number
 abbrev pub one_import : Parts
 one_import = record (empty_module (record default_config { min_imports = 1 })) {
@@ -146,13 +154,6 @@ three_memories = record (empty_module (record default_config { max_memories = 3 
   encodes_imports = true;
 }
 
--- a function whose body is raw bytes
-abbrev pub raw_body : Parts
-raw_body = record one_function {
-  config = record default_config { allow_invalid_funcs = true };
-  code = record { locals = []; instructions = Arbitrary (7 ∷ 8 ∷ []) } ∷ [];
-}
-
 -- a memory of a page, and no bytes that are copied to its start
 abbrev pub one_data_segment : Parts
 one_data_segment = record (empty_module (record default_config { disallow_traps = true; bulk_memory_enabled = false; min_memories = 1; min_data_segments = 1 })) {
@@ -172,17 +173,13 @@ one_tag = record one_function {
   type_size = 2;
 }
 
--- globals that count fuel, beside a function
-abbrev pub counting_fuel : Parts
-counting_fuel = record one_function {
-  globals = global I32 true ∷ global I32 true ∷ [];
-  defined_globals = (0, I32Const (negsuc 0) ∷ []) ∷ (1, I32Const (pos 5) ∷ []) ∷ [];
-  fuel_globals = 0 ∷ 1 ∷ [];
-}
-
 -- a number that may be changed
 abbrev pub one_number : Parts
 one_number = record (empty_module default_config) { globals = global I32 true ∷ []; defined_globals = (0, I32Const (pos 7) ∷ []) ∷ [] }
+
+-- a float that may be changed
+abbrev pub a_float : Parts
+a_float = record (empty_module default_config) { globals = global F32 true ∷ []; defined_globals = (0, F32Const 0 ∷ []) ∷ [] }
 
 -- bytes that are copied nowhere
 abbrev pub passive_bytes : Parts
@@ -206,6 +203,17 @@ table_from_definition = record (empty_module default_config) {
   defined_tables = Some (GlobalGet 0 ∷ []) ∷ [];
   globals = global (Ref funcref) false ∷ [];
   defined_globals = (0, no_function) ∷ [];
+}
+
+-- a table of references to functions behind an imported one of others
+abbrev pub table_behind : List ConstInstr → Parts
+table_behind initial = record (empty_module default_config) {
+  imports = Single (import_named [] (entity.Table (table (nullable (plain heap.Extern)) 1 None))) ∷ [];
+  num_imports = 1;
+  tables = table (nullable (plain heap.Extern)) 1 None ∷ table funcref 1 None ∷ [];
+  defined_tables = Some initial ∷ [];
+  encodes_imports = true;
+  type_size = 2;
 }
 
 -- a table that begins with the reference to no function, without garbage collection
@@ -296,3 +304,39 @@ one_of_each = record (empty_module (record default_config { max_memories = 2 }))
   code = trapping ∷ [];
   encodes_types = true;
 }
+
+-- a function in a table from here on, which starts the module too
+abbrev pub filled_table : Offset → Parts
+filled_table offset = record one_function {
+  tables = table funcref 1 None ∷ [];
+  defined_tables = None ∷ [];
+  start = Some 0;
+  elems = into_a_table offset ∷ [];
+}
+
+-- the same from where a number says, with garbage collection or without
+abbrev pub table_from_a_number : Bool → Parts
+table_from_a_number gc = record (filled_table (Global 0)) { config = record default_config { gc_enabled = gc }; globals = number ∷ []; defined_globals = (0, I32Const (pos 0) ∷ []) ∷ [] }
+
+-- a memory that is imported, and these ones
+abbrev pub memories_behind : List MemoryType → Parts
+memories_behind memories = record (empty_module (record default_config { max_memories = 2 })) {
+  imports = Single (import_named [] (entity.Memory (memory 1 None))) ∷ [];
+  num_imports = 1;
+  memories = memories;
+  num_defined_memories = 1;
+  encodes_imports = true;
+  type_size = 2;
+}
+
+-- a global that counts fuel and is imported
+abbrev pub imported_counter : Parts
+imported_counter = record one_import { imports = Single (import_named [] (entity.Global (global I32 true))) ∷ []; globals = global I32 true ∷ []; fuel_globals = 0 ∷ [] }
+
+-- a table of references that may not be null, without an initialiser
+abbrev pub null_of_no_null : Parts
+null_of_no_null = record (empty_module default_config) { tables = table (not_null (plain heap.Func)) 1 None ∷ []; defined_tables = None ∷ [] }
+
+-- exports of one of each kind, kind by kind
+abbrev pub all_of_each : List (List ℕ × ExportKind × ℕ)
+all_of_each = ([], kind.Func, 0) ∷ (codes "1", kind.Table, 0) ∷ (codes "2", kind.Memory, 0) ∷ (codes "3", kind.Global, 0) ∷ (codes "4", kind.Tag, 0) ∷ []

@@ -14,10 +14,12 @@ use Rattle.smith_types.specs.declared.imports.Import.{Import}
 use Rattle.smith_types.specs.declared.const_instr.ConstInstr.{ConstInstr}
 use Rattle.smith_types.specs.declared.const_instr.ConstInstr.TheVariants.{RefNull}
 use Rattle.smith_types.specs.declared.segments.Elements.{Elements}
+use Rattle.smith_types.specs.declared.segments.Elements.TheVariants.{Functions}
 use Rattle.smith_types.specs.declared.segments.ElementKind.TheVariants as element
 use Rattle.smith_types.specs.declared.segments.ElementSegment.{ElementSegment}
 use Rattle.smith_types.specs.declared.segments.DataSegmentKind.TheVariants as data_kind
 use Rattle.smith_types.specs.declared.segments.DataSegment.{DataSegment}
+use Rattle.smith_types.specs.declared.segments.Offset.{Offset}
 use Rattle.smith_types.specs.declared.segments.Offset.TheVariants.{Const32}
 use Rattle.smith_types.specs.declared.code.Code.{Code}
 use Rattle.smith_types.specs.declared.code.Instructions.TheVariants.{Unreachable}
@@ -53,6 +55,10 @@ no_function = RefNull (plain heap.Func) ∷ []
 -- references to functions that are copied nowhere
 abbrev pub passive_elements : Elements → ElementSegment
 passive_elements items = record { kind = element.Passive; ty = funcref; items = items }
+
+-- the first function, which is copied into the first table from here on
+abbrev pub into_a_table : Offset → ElementSegment
+into_a_table offset = record { kind = element.Active None offset; ty = funcref; items = Functions (0 ∷ []) }
 
 -- bytes that are copied into the first memory from here on
 abbrev pub active_data : ℤ → List ℕ → DataSegment

@@ -1,11 +1,12 @@
 -- Shapes that the examples speak of, and modules that have them or not.
-use Rattle.std.specs.Prelude.{ℕ, ◌<◌, true, false, List, [], ◌∷◌, Some, None, codes}
+use Rattle.std.specs.Prelude.{ℕ, ◌<◌, true, false, List, [], ◌∷◌, Some, None, codes, map}
 use Rattle.smith_bytes.specs.declared.error.Error.{Error}
 use Rattle.smith_bytes.specs.declared.error.Error.TheVariants.{IncorrectFormat}
 use Rattle.smith_bytes.specs.declared.error.Why.TheVariants.{Unmet}
 use Rattle.smith_bytes.specs.declared.error.Count.{Count}
 use Rattle.smith_bytes.specs.declared.error.Count.TheVariants as counts
-use Rattle.smith_types.specs.ExampleTypes.{plain, not_null}
+use Rattle.smith_types.specs.Flags.{funcref}
+use Rattle.smith_types.specs.ExampleTypes.{plain, nullable, not_null}
 use Rattle.smith_types.specs.declared.value_type.AbstractHeapType.TheVariants as heap
 use Rattle.smith_types.specs.declared.value_type.ValType.TheVariants.{F32, Ref}
 use Rattle.smith_types.specs.declared.entity_type.EntityType.TheVariants as entity
@@ -20,8 +21,8 @@ use Rattle.smith_config.specs.Shapes.{Shapes, no_shapes}
 use Rattle.smith_config.specs.ExampleShapes.{empty_shape}
 use Rattle.smith_config.specs.declared.shape.Shape.{Shape}
 use Rattle.wasm_smith.specs.Module.{Parts}
-use Rattle.wasm_smith.specs.ExampleParts.{memory, global}
-use Rattle.wasm_smith.specs.ExampleModules.{empty_module, group_of}
+use Rattle.wasm_smith.specs.ExampleParts.{import_named, memory, table, global, trapping}
+use Rattle.wasm_smith.specs.ExampleModules.{empty_module, group_of, three_memories, foo_type, quux_type}
 use Rattle.wasm_smith.specs.ExampleMembers.{alone, final, taking_a_number}
 
 -- shapes for one use alone
@@ -41,6 +42,10 @@ imported_memories = record empty_shape {
       Compact1 [] (record { name = codes "a"; entity_type = entity.Memory (memory 1 None) } ∷ []) ∷ Compact1 [] [] ∷ Compact2 [] (entity.Memory (memory 1 None)) (codes "b" ∷ codes "c" ∷ [])
       ∷ Compact2 [] (entity.Memory (memory 1 None)) [] ∷ [];
 }
+
+-- these memories, and one that is exported
+abbrev pub memories_in_and_out : Shape
+memories_in_and_out = record imported_memories { memories = memory 1 None ∷ []; exports = (codes "d", kind.Memory, 3) ∷ [] }
 
 -- these memories one by one
 abbrev pub memory_named : List ℕ → Import
@@ -76,6 +81,58 @@ with_ping = record with_environment { imports = Single ping ∷ []; num_imports 
 -- a global and a memory that are exported
 abbrev pub exporting : Shape
 exporting = record empty_shape { memories = memory 1 (Some 10) ∷ []; globals = global F32 false ∷ []; exports = (codes "bar", kind.Global, 0) ∷ (codes "baz", kind.Memory, 0) ∷ [] }
+
+-- a function, a global, a memory, a table and a tag that are exported
+abbrev pub five_exports : Shape
+five_exports = record empty_shape {
+  groups = (foo_type ∷ []) ∷ (quux_type ∷ []) ∷ [];
+  funcs = 0 ∷ [];
+  tags = 1 ∷ [];
+  tables = table (nullable (plain heap.Extern)) 5 (Some 10) ∷ [];
+  memories = memory 1 (Some 10) ∷ [];
+  globals = global F32 false ∷ [];
+  exports = (codes "foo", kind.Func, 0) ∷ (codes "bar", kind.Global, 0) ∷ (codes "baz", kind.Memory, 0) ∷ (codes "qux", kind.Table, 0) ∷ (codes "quux", kind.Tag, 0) ∷ [];
+}
+
+-- an import of each kind, in the order of tags, functions, tables, memories and globals
+abbrev pub imported_kinds : List Import
+imported_kinds =
+    import_named (codes "t") (entity.Tag 0) ∷ import_named (codes "f") (entity.Func 0) ∷ import_named (codes "e") (entity.Table (table funcref 1 None))
+    ∷ import_named (codes "m") (entity.Memory (memory 1 None)) ∷ import_named (codes "g") (entity.Global (global F32 false)) ∷ []
+
+-- these imports
+abbrev pub five_imports : Shape
+five_imports = record empty_shape { groups = alone taking_a_number ∷ []; imports = map Single imported_kinds }
+
+-- a function of the first of two equal types that is exported
+abbrev pub equal_types : Shape
+equal_types = record empty_shape { groups = (foo_type ∷ []) ∷ (foo_type ∷ []) ∷ []; funcs = 0 ∷ []; exports = (codes "f", kind.Func, 0) ∷ [] }
+
+-- a module that exports a function of the type of this index
+abbrev pub of_equal_types : ℕ → Parts
+of_equal_types index = record (empty_module default_config) {
+  types = foo_type ∷ foo_type ∷ [];
+  groups = group_of 0 1 ∷ group_of 1 2 ∷ [];
+  funcs = index ∷ [];
+  num_defined_funcs = 1;
+  exports = (codes "f", kind.Func, 0) ∷ [];
+  code = trapping ∷ [];
+  encodes_types = true;
+}
+
+-- a module that imports and exports such memories
+abbrev pub with_memories_in_and_out : Parts
+with_memories_in_and_out = record three_memories {
+  memories = memory 1 None ∷ memory 1 None ∷ memory 1 None ∷ memory 1 None ∷ [];
+  num_defined_memories = 1;
+  exports = (codes "d", kind.Memory, 3) ∷ [];
+}
+
+-- the function and the memory imported in one group
+abbrev pub in_one_group : Parts
+in_one_group = record with_environment {
+  imports = Compact1 (codes "env") (record { name = codes "ping"; entity_type = entity.Func 0 } ∷ record { name = codes "memory"; entity_type = entity.Memory (memory 1 None) } ∷ []) ∷ [];
+}
 
 -- a module with these entities and with such exports
 abbrev pub exported : List (List ℕ × ExportKind × ℕ) → Parts

@@ -1,5 +1,5 @@
 -- What else a module keeps: which names, types and sections it has. Rules of this project.
-use Rattle.std.specs.Prelude.{◌≡◌, ℕ, zero, suc, ◌<◌, IsTrue, List, [], ◌∷◌, ◌++◌, Option, Some, None, map, length, All}
+use Rattle.std.specs.Prelude.{◌≡◌, ℕ, zero, suc, ◌<◌, Bool, false, IsTrue, List, [], ◌∷◌, ◌++◌, Option, Some, None, map, length, All}
 use Rattle.std.specs.List.{flat_map}
 use Rattle.smith_types.specs.Imports.{flattened}
 use Rattle.smith_types.specs.ValidTypes.{values_of}
@@ -18,6 +18,8 @@ use Rattle.smith_types.specs.declared.segments.Elements.{Elements}
 use Rattle.smith_types.specs.declared.segments.Elements.TheVariants.{Functions, Expressions}
 use Rattle.smith_types.specs.declared.segments.ElementSegment.{ElementSegment}
 use Rattle.smith_types.specs.declared.code.Code.{Code}
+use Rattle.smith_config.specs.Shapes.{Shapes, no_shapes}
+use Rattle.wasm_smith.specs.Bounds.{FixesImports, FixesExports}
 use Rattle.wasm_smith.specs.Module.{Parts}
 
 -- no two imports have the same pair of names
@@ -89,3 +91,13 @@ pub record IsInside (m : Parts) : Type 0 where
 pub record WritesSections (m : Parts) : Type 0 where
   pub types : 0 < length m.types → IsTrue m.encodes_types
   pub imports : 0 < length m.imports → IsTrue m.encodes_imports
+
+-- what a module keeps where it is asked for: distinct names by the call that draws it, not where a shape fixes the imports;
+-- all exports not where a shape fixes them; no floats where no shape is given
+pub record KeepsPromises (distinct : Bool) (shapes : Shapes) (m : Parts) : Type 0 where
+  pub names : IsTrue distinct → (FixesImports shapes → ⊥) → HasDistinctImports m
+  pub no_floats : m.config.allow_floats ≡ false → shapes ≡ no_shapes → HasNoFloats m
+  pub everything : IsTrue m.config.export_everything → (FixesExports shapes → ⊥) → ExportsEverything m
+  pub no_start : m.config.allow_start_export ≡ false → HasNoStart m
+  pub inside : IsTrue m.config.disallow_traps → IsInside m
+  pub sections : WritesSections m

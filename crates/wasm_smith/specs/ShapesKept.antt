@@ -3,6 +3,7 @@ use Rattle.std.specs.Prelude.{◌≡◌, ℕ, suc, ◌+◌, ◌%◌, ◌==◌, �
 use Rattle.std.specs.List.{AllZip, filter}
 use Rattle.smith_bytes.specs.declared.error.Count.{Count}
 use Rattle.smith_bytes.specs.declared.error.Count.TheVariants as counts
+use Rattle.smith_types.specs.Grown.{Extends}
 use Rattle.smith_types.specs.Imports.{IndexSpaces, imports_of, flattened, imported_spaces}
 use Rattle.smith_types.specs.Exports.{IsEntityAt}
 use Rattle.smith_types.specs.Sizes.{size_in}
@@ -20,27 +21,24 @@ use Rattle.smith_config.specs.Shapes.{Shapes, space_of, shape_types, shape_impor
 use Rattle.wasm_smith.specs.Bounds.{count_in}
 use Rattle.wasm_smith.specs.Module.{Parts, module_spaces}
 
--- a list begins with these items
-pub record BeginsWith {A : Type 0} (first whole : List A) : Type 0 where
-  pub rest : List A
-  pub parts : whole ≡ first ++ rest
-
 -- the types and groups of a shape begin the module's
 pub record KeepsTypes (shape : Shape) (m : Parts) : Type 0 where
-  pub types : BeginsWith (shape_types shape) m.types
-  pub groups : BeginsWith (space_of shape.groups).groups m.groups
+  pub types : Extends (shape_types shape) m.types
+  pub groups : Extends (space_of shape.groups).groups m.groups
 
 -- a name, and the kind and the index of what it exports
 abbrev pub Export : Type 0
 Export = List ℕ × ExportKind × ℕ
 
--- two exports have one name and one kind, and entities of one type
-pub record IsSameExport (ours theirs : IndexSpaces) (one other : Export) : Type 0 where
+-- two exports have one name and one kind, and entities whose types are the same
+pub record IsSameExport (is_same : EntityType → EntityType → Type 0) (ours theirs : IndexSpaces) (one other : Export) : Type 0 where
   pub name : one.0 ≡ other.0
   pub kind : one.1 ≡ other.1
-  pub ty : EntityType
-  pub ours_is : IsEntityAt ours one.1 one.2 ty
-  pub theirs_is : IsEntityAt theirs other.1 other.2 ty
+  pub mine : EntityType
+  pub yours : EntityType
+  pub mine_is : IsEntityAt ours one.1 one.2 mine
+  pub yours_is : IsEntityAt theirs other.1 other.2 yours
+  pub same : is_same mine yours
 
 -- a group of imports that is not empty
 abbrev pub is_filled : Imports → Bool
@@ -54,7 +52,7 @@ kept_groups config shape = if config.compact_imports_enabled then filter is_fill
 pub record KeepsModuleShape (shape : Shape) (m : Parts) : Type 0 where
   pub types : KeepsTypes shape m
   pub imports : m.imports ≡ kept_groups m.config shape
-  pub exports : AllZip (IsSameExport (module_spaces m) (shape_spaces shape)) m.exports shape.exports
+  pub exports : AllZip (IsSameExport (λ mine yours. mine ≡ yours) (module_spaces m) (shape_spaces shape)) m.exports shape.exports
 
 -- two function types with the same parameters and results, of which ours is final and has no supertype
 pub record IsSameFuncType (ours theirs : List SubType) (index other : ℕ) : Type 0 where
@@ -72,19 +70,9 @@ IsSameType ours theirs (entity.Func index) (entity.Func other) = IsSameFuncType 
 IsSameType ours theirs (entity.Tag index) (entity.Tag other) = IsSameFuncType ours theirs index other
 IsSameType ours theirs one other = one ≡ other
 
--- an export with the name, the kind and the type of a shape's
-pub record IsShapesExport (shape : Shape) (m : Parts) (one other : Export) : Type 0 where
-  pub name : one.0 ≡ other.0
-  pub kind : one.1 ≡ other.1
-  pub mine : EntityType
-  pub yours : EntityType
-  pub mine_is : IsEntityAt (module_spaces m) one.1 one.2 mine
-  pub yours_is : IsEntityAt (shape_spaces shape) other.1 other.2 yours
-  pub same : IsSameType m.types (shape_types shape) mine yours
-
 -- the exports of a shape and no other, in order
 abbrev pub KeepsExports : Shape → Parts → Type 0
-KeepsExports shape m = AllZip (IsShapesExport shape m) m.exports shape.exports
+KeepsExports shape m = AllZip (IsSameExport (IsSameType m.types (shape_types shape)) (module_spaces m) (shape_spaces shape)) m.exports shape.exports
 
 -- whether the input picks the import at this place: its byte is odd, and past the end it isn't
 abbrev pub is_picked : List ℕ → ℕ → Bool

@@ -3,6 +3,7 @@
 mod bounds;
 mod family;
 mod func_types;
+mod given_modules;
 mod interesting_values;
 mod modules;
 mod promises;
@@ -10,3 +11,4 @@ mod refusals;
 mod refused_modules;
 mod shapes;
 mod spelling;
+mod termination;

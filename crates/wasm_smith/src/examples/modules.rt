@@ -1,3 +1,5 @@
+ghost use Rattle.std.specs.Prelude.{true, pos};
+ghost use Rattle.smith_types.specs.declared.segments.Offset.TheVariants.{Const32};
 ghost use Rattle.smith_config.specs.Config.{default_config};
 ghost use Rattle.wasm_smith.specs.Module.{IsValid};
 ghost use Rattle.wasm_smith.specs.ExampleModules.{
@@ -12,13 +14,13 @@ ghost use Rattle.wasm_smith.specs.ExampleModules.{
   two_imports,
   one_memory,
   three_memories,
-  raw_body,
   one_data_segment,
   one_tag,
-  counting_fuel,
   one_number,
   passive_bytes,
   one_of_each,
+  filled_table,
+  table_from_a_number,
 };
 
 fn types_and_functions()
@@ -27,7 +29,6 @@ fn types_and_functions()
     ensures an_array_and_one_below_it { IsValid arrays }
     ensures two_below_one { IsValid three_arrays }
     ensures a_function { IsValid one_function }
-    ensures raw_bytes { IsValid raw_body }
 {}
 
 fn entities()
@@ -37,7 +38,6 @@ fn entities()
     ensures a_memory { IsValid one_memory }
     ensures groups_of_memories { IsValid three_memories }
     ensures a_number { IsValid one_number }
-    ensures counters_of_fuel { IsValid counting_fuel }
 {}
 
 fn segments()
@@ -45,6 +45,11 @@ fn segments()
     ensures copied_bytes { IsValid one_data_segment }
     ensures bytes { IsValid passive_bytes }
     ensures beside_a_tag_and_an_export { IsValid one_tag }
+{}
+
+fn started()
+    ensures a_function_in_a_table { IsValid (filled_table (Const32 (pos 0))) }
+    ensures from_where_a_number_says { IsValid (table_from_a_number true) }
 {}
 
 fn all_kinds()

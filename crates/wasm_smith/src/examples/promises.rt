@@ -1,27 +1,77 @@
-ghost use Rattle.std.specs.Prelude.{[], ◌∷◌, true, false, None, codes};
-ghost use Rattle.smith_types.specs.declared.value_type.ValType.TheVariants.{I32, F32};
-ghost use Rattle.smith_types.specs.declared.const_instr.ConstInstr.TheVariants.{F64Const};
-ghost use Rattle.wasm_smith.specs.Promises.{HasDistinctImports, HasNoFloats, ExportsEverything, IsInside, WritesSections};
-ghost use Rattle.wasm_smith.specs.ExampleParts.{global};
+ghost use Rattle.std.specs.Prelude.{[], ◌∷◌, true, false, pos, Some, None, codes};
+ghost use Rattle.smith_types.specs.declared.value_type.ValType.TheVariants.{F32, F64, V128};
+ghost use Rattle.smith_types.specs.declared.composite_type.StorageType.TheVariants.{Val};
+ghost use Rattle.smith_types.specs.declared.entity_type.EntityType.TheVariants as entity;
+ghost use Rattle.smith_types.specs.declared.imports.Imports.TheVariants.{Single};
+ghost use Rattle.smith_types.specs.declared.const_instr.ConstInstr.TheVariants.{F32Const, F64Const};
+ghost use Rattle.smith_types.specs.declared.segments.Elements.TheVariants.{Expressions};
+ghost use Rattle.smith_types.specs.declared.segments.Offset.TheVariants.{Const32};
+ghost use Rattle.smith_types.specs.declared.code.Instructions.TheVariants.{Unreachable};
+ghost use Rattle.smith_types.specs.ExampleTypes.{struct, constant};
+ghost use Rattle.smith_config.specs.Config.{default_config};
+ghost use Rattle.smith_config.specs.Shapes.{no_shapes};
+ghost use Rattle.wasm_smith.specs.ExampleShapes.{for_imports, for_exports, environment, exporting};
+ghost use Rattle.wasm_smith.specs.Promises.{HasDistinctImports, HasNoFloats, ExportsEverything, HasNoStart, IsInside, WritesSections, KeepsPromises};
+ghost use Rattle.wasm_smith.specs.ExampleParts.{global, number, import_named, passive_elements};
 ghost use Rattle.wasm_smith.specs.ExampleMembers.{final};
-ghost use Rattle.wasm_smith.specs.ExampleModules.{taking, one_function, one_number, one_data_segment, one_import, two_exports, named_imports, last_bytes, counting_fuel};
+ghost use Rattle.wasm_smith.specs.ExampleModules.{
+  a_float,
+  taking,
+  one_function,
+  one_number,
+  one_table,
+  one_data_segment,
+  one_import,
+  one_of_each,
+  all_of_each,
+  two_elements,
+  two_imports,
+  two_exports,
+  named_imports,
+  exported_twice,
+  last_bytes,
+  filled_table,
+  table_from_a_number,
+};
+ghost use Rattle.wasm_smith.specs.ExampleGiven.{counting_fuel};
 
 fn names()
     ensures two_names { HasDistinctImports (named_imports [] (codes "1")) }
+    ensures one_name_of_two_modules { HasDistinctImports (record two_imports { imports = Single (record { «module» = codes "a"; name = []; entity_type = entity.Global number }) ∷ Single (import_named [] (entity.Global number)) ∷ [] }) }
     ensures one_name_twice { ¬ HasDistinctImports (named_imports [] []) }
 {}
 
 fn floats()
     ensures none { HasNoFloats counting_fuel }
+    ensures a_vector { HasNoFloats (record one_function { types = final (taking V128) ∷ [] }) }
     ensures in_a_type { ¬ HasNoFloats (record one_function { types = final (taking F32) ∷ [] }) }
+    ensures in_a_field { ¬ HasNoFloats (record one_function { types = final (struct (constant (Val F64) ∷ [])) ∷ [] }) }
+    ensures in_a_local { ¬ HasNoFloats (record one_function { code = record { locals = F32 ∷ []; instructions = Unreachable } ∷ [] }) }
     ensures in_a_global { ¬ HasNoFloats (record one_number { globals = global F32 true ∷ [] }) }
     ensures in_an_expression { ¬ HasNoFloats (record one_number { defined_globals = (0, F64Const 0 ∷ []) ∷ [] }) }
+    ensures in_the_initialiser_of_a_table { ¬ HasNoFloats (record one_table { defined_tables = Some (F32Const 0 ∷ []) ∷ [] }) }
+    ensures in_an_element { ¬ HasNoFloats (record two_elements { elems = passive_elements (Expressions ((F32Const 0 ∷ []) ∷ [])) ∷ [] }) }
 {}
 
 fn exports()
     ensures everything { ExportsEverything two_exports }
     ensures nothing { ¬ ExportsEverything one_function }
+    ensures one_of_each_kind { ExportsEverything (record one_of_each { exports = all_of_each }) }
+    ensures in_another_order { ¬ ExportsEverything one_of_each }
+    ensures one_twice { ¬ ExportsEverything (exported_twice (codes "a") (codes "b")) }
     ensures nothing_of_nothing { ExportsEverything (record one_function { funcs = [] }) }
+{}
+
+fn start()
+    ensures none { HasNoStart one_function }
+    ensures a_function { ¬ HasNoStart (filled_table (Const32 (pos 0))) }
+{}
+
+fn elements()
+    ensures up_to_the_end { IsInside (filled_table (Const32 (pos 0))) }
+    ensures past_the_end { ¬ IsInside (filled_table (Const32 (pos 1))) }
+    ensures from_where_a_global_says { ¬ IsInside (table_from_a_number true) }
+    ensures copied_nowhere { IsInside two_elements }
 {}
 
 fn segments()
@@ -37,4 +87,23 @@ fn sections()
     ensures of_imports { WritesSections one_import }
     ensures of_imports_left_out { ¬ WritesSections (record one_import { encodes_imports = false }) }
     ensures of_nothing { WritesSections (record one_number { encodes_types = true; encodes_imports = true }) }
+{}
+
+fn asked_for()
+    ensures distinct_names { KeepsPromises true no_shapes (named_imports [] (codes "1")) }
+    ensures one_name_twice { ¬ KeepsPromises true no_shapes (named_imports [] []) }
+    ensures one_name_twice_where_it_may_be { KeepsPromises false no_shapes (named_imports [] []) }
+    ensures one_name_twice_in_a_shape { KeepsPromises true (for_imports environment) (named_imports [] []) }
+    ensures one_name_twice_beside_exports_of_a_shape { ¬ KeepsPromises true (for_exports exporting) (named_imports [] []) }
+    ensures a_float { ¬ KeepsPromises false no_shapes (record a_float { config = record default_config { allow_floats = false } }) }
+    ensures a_float_where_they_may_be { KeepsPromises false no_shapes a_float }
+    ensures a_float_beside_a_shape { KeepsPromises false (for_exports exporting) (record a_float { config = record default_config { allow_floats = false } }) }
+    ensures everything_exported { KeepsPromises false no_shapes two_exports }
+    ensures not_everything_exported { ¬ KeepsPromises false no_shapes (record one_function { config = two_exports.config }) }
+    ensures not_everything_beside_a_shape { KeepsPromises false (for_exports exporting) (record one_function { config = two_exports.config }) }
+    ensures a_start { ¬ KeepsPromises false no_shapes (record (filled_table (Const32 (pos 0))) { config = record default_config { allow_start_export = false } }) }
+    ensures a_start_where_it_may_be { KeepsPromises false no_shapes (filled_table (Const32 (pos 0))) }
+    ensures a_trap { ¬ KeepsPromises false no_shapes (record (filled_table (Const32 (pos 1))) { config = record default_config { disallow_traps = true } }) }
+    ensures a_trap_where_it_may_be { KeepsPromises false no_shapes (filled_table (Const32 (pos 1))) }
+    ensures no_section_of_types { ¬ KeepsPromises false no_shapes (record one_function { encodes_types = false }) }
 {}

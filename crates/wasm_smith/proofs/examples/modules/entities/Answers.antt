@@ -1,13 +1,13 @@
-use Rattle.std.proofs.Common.{rules, ℕ, List, None, pos, negsuc, true, refl}
+use Rattle.std.proofs.Common.{rules, ℕ, List, None, pos, true, refl}
 use Rattle.smith_types.specs.Flags.{funcref}
 use Rattle.smith_types.specs.declared.value_type.ValType.TheVariants.{I32}
 use Rattle.smith_types.specs.declared.const_instr.ConstInstr.{ConstInstr}
 use Rattle.smith_types.specs.declared.const_instr.ConstInstr.TheVariants.{I32Const}
-use Rattle.wasm_smith.specs.Module.{AreDefinitionsValid, IsTableDefined, IsGlobalDefined, module_features, table_context, global_context}
+use Rattle.wasm_smith.specs.Module.{AreDefinitionsValid, IsTableDefined, IsGlobalDefined, table_context, global_context}
 use Rattle.wasm_smith.specs.ExampleParts.{table, global}
-use Rattle.wasm_smith.specs.ExampleModules.{one_table, one_number, counting_fuel}
+use Rattle.wasm_smith.specs.ExampleModules.{one_table, one_number}
 use Rattle.wasm_smith.proofs.Places.{each_place}
-use Rattle.wasm_smith.proofs.ExampleParts.{alone, no_function_given, function_types, functions_valid}
+use Rattle.wasm_smith.proofs.ExampleParts.{alone, no_function_given}
 use Rattle.wasm_smith.proofs.examples.modules.entities.Goals as goal
 
 pub returns-clause-a_table : goal.returns-clause-a_table
@@ -43,30 +43,6 @@ returns-clause-a_number c = record {
   entities = search rules;
   counts = search rules;
   definitions = numbers_defined;
-  exports = search rules;
-  start = tt;
-  elements = search rules;
-  data_segments = search rules;
-  bodies = search rules;
-}
-
-counters_defined : AreDefinitionsValid counting_fuel
-counters_defined = record {
-  tables = search rules;
-  globals = λ place index initial at. each_place (λ place (one : ℕ × List ConstInstr). IsGlobalDefined counting_fuel place one.0 one.1) counting_fuel.defined_globals (
-    record { in_order = refl; global = global I32 true; stands = refl; initialised = alone (global_context counting_fuel 0) (I32Const (negsuc 0)) I32 I32 (refl, refl) tt tt },
-    (record { in_order = refl; global = global I32 true; stands = refl; initialised = alone (global_context counting_fuel 1) (I32Const (pos 5)) I32 I32 (refl, refl) tt tt }, tt),
-  ) place (index, initial) at;
-}
-
-pub returns-clause-counters_of_fuel : goal.returns-clause-counters_of_fuel
-returns-clause-counters_of_fuel c = record {
-  types = function_types (module_features counting_fuel);
-  imports = search rules;
-  spaces = search rules;
-  entities = record { tags = search rules; funcs = functions_valid; tables = search rules; memories = search rules; globals = search rules };
-  counts = search rules;
-  definitions = counters_defined;
   exports = search rules;
   start = tt;
   elements = search rules;

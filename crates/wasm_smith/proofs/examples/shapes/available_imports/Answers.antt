@@ -1,5 +1,6 @@
 use Rattle.std.proofs.Common.{[], refl}
 use Rattle.wasm_smith.specs.ShapesKept.{is_fitting}
+use Rattle.wasm_smith.proofs.ExampleShapes.{both_kept}
 use Rattle.wasm_smith.proofs.examples.shapes.available_imports.Goals as goal
 
 pub returns-clause-both : goal.returns-clause-both
@@ -31,13 +32,15 @@ unfolding is_fitting
 returns-clause-tag_without_exceptions c = refl
 
 pub returns-clause-kept : goal.returns-clause-kept
-unfolding is_fitting
-returns-clause-kept c = record { types = record { types = record { rest = []; parts = refl }; groups = record { rest = []; parts = refl } }; imports = refl }
+returns-clause-kept c = both_kept
 
 pub returns-clause-the_first_kept : goal.returns-clause-the_first_kept
 unfolding is_fitting
-returns-clause-the_first_kept c = record { types = record { types = record { rest = []; parts = refl }; groups = record { rest = []; parts = refl } }; imports = refl }
+returns-clause-the_first_kept c = record { types = record { types = record { more = []; parts = refl }; groups = record { more = []; parts = refl } }; imports = refl }
 
 pub returns-clause-all_skipped : goal.returns-clause-all_skipped
 unfolding is_fitting
 returns-clause-all_skipped c = λ kept. cc kept.imports
+
+pub returns-clause-kept_in_one_group : goal.returns-clause-kept_in_one_group
+returns-clause-kept_in_one_group c = record { types = record { types = record { more = []; parts = refl }; groups = record { more = []; parts = refl } }; imports = both_kept.imports }

@@ -1,13 +1,14 @@
 use Rattle.std.proofs.Common.{rules, arith, ◌≡◌, ℕ, List, [], ◌∷◌, refl}
 use Rattle.std.specs.Prelude.{codes}
-use Rattle.std.proofs.lemmas.List.Elements.{All-from_recursion}
+use Rattle.std.proofs.lemmas.List.Elements.{All-from_recursion, All-head}
 use Rattle.smith_types.specs.Exports.{IsEntityAt, AreDistinct}
 use Rattle.smith_types.specs.declared.entity_type.EntityType.{EntityType}
 use Rattle.smith_types.specs.declared.entity_type.EntityType.TheVariants as entity
 use Rattle.smith_types.specs.declared.entity_type.ExportKind.{ExportKind}
+use Rattle.smith_types.specs.declared.entity_type.ExportKind.TheVariants as kind
 use Rattle.wasm_smith.specs.Module.{module_spaces}
-use Rattle.wasm_smith.specs.ExampleModules.{exported_twice}
-use Rattle.wasm_smith.proofs.examples.refused_modules.spaces.Goals as goal
+use Rattle.wasm_smith.specs.ExampleModules.{exported_twice, one_number}
+use Rattle.wasm_smith.proofs.examples.refused_modules.exports.Goals as goal
 
 two : AreDistinct {A = List ℕ} (codes "a" ∷ codes "b" ∷ [])
 two = search rules
@@ -21,3 +22,9 @@ returns-clause-two_names c = record {
 
 pub returns-clause-a_name_twice : goal.returns-clause-a_name_twice
 returns-clause-a_name_twice c = λ valid. let same : 0 ≡ 1 = valid.distinct.once 0 1 (codes "a") refl refl in omega (arith, same)
+
+pub returns-clause-what_is_not_there : goal.returns-clause-what_is_not_there
+returns-clause-what_is_not_there c = λ valid.
+    let (ty, entity) = All-head (λ (one : List ℕ × ExportKind × ℕ). (ty : EntityType) × IsEntityAt (module_spaces one_number) one.1 one.2 ty) ([], kind.Func, 0) [] valid.stand in
+    let (func, at, is) = entity in
+    cc at

@@ -1,0 +1,52 @@
+-- What is added to a module whose calls are to end: a global that counts fuel. Rules of this project.
+use Rattle.std.specs.Prelude.{◌≡◌, ℕ, true, false, [], ◌∷◌, ◌++◌, length, Result, Ok, Err}
+use Rattle.std.specs.Int.{cast_signed, w32}
+use Rattle.std.specs.List.{Any}
+use Rattle.smith_bytes.specs.declared.error.Error.{Error}
+use Rattle.smith_bytes.specs.declared.error.Error.TheVariants as errors
+use Rattle.smith_bytes.specs.declared.error.Why.TheVariants.{RawBody}
+use Rattle.smith_types.specs.declared.value_type.ValType.TheVariants.{I32}
+use Rattle.smith_types.specs.declared.entity_type.GlobalType.{GlobalType}
+use Rattle.smith_types.specs.declared.const_instr.ConstInstr.TheVariants.{I32Const}
+use Rattle.smith_types.specs.declared.code.Code.{Code}
+use Rattle.smith_types.specs.declared.code.Instructions.{Instructions}
+use Rattle.smith_types.specs.declared.code.Instructions.TheVariants.{Unreachable, Arbitrary}
+use Rattle.wasm_smith.specs.Module.{Parts, IsValid}
+
+-- instructions that are raw bytes, before which no check can stand
+abbrev pub IsRaw : Instructions → Type 0
+IsRaw Unreachable = ⊥
+IsRaw (Arbitrary bytes) = Unit {0}
+
+-- some body of a module is raw bytes
+abbrev pub HasRawBody : Parts → Type 0
+HasRawBody m = Any (λ (body : Code). IsRaw body.instructions) m.code
+
+-- the type of a global that counts fuel
+abbrev pub counter : GlobalType
+counter = record { val_type = I32; mutable = true; shared = false }
+
+-- new is old with a counter of this index, which is the last global, is defined by the number of the same 32 bits as the
+-- fuel, and is the last that counts; nothing else is new
+pub record AddsFuel (fuel index : ℕ) (old new : Parts) : Type 0 where
+  pub last : index ≡ length old.globals
+  pub added : new ≡ record old {
+    globals = old.globals ++ counter ∷ [];
+    defined_globals = old.defined_globals ++ (index, I32Const (cast_signed w32 fuel) ∷ []) ∷ [];
+    fuel_globals = old.fuel_globals ++ index ∷ [];
+  }
+
+-- why no counter is added: a body is raw bytes; only where none is, want of memory
+abbrev pub MayAddNone : Parts → Error → Type 0
+MayAddNone m (errors.IncorrectFormat RawBody) = HasRawBody m
+MayAddNone m errors.Memory = HasRawBody m → ⊥
+MayAddNone m _ = ⊥
+
+-- what is answered: the index of the counter that was added, or why none was, and then nothing is new
+abbrev pub AnswersFuel : ℕ → Parts → Parts → Result ℕ Error → Type 0
+AnswersFuel fuel old new (Ok index) = (HasRawBody old → ⊥) × AddsFuel fuel index old new
+AnswersFuel fuel old new (Err error) = MayAddNone old error × (new ≡ old)
+
+-- a valid module is still valid with a counter
+abbrev pub CountingIsValid : Type 0
+CountingIsValid = (fuel index : ℕ) (old new : Parts) → AddsFuel fuel index old new → IsValid old → IsValid new
