@@ -1,6 +1,4 @@
-ghost use Rattle.std.specs.Prelude.{◌≡◌, ℕ, [], ◌∷◌, true, false, Some, None};
-ghost use Rattle.smith_bytes.specs.Spelling.{SpellsBool, SpellsNumber, SpellsAnyByte, Joined, Each, Listed};
-ghost use Rattle.smith_bytes.specs.Takes.{Takes, SpellsSuch};
+ghost use Rattle.std.specs.Prelude.{ℕ, [], ◌∷◌, true, false, Some, None};
 ghost use Rattle.smith_types.specs.declared.value_type.AbstractHeapType.TheVariants as heap;
 ghost use Rattle.smith_types.specs.declared.value_type.HeapType.TheVariants.{Concrete};
 ghost use Rattle.smith_types.specs.declared.value_type.ValType.TheVariants.{I32, I64, F32};
@@ -37,28 +35,10 @@ ghost use Rattle.wasm_smith.specs.ExampleMembers.{
   with_shared_types,
 };
 
-fn pieces()
-    ensures any_byte { SpellsAnyByte (200 ∷ []) }
-    ensures no_byte { ¬ SpellsAnyByte [] }
-    ensures two_bytes { ¬ SpellsAnyByte (0 ∷ 0 ∷ []) }
-    ensures one_behind_another { Joined (SpellsBool true) (SpellsBool false) (1 ∷ 0 ∷ []) }
-    ensures the_other_way_round { ¬ Joined (SpellsBool true) (SpellsBool false) (0 ∷ 1 ∷ []) }
-    ensures each { Each SpellsBool (true ∷ false ∷ []) (1 ∷ 0 ∷ []) }
-    ensures one_too_few { ¬ Each SpellsBool (true ∷ false ∷ []) (1 ∷ []) }
-    ensures listed { Listed SpellsBool 2 (false ∷ []) (1 ∷ 0 ∷ 0 ∷ []) }
-    ensures not_ended { ¬ Listed SpellsBool 2 (false ∷ []) (1 ∷ 0 ∷ []) }
-    ensures a_full_list { Listed SpellsBool 1 (false ∷ []) (1 ∷ 0 ∷ []) }
-    ensures ended_where_it_is_full { ¬ Listed SpellsBool 1 (false ∷ []) (1 ∷ 0 ∷ 0 ∷ []) }
-    ensures no_room { ¬ Listed SpellsBool 0 (false ∷ []) (1 ∷ 0 ∷ []) }
+fn places()
     ensures a_place { SpellsPlace {A = ℕ} (7 ∷ 8 ∷ []) 8 (3 ∷ []) }
     ensures another_place { ¬ SpellsPlace {A = ℕ} (7 ∷ 8 ∷ []) 8 (2 ∷ []) }
     ensures not_in_the_list { ¬ SpellsPlace {A = ℕ} (7 ∷ []) 8 [] }
-    ensures taken { Takes SpellsBool (3 ∷ 5 ∷ []) true (5 ∷ []) }
-    ensures another_value { ¬ Takes SpellsBool (3 ∷ 5 ∷ []) false (5 ∷ []) }
-    ensures more_taken { ¬ Takes SpellsBool (3 ∷ 5 ∷ []) true [] }
-    ensures such { SpellsSuch (λ value. value ≡ true) SpellsBool true (1 ∷ []) }
-    ensures not_such { ¬ SpellsSuch (λ value. value ≡ false) SpellsBool true (1 ∷ []) }
-    ensures not_spelled { ¬ SpellsSuch (λ value. value ≡ true) SpellsBool true (0 ∷ []) }
 {}
 
 fn values()

@@ -1,12 +1,11 @@
 ghost use Rattle.std.specs.Prelude.{[], ◌∷◌, true, false, pos, negsuc};
-ghost use Rattle.smith_bytes.specs.Spelling.{SpellsBool, SpellsNumber, SpellsRefusal};
 ghost use Rattle.smith_config.specs.Config.{default_config};
 ghost use Rattle.smith_types.specs.declared.value_type.AbstractHeapType.TheVariants as heap;
 ghost use Rattle.smith_types.specs.declared.value_type.HeapType.TheVariants.{Concrete, Exact};
 ghost use Rattle.smith_types.specs.declared.value_type.ValType.TheVariants.{Ref};
 ghost use Rattle.smith_types.specs.declared.composite_type.StorageType.TheVariants.{I8, I16};
 ghost use Rattle.smith_types.specs.ExampleTypes.{plain, not_null};
-ghost use Rattle.smith_draw.specs.Spelling.{SpellsGroups, SpellsStorage, SpellsHeapType, SpellsUnshared, SpellsSize, SpellsRest as SpellsBehindClass};
+ghost use Rattle.smith_draw.specs.Spelling.{SpellsGroups, SpellsStorage, SpellsHeapType, SpellsUnshared, SpellsSize, SpellsBehindClass};
 ghost use Rattle.wasm_smith.specs.Spelling.{
   SpellsMember,
   SpellsRest,
@@ -95,18 +94,7 @@ fn parts_of_rests()
     ensures a_bool_without_bulk_memory { ¬ SpellsSegments (record default_config { bulk_memory_enabled = false }) [] (0 ∷ []) }
 {}
 
-fn pieces()
-    ensures true_is_odd { SpellsBool true (3 ∷ []) }
-    ensures true_is_not_even { ¬ SpellsBool true (2 ∷ []) }
-    ensures no_byte_is_no_bool { ¬ SpellsBool false [] }
-    ensures one_byte { SpellsNumber 5 0 200 (206 ∷ []) }
-    ensures another_number { ¬ SpellsNumber 6 0 200 (206 ∷ []) }
-    ensures highest_byte_first { SpellsNumber 258 0 1000 (1 ∷ 2 ∷ []) }
-    ensures too_few_bytes { ¬ SpellsNumber 2 0 1000 (2 ∷ []) }
-    ensures no_choice_no_byte { SpellsNumber 4 4 4 [] }
-    ensures a_byte_without_choice { ¬ SpellsNumber 4 4 4 (0 ∷ []) }
-    ensures not_the_first_chance { SpellsRefusal 32 (33 ∷ []) }
-    ensures the_first_chance { ¬ SpellsRefusal 32 (32 ∷ []) }
+fn numbers()
     ensures number_of_four_bytes { SpellsI32 (negsuc 0) (255 ∷ 255 ∷ 255 ∷ 255 ∷ []) }
     ensures number_of_three_bytes { ¬ SpellsI32 (pos 7) (7 ∷ 0 ∷ 0 ∷ []) }
     ensures highest_byte_of_a_number_first { ¬ SpellsI32 (pos 7) (0 ∷ 0 ∷ 0 ∷ 7 ∷ []) }
