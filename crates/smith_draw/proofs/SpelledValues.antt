@@ -22,7 +22,7 @@ use Rattle.smith_draw.specs.declared.value_type.ValueClass.{ValueClass}
 use Rattle.smith_draw.specs.declared.value_type.ValueClass.TheVariants.{I32, Reference}
 use Rattle.smith_draw.specs.Choices.{enabled, chosen_at}
 use Rattle.smith_draw.specs.ValueTypes.{value_classes, abstract_heap_types, sharedness_at, abstract_heap_type_at, index_wanted_at, type_index_at, heap_type_at, ref_type_at, value_of_class_at, val_type_at}
-use Rattle.smith_draw.specs.Spelling.{SpellsPlace, SpellsUnshared, SpellsConcrete, SpellsHeapType, SpellsRefType, SpellsRest, SpellsValType, class_of}
+use Rattle.smith_draw.specs.Spelling.{SpellsPlace, SpellsUnshared, SpellsConcrete, SpellsHeapType, SpellsRefType, SpellsBehindClass, SpellsValType, class_of}
 use Rattle.smith_draw.proofs.Enabled.{enabled_all}
 
 chosen_read : {A : Type 0} (other : A) (items : List A) (item : A) (piece after : List ℕ) → SpellsPlace items item piece → chosen_at other items (piece ++ after) ≡ (item, after)
@@ -122,7 +122,7 @@ ref_type_read config types limit reference piece after stands h =
     let read = heap_type_read config types limit reference.heap_type piece after stands h.heap_type in
     nullable_by config.reference_types_enabled (heap_type_at config types false limit (piece ++ after)) (record { nullable = true; heap_type = Abstract false Func }, piece ++ after) reference after h.enabled read h.nullable
 
-rest_read : (config : Config) (types : List SubType) (limit : ℕ) (value : ValType) (piece after : List ℕ) → ReferenceTypes config (class_of value) → IsValInRange types value → SpellsRest config limit value piece
+rest_read : (config : Config) (types : List SubType) (limit : ℕ) (value : ValType) (piece after : List ℕ) → ReferenceTypes config (class_of value) → IsValInRange types value → SpellsBehindClass config limit value piece
     → value_of_class_at config types false limit (class_of value) (piece ++ after) ≡ (value, after)
 unfolding ReferenceTypes
 rest_read config types limit vals.I32 piece after on stands h = rw h refl

@@ -67,13 +67,13 @@ class_of vals.V128 = V128
 class_of (vals.Ref reference) = Reference
 
 -- what follows the class: of a reference its heap type
-abbrev pub SpellsRest : Config → ℕ → ValType → List ℕ → Type 0
-SpellsRest config limit (vals.Ref reference) piece = IsTrue reference.nullable × SpellsHeapType config limit reference.heap_type piece
-SpellsRest config limit _ piece = piece ≡ []
+abbrev pub SpellsBehindClass : Config → ℕ → ValType → List ℕ → Type 0
+SpellsBehindClass config limit (vals.Ref reference) piece = IsTrue reference.nullable × SpellsHeapType config limit reference.heap_type piece
+SpellsBehindClass config limit _ piece = piece ≡ []
 
 -- a value type: the place of its class, and what follows it
 unfoldable pub SpellsValType : Config → ℕ → ValType → List ℕ → Type 0
-SpellsValType config limit value = Joined (SpellsPlace (enabled (value_classes config)) (class_of value)) (SpellsRest config limit value)
+SpellsValType config limit value = Joined (SpellsPlace (enabled (value_classes config)) (class_of value)) (SpellsBehindClass config limit value)
 
 -- a storage type: its number, and of an unpacked one its value type
 abbrev pub SpellsStorage : Config → ℕ → StorageType → List ℕ → Type 0

@@ -4,6 +4,7 @@ pub mod Needless
 pub mod Bodies
 pub mod Alone
 pub mod Spelled
+pub mod SpelledMembers
 pub mod Places
 pub mod Counting
 pub mod ExampleParts

@@ -1,14 +1,14 @@
 -- Pieces of bytes put together to a spelling, and what a spelling says of its first byte.
-use Rattle.std.proofs.Common.{arith, ◌≡◌, ℕ, suc, ◌+◌, ◌-◌, ◌%◌, Bool, true, false, List, [], ◌∷◌, ◌++◌, length, refl, ap, sym, ◌∙◌, subst, append_assoc}
-use Rattle.std.specs.Prelude.{if◌then◌else◌}
-use Rattle.smith_bytes.specs.Draws.{big_endian, digit_count}
-use Rattle.smith_bytes.specs.Spelling.{SpellsBool, SpellsNumber, SpellsAnyByte, SpellsRefusal, SpellsNothing, Joined, Listed}
+use Rattle.std.proofs.Common.{arith, ◌≡◌, ℕ, suc, ◌+◌, ◌-◌, ◌%◌, ◌<◌, Bool, true, false, List, [], ◌∷◌, ◌++◌, length, refl, ap, sym, ◌∙◌, subst, append_assoc}
+use Rattle.std.specs.Prelude.{ℤ, Some, slice_get, if◌then◌else◌}
+use Rattle.std.specs.Int.{cast_signed, w32}
+use Rattle.smith_bytes.specs.Draws.{big_endian, little_endian, digit_count}
+use Rattle.smith_bytes.specs.Spelling.{SpellsBool, SpellsNumber, SpellsAnyByte, SpellsRefusal, Joined, Listed}
 use Rattle.smith_config.specs.Config.{default_config}
-use Rattle.smith_draw.specs.Spelling.{SpellsGroups, SpellsGroup, SpellsSize, SpellsSubTypes, SpellsSubType, SpellsUnshared, SpellsInner, SpellsFuncType}
+use Rattle.smith_draw.specs.Spelling.{SpellsPlace, SpellsGroups, SpellsGroup, SpellsSubTypes, SpellsFuncType}
 use Rattle.wasm_smith.specs.FuncTypes.{is_tag_type, is_unshared_function}
-use Rattle.wasm_smith.specs.Spelling.{SpellsMember}
-use Rattle.wasm_smith.specs.ExampleModules.{plain_function}
-use Rattle.wasm_smith.specs.ExampleMembers.{final as final_type, alone, one_function_type}
+use Rattle.wasm_smith.specs.Spelling.{SpellsMember, SpellsI32}
+use Rattle.wasm_smith.specs.ExampleMembers.{one_function_type}
 
 -- one piece behind another
 pub joined : {First Second : List ℕ → Type 0} (first second : List ℕ) → First first → Second second → Joined First Second (first ++ second)
@@ -27,6 +27,9 @@ go = odd 1 refl
 pub stop : SpellsBool false (0 ∷ [])
 stop = even 0 refl
 
+pub one_odd : SpellsBool false (1 ∷ []) → ⊥
+one_odd h = let same : 1 ≡ h.byte = cc h.whole in let never : 1 ≡ 0 = ap (λ n. n % 2) same ∙ h.lowest in cc never
+
 pub any_byte : (byte : ℕ) → SpellsAnyByte (byte ∷ [])
 any_byte byte = record { byte = byte; whole = refl }
 
@@ -34,6 +37,11 @@ any_byte byte = record { byte = byte; whole = refl }
 pub no_clone : SpellsRefusal 255 (1 ∷ [])
 unfolding digit_count
 no_clone = record { drawn = 2; later = omega arith; number = record { digits = refl; read = refl } }
+
+-- that a type is not shared
+pub not_shared : SpellsRefusal 4 (1 ∷ [])
+unfolding digit_count
+not_shared = record { drawn = 2; later = omega arith; number = record { digits = refl; read = refl } }
 
 -- every spelling of one function of a type that takes and gives nothing
 pub one_function_spelled : (next size final kind no_param no_result no_group no_import flag no_tag more no_more : ℕ)
@@ -98,26 +106,68 @@ digit_first {value} {lo} {hi} {Second} {byte} {rest} one both = of both.first bo
         (subst (λ n. value ≡ lo + big_endian (n ∷ []) % (hi - lo + 1)) head read, subst Second tail both.is_second)
     of (digit ∷ other ∷ more) digits read whole = let long : suc (suc (length more)) ≡ 1 = digits ∙ one in absurd (omega (arith, long))
 
+-- a byte in front, whatever it is
+pub any_first : {Second : List ℕ → Type 0} {byte : ℕ} {rest : List ℕ} → Joined SpellsAnyByte Second (byte ∷ rest) → Second rest
+any_first {Second = Second} {byte = byte} {rest = rest} both =
+    let one = both.is_first in
+    let apart : byte ∷ rest ≡ one.byte ∷ both.second = subst (λ part. byte ∷ rest ≡ part ++ both.second) one.whole both.whole in
+    let tail : both.second ≡ rest = cc in
+    subst Second tail both.is_second
+
+-- a certain byte in front is the first
+pub this_first : {this : ℕ} {Second : List ℕ → Type 0} {byte : ℕ} {rest : List ℕ} → Joined (λ one. one ≡ this ∷ []) Second (byte ∷ rest) → (byte ≡ this) × Second rest
+this_first {this} {Second} {byte} {rest} both =
+    let apart : byte ∷ rest ≡ this ∷ both.second = subst (λ part. byte ∷ rest ≡ part ++ both.second) both.is_first both.whole in
+    let head : byte ≡ this = cc in
+    let tail : both.second ≡ rest = cc in
+    (head, subst Second tail both.is_second)
+
+-- a number of four bytes in front is told by the first four
+pub word_first : {value : ℤ} {Second : List ℕ → Type 0} {a b c d : ℕ} {rest : List ℕ}
+    → Joined (SpellsI32 value) Second (a ∷ b ∷ c ∷ d ∷ rest) → (value ≡ cast_signed w32 (little_endian (a ∷ b ∷ c ∷ d ∷ []))) × Second rest
+word_first {value} {Second} {a} {b} {c} {d} {rest} both = of both.first both.is_first.four both.is_first.read both.whole
+  where
+    of : (first : List ℕ) → length first ≡ 4 → value ≡ cast_signed w32 (little_endian first) → a ∷ b ∷ c ∷ d ∷ rest ≡ first ++ both.second
+        → (value ≡ cast_signed w32 (little_endian (a ∷ b ∷ c ∷ d ∷ []))) × Second rest
+    of (p ∷ q ∷ r ∷ s ∷ []) four read whole =
+        let same : p ∷ q ∷ r ∷ s ∷ [] ≡ a ∷ b ∷ c ∷ d ∷ [] = cc in
+        let tail : both.second ≡ rest = cc in
+        (subst (λ bytes. value ≡ cast_signed w32 (little_endian bytes)) same read, subst Second tail both.is_second)
+    of [] four read whole = cc four
+    of (p ∷ []) four read whole = cc four
+    of (p ∷ q ∷ []) four read whole = cc four
+    of (p ∷ q ∷ r ∷ []) four read whole = cc four
+    of (p ∷ q ∷ r ∷ s ∷ t ∷ more) four read whole = let long : suc (suc (suc (suc (suc (length more))))) ≡ 4 = four in absurd (omega (arith, long))
+
+-- a refusal of one byte in front is told by the first byte
+pub refused_first : {chances : ℕ} {Second : List ℕ → Type 0} {byte : ℕ} {rest : List ℕ}
+    → digit_count (chances - 1) ≡ 1 → Joined (SpellsRefusal chances) Second (byte ∷ rest) → (1 < 1 + big_endian (byte ∷ []) % (chances - 1 + 1)) × Second rest
+refused_first {chances} {Second} {byte} {rest} one both =
+    let refusal = both.is_first in
+    let numbered : Joined (SpellsNumber refusal.drawn 1 chances) Second (byte ∷ rest) =
+    record { first = both.first; second = both.second; is_first = refusal.number; is_second = both.is_second; whole = both.whole } in
+    let (read, behind) = digit_first {value = refusal.drawn} {lo = 1} {hi = chances} {Second = Second} one numbered in
+    (subst (λ n. 1 < n) read refusal.later, behind)
+
+-- a place of one byte in front is told by the first byte
+pub place_first : {A : Type 0} {items : List A} {item : A} {Second : List ℕ → Type 0} {byte : ℕ} {rest : List ℕ}
+    → digit_count (length items - 1 - 0) ≡ 1 → Joined (SpellsPlace items item) Second (byte ∷ rest) → (slice_get items (0 + big_endian (byte ∷ []) % (length items - 1 - 0 + 1)) ≡ Some item) × Second rest
+place_first {A} {items} {item} {Second} {byte} {rest} one both =
+    let place = both.is_first in
+    let numbered : Joined (SpellsNumber place.place 0 (length items - 1)) Second (byte ∷ rest) =
+    record { first = both.first; second = both.second; is_first = place.number; is_second = both.is_second; whole = both.whole } in
+    let (read, behind) = digit_first {value = place.place} {lo = 0} {hi = length items - 1} {Second = Second} one numbered in
+    (subst (λ n. slice_get items n ≡ Some item) read place.stands, behind)
+
+-- the place in a list of one item takes no byte
+pub place_alone : {A : Type 0} {one item : A} {Second : List ℕ → Type 0} {piece : List ℕ} → Joined (SpellsPlace (one ∷ []) item) Second piece → Second piece
+unfolding digit_count
+place_alone both = without_nothing (first_weaker (λ part h. empty part h.number.digits) both)
+  where
+    empty : (part : List ℕ) → length part ≡ 0 → part ≡ []
+    empty [] none = refl
+    empty (byte ∷ part) none = cc none
+
 -- a first piece that is itself two, opened
 pub opened : {First Second : List ℕ → Type 0} {piece : List ℕ} (One Other : List ℕ → Type 0) → Joined First Second piece → ((part : List ℕ) → First part → Joined One Other part) → Joined One (Joined Other Second) piece
 opened One Other both as_two = regrouped (first_weaker as_two both)
-
--- what the first bytes say of every spelling of one function of a type that takes and gives nothing
-pub one_function_starts : (next size final kind : ℕ) (rest : List ℕ) → SpellsMember default_config one_function_type (0 ∷ []) (next ∷ size ∷ final ∷ kind ∷ rest)
-    → (next % 2 ≡ 1) × ((1 ≡ 0 + big_endian (size ∷ []) % (100 - 0 + 1)) × ((final % 2 ≡ 1) × (1 ≡ 0 + big_endian (kind ∷ []) % (2 - 0 + 1))))
-unfolding SpellsMember SpellsGroups SpellsGroup SpellsSubTypes digit_count
-one_function_starts next size final kind rest spelled =
-    let config = default_config in
-    let group = alone plain_function in
-    let t = final_type plain_function in
-    let (first, behind) = bool_first (opened (SpellsBool true) (Joined (SpellsGroup config [] false group) (SpellsGroups config group true [])) spelled (λ part is. is)) in
-    let whole = opened (SpellsGroup config [] false group) (SpellsGroups config group true []) behind (λ part is. is) in
-    let sized = opened (SpellsSize true config false 100 1) (SpellsSubTypes config [] 1 group) whole (λ part is. is) in
-    let counted = without_nothing (opened SpellsNothing (SpellsNumber 1 0 100) sized (λ part is. is)) in
-    let (second, types) = digit_first refl counted in
-    let one = opened (SpellsSubType config [] 1 t) (SpellsSubTypes config (t ∷ []) 1 []) types (λ part is. is) in
-    let declared = opened SpellsNothing (Joined (SpellsBool true) (Joined (SpellsUnshared config) (SpellsInner config 1 plain_function))) one (λ part is. is.form) in
-    let (third, inner) = bool_first (opened (SpellsBool true) (Joined (SpellsUnshared config) (SpellsInner config 1 plain_function)) (without_nothing declared) (λ part is. is)) in
-    let plain = without_nothing (opened SpellsNothing (SpellsInner config 1 plain_function) inner (λ part is. is)) in
-    let (fourth, lists) = digit_first refl (opened (SpellsNumber 1 0 2) (SpellsFuncType config 1 (record { params = []; results = [] })) plain (λ part is. is)) in
-    (first, (second, (third, fourth)))

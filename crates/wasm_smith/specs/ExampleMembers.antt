@@ -1,6 +1,7 @@
 -- Types, functions and configurations that the examples of families and spellings speak of.
-use Rattle.std.specs.Prelude.{ℕ, true, false, List, [], ◌∷◌, None, replicate}
+use Rattle.std.specs.Prelude.{ℕ, zero, suc, true, false, pos, List, [], ◌∷◌, None, replicate}
 use Rattle.smith_types.specs.declared.value_type.HeapType.TheVariants.{Concrete}
+use Rattle.smith_types.specs.declared.value_type.ValType.{ValType}
 use Rattle.smith_types.specs.declared.value_type.ValType.TheVariants.{I32, Ref}
 use Rattle.smith_types.specs.declared.composite_type.StorageType.TheVariants.{I8, Val}
 use Rattle.smith_types.specs.declared.composite_type.FieldType.{FieldType}
@@ -8,9 +9,13 @@ use Rattle.smith_types.specs.declared.composite_type.CompositeInnerType.{Composi
 use Rattle.smith_types.specs.declared.composite_type.CompositeInnerType.TheVariants.{Func, Struct}
 use Rattle.smith_types.specs.declared.composite_type.SubType.{SubType}
 use Rattle.smith_types.specs.ExampleTypes.{constant, variable, nullable}
+use Rattle.smith_types.specs.declared.const_instr.ConstInstr.TheVariants.{I32Const}
+use Rattle.smith_types.specs.declared.segments.DataSegmentKind.TheVariants.{Passive}
 use Rattle.smith_config.specs.declared.config.Config.{Config}
 use Rattle.smith_config.specs.Config.{default_config}
-use Rattle.wasm_smith.specs.ExampleModules.{a_type, bytes_array, plain_function}
+use Rattle.wasm_smith.specs.Module.{Parts}
+use Rattle.wasm_smith.specs.ExampleParts.{global}
+use Rattle.wasm_smith.specs.ExampleModules.{empty_module, a_type, bytes_array, plain_function}
 
 -- a final type without a supertype
 abbrev pub final : CompositeInnerType → SubType
@@ -52,9 +57,37 @@ struct_of_bytes count = Struct (record { fields = replicate count (constant I8) 
 abbrev pub one_of_each_without_gc : Config
 one_of_each_without_gc = record default_config { gc_enabled = false; max_types = 1; max_funcs = 1 }
 
+-- a function type of so many parameters, and one of so many results
+abbrev pub taking_numbers : ℕ → CompositeInnerType
+taking_numbers count = Func (record { params = replicate count I32; results = [] })
+
+abbrev pub giving_numbers : ℕ → CompositeInnerType
+giving_numbers count = Func (record { params = []; results = replicate count I32 })
+
+-- a function type that gives this, and one that takes it
+abbrev pub giving : ValType → CompositeInnerType
+giving result = Func (record { params = []; results = result ∷ [] })
+
+-- an array and a struct that refers to it, in one group
+abbrev pub array_and_struct_together : List (List SubType)
+array_and_struct_together = (final bytes_array ∷ final (struct_of 0) ∷ []) ∷ []
+
 -- no type and no import
 abbrev pub no_types_and_imports : Config
 no_types_and_imports = record default_config { max_types = 0; max_imports = 0 }
+
+-- no garbage collection, no floats, types that may be shared, exact types
+abbrev pub without_gc : Config
+without_gc = record default_config { gc_enabled = false }
+
+abbrev pub without_floats : Config
+without_floats = record default_config { allow_floats = false }
+
+abbrev pub with_shared_types : Config
+with_shared_types = record default_config { shared_everything_threads_enabled = true }
+
+abbrev pub with_exact_types : Config
+with_exact_types = record default_config { custom_descriptors_enabled = true }
 
 -- one result at most
 abbrev pub single_results : Config
@@ -75,3 +108,41 @@ nothing_may_be = record default_config {
   max_memories = 0;
   max_tables = 0;
 }
+
+-- a module of a global of the number 7, and bytes that are copied nowhere
+abbrev pub number_and_bytes : Parts
+number_and_bytes = record (empty_module default_config) {
+  globals = global I32 true ∷ [];
+  defined_globals = (0, I32Const (pos 7) ∷ []) ∷ [];
+  segments = record { kind = Passive; init = 42 ∷ [] } ∷ [];
+}
+
+-- bytes that spell one function, of a type that takes and gives nothing
+abbrev pub function_bytes : List ℕ
+function_bytes = 1 ∷ 1 ∷ 1 ∷ 1 ∷ 0 ∷ 0 ∷ 0 ∷ 0 ∷ 0 ∷ 0 ∷ 1 ∷ 0 ∷ []
+
+-- without garbage collection and room for more, one function that takes a number
+abbrev pub full_bytes : List ℕ
+full_bytes = 1 ∷ 1 ∷ 0 ∷ 0 ∷ 0 ∷ 0 ∷ 0 ∷ 0 ∷ 1 ∷ []
+
+-- an array and, in a group of its own, a struct that refers to it
+abbrev pub array_and_struct_bytes : List ℕ
+array_and_struct_bytes = 1 ∷ 1 ∷ 1 ∷ 0 ∷ 0 ∷ 0 ∷ 1 ∷ 1 ∷ 1 ∷ 1 ∷ 2 ∷ 1 ∷ 2 ∷ 5 ∷ 1 ∷ 0 ∷ 1 ∷ 0 ∷ 0 ∷ 0 ∷ []
+
+-- behind no types: a global of the number 7, and bytes
+abbrev pub number_bytes : List ℕ
+number_bytes = 0 ∷ 0 ∷ 1 ∷ 0 ∷ 1 ∷ 0 ∷ 7 ∷ 0 ∷ 0 ∷ 0 ∷ 0 ∷ 0 ∷ 0 ∷ 0 ∷ 0 ∷ []
+
+abbrev pub data_bytes : List ℕ
+data_bytes = 0 ∷ 0 ∷ 0 ∷ 0 ∷ 0 ∷ 0 ∷ 1 ∷ 1 ∷ 42 ∷ 0 ∷ 0 ∷ []
+
+-- bytes with another one at this place
+abbrev pub with_byte : ℕ → ℕ → List ℕ → List ℕ
+with_byte place other [] = []
+with_byte zero other (byte ∷ bytes) = other ∷ bytes
+with_byte (suc place) other (byte ∷ bytes) = byte ∷ with_byte place other bytes
+
+-- each of these changes, of the byte at a place to another, makes of the bytes none that spell this
+abbrev pub EachChangeCounts : (List ℕ → Type 0) → List ℕ → List (ℕ × ℕ) → Type 0
+EachChangeCounts Spells bytes [] = Unit {0}
+EachChangeCounts Spells bytes (change ∷ changes) = (¬ Spells (with_byte change.0 change.1 bytes)) × EachChangeCounts Spells bytes changes

@@ -22,7 +22,7 @@ use Rattle.smith_config.specs.ExampleShapes.{empty_shape}
 use Rattle.smith_config.specs.declared.shape.Shape.{Shape}
 use Rattle.wasm_smith.specs.Module.{Parts}
 use Rattle.wasm_smith.specs.ExampleParts.{import_named, memory, table, global, trapping}
-use Rattle.wasm_smith.specs.ExampleModules.{empty_module, group_of, three_memories, foo_type, quux_type}
+use Rattle.wasm_smith.specs.ExampleModules.{empty_module, group_of, three_memories, foo_type, quux_type, taking}
 use Rattle.wasm_smith.specs.ExampleMembers.{alone, final, taking_a_number}
 
 -- shapes for one use alone
@@ -141,6 +141,25 @@ exported exports = record (empty_module default_config) { memories = memory 1 (S
 -- a global of references that may not be null
 abbrev pub non_nullable : Shape
 non_nullable = record empty_shape { globals = global (Ref (not_null (plain heap.Extern))) false ∷ []; exports = (codes "g", kind.Global, 0) ∷ [] }
+
+-- a function type that takes such a reference
+abbrev pub taking_non_nullable : Shape
+taking_non_nullable = record empty_shape { groups = alone (taking (Ref (not_null (plain heap.Extern)))) ∷ [] }
+
+-- a table that is exported, and a memory that is exported by one name twice
+abbrev pub table_exported : Shape
+table_exported = record empty_shape { tables = table funcref 1 None ∷ []; exports = (codes "t", kind.Table, 0) ∷ [] }
+
+abbrev pub twice_exported : Shape
+twice_exported = record empty_shape { memories = memory 1 None ∷ []; exports = (codes "m", kind.Memory, 0) ∷ (codes "m", kind.Memory, 0) ∷ [] }
+
+-- a memory that may be imported
+abbrev pub memory_available : Shape
+memory_available = record empty_shape { imports = Single shared_bytes ∷ [] }
+
+-- two imports are asked for, of whatever kind
+abbrev pub room_for_two : Config
+room_for_two = record default_config { min_imports = 2; max_memories = 2; max_tables = 2 }
 
 -- a part that is not drawn yet, whose minimum may stay unmet where it may not when all is drawn
 abbrev pub IsToCome : Count → Type 0

@@ -61,7 +61,8 @@ pub record MayHaveNoExports (config : Config) : Type 0 where
   pub memories : config.min_memories ≡ 0
   pub globals : config.min_globals ≡ 0
 
--- where exports may end before there are as many as are asked for: they may be too large together, or there may be no item
+-- where exports may end before there are as many as are asked for: beside a shape, or where they may be too large together,
+-- or where there may be no item
 abbrev pub MayLackExports : Shapes → Config → Type 0
 MayLackExports shapes config =
     IsGiven shapes ⊎ ((config.max_type_size ≤ 42 * (config.max_imports + config.min_exports)) ⊎ MayHaveNoExports config)
@@ -101,8 +102,8 @@ MayBeOutOfShape shapes config reasons.SeveralTables = BringsTable shapes × (con
 MayBeOutOfShape shapes config reasons.Loop = ⊥
 MayBeOutOfShape shapes config reasons.RawBody = ⊥
 
--- when each refusal may come, for a sanitised configuration and the shapes that are given; Memory only where a growth was
--- refused, which no definition can tell
+-- when each refusal may come, for a sanitised configuration and the shapes that are in use: beside a module shape no other is;
+-- Memory only where a growth was refused, which no definition can tell
 abbrev pub MayRefuse : Shapes → Config → Error → Type 0
 MayRefuse shapes config errors.EmptyChoose = HoldsNonNullable shapes
 MayRefuse shapes config errors.NotEnoughData = ⊥

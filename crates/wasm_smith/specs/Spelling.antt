@@ -1,5 +1,5 @@
 -- Which bytes spell a module's types and functions, and the rest of a module that has no more than globals and passive data.
--- A rule of this project. One pair of lists has many spellings.
+-- Rules of this project, for a sanitised configuration. One pair of lists has many spellings.
 use Rattle.std.specs.Prelude.{◌≡◌, ℕ, ◌-◌, ◌≤◌, ◌==◌, ◌&&◌, nat_lt, Bool, true, false, ℤ, List, [], ◌∷◌, None, map, length, slice_get, option_to_list}
 use Rattle.std.specs.Int.{cast_signed, w32}
 use Rattle.std.specs.List.{list_any}
@@ -100,7 +100,7 @@ pub record HasMember (groups : List (List SubType)) (funcs : List ℕ) (m : Part
   pub groups_are : m.groups ≡ (space_of groups).groups
   pub funcs_are : m.funcs ≡ funcs
 
--- a module has globals of these numbers and these passive data, and nothing else beside types and functions
+-- a module has globals of these numbers and these passive data, and no table, memory, export, start or element segment
 pub record HasRest (numbers : List ℤ) (passive : List (List ℕ)) (m : Parts) : Type 0 where
   pub tables : m.tables ≡ []
   pub memories : m.memories ≡ []

@@ -1,14 +1,18 @@
 // Values that meet the definitions, and values that do not. The clauses are proved; nothing calls these functions.
 
 mod bounds;
+mod changed_bytes;
 mod family;
 mod func_types;
 mod given_modules;
 mod interesting_values;
 mod modules;
 mod promises;
+mod reached;
 mod refusals;
 mod refused_modules;
 mod shapes;
+mod spelled_types;
 mod spelling;
 mod termination;
+mod to_come;

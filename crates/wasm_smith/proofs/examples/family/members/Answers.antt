@@ -46,3 +46,9 @@ returns-clause-a_type_that_refers_forward c = λ family.
     let (gc, few, fields) = (family.each_type 0 (final (struct_of 1)) refl).inner in
     let (references, nullable, (enabled, below)) = All-head (IsMemberField default_config 0) (field_of 1) [] fields in
     omega (arith, below)
+
+pub returns-clause-a_type_of_a_later_group : goal.returns-clause-a_type_of_a_later_group
+returns-clause-a_type_of_a_later_group c = λ family.
+    let (gc, few, fields) = (family.each_type 0 (final (struct_of 1)) refl).inner in
+    let (references, nullable, (enabled, below)) = All-head (IsMemberField default_config 0) (field_of 1) [] fields in
+    omega (arith, below)

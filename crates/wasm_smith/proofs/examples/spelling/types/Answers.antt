@@ -1,7 +1,6 @@
-use Rattle.std.proofs.Common.{arith, ◌≡◌, [], ◌∷◌, refl}
+use Rattle.std.proofs.Common.{arith, ◌<◌, [], ◌∷◌, refl}
 use Rattle.smith_bytes.specs.Draws.{digit_count}
-use Rattle.smith_bytes.specs.Spelling.{SpellsNumber, Joined}
-use Rattle.wasm_smith.proofs.Spelled.{joined, digit_first, no_clone}
+use Rattle.wasm_smith.proofs.Spelled.{joined, refused_first, no_clone}
 use Rattle.wasm_smith.proofs.examples.spelling.types.Goals as goal
 
 pub returns-clause-byte_field : goal.returns-clause-byte_field
@@ -22,11 +21,4 @@ returns-clause-a_group_behind_another c = joined (1 ∷ []) (1 ∷ []) no_clone 
 
 pub returns-clause-a_group_that_is_cloned : goal.returns-clause-a_group_that_is_cloned
 unfolding digit_count
-returns-clause-a_group_that_is_cloned c = λ both.
-    let refusal = both.is_first in
-    let numbered : Joined (SpellsNumber refusal.drawn 1 255) (SpellsNumber 1 0 99) (0 ∷ 1 ∷ []) =
-    record { first = both.first; second = both.second; is_first = refusal.number; is_second = both.is_second; whole = both.whole } in
-    let (first, rest) = digit_first refl numbered in
-    let one : refusal.drawn ≡ 1 = first in
-    let later = refusal.later in
-    omega (arith, one, later)
+returns-clause-a_group_that_is_cloned c = λ both. let (later, rest) = refused_first refl both in let never : 1 < 1 = later in omega (arith, never)

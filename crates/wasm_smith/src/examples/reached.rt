@@ -1,0 +1,31 @@
+ghost use Rattle.std.specs.Prelude.{[], ◌∷◌, pos, true, false, Some, None};
+ghost use Rattle.smith_types.specs.Flags.{funcref};
+ghost use Rattle.smith_types.specs.declared.value_type.ValType.TheVariants.{I32};
+ghost use Rattle.smith_types.specs.declared.const_instr.ConstInstr.TheVariants.{I32Const};
+ghost use Rattle.smith_types.specs.declared.segments.Elements.TheVariants.{Functions};
+ghost use Rattle.smith_types.specs.declared.entity_type.ExportKind.TheVariants as kind;
+ghost use Rattle.wasm_smith.specs.Spelling.{HasMember, HasRest};
+ghost use Rattle.wasm_smith.specs.ExampleParts.{memory, table, global, passive_elements, active_data};
+ghost use Rattle.wasm_smith.specs.ExampleModules.{one_function};
+ghost use Rattle.wasm_smith.specs.ExampleMembers.{alone, one_function_type, taking_a_number, number_and_bytes};
+
+fn members()
+    ensures a_function { HasMember one_function_type (0 ∷ []) one_function }
+    ensures another_type { ¬ HasMember (alone taking_a_number ∷ []) (0 ∷ []) one_function }
+    ensures a_type_without_a_group { ¬ HasMember one_function_type (0 ∷ []) (record one_function { groups = [] }) }
+    ensures no_function { ¬ HasMember one_function_type [] one_function }
+{}
+
+fn rests()
+    ensures a_number_and_bytes { HasRest (pos 7 ∷ []) ((42 ∷ []) ∷ []) number_and_bytes }
+    ensures nothing_else { HasRest [] [] one_function }
+    ensures a_table { ¬ HasRest (pos 7 ∷ []) ((42 ∷ []) ∷ []) (record number_and_bytes { tables = table funcref 1 None ∷ [] }) }
+    ensures a_memory { ¬ HasRest (pos 7 ∷ []) ((42 ∷ []) ∷ []) (record number_and_bytes { memories = memory 1 None ∷ [] }) }
+    ensures a_constant_global { ¬ HasRest (pos 7 ∷ []) ((42 ∷ []) ∷ []) (record number_and_bytes { globals = global I32 false ∷ [] }) }
+    ensures another_number { ¬ HasRest (pos 8 ∷ []) ((42 ∷ []) ∷ []) number_and_bytes }
+    ensures an_export { ¬ HasRest (pos 7 ∷ []) ((42 ∷ []) ∷ []) (record number_and_bytes { exports = ([], kind.Global, 0) ∷ [] }) }
+    ensures a_start { ¬ HasRest [] [] (record one_function { start = Some 0 }) }
+    ensures elements { ¬ HasRest (pos 7 ∷ []) ((42 ∷ []) ∷ []) (record number_and_bytes { elems = passive_elements (Functions []) ∷ [] }) }
+    ensures other_bytes { ¬ HasRest (pos 7 ∷ []) ((43 ∷ []) ∷ []) number_and_bytes }
+    ensures bytes_that_are_copied { ¬ HasRest (pos 7 ∷ []) ((42 ∷ []) ∷ []) (record number_and_bytes { segments = active_data (pos 0) (42 ∷ []) ∷ [] }) }
+{}

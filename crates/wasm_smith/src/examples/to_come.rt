@@ -1,0 +1,66 @@
+ghost use Rattle.std.specs.Prelude.{◌⊎◌, true, false, [], ◌∷◌, pos, Some, None, Ok, Err};
+ghost use Rattle.smith_bytes.specs.declared.error.Error.{Error};
+ghost use Rattle.smith_bytes.specs.declared.error.Error.TheVariants.{EmptyChoose, IncorrectFormat, Memory, Config as Faulty};
+ghost use Rattle.smith_bytes.specs.declared.error.ConfigFault.TheVariants.{MinAboveMax};
+ghost use Rattle.smith_bytes.specs.declared.error.Count.TheVariants as counts;
+ghost use Rattle.smith_bytes.specs.declared.error.Why.TheVariants.{Unmet, TypeSize};
+ghost use Rattle.smith_types.specs.Flags.{funcref};
+ghost use Rattle.smith_types.specs.declared.segments.Elements.TheVariants.{Functions};
+ghost use Rattle.smith_types.specs.declared.entity_type.ExportKind.TheVariants as kind;
+ghost use Rattle.smith_config.specs.Config.{default_config};
+ghost use Rattle.smith_config.specs.declared.config.Config.{Config};
+ghost use Rattle.smith_config.specs.Shapes.{no_shapes};
+ghost use Rattle.wasm_smith.specs.Refusals.{MayRefuse};
+ghost use Rattle.wasm_smith.specs.ToCome.{MayComeOut, HasNoMore, IsDrawn, Allows};
+ghost use Rattle.wasm_smith.specs.ExampleParts.{table, number, passive_elements, active_data};
+ghost use Rattle.wasm_smith.specs.ExampleModules.{one_function, one_import, empty_module};
+ghost use Rattle.wasm_smith.specs.ExampleShapes.{IsUnmetToCome};
+
+fn refusals()
+    ensures allowed_later { (config : Config) (e : Error) → MayComeOut config e → MayRefuse no_shapes config e ⊎ IsUnmetToCome config e }
+    ensures tables_are_refused { MayComeOut (record default_config { min_tables = 1 }) (IncorrectFormat (Unmet counts.Tables)) }
+    ensures types_are_not { ¬ MayComeOut (record default_config { min_types = 1 }) (IncorrectFormat (Unmet counts.Types)) }
+    ensures memories_are_not { ¬ MayComeOut (record default_config { min_memories = 1 }) (IncorrectFormat (Unmet counts.Memories)) }
+    ensures functions_of_no_type { MayComeOut (record default_config { min_funcs = 1; gc_enabled = false }) (IncorrectFormat (Unmet counts.Funcs)) }
+    ensures functions_of_some_type { ¬ MayComeOut (record default_config { min_funcs = 1; min_types = 1; gc_enabled = false }) (IncorrectFormat (Unmet counts.Funcs)) }
+    ensures nothing_asked_for { ¬ MayComeOut default_config (IncorrectFormat (Unmet counts.Tags)) }
+    ensures crossed_bounds { MayComeOut (record default_config { min_types = 101 }) (Faulty (MinAboveMax counts.Types)) }
+    ensures no_crossed_bounds { ¬ MayComeOut default_config (Faulty (MinAboveMax counts.Types)) }
+    ensures memory { MayComeOut default_config Memory }
+    ensures choice { ¬ MayComeOut default_config EmptyChoose }
+    ensures type_size { ¬ MayComeOut (record default_config { export_everything = true }) (IncorrectFormat TypeSize) }
+{}
+
+fn parts()
+    ensures a_function { HasNoMore one_function }
+    ensures an_import { ¬ HasNoMore (record one_function { imports = one_import.imports }) }
+    ensures a_number_of_imports { ¬ HasNoMore (record one_function { num_imports = 1 }) }
+    ensures a_tag { ¬ HasNoMore (record one_function { tags = 0 ∷ [] }) }
+    ensures a_table { ¬ HasNoMore (record one_function { tables = table funcref 1 None ∷ [] }) }
+    ensures a_defined_table { ¬ HasNoMore (record one_function { defined_tables = None ∷ [] }) }
+    ensures a_global { ¬ HasNoMore (record one_function { globals = number ∷ [] }) }
+    ensures a_defined_global { ¬ HasNoMore (record one_function { defined_globals = (0, []) ∷ [] }) }
+    ensures a_number_of_tags { ¬ HasNoMore (record one_function { num_defined_tags = 1 }) }
+    ensures an_export { ¬ HasNoMore (record one_function { exports = ([], kind.Func, 0) ∷ [] }) }
+    ensures a_start { ¬ HasNoMore (record one_function { start = Some 0 }) }
+    ensures elements { ¬ HasNoMore (record one_function { elems = passive_elements (Functions []) ∷ [] }) }
+    ensures bytes { ¬ HasNoMore (record one_function { segments = active_data (pos 0) [] ∷ [] }) }
+    ensures a_counter_of_fuel { ¬ HasNoMore (record one_function { fuel_globals = 0 ∷ [] }) }
+    ensures a_type_size { ¬ HasNoMore (record one_function { type_size = 1 }) }
+{}
+
+fn drawn()
+    ensures nothing { IsDrawn default_config (empty_module default_config) }
+    ensures a_function { IsDrawn default_config one_function }
+    ensures another_configuration { ¬ IsDrawn (record default_config { max_types = 7 }) one_function }
+    ensures a_fault { ¬ IsDrawn (record default_config { max_memory32_bytes = 4294967297 }) (record one_function { config = record default_config { max_memory32_bytes = 4294967297 } }) }
+    ensures a_function_of_no_type { ¬ IsDrawn default_config (record one_function { funcs = 1 ∷ [] }) }
+    ensures too_many { ¬ IsDrawn (record default_config { max_funcs = 0 }) (record one_function { config = record default_config { max_funcs = 0 } }) }
+    ensures too_few { ¬ IsDrawn (record default_config { min_funcs = 2 }) (record one_function { config = record default_config { min_funcs = 2 } }) }
+    ensures types_that_are_not_written { ¬ IsDrawn default_config (record one_function { encodes_types = false }) }
+    ensures a_start { ¬ IsDrawn default_config (record one_function { start = Some 0 }) }
+    ensures a_module { Allows default_config (Ok one_function) }
+    ensures another_module { ¬ Allows default_config (Ok (record one_function { groups = [] })) }
+    ensures want_of_memory { Allows default_config (Err Memory) }
+    ensures a_refusal_that_may_not_come { ¬ Allows default_config (Err EmptyChoose) }
+{}
