@@ -38,6 +38,11 @@ pub no_clone : SpellsRefusal 255 (1 ∷ [])
 unfolding digit_count
 no_clone = record { drawn = 2; later = omega arith; number = record { digits = refl; read = refl } }
 
+-- that no supertype is chosen
+pub no_supertype : SpellsRefusal 32 (1 ∷ [])
+unfolding digit_count
+no_supertype = record { drawn = 2; later = omega arith; number = record { digits = refl; read = refl } }
+
 -- that a type is not shared
 pub not_shared : SpellsRefusal 4 (1 ∷ [])
 unfolding digit_count

@@ -67,6 +67,7 @@ fn types()
     ensures an_array { SpellsCompositeType default_config 0 (record { inner = bytes_array; shared = false }) (0 ∷ 0 ∷ 0 ∷ []) }
     ensures an_array_where_types_may_be_shared { SpellsCompositeType with_shared_types 0 (record { inner = bytes_array; shared = false }) (1 ∷ 0 ∷ 0 ∷ 0 ∷ []) }
     ensures a_shared_array { ¬ SpellsCompositeType with_shared_types 0 (record { inner = bytes_array; shared = true }) (0 ∷ 0 ∷ 0 ∷ 0 ∷ []) }
+    ensures a_list_as_an_array { ¬ SpellsCompositeType default_config 0 (record { inner = bytes_array; shared = false }) (1 ∷ 0 ∷ 0 ∷ []) }
     ensures behind_an_open_type { SpellsSubType default_config (a_type bytes_array false None ∷ []) 2 (final bytes_array) (1 ∷ 1 ∷ 0 ∷ 0 ∷ 0 ∷ []) }
     ensures below_an_open_type { ¬ SpellsSubType default_config (a_type bytes_array false None ∷ []) 2 (final bytes_array) (0 ∷ 1 ∷ 0 ∷ 0 ∷ 0 ∷ []) }
     ensures behind_a_final_type { SpellsSubType default_config (final bytes_array ∷ []) 2 (final bytes_array) (1 ∷ 0 ∷ 0 ∷ 0 ∷ []) }
@@ -87,6 +88,10 @@ fn spaces()
     ensures a_group_that_refers_to_itself { ¬ GroupsFit 1 [] (alone (struct_of 0) ∷ []) }
     ensures one_group_more { SpellsAdded default_config (space_of []) (space_of one_function_type) (1 ∷ 1 ∷ 1 ∷ 0 ∷ 0 ∷ []) }
     ensures no_group_more { ¬ SpellsAdded default_config (space_of []) (space_of []) (0 ∷ []) }
+    ensures one_group_that_refers_to_itself { ¬ SpellsAdded default_config (space_of []) (space_of (alone (struct_of 0) ∷ [])) (1 ∷ 1 ∷ 2 ∷ 1 ∷ 2 ∷ 5 ∷ 1 ∷ 1 ∷ []) }
+    ensures one_group_of_other_bytes { ¬ SpellsAdded default_config (space_of []) (space_of one_function_type) (2 ∷ 1 ∷ 1 ∷ 0 ∷ 0 ∷ []) }
     ensures a_space { SpellsSpace default_config (space_of one_function_type) (1 ∷ 1 ∷ 1 ∷ 1 ∷ 0 ∷ 0 ∷ 0 ∷ []) }
+    ensures a_space_that_refers_to_itself { ¬ SpellsSpace default_config (space_of (alone (struct_of 0) ∷ [])) (1 ∷ 1 ∷ 1 ∷ 2 ∷ 1 ∷ 2 ∷ 5 ∷ 1 ∷ 1 ∷ 0 ∷ []) }
+    ensures a_space_of_other_bytes { ¬ SpellsSpace default_config (space_of one_function_type) (0 ∷ []) }
     ensures a_space_without_groups { ¬ SpellsSpace default_config (record { types = final plain_function ∷ []; groups = [] }) (1 ∷ 1 ∷ 1 ∷ 1 ∷ 0 ∷ 0 ∷ 0 ∷ []) }
 {}

@@ -1,8 +1,8 @@
 use Rattle.std.proofs.Common.{arith, ◌<◌, [], ◌∷◌, refl}
 use Rattle.smith_bytes.specs.Draws.{digit_count}
-use Rattle.smith_bytes.specs.Spelling.{SpellsNothing, SpellsNumber, SpellsRefusal}
+use Rattle.smith_bytes.specs.Spelling.{SpellsNothing, SpellsNumber}
 use Rattle.smith_draw.specs.Spelling.{SpellsField, SpellsGroup, SpellsSubTypes}
-use Rattle.wasm_smith.proofs.Spelled.{joined, go, stop, not_shared, digit_first, refused_first, without_nothing, opened}
+use Rattle.wasm_smith.proofs.Spelled.{joined, go, stop, no_supertype, not_shared, digit_first, refused_first, without_nothing, opened}
 use Rattle.wasm_smith.proofs.examples.spelled_types.types.Goals as goal
 
 pub returns-clause-an_array : goal.returns-clause-an_array
@@ -21,8 +21,7 @@ pub returns-clause-behind_an_open_type : goal.returns-clause-behind_an_open_type
 unfolding SpellsField digit_count
 returns-clause-behind_an_open_type c =
     let array = joined (0 ∷ []) (0 ∷ 0 ∷ []) (record { digits = refl; read = refl }) (joined (0 ∷ []) (0 ∷ []) (record { digits = refl; read = refl }) stop) in
-    let refused : SpellsRefusal 32 (1 ∷ []) = record { drawn = 2; later = omega arith; number = record { digits = refl; read = refl } } in
-    record { root = refl; unshared = refl; form = joined (1 ∷ []) (1 ∷ 0 ∷ 0 ∷ 0 ∷ []) refused (joined (1 ∷ []) (0 ∷ 0 ∷ 0 ∷ []) go (joined [] (0 ∷ 0 ∷ 0 ∷ []) refl array)) }
+    record { root = refl; unshared = refl; form = joined (1 ∷ []) (1 ∷ 0 ∷ 0 ∷ 0 ∷ []) no_supertype (joined (1 ∷ []) (0 ∷ 0 ∷ 0 ∷ []) go (joined [] (0 ∷ 0 ∷ 0 ∷ []) refl array)) }
 
 pub returns-clause-behind_a_final_type : goal.returns-clause-behind_a_final_type
 unfolding SpellsField digit_count
@@ -41,3 +40,7 @@ returns-clause-an_empty_group c = joined (0 ∷ []) [] (joined [] (0 ∷ []) ref
 pub returns-clause-a_group_of_one : goal.returns-clause-a_group_of_one
 unfolding SpellsGroup SpellsSubTypes digit_count
 returns-clause-a_group_of_one c = λ h. cc (digit_first refl (without_nothing (opened SpellsNothing (SpellsNumber 0 0 100) h (λ part is. is)))).0
+
+pub returns-clause-a_list_as_an_array : goal.returns-clause-a_list_as_an_array
+unfolding digit_count
+returns-clause-a_list_as_an_array c = λ composite. cc (digit_first refl (without_nothing composite.form)).0

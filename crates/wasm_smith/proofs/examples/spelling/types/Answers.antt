@@ -1,6 +1,6 @@
 use Rattle.std.proofs.Common.{arith, ◌<◌, [], ◌∷◌, refl}
 use Rattle.smith_bytes.specs.Draws.{digit_count}
-use Rattle.wasm_smith.proofs.Spelled.{joined, refused_first, no_clone}
+use Rattle.wasm_smith.proofs.Spelled.{joined, refused_first, no_clone, not_shared}
 use Rattle.wasm_smith.proofs.examples.spelling.types.Goals as goal
 
 pub returns-clause-byte_field : goal.returns-clause-byte_field
@@ -12,8 +12,7 @@ unfolding digit_count
 returns-clause-abstract_type c = (refl, joined [] (0 ∷ []) refl (joined [] (0 ∷ []) refl (record { place = 0; stands = refl; number = record { digits = refl; read = refl } })))
 
 pub returns-clause-sharedness : goal.returns-clause-sharedness
-unfolding digit_count
-returns-clause-sharedness c = record { drawn = 2; later = omega arith; number = record { digits = refl; read = refl } }
+returns-clause-sharedness c = not_shared
 
 pub returns-clause-a_group_behind_another : goal.returns-clause-a_group_behind_another
 unfolding digit_count
