@@ -7,6 +7,7 @@ pub mod Spelled
 pub mod Places
 pub mod Counting
 pub mod ExampleParts
+pub mod ExampleRefused
 pub mod ExampleShapes
 pub mod ExamplePromises
 pub mod FamilyFits
