@@ -18,15 +18,12 @@ use Rattle.smith_config.specs.declared.config.Config.{Config}
 use Rattle.smith_config.specs.Config.{default_config}
 use Rattle.smith_config.specs.Faults.{minimum_of}
 use Rattle.smith_config.specs.Shapes.{Shapes, no_shapes}
+pub use Rattle.smith_config.specs.ExampleShapes.{empty_shape}
 use Rattle.smith_config.specs.declared.shape.Shape.{Shape}
 use Rattle.wasm_smith.specs.Module.{Parts}
 use Rattle.wasm_smith.specs.ExampleParts.{import_named, memory, table, global, trapping}
 use Rattle.wasm_smith.specs.ExampleModules.{empty_module, group_of, three_memories, foo_type, quux_type}
 use Rattle.wasm_smith.specs.ExampleMembers.{alone, final, taking_a_number}
-
--- a shape of nothing
-abbrev pub empty_shape : Shape
-empty_shape = record { groups = []; imports = []; funcs = []; tags = []; tables = []; memories = []; globals = []; exports = [] }
 
 -- shapes for one use alone
 abbrev pub for_module : Shape → Shapes
