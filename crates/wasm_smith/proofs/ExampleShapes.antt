@@ -1,5 +1,5 @@
 -- What the examples of shapes have in common.
-use Rattle.std.proofs.Common.{◌≡◌, ℕ, List, [], ◌∷◌, Some, None, true, false, refl}
+use Rattle.std.proofs.Common.{rules, ◌≡◌, ℕ, List, [], ◌∷◌, Some, None, true, false, refl}
 use Rattle.std.specs.Prelude.{codes, slice_get}
 use Rattle.smith_types.specs.Exports.{IsEntityAt}
 use Rattle.smith_types.specs.ExampleTypes.{nullable, plain}
@@ -12,12 +12,20 @@ use Rattle.smith_types.specs.declared.entity_type.EntityType.TheVariants as enti
 use Rattle.smith_types.specs.declared.entity_type.ExportKind.{ExportKind}
 use Rattle.smith_types.specs.declared.entity_type.ExportKind.TheVariants as kind
 use Rattle.smith_config.specs.declared.shape.Shape.{Shape}
-use Rattle.smith_config.specs.Shapes.{shape_types, shape_spaces}
+use Rattle.smith_config.specs.Shapes.{no_shapes, shape_types, shape_spaces}
+use Rattle.wasm_smith.specs.Bounds.{FixesExports, FixesImports}
 use Rattle.wasm_smith.specs.Module.{Parts, module_spaces}
 use Rattle.wasm_smith.specs.ShapesKept.{IsSameExport, IsSameType, IsSameFuncType, KeepsAvailableImports, KeepsExports, is_fitting}
 use Rattle.wasm_smith.specs.ExampleParts.{memory, table, global}
 use Rattle.wasm_smith.specs.ExampleModules.{a_type, foo_type, quux_type, one_of_each}
 use Rattle.wasm_smith.specs.ExampleShapes.{environment, with_environment, five_exports}
+
+-- without shapes neither exports nor imports are fixed
+pub no_exports_fixed : FixesExports no_shapes → ⊥
+no_exports_fixed = search rules
+
+pub no_imports_fixed : FixesImports no_shapes → ⊥
+no_imports_fixed = search rules
 
 -- an export of a shape is kept where what is exported has the same type
 pub export_kept : (shape : Shape) (m : Parts) (name : List ℕ) (of_kind : ExportKind) (index other : ℕ) (mine yours : EntityType)

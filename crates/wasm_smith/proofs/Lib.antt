@@ -8,6 +8,7 @@ pub mod SpelledMembers
 pub mod Places
 pub mod Counting
 pub mod ExampleParts
+pub mod ExampleRefused
 pub mod ExampleShapes
 pub mod ExamplePromises
 pub mod FamilyFits

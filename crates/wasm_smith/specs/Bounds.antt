@@ -142,7 +142,7 @@ pub record KeepsBounds (shapes : Shapes) (m : Parts) : Type 0 where
 abbrev pub HasNoCandidates : Parts → Type 0
 HasNoCandidates m = All (λ index. (t : SubType) × (slice_get m.types index ≡ Some t) × IsTrue (shared t)) m.funcs
 
--- an element segment has as many items as are asked for, or is a list of functions where there is no candidate
+-- an element segment has as many items as are asked for, or is an empty list of functions where there is no candidate
 abbrev pub HasEnough : Parts → ElementSegment → Type 0
 HasEnough m segment = (m.config.min_elements ≤ item_count segment.items) ⊎ ((segment.items ≡ Functions []) × HasNoCandidates m)
 

@@ -1,7 +1,7 @@
 -- Modules that the examples speak of.
 use Rattle.std.specs.Prelude.{ℕ, Bool, true, false, pos, negsuc, List, [], ◌∷◌, Option, Some, None, codes, length}
-use Rattle.std.specs.declared.ops.Range.{Range}
 use Rattle.smith_types.specs.Flags.{funcref}
+pub use Rattle.smith_types.specs.ExampleTypes.{range as group_of}
 use Rattle.smith_types.specs.ExampleTypes.{nullable, not_null, constant, plain}
 use Rattle.smith_types.specs.declared.value_type.HeapType.TheVariants.{Concrete}
 use Rattle.smith_types.specs.declared.value_type.AbstractHeapType.TheVariants as heap
@@ -58,10 +58,6 @@ empty_module configuration = record {
   interesting_values32 = [];
   interesting_values64 = [];
 }
-
--- the types from one index up to another
-abbrev pub group_of : ℕ → ℕ → Range ℕ
-group_of from until = record { start = from; end = until }
 
 -- a type that is not shared
 abbrev pub a_type : CompositeInnerType → Bool → Option ℕ → SubType

@@ -1,14 +1,13 @@
 -- Parts of modules that the examples speak of.
-use Rattle.std.specs.Prelude.{ℕ, Bool, true, false, ℤ, List, [], ◌∷◌, Option, Some, None}
+use Rattle.std.specs.Prelude.{ℕ, Bool, true, false, ℤ, List, [], ◌∷◌, Some, None}
 use Rattle.smith_types.specs.Flags.{funcref}
+pub use Rattle.smith_types.specs.ExampleEntities.{memory, table}
 use Rattle.smith_types.specs.ExampleTypes.{plain}
 use Rattle.smith_types.specs.declared.value_type.AbstractHeapType.TheVariants as heap
-use Rattle.smith_types.specs.declared.value_type.RefType.{RefType}
 use Rattle.smith_types.specs.declared.value_type.ValType.{ValType}
 use Rattle.smith_types.specs.declared.value_type.ValType.TheVariants.{I32}
 use Rattle.smith_types.specs.declared.entity_type.EntityType.{EntityType}
 use Rattle.smith_types.specs.declared.entity_type.MemoryType.{MemoryType}
-use Rattle.smith_types.specs.declared.entity_type.TableType.{TableType}
 use Rattle.smith_types.specs.declared.entity_type.GlobalType.{GlobalType}
 use Rattle.smith_types.specs.declared.imports.Import.{Import}
 use Rattle.smith_types.specs.declared.const_instr.ConstInstr.{ConstInstr}
@@ -24,17 +23,9 @@ use Rattle.smith_types.specs.declared.segments.Offset.TheVariants.{Const32}
 use Rattle.smith_types.specs.declared.code.Code.{Code}
 use Rattle.smith_types.specs.declared.code.Instructions.TheVariants.{Unreachable}
 
--- a memory of 32-bit addresses that is not shared
-abbrev pub memory : ℕ → Option ℕ → MemoryType
-memory minimum maximum = record { minimum = minimum; maximum = maximum; memory64 = false; shared = false; page_size_log2 = None }
-
 -- a shared memory of exactly so many pages
 abbrev pub shared_memory : ℕ → MemoryType
 shared_memory pages = record { minimum = pages; maximum = Some pages; memory64 = false; shared = true; page_size_log2 = None }
-
--- a table of 32-bit indices that is not shared
-abbrev pub table : RefType → ℕ → Option ℕ → TableType
-table element minimum maximum = record { element_type = element; minimum = minimum; maximum = maximum; table64 = false; shared = false }
 
 -- a global that is not shared, constant or not
 abbrev pub global : ValType → Bool → GlobalType

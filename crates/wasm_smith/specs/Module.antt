@@ -125,7 +125,7 @@ pub record AreDefinitionsValid (m : Parts) : Type 0 where
   pub tables : (place : ℕ) (initial : Option (List ConstInstr)) → slice_get m.defined_tables place ≡ Some initial → IsTableDefined m place initial
   pub globals : (place index : ℕ) (initial : List ConstInstr) → slice_get m.defined_globals place ≡ Some (index, initial) → IsGlobalDefined m place index initial
 
--- there is a body for each function that is defined (Validation, Functions), and each counter of fuel is such a global (own rule)
+-- there is a body for each function that is defined (Validation, Functions), and what counts fuel is a global that may (own rule)
 pub record AreBodiesValid (m : Parts) : Type 0 where
   pub each : length m.code ≡ m.num_defined_funcs
   pub bodies : All (IsBodyValid (module_features m) (length m.types) m.config.allow_invalid_funcs) m.code

@@ -1,21 +1,18 @@
-use Rattle.std.proofs.Common.{rules, arith, ◌≤◌, [], ◌∷◌, refl}
+use Rattle.std.proofs.Common.{arith, ◌≤◌, [], ◌∷◌, refl}
 use Rattle.std.proofs.lemmas.List.Elements.{All-head}
 use Rattle.smith_bytes.specs.declared.error.Count.TheVariants as counts
 use Rattle.smith_types.specs.declared.segments.Elements.TheVariants.{Expressions}
-use Rattle.smith_config.specs.Shapes.{no_shapes}
-use Rattle.wasm_smith.specs.Bounds.{FixesExports, HasEnough}
+use Rattle.wasm_smith.specs.Bounds.{HasEnough}
 use Rattle.wasm_smith.specs.ExampleParts.{no_function, passive_elements}
 use Rattle.wasm_smith.specs.ExampleModules.{elements_asked_for}
+use Rattle.wasm_smith.proofs.ExampleShapes.{no_exports_fixed}
 use Rattle.wasm_smith.proofs.examples.bounds.least.Goals as goal
 
 pub returns-clause-no_function : goal.returns-clause-no_function
 returns-clause-no_function c = λ minimums. let never : 1 ≤ 0 = minimums.least counts.Funcs tt in omega (arith, never)
 
-no_shape_fixes : FixesExports no_shapes → ⊥
-no_shape_fixes = search rules
-
 pub returns-clause-no_export : goal.returns-clause-no_export
-returns-clause-no_export c = λ minimums. let never : 1 ≤ 0 = minimums.least counts.Exports (no_shape_fixes, refl) in omega (arith, never)
+returns-clause-no_export c = λ minimums. let never : 1 ≤ 0 = minimums.least counts.Exports (no_exports_fixed, refl) in omega (arith, never)
 
 one_of_two : HasEnough (elements_asked_for 2 (Expressions (no_function ∷ []))) (passive_elements (Expressions (no_function ∷ []))) → ⊥
 one_of_two = search arith

@@ -1,11 +1,7 @@
-use Rattle.std.proofs.Common.{rules, arith, ◌≤◌, refl}
+use Rattle.std.proofs.Common.{arith, ◌≤◌, refl}
 use Rattle.smith_bytes.specs.declared.error.Count.TheVariants as counts
-use Rattle.smith_config.specs.Shapes.{no_shapes}
-use Rattle.wasm_smith.specs.Bounds.{FixesExports}
+use Rattle.wasm_smith.proofs.ExampleShapes.{no_exports_fixed}
 use Rattle.wasm_smith.proofs.examples.bounds.most.Goals as goal
-
-no_shape_fixes : FixesExports no_shapes → ⊥
-no_shape_fixes = search rules
 
 pub returns-clause-a_type_too_many : goal.returns-clause-a_type_too_many
 returns-clause-a_type_too_many c = λ bounds. let never : 2 ≤ 1 = bounds.most counts.Types tt in omega (arith, never)
@@ -17,4 +13,4 @@ pub returns-clause-an_element_too_many : goal.returns-clause-an_element_too_many
 returns-clause-an_element_too_many c = λ bounds. let never : 3 ≤ 2 = bounds.most counts.Elements tt in omega (arith, never)
 
 pub returns-clause-an_export_too_many : goal.returns-clause-an_export_too_many
-returns-clause-an_export_too_many c = λ bounds. let never : 1 ≤ 0 = bounds.most counts.Exports (no_shape_fixes, refl) in omega (arith, never)
+returns-clause-an_export_too_many c = λ bounds. let never : 1 ≤ 0 = bounds.most counts.Exports (no_exports_fixed, refl) in omega (arith, never)

@@ -1,18 +1,15 @@
 use Rattle.std.proofs.Common.{rules, refl}
-use Rattle.smith_config.specs.Shapes.{no_shapes}
 use Rattle.wasm_smith.specs.Bounds.{FixesImports}
 use Rattle.wasm_smith.specs.ExampleShapes.{for_exports, exporting}
 use Rattle.wasm_smith.proofs.ExamplePromises.{not_distinct, past_the_table}
+use Rattle.wasm_smith.proofs.ExampleShapes.{no_imports_fixed}
 use Rattle.wasm_smith.proofs.examples.promises.asked_for.Goals as goal
-
-no_shape_fixes : FixesImports no_shapes → ⊥
-no_shape_fixes = search rules
 
 exports_fix_none : FixesImports (for_exports exporting) → ⊥
 exports_fix_none = search rules
 
 pub returns-clause-one_name_twice : goal.returns-clause-one_name_twice
-returns-clause-one_name_twice c = λ kept. not_distinct (kept.names refl no_shape_fixes)
+returns-clause-one_name_twice c = λ kept. not_distinct (kept.names refl no_imports_fixed)
 
 pub returns-clause-one_name_twice_beside_exports_of_a_shape : goal.returns-clause-one_name_twice_beside_exports_of_a_shape
 returns-clause-one_name_twice_beside_exports_of_a_shape c = λ kept. not_distinct (kept.names refl exports_fix_none)

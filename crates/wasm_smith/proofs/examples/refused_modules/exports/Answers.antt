@@ -1,4 +1,4 @@
-use Rattle.std.proofs.Common.{rules, arith, ◌≡◌, ℕ, List, [], ◌∷◌, refl}
+use Rattle.std.proofs.Common.{rules, ℕ, List, [], ◌∷◌, refl}
 use Rattle.std.specs.Prelude.{codes}
 use Rattle.std.proofs.lemmas.List.Elements.{All-from_recursion, All-head}
 use Rattle.smith_types.specs.Exports.{IsEntityAt, AreDistinct}
@@ -8,6 +8,7 @@ use Rattle.smith_types.specs.declared.entity_type.ExportKind.{ExportKind}
 use Rattle.smith_types.specs.declared.entity_type.ExportKind.TheVariants as kind
 use Rattle.wasm_smith.specs.Module.{module_spaces}
 use Rattle.wasm_smith.specs.ExampleModules.{exported_twice, one_number}
+use Rattle.wasm_smith.proofs.ExampleRefused.{name_refused}
 use Rattle.wasm_smith.proofs.examples.refused_modules.exports.Goals as goal
 
 two : AreDistinct {A = List ℕ} (codes "a" ∷ codes "b" ∷ [])
@@ -21,7 +22,7 @@ returns-clause-two_names c = record {
 }
 
 pub returns-clause-a_name_twice : goal.returns-clause-a_name_twice
-returns-clause-a_name_twice c = λ valid. let same : 0 ≡ 1 = valid.distinct.once 0 1 (codes "a") refl refl in omega (arith, same)
+returns-clause-a_name_twice c = name_refused
 
 pub returns-clause-what_is_not_there : goal.returns-clause-what_is_not_there
 returns-clause-what_is_not_there c = λ valid.

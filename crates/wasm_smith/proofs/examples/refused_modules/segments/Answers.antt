@@ -1,21 +1,16 @@
 use Rattle.std.proofs.Common.{arith, [], ◌∷◌, pos, negsuc, false}
 use Rattle.std.proofs.lemmas.List.Elements.{All-head}
 use Rattle.smith_types.specs.Segments.{IsElementValid, IsDataValid}
-use Rattle.smith_types.specs.declared.segments.Elements.TheVariants.{Expressions}
-use Rattle.smith_types.specs.declared.segments.DataSegmentKind.TheVariants as data_kind
 use Rattle.smith_types.specs.declared.segments.Offset.TheVariants.{Const32, Global}
-use Rattle.smith_config.specs.Config.{default_config}
 use Rattle.wasm_smith.specs.Module.{segment_context}
-use Rattle.wasm_smith.specs.ExampleParts.{no_function, passive_elements, into_a_table, active_data}
-use Rattle.wasm_smith.specs.ExampleModules.{two_elements, one_function, passive_bytes, table_from_a_number}
+use Rattle.wasm_smith.specs.ExampleParts.{into_a_table, active_data}
+use Rattle.wasm_smith.specs.ExampleModules.{one_function, table_from_a_number}
 use Rattle.wasm_smith.specs.ExampleGiven.{last_byte}
+use Rattle.wasm_smith.proofs.ExampleRefused.{elements_refused, bytes_refused}
 use Rattle.wasm_smith.proofs.examples.refused_modules.segments.Goals as goal
 
 pub returns-clause-elements_without_bulk_memory : goal.returns-clause-elements_without_bulk_memory
-returns-clause-elements_without_bulk_memory c = λ valid.
-    let context = segment_context (record two_elements { config = record default_config { bulk_memory_enabled = false } }) in
-    let segment = All-head (IsElementValid context []) (passive_elements (Expressions (no_function ∷ no_function ∷ []))) [] valid in
-    cc segment.kind
+returns-clause-elements_without_bulk_memory c = elements_refused
 
 pub returns-clause-elements_in_no_table : goal.returns-clause-elements_in_no_table
 returns-clause-elements_in_no_table c = λ valid.
@@ -35,7 +30,4 @@ returns-clause-bytes_in_no_memory c = λ valid.
     cc stands
 
 pub returns-clause-bytes_without_bulk_memory : goal.returns-clause-bytes_without_bulk_memory
-returns-clause-bytes_without_bulk_memory c = λ valid.
-    let context = segment_context (record passive_bytes { config = record default_config { bulk_memory_enabled = false } }) in
-    let never = All-head (IsDataValid context []) (record { kind = data_kind.Passive; init = 42 ∷ [] }) [] valid in
-    cc never
+returns-clause-bytes_without_bulk_memory c = bytes_refused

@@ -1,10 +1,9 @@
 use Rattle.std.proofs.Common.{rules, arith, [], ◌∷◌, Some, None, pos, false, sym, subst, refl}
-use Rattle.std.specs.Prelude.{IsTrue}
 use Rattle.std.proofs.lemmas.Option.{same_Some}
 use Rattle.smith_types.specs.Flags.{funcref}
 use Rattle.std.proofs.lemmas.Grind.{common_steps}
 use Rattle.smith_types.specs.Expressions.{IsConstExpr}
-use Rattle.smith_types.specs.ExampleTypes.{nullable, not_null, plain}
+use Rattle.smith_types.specs.ExampleTypes.{nullable, plain}
 use Rattle.smith_types.specs.declared.value_type.AbstractHeapType.TheVariants as heap
 use Rattle.smith_types.specs.declared.entity_type.TableType.{TableType}
 use Rattle.smith_types.specs.declared.value_type.ValType.TheVariants.{Ref}
@@ -16,6 +15,7 @@ use Rattle.wasm_smith.specs.ExampleParts.{table, global, no_function}
 use Rattle.wasm_smith.specs.ExampleModules.{table_from_import, table_behind, one_table}
 use Rattle.wasm_smith.proofs.Places.{each_place}
 use Rattle.wasm_smith.proofs.ExampleParts.{alone, pushed_alone, no_function_given}
+use Rattle.wasm_smith.proofs.ExampleRefused.{null_refused}
 use Rattle.wasm_smith.proofs.examples.refused_modules.tables.Goals as goal
 
 number_is_no_reference : IsConstExpr (table_context one_table) (Ref funcref) (I32Const (pos 0) ∷ []) → ⊥
@@ -48,10 +48,7 @@ returns-clause-from_a_number c = λ valid.
     number_is_no_reference (subst (λ (one : TableType). IsConstExpr (table_context one_table) (Ref one.element_type) (I32Const (pos 0) ∷ [])) (sym (same_Some (table funcref 1 None) stands at)) expression)
 
 pub returns-clause-of_no_null_without_an_initialiser : goal.returns-clause-of_no_null_without_an_initialiser
-returns-clause-of_no_null_without_an_initialiser c = λ valid.
-    let (stands, at, null) = valid.tables 0 None refl in
-    let never : IsTrue false = subst (λ (one : TableType). IsTrue one.element_type.nullable) (sym (same_Some (table (not_null (plain heap.Func)) 1 None) stands at)) null in
-    cc never
+returns-clause-of_no_null_without_an_initialiser c = null_refused
 
 pub returns-clause-that_is_not_there : goal.returns-clause-that_is_not_there
 returns-clause-that_is_not_there c = λ valid. let (table, at, started) = valid.tables 0 (Some no_function) refl in cc at
