@@ -8,7 +8,7 @@ use Rattle.smith_bytes.specs.declared.error.Which.{Which}
 use Rattle.smith_bytes.specs.declared.error.Which.TheVariants.{AvailableImports, Exports, ModuleShape}
 use Rattle.smith_bytes.specs.declared.error.ShapeFault.{ShapeFault}
 use Rattle.smith_bytes.specs.declared.error.ShapeFault.TheVariants as fault
-use Rattle.smith_types.specs.Features.{Features}
+use Rattle.smith_types.specs.Features.{Features, every_feature}
 use Rattle.smith_types.specs.Space.{Space}
 use Rattle.smith_types.specs.ValidTypes.{IsHeapTypeValid, IsRefTypeValid, IsValTypeValid, IsTypeValid, IsGroupValid, AreTypesValid, IsShareable, values_of}
 use Rattle.smith_types.specs.Entities.{AreLimitsValid, most_elements, IsTableValid, IsMemoryValid, IsGlobalValid}
@@ -31,7 +31,7 @@ use Rattle.smith_config.specs.declared.config.Config.{Config}
 use Rattle.smith_config.specs.declared.shape.Shape.{Shape}
 use Rattle.smith_config.specs.Features.{features_of}
 use Rattle.smith_config.specs.Shapes.{IsShapeValid, AreCountsFit, IsPlain, space_of, shape_types, shape_spaces, shape_values}
-use Rattle.smith_config.specs.ShapeFaults.{HasShapeFault, AreTypesRight, AreLimitsRight, AreFeaturesOn, every_feature}
+use Rattle.smith_config.specs.ShapeFaults.{HasShapeFault, AreTypesRight, AreLimitsRight, AreFeaturesOn}
 
 -- every abstract type is enabled where every feature is
 abstract_on : (shared : _) (ty : AbstractHeapType) (end : ℕ) → IsHeapTypeValid every_feature end (Abstract shared ty)

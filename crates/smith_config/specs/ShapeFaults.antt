@@ -4,7 +4,7 @@ use Rattle.smith_bytes.specs.declared.error.Which.{Which}
 use Rattle.smith_bytes.specs.declared.error.Which.TheVariants.{Exports}
 use Rattle.smith_bytes.specs.declared.error.ShapeFault.{ShapeFault}
 use Rattle.smith_bytes.specs.declared.error.ShapeFault.TheVariants as fault
-use Rattle.smith_types.specs.Features.{Features}
+use Rattle.smith_types.specs.Features.{Features, every_feature}
 use Rattle.smith_types.specs.ValidTypes.{AreTypesValid, IsValTypeValid, IsShareable}
 use Rattle.smith_types.specs.Entities.{AreLimitsValid, most_elements, IsTagValid, IsFuncValid, IsTableValid, IsMemoryValid, IsGlobalValid}
 use Rattle.smith_types.specs.Exports.{AreDistinct, AreExportsStanding}
@@ -16,35 +16,6 @@ use Rattle.smith_config.specs.declared.config.Config.{Config}
 use Rattle.smith_config.specs.declared.shape.Shape.{Shape}
 use Rattle.smith_config.specs.Features.{features_of}
 use Rattle.smith_config.specs.Shapes.{IsShort, IsShallow, IsPlain, HasNothingLeftOut, AreCountsFit, space_of, shape_types, shape_spaces, shape_values}
-
--- every feature there is
-abbrev pub every_feature : Features
-every_feature = record {
-  mutable_global = true;
-  wasm1 = true;
-  saturating_float_to_int = true;
-  sign_extension = true;
-  reference_types = true;
-  multi_value = true;
-  bulk_memory = true;
-  simd = true;
-  relaxed_simd = true;
-  multi_memory = true;
-  exceptions = true;
-  memory64 = true;
-  tail_call = true;
-  function_references = true;
-  gc = true;
-  compact_imports = true;
-  threads = true;
-  shared_everything_threads = true;
-  custom_page_sizes = true;
-  extended_const = true;
-  wide_arithmetic = true;
-  acquire_release_atomics = true;
-  multibyte_array_access = true;
-  custom_descriptors = true;
-}
 
 -- types, and what refers to them, are right where every feature is on; what is shared holds what may be shared
 pub record AreTypesRight (shape : Shape) : Type 0 where

@@ -1,5 +1,5 @@
 -- The features of WebAssembly that a module may use.
-use Rattle.std.specs.Prelude.{Bool}
+use Rattle.std.specs.Prelude.{Bool, true}
 
 -- which features are on, each named as its flag
 pub record Features : Type 0 where
@@ -27,3 +27,32 @@ pub record Features : Type 0 where
   pub acquire_release_atomics : Bool
   pub multibyte_array_access : Bool
   pub custom_descriptors : Bool
+
+-- every feature there is
+abbrev pub every_feature : Features
+every_feature = record {
+  mutable_global = true;
+  wasm1 = true;
+  saturating_float_to_int = true;
+  sign_extension = true;
+  reference_types = true;
+  multi_value = true;
+  bulk_memory = true;
+  simd = true;
+  relaxed_simd = true;
+  multi_memory = true;
+  exceptions = true;
+  memory64 = true;
+  tail_call = true;
+  function_references = true;
+  gc = true;
+  compact_imports = true;
+  threads = true;
+  shared_everything_threads = true;
+  custom_page_sizes = true;
+  extended_const = true;
+  wide_arithmetic = true;
+  acquire_release_atomics = true;
+  multibyte_array_access = true;
+  custom_descriptors = true;
+}

@@ -5,7 +5,7 @@ ghost use Rattle.smith_bytes.specs.declared.error.Count.TheVariants as counts;
 ghost use Rattle.smith_bytes.specs.declared.error.ConfigFault.TheVariants.{MinAboveMax, MaxTooLarge, Memory32Bytes, Memory64Bytes};
 ghost use Rattle.smith_types.specs.Instructions.{every_kind};
 ghost use Rattle.smith_config.specs.Config.{default_config};
-ghost use Rattle.smith_config.specs.ShapeFaults.{every_feature};
+ghost use Rattle.smith_types.specs.Features.{every_feature};
 ghost use Rattle.smith_config.specs.Arbitrary.{config_at};
 ghost use Rattle.smith_config.specs.ExampleConfigs.{least_config, counting_bytes, counting_config};
 ghost use Rattle.smith_config.specs.Sanitized.{sanitized, IsSanitized, IsLowered};

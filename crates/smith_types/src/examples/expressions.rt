@@ -44,7 +44,8 @@ ghost use Rattle.smith_types.specs.Expressions.{
   seen_by_segments,
   seeing,
 };
-ghost use Rattle.smith_types.specs.ExampleFeatures.{usual_features, without_gc, with_descriptors};
+ghost use Rattle.smith_types.specs.Features.{every_feature};
+ghost use Rattle.smith_types.specs.ExampleFeatures.{usual_features, without_gc};
 ghost use Rattle.smith_types.specs.ExampleTypes.{plain, nullable, not_null, anyref, shared_anyref};
 ghost use Rattle.smith_types.specs.ExampleContexts.{context_with};
 
@@ -160,14 +161,14 @@ fn references()
 {}
 
 fn exact_references()
-    ensures created_one { created (context_with with_descriptors 2) 1 ≡ Ref (not_null (Exact 1)) }
+    ensures created_one { created (context_with every_feature 2) 1 ≡ Ref (not_null (Exact 1)) }
     ensures created_otherwise { created (context_with usual_features 2) 1 ≡ Ref (not_null (Concrete 1)) }
-    ensures defined_function { function_reference (context_with with_descriptors 2) 1 0 ≡ Ref (not_null (Exact 0)) }
-    ensures imported_function { function_reference (context_with with_descriptors 2) 0 0 ≡ Ref (not_null (Concrete 0)) }
+    ensures defined_function { function_reference (context_with every_feature 2) 1 0 ≡ Ref (not_null (Exact 0)) }
+    ensures imported_function { function_reference (context_with every_feature 2) 0 0 ≡ Ref (not_null (Concrete 0)) }
     ensures function_otherwise { function_reference (context_with usual_features 2) 1 0 ≡ Ref (not_null (Concrete 0)) }
-    ensures of_a_defined_function { IsConstExpr (context_with with_descriptors 2) (Ref (not_null (Exact 0))) (RefFunc 1 ∷ []) }
-    ensures of_an_imported_function { ¬ IsConstExpr (context_with with_descriptors 2) (Ref (not_null (Exact 0))) (RefFunc 0 ∷ []) }
-    ensures of_a_struct { IsConstExpr (context_with with_descriptors 2) (Ref (not_null (Exact 1))) (I32Const (pos 1) ∷ StructNew 1 ∷ []) }
+    ensures of_a_defined_function { IsConstExpr (context_with every_feature 2) (Ref (not_null (Exact 0))) (RefFunc 1 ∷ []) }
+    ensures of_an_imported_function { ¬ IsConstExpr (context_with every_feature 2) (Ref (not_null (Exact 0))) (RefFunc 0 ∷ []) }
+    ensures of_a_struct { IsConstExpr (context_with every_feature 2) (Ref (not_null (Exact 1))) (I32Const (pos 1) ∷ StructNew 1 ∷ []) }
 {}
 
 fn defaults()

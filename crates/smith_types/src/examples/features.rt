@@ -1,6 +1,7 @@
 ghost use Rattle.std.specs.Prelude.{◌≡◌, true, false, IsTrue};
 ghost use Rattle.smith_types.specs.FeatureBits.{has, joined, features_in};
-ghost use Rattle.smith_types.specs.ExampleFeatures.{with_descriptors, no_features};
+ghost use Rattle.smith_types.specs.Features.{every_feature};
+ghost use Rattle.smith_types.specs.ExampleFeatures.{no_features};
 
 #[tactic(auto, unfolding(crate::specs::FeatureBits::joined))]
 fn bits()
@@ -37,5 +38,5 @@ fn single_features()
     ensures acquire_release_atomics { features_in (record { 0 = 2097152 }) ≡ record no_features { acquire_release_atomics = true } }
     ensures multibyte_array_access { features_in (record { 0 = 4194304 }) ≡ record no_features { multibyte_array_access = true } }
     ensures custom_descriptors { features_in (record { 0 = 8388608 }) ≡ record no_features { custom_descriptors = true } }
-    ensures all_of_them { features_in (record { 0 = 16777215 }) ≡ with_descriptors }
+    ensures all_of_them { features_in (record { 0 = 16777215 }) ≡ every_feature }
 {}

@@ -22,7 +22,8 @@ ghost use Rattle.smith_types.specs.Segments.{
   IsDataInside,
   table_index,
 };
-ghost use Rattle.smith_types.specs.ExampleFeatures.{usual_features, with_descriptors};
+ghost use Rattle.smith_types.specs.Features.{every_feature};
+ghost use Rattle.smith_types.specs.ExampleFeatures.{usual_features};
 ghost use Rattle.smith_types.specs.ExampleTypes.{shared_type, plain_func, plain, nullable, not_null};
 ghost use Rattle.smith_types.specs.ExampleEntities.{memory, all_addresses, table, constant_global};
 ghost use Rattle.smith_types.specs.ExampleContexts.{context_with};
@@ -44,8 +45,8 @@ fn items()
     ensures function { IsItem (context_with usual_features 3) funcref 1 }
     ensures function_that_is_not_there { ¬ IsItem (context_with usual_features 3) funcref 2 }
     ensures function_of_another_type { ¬ IsItem (context_with usual_features 3) (nullable (plain heap.Extern)) 1 }
-    ensures exact_function { IsItem (context_with with_descriptors 3) (not_null (Exact 0)) 1 }
-    ensures imported_function_is_not_exact { ¬ IsItem (context_with with_descriptors 3) (not_null (Exact 0)) 0 }
+    ensures exact_function { IsItem (context_with every_feature 3) (not_null (Exact 0)) 1 }
+    ensures imported_function_is_not_exact { ¬ IsItem (context_with every_feature 3) (not_null (Exact 0)) 0 }
     ensures shared_function { IsItem (record (context_with usual_features 3) { types = shared_type plain_func ∷ [] }) (nullable (Abstract true heap.Func)) 1 }
     ensures shared_function_among_unshared { ¬ IsItem (record (context_with usual_features 3) { types = shared_type plain_func ∷ [] }) funcref 1 }
     ensures list { AreItemsValid (context_with usual_features 3) funcref (Functions (0 ∷ 1 ∷ [])) }

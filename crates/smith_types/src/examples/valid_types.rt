@@ -17,7 +17,8 @@ ghost use Rattle.smith_types.specs.ValidTypes.{
   AreTypesValid,
   values_of,
 };
-ghost use Rattle.smith_types.specs.ExampleFeatures.{usual_features, without_gc, with_descriptors, no_features, gc_alone};
+ghost use Rattle.smith_types.specs.Features.{every_feature};
+ghost use Rattle.smith_types.specs.ExampleFeatures.{usual_features, without_gc, no_features, gc_alone};
 ghost use Rattle.smith_types.specs.ExampleTypes.{open_type, final_type, shared_type, array, struct, empty_struct, plain_func, struct_and_below, below_final, referring, range, plain, nullable, not_null, anyref, eqref, shared_anyref, constant, variable, func, taking, giving, refers_to};
 
 fn heap_types()
@@ -26,9 +27,9 @@ fn heap_types()
     ensures before_the_end { IsHeapTypeValid gc_alone 2 (Concrete 1) }
     ensures past_the_end { ¬ IsHeapTypeValid usual_features 1 (Concrete 1) }
     ensures concrete_needs_gc { ¬ IsHeapTypeValid without_gc 2 (Concrete 1) }
-    ensures exact { IsHeapTypeValid with_descriptors 2 (Exact 1) }
+    ensures exact { IsHeapTypeValid every_feature 2 (Exact 1) }
     ensures exact_needs_descriptors { ¬ IsHeapTypeValid usual_features 2 (Exact 1) }
-    ensures exact_past_the_end { ¬ IsHeapTypeValid with_descriptors 1 (Exact 1) }
+    ensures exact_past_the_end { ¬ IsHeapTypeValid every_feature 1 (Exact 1) }
 {}
 
 fn reference_types()

@@ -9,7 +9,7 @@ use Rattle.smith_types.specs.declared.value_type.ValType.TheVariants.{I32, V128}
 use Rattle.smith_types.proofs.Validity.{AreTypesValid-single, no_types}
 use Rattle.smith_config.specs.Config.{default_config}
 use Rattle.smith_config.specs.Features.{features_of}
-use Rattle.smith_config.specs.ShapeFaults.{every_feature}
+use Rattle.smith_types.specs.Features.{every_feature}
 use Rattle.smith_config.proofs.ShapeFaultExamples as wrong
 use Rattle.smith_config.proofs.examples.shape_faults.features.Goals as goal
 

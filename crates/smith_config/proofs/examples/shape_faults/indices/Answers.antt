@@ -6,7 +6,7 @@ use Rattle.smith_types.specs.declared.composite_type.SubType.{SubType}
 use Rattle.smith_types.specs.declared.entity_type.ExportKind.TheVariants as kind
 use Rattle.smith_types.specs.declared.value_type.ValType.TheVariants.{I32}
 use Rattle.smith_types.specs.ExampleTypes.{final_type, taking}
-use Rattle.smith_config.specs.ShapeFaults.{every_feature}
+use Rattle.smith_types.specs.Features.{every_feature}
 use Rattle.smith_config.proofs.ShapeExamples.{entities_valid, exports_valid}
 use Rattle.smith_config.proofs.examples.shape_faults.indices.Goals as goal
 

@@ -2,7 +2,7 @@ use Rattle.std.proofs.Common.{◌≡◌, true, false, None, arith, refl}
 use Rattle.smith_types.specs.Flags.{funcref}
 use Rattle.smith_types.specs.ExampleTypes.{anyref}
 use Rattle.smith_types.specs.ExampleEntities.{constant_global, table}
-use Rattle.smith_config.specs.ShapeFaults.{every_feature}
+use Rattle.smith_types.specs.Features.{every_feature}
 use Rattle.smith_config.proofs.ShapeFaultExamples as wrong
 use Rattle.smith_config.proofs.examples.shape_faults.types.Goals as goal
 
