@@ -31,14 +31,14 @@ abbrev pub Export : Type 0
 Export = List ℕ × ExportKind × ℕ
 
 -- two exports have one name and one kind, and entities whose types are the same
-pub record IsSameExport (is_same : EntityType → EntityType → Type 0) (ours theirs : IndexSpaces) (one other : Export) : Type 0 where
+pub record IsSameExport (IsSame : EntityType → EntityType → Type 0) (ours theirs : IndexSpaces) (one other : Export) : Type 0 where
   pub name : one.0 ≡ other.0
   pub kind : one.1 ≡ other.1
   pub mine : EntityType
   pub yours : EntityType
   pub mine_is : IsEntityAt ours one.1 one.2 mine
   pub yours_is : IsEntityAt theirs other.1 other.2 yours
-  pub same : is_same mine yours
+  pub same : IsSame mine yours
 
 -- a group of imports that is not empty
 abbrev pub is_filled : Imports → Bool
