@@ -1,5 +1,5 @@
 -- What is wrong with a shape: which of its faults is told. Rules of this project.
-use Rattle.std.specs.Prelude.{◌≡◌, ℕ, true, IsTrue, List, length, map, All}
+use Rattle.std.specs.Prelude.{◌≡◌, ℕ, IsTrue, List, length, map, All}
 use Rattle.smith_bytes.specs.declared.error.Which.{Which}
 use Rattle.smith_bytes.specs.declared.error.Which.TheVariants.{Exports}
 use Rattle.smith_bytes.specs.declared.error.ShapeFault.{ShapeFault}

@@ -1,6 +1,6 @@
 -- Numbers that are at no edge of a power of two, and are in no list.
-use Rattle.std.proofs.Common.{◌≡◌, ◌⊎◌, inl, inr, ℕ, zero, suc, ◌+◌, ◌*◌, ◌^◌, ◌<◌, Bool, true, false, List, refl, subst, sym, ◌∙◌, arith}
-use Rattle.std.specs.Prelude.{nat_eq, length, slice_index_or}
+use Rattle.std.proofs.Common.{◌≡◌, ◌⊎◌, inl, inr, ℕ, zero, suc, ◌+◌, ◌*◌, ◌^◌, ◌<◌, true, false, List, refl, subst, sym, ◌∙◌, arith}
+use Rattle.std.specs.Prelude.{nat_eq}
 use Rattle.std.specs.List.{All, Any, Contains, list_any}
 use Rattle.std.proofs.lemmas.List.Folds.{list_any-from_Any}
 use Rattle.smith_types.specs.declared.entity_type.TableType.{TableType}

@@ -1,4 +1,4 @@
-use Rattle.std.proofs.Common.{◌≤◌, [], arith, inl, inr, refl}
+use Rattle.std.proofs.Common.{[], arith, inl, inr, refl}
 use Rattle.std.proofs.lemmas.List.Elements.{All-nil}
 use Rattle.wasm_smith.specs.InterestingValues.{IsNearTable, IsNearMemory}
 use Rattle.wasm_smith.proofs.NearNumbers.{not_interesting}
