@@ -23,5 +23,6 @@ pub mod Copies
 pub mod GroupSizes
 pub mod Groups
 pub mod RecGroupLaws
+pub mod FloatLaws
 pub mod MemoryLaws
 pub mod OneFunction

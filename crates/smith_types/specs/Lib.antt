@@ -8,6 +8,7 @@ pub mod Matching
 pub mod Flags
 pub mod ValidTypes
 pub mod Imports
+pub mod Floats
 pub mod OpenTypes
 pub mod Entities
 pub mod Sizes
