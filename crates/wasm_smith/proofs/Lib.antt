@@ -13,3 +13,4 @@ pub mod ExampleShapes
 pub mod ExamplePromises
 pub mod FamilyFits
 pub mod NearNumbers
+pub mod NoFloats

@@ -1,12 +1,12 @@
 -- What else a module keeps: which names, types and sections it has. Rules of this project.
 use Rattle.std.specs.Prelude.{◌≡◌, ℕ, zero, suc, ◌<◌, Bool, false, IsTrue, List, [], ◌∷◌, ◌++◌, Option, Some, None, map, length, All}
 use Rattle.std.specs.List.{flat_map}
+use Rattle.smith_types.specs.Floats.{IsNoFloat}
 use Rattle.smith_types.specs.Imports.{flattened}
 use Rattle.smith_types.specs.ValidTypes.{values_of}
 use Rattle.smith_types.specs.Exports.{AreDistinct}
 use Rattle.smith_types.specs.Segments.{IsElementInside, IsDataInside}
 use Rattle.smith_types.specs.declared.value_type.ValType.{ValType}
-use Rattle.smith_types.specs.declared.value_type.ValType.TheVariants.{F32, F64}
 use Rattle.smith_types.specs.declared.composite_type.SubType.{SubType}
 use Rattle.smith_types.specs.declared.entity_type.GlobalType.{GlobalType}
 use Rattle.smith_types.specs.declared.entity_type.ExportKind.{ExportKind}
@@ -25,12 +25,6 @@ use Rattle.wasm_smith.specs.Module.{Parts}
 -- no two imports have the same pair of names
 abbrev pub HasDistinctImports : Parts → Type 0
 HasDistinctImports m = AreDistinct {A = List ℕ × List ℕ} (map (λ (one : Import). (one.«module», one.name)) (flattened m.imports))
-
--- a value type that is not a float
-abbrev pub IsNoFloat : ValType → Type 0
-IsNoFloat F32 = ⊥
-IsNoFloat F64 = ⊥
-IsNoFloat _ = Unit {0}
 
 -- an instruction that is not a float's
 abbrev pub GivesNoFloat : ConstInstr → Type 0

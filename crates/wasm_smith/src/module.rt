@@ -1,4 +1,4 @@
-ghost use Rattle.std.specs.Prelude.{◌≡◌, IfOk, IfErr};
+ghost use Rattle.std.specs.Prelude.{◌≡◌, false, IfOk, IfErr};
 ghost use Rattle.smith_bytes.specs.Source.{IsPiece};
 ghost use Rattle.smith_config.specs.Faults.{Passes};
 
@@ -84,7 +84,7 @@ impl Module {
     ghost use Rattle.smith_config.specs.Shapes.{no_shapes};
     ghost use Rattle.wasm_smith.specs.Module.{IsValid};
     ghost use Rattle.wasm_smith.specs.Bounds.{KeepsBounds, MeetsMinimums};
-    ghost use Rattle.wasm_smith.specs.Promises.{WritesSections};
+    ghost use Rattle.wasm_smith.specs.Promises.{HasNoFloats, WritesSections};
     ghost use Rattle.wasm_smith.specs.Refusals.{HasNoMinimums};
     ghost use Rattle.wasm_smith.specs.ToCome.{HasNoMore, MayComeOut};
 
@@ -97,6 +97,7 @@ impl Module {
         ensures valid { IfOk result IsValid }
         ensures bounds { IfOk result (KeepsBounds no_shapes) }
         ensures minimums { IfOk result (MeetsMinimums no_shapes) }
+        ensures floats { config.allow_floats ≡ false → IfOk result HasNoFloats }
         ensures sections { IfOk result WritesSections }
         ensures no_more { IfOk result HasNoMore }
         ensures refusals { IfErr result (MayComeOut (sanitized config)) }

@@ -8,7 +8,7 @@ ghost use Rattle.wasm_smith.specs.Build.{Gives, module_at};
 ghost use Rattle.smith_config.specs.Shapes.{no_shapes};
 ghost use Rattle.wasm_smith.specs.Module.{IsValid};
 ghost use Rattle.wasm_smith.specs.Bounds.{KeepsBounds, MeetsMinimums};
-ghost use Rattle.wasm_smith.specs.Promises.{WritesSections};
+ghost use Rattle.wasm_smith.specs.Promises.{HasNoFloats, WritesSections};
 ghost use Rattle.wasm_smith.specs.ToCome.{HasNoMore, MayComeOut};
 
 mod code;
@@ -37,6 +37,7 @@ pub(crate) fn build(
     ensures valid { IfOk result IsValid }
     ensures bounds { IfOk result (KeepsBounds no_shapes) }
     ensures minimums { IfOk result (MeetsMinimums no_shapes) }
+    ensures floats { config.allow_floats ≡ false → IfOk result HasNoFloats }
     ensures sections { IfOk result WritesSections }
     ensures no_more { IfOk result HasNoMore }
     ensures refusal { IfErr result (MayComeOut config) }
