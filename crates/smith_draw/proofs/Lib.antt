@@ -26,3 +26,13 @@ pub mod RecGroupLaws
 pub mod FloatLaws
 pub mod MemoryLaws
 pub mod OneFunction
+pub mod BelowLaws
+pub mod ConstScopeLaws
+pub mod ConstOfferLaws
+pub mod ConstFoundLaws
+pub mod ConstNodeLaws
+pub mod PuttingLaws
+pub mod ExtendedLaws
+pub mod ConstStepLaws
+pub mod ConstExprLaws
+pub mod SpelledConstExprs

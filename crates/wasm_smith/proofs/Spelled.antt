@@ -6,8 +6,9 @@ use Rattle.smith_bytes.specs.Draws.{big_endian, little_endian, digit_count}
 use Rattle.smith_bytes.specs.Spelling.{SpellsBool, SpellsNumber, SpellsAnyByte, SpellsRefusal, Joined, Listed}
 use Rattle.smith_config.specs.Config.{default_config}
 use Rattle.smith_draw.specs.Spelling.{SpellsPlace, SpellsGroups, SpellsGroup, SpellsSubTypes, SpellsFuncType}
+use Rattle.smith_draw.specs.SpelledConstants.{SpellsI32}
 use Rattle.wasm_smith.specs.FuncTypes.{is_tag_type, is_unshared_function}
-use Rattle.wasm_smith.specs.Spelling.{SpellsMember, SpellsI32}
+use Rattle.wasm_smith.specs.Spelling.{SpellsMember}
 use Rattle.wasm_smith.specs.ExampleMembers.{one_function_type}
 
 -- one piece behind another

@@ -9,13 +9,12 @@ use Rattle.smith_bytes.specs.declared.error.Count.{Count}
 use Rattle.smith_bytes.specs.declared.error.Count.TheVariants as counts
 use Rattle.smith_bytes.specs.declared.error.Which.{Which}
 use Rattle.smith_bytes.specs.declared.error.Which.TheVariants as which
-use Rattle.smith_types.specs.declared.value_type.ValType.{ValType}
-use Rattle.smith_types.specs.declared.value_type.ValType.TheVariants.{Ref}
 use Rattle.smith_config.specs.declared.config.Config.{Config}
 use Rattle.smith_config.specs.declared.shape.Shape.{Shape}
 use Rattle.smith_config.specs.Faults.{IsFirstFault, Passes, minimum_of}
 use Rattle.smith_config.specs.Shapes.{Shapes, IsShapeValid, shape_values}
 use Rattle.smith_config.specs.ShapeFaults.{HasShapeFault}
+use Rattle.smith_draw.specs.ConstBounds.{IsNonNullable}
 use Rattle.wasm_smith.specs.Bounds.{FixesExports, where_given, exported_of, brought_by_module}
 
 -- the configuration as it is checked beside shapes: a minimum that a shape replaces asks for nothing
@@ -38,11 +37,6 @@ shape_for shapes which.ModuleShape = shapes.module_shape
 -- some shape is given
 abbrev pub IsGiven : Shapes → Type 0
 IsGiven shapes = (for_use : Which) × IsSome (shape_for shapes for_use)
-
--- a reference that may not be null
-abbrev pub IsNonNullable : ValType → Type 0
-IsNonNullable (Ref reference) = reference.nullable ≡ false
-IsNonNullable _ = ⊥
 
 -- a shape that is given holds a reference that may not be null
 abbrev pub HoldsNonNullable : Shapes → Type 0

@@ -1,9 +1,7 @@
 -- Which bytes spell a module's types and functions, and the rest of a module that has no more than globals and passive data.
 -- Rules of this project, for a sanitised configuration. One pair of lists has many spellings.
 use Rattle.std.specs.Prelude.{◌≡◌, ℕ, ◌-◌, ◌≤◌, ◌==◌, ◌&&◌, nat_lt, Bool, true, false, ℤ, List, [], ◌∷◌, None, map, length, slice_get, option_to_list}
-use Rattle.std.specs.Int.{cast_signed, w32}
 use Rattle.std.specs.List.{list_any}
-use Rattle.smith_bytes.specs.Draws.{little_endian}
 use Rattle.smith_bytes.specs.Spelling.{SpellsBool, SpellsNumber, SpellsAnyByte, Where, Joined, Listed}
 use Rattle.smith_types.specs.declared.value_type.ValType.TheVariants as vals
 use Rattle.smith_types.specs.declared.composite_type.CompositeInnerType.{CompositeInnerType}
@@ -18,6 +16,7 @@ use Rattle.smith_config.specs.Shapes.{space_of}
 use Rattle.smith_draw.specs.Choices.{enabled}
 use Rattle.smith_draw.specs.ValueTypes.{value_classes}
 use Rattle.smith_draw.specs.Spelling.{SpellsPlace, SpellsUnshared, SpellsGroups}
+use Rattle.smith_draw.specs.SpelledConstants.{SpellsConstant}
 use Rattle.wasm_smith.specs.FuncTypes.{is_tag_type, func_types}
 use Rattle.wasm_smith.specs.Module.{Parts}
 
@@ -40,16 +39,11 @@ SpellsMember config groups funcs =
     Joined (SpellsGroups config [] false groups)
     (Joined (SpellsNone config.max_imports) (Joined SpellsAnyByte (Joined (SpellsNoTag config types) (SpellsFuncs config types funcs))))
 
--- a number of 32 bits, with sign: its four bytes, the lowest first
-pub record SpellsI32 (value : ℤ) (piece : List ℕ) : Type 0 where
-  pub four : length piece ≡ 4
-  pub read : value ≡ cast_signed w32 (little_endian piece)
-
--- a mutable global with this number: the first class, unshared, mutable, a constant, where there is a choice the first one
+-- a mutable global with this number: the first class, unshared, mutable, its constant
 unfoldable pub SpellsGlobal : Config → ℤ → List ℕ → Type 0
 SpellsGlobal config value =
     Joined (SpellsNumber 0 0 (length (enabled (value_classes config)) - 1))
-    (Joined (SpellsUnshared config) (Joined (SpellsBool true) (Joined (Where config.extended_const_enabled (SpellsNumber 0 0 1)) (SpellsI32 value))))
+    (Joined (SpellsUnshared config) (Joined (SpellsBool true) (SpellsConstant config value)))
 
 -- bytes, each behind a bool that asks for it, then a bool that ends them
 unfoldable pub SpellsBytes : List ℕ → List ℕ → Type 0

@@ -12,7 +12,6 @@ ghost use Rattle.wasm_smith.specs.Spelling.{
   SpellsNone,
   SpellsNoTag,
   SpellsFuncs,
-  SpellsI32,
   SpellsGlobal,
   SpellsBytes,
   SpellsNoStart,
@@ -92,12 +91,6 @@ fn parts_of_rests()
     ensures no_start_that_gives_numbers { SpellsNoStart default_config (final giving_two ∷ []) (0 ∷ []) [] }
     ensures segments_without_bulk_memory { SpellsSegments (record default_config { bulk_memory_enabled = false }) [] [] }
     ensures a_bool_without_bulk_memory { ¬ SpellsSegments (record default_config { bulk_memory_enabled = false }) [] (0 ∷ []) }
-{}
-
-fn numbers()
-    ensures number_of_four_bytes { SpellsI32 (negsuc 0) (255 ∷ 255 ∷ 255 ∷ 255 ∷ []) }
-    ensures number_of_three_bytes { ¬ SpellsI32 (pos 7) (7 ∷ 0 ∷ 0 ∷ []) }
-    ensures highest_byte_of_a_number_first { ¬ SpellsI32 (pos 7) (0 ∷ 0 ∷ 0 ∷ 7 ∷ []) }
 {}
 
 fn other_spellings()

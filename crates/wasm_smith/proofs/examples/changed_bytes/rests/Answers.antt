@@ -5,7 +5,8 @@ use Rattle.smith_bytes.specs.Draws.{big_endian, little_endian, digit_count}
 use Rattle.smith_bytes.specs.Spelling.{SpellsBool, SpellsNumber, SpellsAnyByte, Joined, Listed}
 use Rattle.smith_config.specs.Config.{default_config}
 use Rattle.smith_draw.specs.Spelling.{SpellsUnshared}
-use Rattle.wasm_smith.specs.Spelling.{SpellsRest, SpellsNone, SpellsGlobal, SpellsI32, SpellsBytes, SpellsNoStart, SpellsSegments}
+use Rattle.smith_draw.specs.SpelledConstants.{SpellsI32}
+use Rattle.wasm_smith.specs.Spelling.{SpellsRest, SpellsNone, SpellsGlobal, SpellsBytes, SpellsNoStart, SpellsSegments}
 use Rattle.wasm_smith.proofs.Spelled.{one_odd, bool_first, any_first, digit_first, this_first, word_first, without_nothing, opened}
 use Rattle.wasm_smith.proofs.examples.changed_bytes.rests.Goals as goal
 
