@@ -71,6 +71,7 @@ fn parts_of_members()
     ensures first_function_type { ¬ SpellsFuncs default_config (final plain_function ∷ final bytes_array ∷ final taking_a_number ∷ []) (2 ∷ []) (1 ∷ 0 ∷ 0 ∷ []) }
     ensures no_function_type { SpellsFuncs default_config (final bytes_array ∷ []) [] [] }
     ensures a_bool_without_function_type { ¬ SpellsFuncs default_config (final bytes_array ∷ []) [] (0 ∷ []) }
+    ensures a_function_of_no_type { ¬ SpellsFuncs default_config (final bytes_array ∷ []) (0 ∷ []) [] }
     ensures a_function_too_many { ¬ SpellsFuncs (record default_config { max_funcs = 0 }) (final plain_function ∷ []) (0 ∷ []) (1 ∷ []) }
 {}
 
@@ -90,6 +91,7 @@ fn parts_of_rests()
     ensures no_start_that_takes_a_number { SpellsNoStart default_config (final taking_a_number ∷ []) (0 ∷ []) [] }
     ensures no_start_that_gives_numbers { SpellsNoStart default_config (final giving_two ∷ []) (0 ∷ []) [] }
     ensures segments_without_bulk_memory { SpellsSegments (record default_config { bulk_memory_enabled = false }) [] [] }
+    ensures data_without_bulk_memory { ¬ SpellsSegments (record default_config { bulk_memory_enabled = false }) ((42 ∷ []) ∷ []) [] }
     ensures a_bool_without_bulk_memory { ¬ SpellsSegments (record default_config { bulk_memory_enabled = false }) [] (0 ∷ []) }
 {}
 
