@@ -1,5 +1,6 @@
 pub mod FuncLaws
 pub mod MemoryCounts
+pub mod NoShapes
 pub mod Needless
 pub mod Bodies
 pub mod Alone

@@ -3,3 +3,4 @@
 mod configurations;
 mod shape_faults;
 mod shapes;
+mod shapes_in_use;

@@ -1,7 +1,7 @@
 use Rattle.std.proofs.Common.{rules}
 use Rattle.wasm_smith.proofs.Alone.{valid_alone}
 use Rattle.wasm_smith.proofs.NoFloats.{no_floats_alone}
-use Rattle.wasm_smith.proofs.build.build.Goals as goal
+use Rattle.wasm_smith.proofs.build.drawn.draw.Goals as goal
 
 pub returns-clause-valid : goal.returns-clause-valid
 returns-clause-valid c =
