@@ -43,6 +43,7 @@ ghost use Rattle.wasm_smith.specs.ExampleShapes.{
   for_module,
   for_imports,
   for_exports,
+  empty_shape,
   imported_memories,
   memories_in_and_out,
   environment,
@@ -151,7 +152,7 @@ fn limits()
     ensures a_memory_without_its_maximum { ¬ KeepsBounds (record default_config { max_memories = 2; memory_max_size_required = true }) (two_memories 2) }
     ensures many_references { KeepsBounds default_config (null_table 996093) }
     ensures a_table_too_large { ¬ KeepsBounds (record default_config { max_table_elements = 6788 }) (null_table 6789) }
-    ensures a_memory_of_a_shape_beside_a_module { ¬ KeepsBounds (for_module environment (for_exports exporting (record default_config { max_memory32_bytes = 0 }))) (exported exporting.exports) }
+    ensures a_memory_of_a_shape_beside_a_module { ¬ KeepsBounds (for_module empty_shape (for_exports exporting (record default_config { max_memory32_bytes = 0 }))) (exported exporting.exports) }
     ensures a_table_of_a_shape { KeepsBounds (for_exports five_exports (record default_config { max_table_elements = 0 })) one_of_each }
     ensures a_forced_element { KeepsBounds one_table.config one_table }
     ensures an_element_that_is_not_forced { ¬ KeepsBounds (record default_config { max_table_elements = 0 }) one_table }
