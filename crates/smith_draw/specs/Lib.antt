@@ -23,3 +23,4 @@ pub mod ConstBounds
 pub mod Putting
 pub mod ConstSteps
 pub mod SpelledConstants
+pub mod ExampleConstExprs
