@@ -24,3 +24,4 @@ pub mod Putting
 pub mod ConstSteps
 pub mod SpelledConstants
 pub mod SpelledGlobals
+pub mod ExampleConstExprs

@@ -1,0 +1,5 @@
+use Rattle.smith_draw.proofs.SpelledConstExprs.{mutable_not_read}
+use Rattle.smith_draw.proofs.const_examples.globals.Goals as goal
+
+pub returns-clause-mutable_ones_are_not_read : goal.returns-clause-mutable_ones_are_not_read
+returns-clause-mutable_ones_are_not_read c = mutable_not_read
