@@ -20,6 +20,7 @@ ghost use Rattle.smith_draw.specs.SubTypes.{
 };
 ghost use Rattle.smith_draw.specs.Spelling.{IsRoot, SpellsSubType};
 
+use crate::choice::choose;
 use crate::composite_type::composite_type;
 use crate::matching_composite::matching_composite_type;
 use crate::spaces::Spaces;
@@ -97,7 +98,7 @@ fn sub_type_below(
 }
 
 /// A type below one of the types of these indices.
-#[tactic(auto, unfolding(crate::specs::SubTypes::sub_type_of_at, crate::specs::Choices::chosen_at))]
+#[tactic(auto, unfolding(crate::specs::SubTypes::sub_type_of_at))]
 fn sub_type_of(
     alloc: Global,
     config: &Config,
@@ -111,7 +112,7 @@ fn sub_type_of(
     ensures memory { IfErr result (λ e. e ≡ Error.Memory) }
     ensures left { KeepsPieces u.old u.new }
 {
-    let index = indices[u.int_in_range(0..=indices.len() - 1)];
+    let index = choose(indices, u);
     sub_type_below(alloc, config, space, limit, index, u)
 }
 
