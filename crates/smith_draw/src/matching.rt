@@ -148,7 +148,7 @@ pub(crate) fn matched_fields(
     ensures memory { IfErr result (λ e. e ≡ Error.Memory) }
     ensures left { KeepsPieces u.old u.new }
 {
-    let mut matched = Items::new(alloc);
+    let mut matched = Items::with_capacity(alloc, fields.len())?;
     for field in fields {
         matched.push(matching_field_type(alloc, config, space, *field, u)?)?;
     }
@@ -167,7 +167,7 @@ fn matching_val_types(
     ensures memory { IfErr result (λ e. e ≡ Error.Memory) }
     ensures left { KeepsPieces u.old u.new }
 {
-    let mut matching = Items::new(alloc);
+    let mut matching = Items::with_capacity(alloc, values.len())?;
     for ty in values {
         matching.push(matching_val_type(alloc, config, space, *ty, u)?)?;
     }

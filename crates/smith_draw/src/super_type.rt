@@ -83,7 +83,7 @@ pub(crate) fn super_val_types(
     ensures memory { IfErr result (λ e. e ≡ Error.Memory) }
     ensures left { KeepsPieces u.old u.new }
 {
-    let mut supertypes = Items::new(alloc);
+    let mut supertypes = Items::with_capacity(alloc, values.len())?;
     for ty in values {
         supertypes.push(super_val_type(alloc, config, space, *ty, u)?)?;
     }

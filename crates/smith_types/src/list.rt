@@ -8,6 +8,7 @@ ghost use Rattle.std.specs.Prelude.{
   length,
   IsTrue,
   ◌↔◌,
+  IfOk,
   IfErr,
   OnOk,
   OnErr,
@@ -39,6 +40,16 @@ impl<T> Items<T> {
         Items {
             items: Vec::new(alloc),
         }
+    }
+
+    /// An empty list with room for `capacity` elements.
+    pub fn with_capacity(alloc: Global, capacity: usize) -> Result<Self, Error>
+        ensures ok { IfOk result (λ items. items ≡ []) }
+        ensures memory { IfErr result (λ e. e ≡ Error.Memory) }
+    {
+        Ok(Items {
+            items: Vec::with_capacity(alloc, capacity)?,
+        })
     }
 
     /// The list of these elements. Takes no memory.
