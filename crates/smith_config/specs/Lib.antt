@@ -6,6 +6,7 @@ pub mod OffsetChoices
 pub mod Shapes
 pub mod InUse
 pub mod ShapeFaults
+pub mod Decided
 pub mod Laws
 pub mod ExampleConfigs
 pub mod ExampleShapes
