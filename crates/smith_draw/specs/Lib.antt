@@ -13,3 +13,4 @@ pub mod Bounds
 pub mod Memories
 pub mod Spelling
 pub mod ExampleSpellings
+pub mod ExampleStanding
