@@ -14,6 +14,8 @@ mod gc_modules;
 #[cfg(test)]
 mod kinds;
 #[cfg(test)]
+mod library_example;
+#[cfg(test)]
 mod matching_types;
 #[cfg(test)]
 mod modules;

@@ -20,7 +20,7 @@ impl<T: Copy> Items<T> {
         ensures ok { IfOk result (λ copy. copy ≡ self.now) }
         ensures memory { IfErr result (λ e. e ≡ Error.Memory) }
     {
-        Ok(Items::from_vec(Vec::from_slice(alloc, self.as_slice())?))
+        Items::from_slice(alloc, self.as_slice())
     }
 }
 
@@ -36,7 +36,7 @@ impl<T: CloneIn> CloneIn for Items<T> {
 
 impl CloneIn for Name {
     fn clone_in(&self, alloc: Global) -> Result<Name, Error> {
-        Ok(Name::from_string(String::from_str(alloc, self.as_str())?))
+        Name::from_text(alloc, self.as_str())
     }
 }
 

@@ -8,6 +8,7 @@ ghost use Rattle.std.specs.Prelude.{
   length,
   IsTrue,
   ◌↔◌,
+  IfOk,
   IfErr,
   OnOk,
   OnErr,
@@ -18,6 +19,8 @@ use smith_bytes::Error;
 use std::alloc::Global;
 use std::fmt;
 use std::marker::Model;
+use std::ops::{DerefSlice, Index};
+use std::slice::Iter;
 
 /// A list in plain data, which contracts see as the list itself.
 #[derive(Drop)]
@@ -75,6 +78,62 @@ impl<T> Items<T> {
     }
 }
 
+impl<T: Copy> Items<T> {
+    /// The list of the elements of `items`, in fresh memory.
+    pub fn from_slice(alloc: Global, items: &[T]) -> Result<Self, Error>
+        ensures ok { IfOk result (λ made. made ≡ items.now) }
+        ensures memory { IfErr result (λ e. e ≡ Error.Memory) }
+    {
+        Ok(Items::from_vec(Vec::from_slice(alloc, items)?))
+    }
+}
+
+/// Shows the elements as a slice, so that its methods can be called on the list.
+impl<T> DerefSlice for Items<T> {
+    type Elem = T;
+
+    ghost deref_gives = { λ list elements. elements ≡ list };
+
+    fn deref(&self) -> &[T]
+        ensures { result.now ≡ self.now }
+    {
+        self.items.as_slice()
+    }
+}
+
+impl<T> Index<usize> for Items<T> {
+    ghost use Rattle.std.specs.Prelude.{◌<◌, slice_index_or};
+
+    type Output = T;
+
+    ghost can_index = { λ list i. i < length list };
+
+    ghost index_gives = { λ list i x. x ≡ slice_index_or list i x };
+
+    fn index(&self, index: usize) -> &T
+        requires { index < length self.now }
+        ensures { result.now ≡ slice_index_or self.now index result.now }
+    {
+        &self.items.as_slice()[index]
+    }
+}
+
+impl<'a, T> IntoIterator for &'a Items<T> {
+    ghost use Rattle.std.specs.Prelude.{◌<◌, ◌^◌};
+    ghost use Rattle.std.specs.Slice.Iter.{iter_rest, iter_steps};
+    ghost use Rattle.std.specs.Iterator.Runs.{EveryRun, ItemsMapTo};
+
+    type Item = &'a T;
+
+    type IntoIter = Iter<'a, T>;
+
+    ghost into_iter_gives = { λ list r. (iter_rest r ≡ list.now) × (length (iter_rest r) < 2 ^ 64) × EveryRun (iter_steps {A = T}) (λ p. ItemsMapTo p (λ y. y.now) (iter_rest p.from)) };
+
+    fn into_iter(self) -> Iter<'a, T> {
+        self.items.as_slice().iter()
+    }
+}
+
 impl<T: Drop> Items<T> {
     /// Adds an element at the end.
     pub fn push(&mut self, item: T) -> Result<(), Error>
@@ -104,6 +163,14 @@ impl Name {
         ensures { result ≡ string_bytes text }
     {
         Name { text }
+    }
+
+    /// The name that is `text`, in fresh memory.
+    pub fn from_text(alloc: Global, text: &str) -> Result<Self, Error>
+        ensures ok { IfOk result (λ name. name ≡ text.now) }
+        ensures memory { IfErr result (λ e. e ≡ Error.Memory) }
+    {
+        Ok(Name::from_string(String::from_str(alloc, text)?))
     }
 
     /// Gives the text back. Takes no memory.
@@ -164,6 +231,17 @@ impl PartialEq for Name {
 impl<T: fmt::Debug> fmt::Debug for Items<T> {
     fn fmt<W: fmt::Write>(&self, f: &mut fmt::Formatter<W>) -> fmt::Result {
         self.items.fmt(f)
+    }
+}
+
+/// Writes the text.
+impl fmt::Display for Name {
+    ghost use Rattle.std.specs.Prelude.{Some};
+
+    ghost output = { λ name. Some name };
+
+    fn fmt<W: fmt::Write>(&self, f: &mut fmt::Formatter<W>) -> fmt::Result {
+        self.text.fmt(f)
     }
 }
 
