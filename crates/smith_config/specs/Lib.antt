@@ -7,5 +7,6 @@ pub mod Shapes
 pub mod ShapeFaults
 pub mod Laws
 pub mod ExampleConfigs
+pub mod ExampleCoins
 pub mod ExampleShapes
 pub mod Arbitrary
