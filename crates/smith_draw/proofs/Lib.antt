@@ -25,3 +25,13 @@ pub mod Groups
 pub mod RecGroupLaws
 pub mod MemoryLaws
 pub mod OneFunction
+pub mod BelowLaws
+pub mod ConstScopeLaws
+pub mod ConstOfferLaws
+pub mod ConstFoundLaws
+pub mod ConstNodeLaws
+pub mod PuttingLaws
+pub mod ExtendedLaws
+pub mod ConstStepLaws
+pub mod ConstExprLaws
+pub mod SpelledConstExprs

@@ -14,3 +14,13 @@ pub mod Memories
 pub mod Spelling
 pub mod ExampleSpellings
 pub mod ExampleStanding
+pub mod Below
+pub mod ConstScopes
+pub mod ConstOffers
+pub mod Constants
+pub mod ConstNodes
+pub mod ConstExprs
+pub mod ConstBounds
+pub mod Putting
+pub mod ConstSteps
+pub mod SpelledConstants

@@ -5,6 +5,7 @@ mod bounds_examples;
 mod choice;
 mod composite_examples;
 mod composite_type;
+mod const_expr;
 mod entity_type;
 mod examples;
 mod field_type;
@@ -23,6 +24,7 @@ mod value_examples;
 mod value_type;
 
 pub use composite_type::{arbitrary_composite_type, arbitrary_func_type, arbitrary_struct_type};
+pub use const_expr::{arbitrary_const_expr, arbitrary_table_init, globals_for_const_expr};
 pub use entity_type::arbitrary_memtype;
 pub use field_type::{arbitrary_field_type, arbitrary_storage_type};
 pub use limits::{arbitrary_limits64, gradually_grow};

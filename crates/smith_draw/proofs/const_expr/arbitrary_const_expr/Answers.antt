@@ -1,0 +1,13 @@
+use Rattle.std.proofs.Common.{refl}
+use Rattle.std.proofs.lemmas.Result.{IfOk-weaker}
+use Rattle.smith_draw.specs.ConstScopes.{seen_by}
+use Rattle.smith_draw.proofs.SpelledConstExprs.{constant_taken}
+use Rattle.smith_draw.proofs.ConstScopeLaws.{scope_of}
+use Rattle.smith_draw.proofs.const_expr.arbitrary_const_expr.Goals as goal
+
+pub whole_expression-requires-clause-scope : goal.whole_expression-requires-clause-scope
+whole_expression-requires-clause-scope c = rw c.visible_end-visible.ensures (scope_of c.args.config.now c.args.spaces.now c.args.allow_defined c.requires.standing c.types-types.ensures.sound.orderly c.types-types.ensures.sound.few)
+
+pub returns-clause-reach : goal.returns-clause-reach
+returns-clause-reach c = λ number unread. IfOk-weaker c.whole_expression.result _ _
+    (λ drawn reads. constant_taken (seen_by c.args.config.now c.args.spaces.now c.args.allow_defined) _ _ c.args.config.now _ drawn _ unread refl (rw (number, c.visible_end-visible.ensures) at reads)) c.whole_expression.ensures.exact

@@ -1,0 +1,49 @@
+-- How long drawn constant expressions are, and when none is drawn. Rules of this project.
+use Rattle.std.specs.Prelude.{◌≡◌, ◌⊎◌, ℕ, ◌+◌, ◌*◌, max, false, List, [], ◌∷◌, Some, length, slice_get}
+use Rattle.smith_types.specs.Expressions.{field_values}
+use Rattle.smith_types.specs.declared.value_type.ValType.{ValType}
+use Rattle.smith_types.specs.declared.value_type.ValType.TheVariants.{Ref}
+use Rattle.smith_types.specs.declared.composite_type.CompositeInnerType.{CompositeInnerType}
+use Rattle.smith_types.specs.declared.composite_type.CompositeInnerType.TheVariants.{Struct}
+use Rattle.smith_types.specs.declared.composite_type.SubType.{SubType}
+use Rattle.smith_bytes.specs.declared.error.Error.{Error}
+use Rattle.smith_bytes.specs.declared.error.Error.TheVariants.{Memory, EmptyChoose}
+use Rattle.smith_config.specs.declared.config.Config.{Config}
+use Rattle.smith_draw.specs.ConstScopes.{fields_of}
+
+-- how many fields a struct has
+abbrev pub field_count : CompositeInnerType → ℕ
+field_count (Struct structure) = length structure.fields
+field_count _ = 0
+
+-- the greater of 3 and the longest struct's field count: the most operands of an instruction
+unfoldable pub widest : List SubType → ℕ
+widest [] = 3
+widest (t ∷ types) = max (field_count t.composite_type.inner) (widest types)
+
+-- the most instructions of an expression over these types
+abbrev pub most_instructions : Config → List SubType → ℕ
+most_instructions config types = 23 * (1 + config.const_expr_fuel * widest types)
+
+-- a reference that may not be null
+abbrev pub IsNonNullable : ValType → Type 0
+IsNonNullable (Ref reference) = reference.nullable ≡ false
+IsNonNullable _ = ⊥
+
+-- a field of a struct, or the element of an array, is a reference that may not be null
+pub record HoldsNonNullableField (types : List SubType) : Type 0 where
+  pub index : ℕ
+  pub ty : SubType
+  pub stands : slice_get types index ≡ Some ty
+  pub place : ℕ
+  pub value : ValType
+  pub held : slice_get (field_values (fields_of ty.composite_type.inner)) place ≡ Some value
+  pub not_null : IsNonNullable value
+
+-- where there may be nothing to choose from
+abbrev pub MayLack : List SubType → ValType → Type 0
+MayLack types wanted = IsNonNullable wanted ⊎ HoldsNonNullableField types
+
+-- when an expression may be refused
+abbrev pub MayRefuseConstExpr : List SubType → ValType → Error → Type 0
+MayRefuseConstExpr types wanted e = (e ≡ Memory) ⊎ ((e ≡ EmptyChoose) × MayLack types wanted)

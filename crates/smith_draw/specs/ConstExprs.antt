@@ -1,0 +1,86 @@
+-- Drawn constant expressions: which one the bytes give.
+use Rattle.std.specs.Prelude.{ℕ, zero, suc, ◌-◌, Bool, false, not, List, [], ◌∷◌, ◌++◌, Option, Some, None, if◌then◌else◌}
+use Rattle.std.specs.Option.{option_map}
+use Rattle.std.specs.Prelude.{option_and_then}
+use Rattle.std.specs.Int.{cast_signed, w32}
+use Rattle.smith_bytes.specs.Draws.{bool_at, range_at, choose_at}
+use Rattle.smith_types.specs.Expressions.{Context}
+use Rattle.smith_types.specs.declared.value_type.ValType.{ValType}
+use Rattle.smith_types.specs.declared.value_type.ValType.TheVariants.{I32, Ref}
+use Rattle.smith_types.specs.declared.const_instr.ConstInstr.{ConstInstr}
+use Rattle.smith_types.specs.declared.const_instr.ConstInstr.TheVariants as instr
+use Rattle.smith_types.specs.declared.value_type.RefType.{RefType}
+use Rattle.smith_config.specs.declared.config.Config.{Config}
+use Rattle.smith_draw.specs.declared.spaces.Spaces.{Spaces}
+use Rattle.smith_draw.specs.ConstScopes.{seen_by}
+use Rattle.smith_draw.specs.Constants.{extended_at}
+use Rattle.smith_draw.specs.ConstOffers.{offers}
+use Rattle.smith_draw.specs.ConstNodes.{is_extended, node_at}
+use Rattle.smith_draw.specs.declared.const_expr.choice.Choice.{Choice}
+use Rattle.smith_draw.specs.declared.const_expr.node.Operand.{Operand}
+use Rattle.smith_draw.specs.declared.const_expr.node.Operand.TheVariants.{Value, Length}
+
+-- the instructions so far, the fuel and the bytes that are left
+pub record State : Type 0 where
+  pub made : List ConstInstr
+  pub fuel : ℕ
+  pub bytes : List ℕ
+
+abbrev pub state_of : List ConstInstr → ℕ → List ℕ → State
+state_of made fuel bytes = record { made = made; fuel = fuel; bytes = bytes }
+
+-- an instruction behind those so far
+abbrev pub behind : ConstInstr → State → State
+behind instruction s = record s { made = s.made ++ instruction ∷ [] }
+
+-- a length of at most the fuel, which it takes
+abbrev pub length_at : State → State
+length_at s = let n = range_at 0 s.fuel s.bytes in state_of (s.made ++ instr.I32Const (cast_signed w32 n.0) ∷ []) (s.fuel - n.0) n.1
+
+-- an operand, where that draws a value: of a length where lengths are limited no expression
+abbrev pub operand_at : Bool → (ValType → State → Option State) → Operand → State → Option State
+operand_at limited draw (Value value) s = draw value s
+operand_at limited draw Length s = if limited then Some (length_at s) else draw I32 s
+
+-- operands in order
+abbrev pub operands_at : (Operand → State → Option State) → List Operand → State → Option State
+operands_at draw [] s = Some s
+operands_at draw (operand ∷ operands) s = option_and_then (operands_at draw operands) (draw operand s)
+
+-- what is drawn after a choice: an extended constant, or operands and the instruction behind them
+abbrev pub made_at : Context → Bool → (ValType → State → Option State) → ValType → State → Choice → Option State
+made_at context limited draw wanted s choice =
+    let extended = extended_at wanted s.bytes in
+    let node = node_at context.types wanted choice s.bytes in
+    if is_extended choice then Some (state_of (s.made ++ extended.0) (s.fuel - 1) extended.1)
+    else option_map (behind node.0.instruction) (operands_at (operand_at limited draw) node.0.operands (state_of s.made (s.fuel - 1) node.1))
+
+-- what is drawn after the choice, if there is one
+abbrev pub chosen_at : Context → Bool → (ValType → State → Option State) → ValType → State → Option Choice → Option State
+chosen_at context limited draw wanted s None = None
+chosen_at context limited draw wanted s (Some choice) = made_at context limited draw wanted s choice
+
+-- a value of a type, by recursion on a depth that is above the fuel: none where there is nothing to choose from
+unfoldable pub expression_at : Context → Bool → ℕ → ValType → State → Option State
+expression_at context limited zero wanted s = None
+expression_at context limited (suc depth) wanted s =
+    let chosen = choose_at (offers context wanted s.fuel) s.bytes in
+    chosen_at context limited (expression_at context limited depth) wanted (state_of s.made s.fuel chosen.1) chosen.0
+
+-- an expression of its own, and the bytes behind it
+unfoldable pub expression_alone_at : Context → Bool → ℕ → ValType → List ℕ → Option (List ConstInstr × List ℕ)
+expression_alone_at context limited fuel wanted bytes =
+    option_map (λ (s : State). (s.made, s.bytes)) (expression_at context limited (suc fuel) wanted (state_of [] fuel bytes))
+
+-- the expression of a type that bytes give over spaces: none where there is nothing to choose from
+abbrev pub const_expr_at : Config → Spaces → ValType → Bool → List ℕ → Option (List ConstInstr × List ℕ)
+const_expr_at config spaces wanted allow_defined bytes =
+    expression_alone_at (seen_by config spaces allow_defined) config.limit_arrays_in_const_exprs config.const_expr_fuel wanted bytes
+
+-- the initialiser of a table: none without garbage collection, and where elements may be null a bool says so
+unfoldable pub table_init_at : Config → Spaces → RefType → List ℕ → Option (Option (List ConstInstr) × List ℕ)
+table_init_at config spaces element bytes =
+    let null = if element.nullable then bool_at bytes else (false, bytes) in
+    if not config.gc_enabled then Some (None, bytes)
+    else if null.0 then Some (None, null.1)
+    else option_map (λ (drawn : List ConstInstr × List ℕ). (Some drawn.0, drawn.1)) (const_expr_at config spaces (Ref element) false null.1)

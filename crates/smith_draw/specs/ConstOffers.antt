@@ -1,0 +1,114 @@
+-- What is offered where a constant expression of a type is drawn, in order. Rules of this project.
+use Rattle.std.specs.Prelude.{ℕ, zero, suc, Result, Ok, Err, ◌+◌, Bool, true, false, not, ◌&&◌, ◌||◌, ◌==◌, nat_lt, List, [], ◌∷◌, ◌++◌, length, take, if◌then◌else◌}
+use Rattle.std.specs.List.{list_all}
+use Rattle.smith_types.specs.declared.value_type.AbstractHeapType.TheVariants as heap
+use Rattle.smith_types.specs.declared.value_type.HeapType.{HeapType}
+use Rattle.smith_types.specs.declared.value_type.HeapType.TheVariants.{Abstract}
+use Rattle.smith_types.specs.declared.value_type.RefType.{RefType}
+use Rattle.smith_types.specs.declared.value_type.ValType.{ValType}
+use Rattle.smith_types.specs.declared.value_type.ValType.TheVariants.{I32, I64, Ref}
+use Rattle.smith_types.specs.declared.composite_type.CompositeInnerType.{CompositeInnerType}
+use Rattle.smith_types.specs.declared.composite_type.CompositeInnerType.TheVariants as inner
+use Rattle.smith_types.specs.declared.composite_type.FieldType.{FieldType}
+use Rattle.smith_types.specs.declared.composite_type.SubType.{SubType}
+use Rattle.smith_types.specs.declared.entity_type.GlobalType.{GlobalType}
+use Rattle.smith_types.specs.Expressions.{Context, reference_to, created, function_reference, unpacked}
+use Rattle.smith_draw.specs.Below.{is_val_below}
+use Rattle.smith_draw.specs.declared.const_expr.choice.Choice.{Choice}
+use Rattle.smith_draw.specs.declared.const_expr.choice.Choice.TheVariants as choice
+
+-- what each item of a list offers, by its index, one behind the other
+abbrev pub each_from : {A B : Type 0} → (ℕ → A → List B) → ℕ → List A → List B
+each_from offer start [] = []
+each_from offer start (x ∷ xs) = offer start x ++ each_from offer (start + 1) xs
+
+-- an item, if it is offered
+abbrev pub offered_if : {B : Type 0} → Bool → B → List B
+offered_if offered x = if offered then x ∷ [] else []
+
+-- a value type that has a default (Validation, Value Types, Defaultable)
+abbrev pub is_defaultable : ValType → Bool
+is_defaultable (Ref reference) = reference.nullable
+is_defaultable _ = true
+
+-- the fields have defaults
+abbrev pub are_defaultable : List FieldType → Bool
+are_defaultable fields = list_all (λ (field : FieldType). is_defaultable (unpacked field.element_type)) fields
+
+abbrev pub is_integer : ValType → Bool
+is_integer I32 = true
+is_integer I64 = true
+is_integer _ = false
+
+-- a visible immutable global whose type is below
+abbrev pub global_offers : Context → ValType → ℕ → GlobalType → List Choice
+global_offers context wanted index global = offered_if (not global.mutable && is_val_below context.types global.val_type wanted) (choice.Global index)
+
+-- a function whose reference is below
+abbrev pub function_offers : Context → ValType → ℕ → ℕ → List Choice
+function_offers context wanted function index = offered_if (is_val_below context.types (function_reference context function index) wanted) (choice.Function function)
+
+-- the ways of creating a struct of these fields, with so much fuel
+abbrev pub struct_ways : ℕ → ℕ → List FieldType → List Choice
+struct_ways fuel index fields = offered_if (nat_lt 0 fuel || (length fields == 0)) (choice.Struct index) ++ offered_if (are_defaultable fields) (choice.StructDefault index)
+
+-- the ways of creating an array of this element
+abbrev pub array_ways : ℕ → FieldType → List Choice
+array_ways index element = choice.Array index ∷ choice.FixedArray index ∷ offered_if (is_defaultable (unpacked element.element_type)) (choice.ArrayDefault index)
+
+-- a struct type whose reference is below
+abbrev pub struct_offers : Context → ValType → ℕ → ℕ → CompositeInnerType → List Choice
+struct_offers context wanted fuel index (inner.Struct structure) = if is_val_below context.types (created context index) wanted then struct_ways fuel index structure.fields else []
+struct_offers context wanted fuel index _ = []
+
+-- an array type whose reference is below, with fuel
+abbrev pub array_offers : Context → ValType → ℕ → ℕ → CompositeInnerType → List Choice
+array_offers context wanted fuel index (inner.Array array) = if nat_lt 0 fuel && is_val_below context.types (created context index) wanted then array_ways index array.0 else []
+array_offers context wanted fuel index _ = []
+
+-- conversions to a heap type
+abbrev pub conversions : HeapType → List Choice
+conversions (Abstract shared heap.Any) = choice.FromExtern ∷ []
+conversions (Abstract shared heap.Extern) = choice.FromAny ∷ []
+conversions _ = []
+
+-- with fuel: i31 references and conversions
+abbrev pub other_offers : Context → RefType → ℕ → List Choice
+other_offers context wanted fuel =
+    if nat_lt 0 fuel then
+    offered_if (is_val_below context.types (reference_to (Abstract false heap.I31)) (Ref wanted)) choice.I31
+    ++ (offered_if (context.features.shared_everything_threads && is_val_below context.types (reference_to (Abstract true heap.I31)) (Ref wanted)) choice.SharedI31
+    ++ conversions wanted.heap_type)
+    else []
+
+-- with garbage collection: structs, arrays and the others
+abbrev pub created_offers : Context → RefType → ℕ → List Choice
+created_offers context wanted fuel =
+    each_from (λ index (t : SubType). struct_offers context (Ref wanted) fuel index t.composite_type.inner) 0 context.types
+    ++ (each_from (λ index (t : SubType). array_offers context (Ref wanted) fuel index t.composite_type.inner) 0 context.types ++ other_offers context wanted fuel)
+
+-- of a reference: functions, and what can be created
+abbrev pub reference_offers : Context → ValType → ℕ → List Choice
+reference_offers context (Ref wanted) fuel =
+    each_from (function_offers context (Ref wanted)) 0 context.funcs ++ (if context.features.gc then created_offers context wanted fuel else [])
+reference_offers context _ fuel = []
+
+-- a constant, or null where it may be, and an extended constant where they are enabled
+abbrev pub constant_offers : Context → ValType → List Choice
+constant_offers context wanted =
+    offered_if (is_defaultable wanted) choice.Constant ++ offered_if (is_integer wanted && context.features.extended_const) choice.Extended
+
+-- all that is offered
+unfoldable pub offers : Context → ValType → ℕ → List Choice
+offers context wanted fuel =
+    each_from (global_offers context wanted) 0 (take context.visible context.globals) ++ (constant_offers context wanted ++ reference_offers context wanted fuel)
+
+-- the visible immutable globals whose type is below, by index
+abbrev pub readable_globals : Context → ValType → List ℕ
+readable_globals context wanted = each_from (λ index (global : GlobalType). offered_if (not global.mutable && is_val_below context.types global.val_type wanted) index) 0 (take context.visible context.globals)
+
+-- going on through a list from a place: what stands there, or how far the place is behind its end
+unfoldable pub past : {B : Type 0} → List B → ℕ → Result ℕ B
+past [] place = Ok place
+past (x ∷ xs) zero = Err x
+past (x ∷ xs) (suc place) = past xs place

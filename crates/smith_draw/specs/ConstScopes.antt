@@ -1,0 +1,70 @@
+-- What constant expressions are drawn over.
+use Rattle.std.specs.Prelude.{◌≡◌, ℕ, ◌<◌, ◌≤◌, ◌^◌, Bool, false, ◌&&◌, if◌then◌else◌, List, [], ◌∷◌, Some, length, slice_get, All}
+use Rattle.smith_types.specs.Expressions.{Context}
+use Rattle.smith_types.specs.Types.{IsOrderly}
+use Rattle.smith_types.specs.ValidTypes.{IsValTypeValid, AreTypesValid}
+use Rattle.smith_types.specs.Entities.{IsFuncValid, IsGlobalValid}
+use Rattle.smith_config.specs.declared.config.Config.{Config}
+use Rattle.smith_draw.specs.declared.spaces.Spaces.{Spaces}
+use Rattle.smith_types.specs.declared.composite_type.CompositeInnerType.{CompositeInnerType}
+use Rattle.smith_types.specs.declared.composite_type.CompositeInnerType.TheVariants.{Array, Func, Struct}
+use Rattle.smith_types.specs.declared.composite_type.FieldType.{FieldType}
+use Rattle.smith_types.specs.declared.composite_type.SubType.{SubType}
+use Rattle.smith_types.specs.declared.entity_type.GlobalType.{GlobalType}
+use Rattle.smith_types.specs.Expressions.{field_values}
+use Rattle.smith_config.specs.Features.{features_of}
+use Rattle.smith_draw.specs.declared.const_expr.scope.Scope.{Scope}
+
+abbrev pub context_of : Scope → Context
+context_of scope = record {
+  features = features_of scope.config.now;
+  types = scope.spaces.now.types.now.types;
+  funcs = scope.spaces.now.entities.funcs.now;
+  globals = scope.spaces.now.entities.globals.now;
+  imported_funcs = scope.spaces.now.entities.imported_funcs;
+  imported_globals = scope.spaces.now.entities.imported_globals;
+  visible = scope.visible;
+}
+
+-- the fields of a struct, and the element of an array
+abbrev pub fields_of : CompositeInnerType → List FieldType
+fields_of (Struct structure) = structure.fields
+fields_of (Array array) = array.0 ∷ []
+fields_of (Func function) = []
+
+-- what stands is valid so far, and few enough for indices
+pub record IsScope (context : Context) : Type 0 where
+  pub orderly : IsOrderly context.types
+  pub few_types : length context.types < 2 ^ 32
+  pub few_funcs : length context.funcs < 2 ^ 32
+  pub few_globals : length context.globals < 2 ^ 32
+  pub seen : context.visible ≤ length context.globals
+  pub imported_seen : context.features.gc ≡ false → context.visible ≤ context.imported_globals
+  pub funcs : All (λ index. index < length context.types) context.funcs
+  pub globals : All (λ (global : GlobalType). IsValTypeValid context.features (length context.types) global.val_type) context.globals
+  pub fields : (index : ℕ) (t : SubType) → slice_get context.types index ≡ Some t → All (IsValTypeValid context.features (length context.types)) (field_values (fields_of t.composite_type.inner))
+
+-- where the globals end that may be read: imported ones, and with garbage collection where it is allowed the defined ones
+abbrev pub visible_end : Config → Spaces → Bool → ℕ
+visible_end config spaces allow_defined = if config.gc_enabled && allow_defined then length spaces.entities.globals.now else spaces.entities.imported_globals
+
+-- what an expression over spaces may refer to
+abbrev pub seen_by : Config → Spaces → Bool → Context
+seen_by config spaces allow_defined = record {
+  features = features_of config;
+  types = spaces.types.now.types;
+  funcs = spaces.entities.funcs.now;
+  globals = spaces.entities.globals.now;
+  imported_funcs = spaces.entities.imported_funcs;
+  imported_globals = spaces.entities.imported_globals;
+  visible = visible_end config spaces allow_defined;
+}
+
+-- the types that stand are valid, and so are the functions and globals over them, few enough for indices
+pub record AreSpacesValid (config : Config) (spaces : Spaces) : Type 0 where
+  pub types : AreTypesValid (features_of config) spaces.types.now
+  pub funcs : All (IsFuncValid spaces.types.now.types) spaces.entities.funcs.now
+  pub globals : All (IsGlobalValid (features_of config) spaces.types.now.types) spaces.entities.globals.now
+  pub imported : spaces.entities.imported_globals ≤ length spaces.entities.globals.now
+  pub few_funcs : length spaces.entities.funcs.now < 2 ^ 32
+  pub few_globals : length spaces.entities.globals.now < 2 ^ 32

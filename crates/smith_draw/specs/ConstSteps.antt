@@ -1,0 +1,77 @@
+-- What each step of drawing a constant expression adds to the instructions that stand, and when it is refused.
+use Rattle.std.specs.Prelude.{◌≡◌, ◌⊎◌, ℕ, ◌+◌, ◌*◌, ◌≤◌, ◌<◌, Bool, true, IsTrue, Option, List, Some, None, Result, Ok, Err, length, map, slice_get, All}
+use Rattle.smith_types.specs.Expressions.{Context, HasType}
+use Rattle.smith_types.specs.Flags.{IsInstrEnabled}
+use Rattle.smith_types.specs.Subtyping.{IsValBelow}
+use Rattle.smith_types.specs.ValidTypes.{IsValTypeValid}
+use Rattle.smith_types.specs.declared.value_type.ValType.{ValType}
+use Rattle.smith_types.specs.declared.value_type.ValType.TheVariants.{I32, I64}
+use Rattle.smith_types.specs.declared.composite_type.SubType.{SubType}
+use Rattle.smith_types.specs.declared.const_instr.ConstInstr.{ConstInstr}
+use Rattle.smith_bytes.specs.declared.error.Error.{Error}
+use Rattle.smith_bytes.specs.declared.error.Error.TheVariants as errors
+use Rattle.smith_draw.specs.Putting.{Puts}
+use Rattle.smith_draw.specs.ConstBounds.{widest, MayLack}
+use Rattle.smith_draw.specs.ConstNodes.{is_extended, node_at}
+use Rattle.smith_draw.specs.ConstExprs.{State, operand_at, operands_at, expression_at}
+use Rattle.smith_draw.specs.declared.const_expr.choice.Choice.{Choice}
+use Rattle.smith_draw.specs.declared.const_expr.node.Operand.{Operand}
+use Rattle.smith_draw.specs.declared.const_expr.node.Operand.TheVariants.{Value, Length}
+use Rattle.smith_draw.specs.declared.const_expr.node.Node.{Node}
+
+-- the type of an operand
+abbrev pub operand_type : Operand → ValType
+operand_type (Value value) = value
+operand_type Length = I32
+
+-- values of these types are put behind the old instructions, and what that takes of the fuel
+pub record IsDrawn (context : Context) (values : List ValType) (old : List ConstInstr) (fuel : ℕ) (new : List ConstInstr) (left : ℕ) : Type 0 where
+  pub puts : Puts context values old new
+  pub spent : left ≤ fuel
+  pub short : length new + 23 * widest context.types * left ≤ length old + 23 * length values + 23 * widest context.types * fuel
+
+-- for one of these values there may be nothing to choose from
+pub record SomeMayLack (types : List SubType) (values : List ValType) : Type 0 where
+  pub place : ℕ
+  pub value : ValType
+  pub stands : slice_get values place ≡ Some value
+  pub lacks : MayLack types value
+
+-- when values of these types may be refused
+abbrev pub MayRefuseValues : List SubType → List ValType → Error → Type 0
+MayRefuseValues types values e = (e ≡ errors.Memory) ⊎ ((e ≡ errors.EmptyChoose) × SomeMayLack types values)
+
+-- a node gives a value of the wanted type from its operands, which are few, valid and paid for
+pub record IsNode (context : Context) (wanted : ValType) (fuel : ℕ) (node : Node) : Type 0 where
+  pub result : ValType
+  pub typed : HasType context node.instruction (map operand_type node.operands) result
+  pub below : IsValBelow context.types result wanted
+  pub enabled : IsInstrEnabled context.features context.imported_globals node.instruction
+  pub paid : 0 < length node.operands → 0 < fuel
+  pub few : length node.operands ≤ widest context.types
+  pub valid : All (λ operand. IsValTypeValid context.features (length context.types) (operand_type operand)) node.operands
+  pub lacks : (operand : Operand) (place : ℕ) → slice_get node.operands place ≡ Some operand → MayLack context.types (operand_type operand) → MayLack context.types wanted
+
+-- each node that a choice makes is one of the wanted type, and an extended constant is one of an integer, and enabled
+pub record IsFit (context : Context) (wanted : ValType) (fuel : ℕ) (choice : Choice) : Type 0 where
+  pub node : (bytes : List ℕ) → IsNode context wanted fuel (node_at context.types wanted choice bytes).0
+  pub extended : is_extended choice ≡ true → ((wanted ≡ I32) ⊎ (wanted ≡ I64)) × IsTrue context.features.extended_const
+
+-- a step that is done left what its definition gives, and one that had nothing to choose from has none
+abbrev pub Reads : Result (Unit {0}) Error → State → Option State → Type 0
+Reads (Ok done) new read = read ≡ Some new
+Reads (Err errors.Memory) new read = Unit {0}
+Reads (Err errors.EmptyChoose) new read = read ≡ None
+Reads (Err _) new read = ⊥
+
+-- a value, by its definition at whatever depth above the fuel
+pub record ReadsValue (context : Context) (limited : Bool) (wanted : ValType) (old new : State) (result : Result (Unit {0}) Error) : Type 0 where
+  pub exact : (depth : ℕ) → old.fuel < depth → Reads result new (expression_at context limited depth wanted old)
+
+-- an operand
+pub record ReadsOperand (context : Context) (limited : Bool) (operand : Operand) (old new : State) (result : Result (Unit {0}) Error) : Type 0 where
+  pub exact : (depth : ℕ) → old.fuel < depth → Reads result new (operand_at limited (expression_at context limited depth) operand old)
+
+-- operands, which without fuel are none
+pub record ReadsOperands (context : Context) (limited : Bool) (operands : List Operand) (old new : State) (result : Result (Unit {0}) Error) : Type 0 where
+  pub exact : (depth : ℕ) → (0 < length operands → old.fuel < depth) → Reads result new (operands_at (operand_at limited (expression_at context limited depth)) operands old)

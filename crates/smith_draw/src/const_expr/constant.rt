@@ -1,0 +1,22 @@
+ghost use Rattle.std.specs.Prelude.{◌≡◌};
+ghost use Rattle.smith_bytes.specs.Source.{KeepsPieces};
+ghost use Rattle.smith_draw.specs.Constants.{constant_at};
+
+use smith_bytes::Unstructured;
+use smith_types::{ConstInstr, ValType};
+
+/// A constant of a type: its value or bits drawn, of a reference null.
+#[tactic(auto, unfolding(crate::specs::Constants::constant_at))]
+pub(super) fn constant(wanted: ValType, u: &mut Unstructured<'_>) -> ConstInstr
+    ensures exact { constant_at wanted u.old ≡ (result, u.new) }
+    ensures left { KeepsPieces u.old u.new }
+{
+    match wanted {
+        ValType::I32 => ConstInstr::I32Const(u.arbitrary()),
+        ValType::I64 => ConstInstr::I64Const(u.arbitrary()),
+        ValType::F32 => ConstInstr::F32Const(u.arbitrary()),
+        ValType::F64 => ConstInstr::F64Const(u.arbitrary()),
+        ValType::V128 => ConstInstr::V128Const(u.arbitrary()),
+        ValType::Ref(reference) => ConstInstr::RefNull(reference.heap_type),
+    }
+}

@@ -1,0 +1,152 @@
+ghost use Rattle.std.specs.Prelude.{◌≡◌, ◌≤◌, ◌<◌, ◌++◌, ◌+◌, ◌*◌, ◌-◌, ◌⊎◌, Some, None, [], ◌∷◌, map, length, All, IsTrue, IfOk, IfErr, OnOk};
+ghost use Rattle.smith_bytes.specs.Source.{KeepsPieces};
+ghost use Rattle.smith_types.specs.ValidTypes.{IsValTypeValid};
+ghost use Rattle.smith_types.specs.declared.value_type.ValType.TheVariants.{I32, I64};
+ghost use Rattle.smith_types.specs.Expressions.{Context, IsConstExpr};
+ghost use Rattle.smith_draw.specs.Constants.{extended_at};
+ghost use Rattle.smith_draw.specs.ConstScopes.{context_of, IsScope};
+ghost use Rattle.smith_draw.specs.ConstExprs.{state_of, length_at, expression_alone_at};
+ghost use Rattle.smith_draw.specs.ConstBounds.{most_instructions, MayRefuseConstExpr};
+ghost use Rattle.smith_draw.specs.ConstSteps.{operand_type, MayRefuseValues, IsDrawn, ReadsValue, ReadsOperand, ReadsOperands};
+
+use super::choice::{Choice, is_extended};
+use super::extended::extended_constant;
+use super::found::chosen;
+use super::node::{Operand, drawn_node};
+use super::scope::Scope;
+use smith_bytes::{Error, Unstructured};
+use smith_types::{ConstInstr, Items, ValType};
+use std::alloc::Global;
+
+/// Draws a value behind the instructions that stand.
+#[cycle(expression)]
+fn expression(
+    alloc: Global,
+    scope: &Scope<'_>,
+    wanted: ValType,
+    fuel: &mut u32,
+    out: &mut Items<ConstInstr>,
+    u: &mut Unstructured<'_>,
+) -> Result<(), Error>
+    requires scope { IsScope (context_of scope.now) }
+    requires wanted { IsValTypeValid (context_of scope.now).features (length (context_of scope.now).types) wanted }
+    ensures exact { ReadsValue (context_of scope.now) scope.now.config.now.limit_arrays_in_const_exprs wanted (state_of out.old fuel.old u.old) (state_of out.new fuel.new u.new) result }
+    ensures drawn { OnOk result (IsDrawn (context_of scope.now) (wanted ∷ []) out.old fuel.old out.new fuel.new) }
+    ensures refusal { IfErr result (MayRefuseValues (context_of scope.now).types (wanted ∷ [])) }
+    ensures left { KeepsPieces u.old u.new }
+{
+    let choice = chosen(scope, wanted, *fuel, u)?;
+    if is_extended(choice) {
+        return extended_value(alloc, wanted, fuel, out, u);
+    }
+    let node = drawn_node(alloc, scope.spaces.types.types(), wanted, choice, u)?;
+    *fuel = fuel.saturating_sub(1);
+    operands(alloc, scope, node.operands.as_slice(), fuel, out, u)?;
+    out.push(node.instruction)
+}
+
+/// Draws the operands in order.
+#[cycle(expression)]
+fn operands(
+    alloc: Global,
+    scope: &Scope<'_>,
+    operands: &[Operand],
+    fuel: &mut u32,
+    out: &mut Items<ConstInstr>,
+    u: &mut Unstructured<'_>,
+) -> Result<(), Error>
+    requires scope { IsScope (context_of scope.now) }
+    requires valid { All (λ operand. IsValTypeValid (context_of scope.now).features (length (context_of scope.now).types) (operand_type operand)) operands.now }
+    ensures exact { ReadsOperands (context_of scope.now) scope.now.config.now.limit_arrays_in_const_exprs operands.now (state_of out.old fuel.old u.old) (state_of out.new fuel.new u.new) result }
+    ensures drawn { OnOk result (IsDrawn (context_of scope.now) (map operand_type operands.now) out.old fuel.old out.new fuel.new) }
+    ensures refusal { IfErr result (MayRefuseValues (context_of scope.now).types (map operand_type operands.now)) }
+    ensures left { KeepsPieces u.old u.new }
+{
+    for each in operands {
+        operand(alloc, scope, *each, fuel, out, u)?;
+    }
+    Ok(())
+}
+
+#[cycle(expression)]
+fn operand(
+    alloc: Global,
+    scope: &Scope<'_>,
+    operand: Operand,
+    fuel: &mut u32,
+    out: &mut Items<ConstInstr>,
+    u: &mut Unstructured<'_>,
+) -> Result<(), Error>
+    requires scope { IsScope (context_of scope.now) }
+    requires valid { IsValTypeValid (context_of scope.now).features (length (context_of scope.now).types) (operand_type operand) }
+    ensures exact { ReadsOperand (context_of scope.now) scope.now.config.now.limit_arrays_in_const_exprs operand (state_of out.old fuel.old u.old) (state_of out.new fuel.new u.new) result }
+    ensures drawn { OnOk result (IsDrawn (context_of scope.now) (operand_type operand ∷ []) out.old fuel.old out.new fuel.new) }
+    ensures refusal { IfErr result (MayRefuseValues (context_of scope.now).types (operand_type operand ∷ [])) }
+    ensures left { KeepsPieces u.old u.new }
+{
+    match operand {
+        Operand::Value(value) => expression(alloc, scope, value, fuel, out, u),
+        Operand::Length => {
+            if scope.config.limit_arrays_in_const_exprs {
+                return limited_length(fuel, out, u);
+            }
+            expression(alloc, scope, ValType::I32, fuel, out, u)
+        }
+    }
+}
+
+/// A length of at most the fuel, which it takes.
+fn limited_length(
+    fuel: &mut u32,
+    out: &mut Items<ConstInstr>,
+    u: &mut Unstructured<'_>,
+) -> Result<(), Error>
+    ensures exact { OnOk result (state_of out.new fuel.new u.new ≡ length_at (state_of out.old fuel.old u.old)) }
+    ensures drawn { (context : Context) → OnOk result (IsDrawn context (I32 ∷ []) out.old fuel.old out.new fuel.new) }
+    ensures memory { IfErr result (λ e. e ≡ Error.Memory) }
+    ensures left { KeepsPieces u.old u.new }
+{
+    let length = u.int_in_range(0..=*fuel);
+    *fuel -= length;
+    out.push(ConstInstr::I32Const(length.cast_signed()))
+}
+
+/// Draws an extended constant behind the instructions that stand.
+fn extended_value(
+    alloc: Global,
+    wanted: ValType,
+    fuel: &mut u32,
+    out: &mut Items<ConstInstr>,
+    u: &mut Unstructured<'_>,
+) -> Result<(), Error>
+    requires { (wanted ≡ I32) ⊎ (wanted ≡ I64) }
+    ensures exact { OnOk result (state_of out.new fuel.new u.new ≡ state_of (out.old ++ (extended_at wanted u.old).0) (fuel.old - 1) (extended_at wanted u.old).1) }
+    ensures drawn { (context : Context) → IsTrue context.features.extended_const → OnOk result (IsDrawn context (wanted ∷ []) out.old fuel.old out.new fuel.new) }
+    ensures memory { IfErr result (λ e. e ≡ Error.Memory) }
+    ensures left { KeepsPieces u.old u.new }
+{
+    *fuel = fuel.saturating_sub(1);
+    extended_constant(alloc, wanted, out, u)
+}
+
+/// Draws an expression of its own, with all of the configured fuel.
+pub(super) fn whole_expression(
+    alloc: Global,
+    scope: &Scope<'_>,
+    wanted: ValType,
+    u: &mut Unstructured<'_>,
+) -> Result<Items<ConstInstr>, Error>
+    requires scope { IsScope (context_of scope.now) }
+    requires wanted { IsValTypeValid (context_of scope.now).features (length (context_of scope.now).types) wanted }
+    ensures exact { IfOk result (λ drawn. expression_alone_at (context_of scope.now) scope.now.config.now.limit_arrays_in_const_exprs scope.now.config.now.const_expr_fuel wanted u.old ≡ Some (drawn, u.new)) }
+    ensures none { IfErr result (λ e. e ≡ Error.EmptyChoose → expression_alone_at (context_of scope.now) scope.now.config.now.limit_arrays_in_const_exprs scope.now.config.now.const_expr_fuel wanted u.old ≡ None) }
+    ensures typed { IfOk result (IsConstExpr (context_of scope.now) wanted) }
+    ensures short { IfOk result (λ drawn. length drawn ≤ most_instructions scope.now.config.now (context_of scope.now).types) }
+    ensures refusal { IfErr result (MayRefuseConstExpr (context_of scope.now).types wanted) }
+    ensures left { KeepsPieces u.old u.new }
+{
+    let mut drawn = Items::new(alloc);
+    let mut fuel = scope.config.const_expr_fuel;
+    expression(alloc, scope, wanted, &mut fuel, &mut drawn, u)?;
+    Ok(drawn)
+}

@@ -1,0 +1,52 @@
+ghost use Rattle.std.specs.Prelude.{◌≡◌, [], ◌∷◌, length, Some, None, IfOk, IfErr};
+ghost use Rattle.smith_bytes.specs.Source.{KeepsPieces};
+ghost use Rattle.smith_bytes.specs.Draws.{choose_at};
+ghost use Rattle.smith_types.specs.Subtyping.{IsValInRange};
+ghost use Rattle.smith_types.specs.ValidTypes.{IsValTypeValid};
+ghost use Rattle.smith_draw.specs.ConstScopes.{context_of, IsScope};
+ghost use Rattle.smith_draw.specs.ConstOffers.{offers};
+ghost use Rattle.smith_draw.specs.ConstSteps.{MayRefuseValues, IsFit};
+
+use super::choice::Choice;
+use super::offered::past_offers;
+use super::scope::Scope;
+use smith_bytes::{Error, Unstructured};
+use smith_types::ValType;
+
+/// Counts what is offered where a value of a type is drawn.
+fn count_offers(scope: &Scope<'_>, wanted: ValType, fuel: u32) -> usize
+    requires scope { IsScope (context_of scope.now) }
+    requires upper { IsValInRange (context_of scope.now).types wanted }
+    ensures { result ≡ length (offers (context_of scope.now) wanted fuel) }
+{
+    match past_offers(scope, wanted, fuel, usize::MAX) {
+        Ok(rest) => usize::MAX - rest,
+        Err(_) => usize::MAX,
+    }
+}
+
+/// Chooses among what is offered where a value of a type is drawn.
+pub(super) fn chosen(
+    scope: &Scope<'_>,
+    wanted: ValType,
+    fuel: u32,
+    u: &mut Unstructured<'_>,
+) -> Result<Choice, Error>
+    requires scope { IsScope (context_of scope.now) }
+    requires wanted { IsValTypeValid (context_of scope.now).features (length (context_of scope.now).types) wanted }
+    ensures exact { IfOk result (λ choice. choose_at (offers (context_of scope.now) wanted fuel) u.old ≡ (Some choice, u.new)) }
+    ensures none { IfErr result (λ e. (e ≡ Error.EmptyChoose) × ((choose_at (offers (context_of scope.now) wanted fuel) u.old).0 ≡ None)) }
+    ensures fits { IfOk result (IsFit (context_of scope.now) wanted fuel) }
+    ensures refusal { IfErr result (MayRefuseValues (context_of scope.now).types (wanted ∷ [])) }
+    ensures left { KeepsPieces u.old u.new }
+{
+    let count = count_offers(scope, wanted, fuel);
+    if count == 0 {
+        return Err(Error::EmptyChoose);
+    }
+    let place = u.int_in_range(0..=count - 1);
+    match past_offers(scope, wanted, fuel, place) {
+        Ok(_) => Err(Error::EmptyChoose),
+        Err(choice) => Ok(choice),
+    }
+}

@@ -1,0 +1,141 @@
+//! Drawn constant expressions, by recursion under fuel.
+
+ghost use Rattle.std.specs.Prelude.{◌≡◌, ◌≤◌, Some, None, [], length, IsTrue, IfOk, IfErr, IfSome, IsSome, false};
+ghost use Rattle.smith_bytes.specs.Source.{KeepsPieces};
+ghost use Rattle.smith_bytes.specs.Takes.{Takes};
+ghost use Rattle.smith_types.specs.ValidTypes.{IsValTypeValid};
+ghost use Rattle.smith_types.specs.declared.value_type.ValType.TheVariants.{I32, Ref};
+ghost use Rattle.smith_types.specs.Expressions.{IsConstExpr};
+ghost use Rattle.smith_config.specs.Features.{features_of};
+ghost use Rattle.smith_draw.specs.SpelledConstants.{SpellsConstExpr};
+ghost use Rattle.smith_draw.specs.ConstOffers.{readable_globals};
+ghost use Rattle.smith_draw.specs.ConstExprs.{const_expr_at, table_init_at};
+ghost use Rattle.smith_draw.specs.ConstScopes.{seen_by, AreSpacesValid};
+ghost use Rattle.smith_draw.specs.ConstBounds.{most_instructions, MayRefuseConstExpr};
+
+mod choice;
+mod constant;
+mod defaults;
+mod drawn;
+mod extended;
+mod found;
+mod node;
+mod offered;
+mod references;
+mod scope;
+
+use crate::spaces::Spaces;
+use drawn::whole_expression;
+use references::is_below;
+use scope::{Scope, visible_end};
+use smith_bytes::{Error, Unstructured};
+use smith_config::Config;
+use smith_types::{ConstInstr, Items, RefType, ValType};
+use std::alloc::Global;
+
+/// Draws an expression that gives a value below `wanted`. It may read imported immutable globals, and where
+/// `allow_defined` is set and garbage collection is on also defined ones. The standard's section Validation, Constant
+/// Expressions.
+///
+/// The types of `spaces` are valid so far, its functions and globals are valid over them, each fewer than 2^32, and
+/// imported ones are among them. `wanted` is valid over these types.
+///
+/// # Errors
+///
+/// `EmptyChoose` where nothing gives a value that is needed; that comes only where `wanted`, or a field or element type
+/// that stands, is a reference that may not be null.
+pub fn arbitrary_const_expr(
+    alloc: Global,
+    config: &Config,
+    spaces: &Spaces<'_>,
+    wanted: ValType,
+    allow_defined: bool,
+    u: &mut Unstructured<'_>,
+) -> Result<Items<ConstInstr>, Error>
+    requires standing { AreSpacesValid config.now spaces.now }
+    requires wanted { IsValTypeValid (features_of config.now) (length spaces.now.types.now.types) wanted }
+    ensures exact { IfOk result (λ drawn. const_expr_at config.now spaces.now wanted allow_defined u.old ≡ Some (drawn, u.new)) }
+    ensures none { IfErr result (λ e. e ≡ Error.EmptyChoose → const_expr_at config.now spaces.now wanted allow_defined u.old ≡ None) }
+    ensures typed { IfOk result (IsConstExpr (seen_by config.now spaces.now allow_defined) wanted) }
+    ensures short { IfOk result (λ drawn. length drawn ≤ most_instructions config.now spaces.now.types.now.types) }
+    ensures refusal { IfErr result (MayRefuseConstExpr spaces.now.types.now.types wanted) }
+    ensures reach { wanted ≡ I32 → readable_globals (seen_by config.now spaces.now allow_defined) I32 ≡ [] → IfOk result (λ drawn. Takes (SpellsConstExpr config.now) u.old drawn u.new) }
+    ensures left { KeepsPieces u.old u.new }
+{
+    let _types = spaces.types.types();
+    let visible = visible_end(config, spaces, allow_defined);
+    let scope = Scope {
+        config,
+        spaces,
+        visible,
+    };
+    whole_expression(alloc, &scope, wanted, u)
+}
+
+/// Draws the initialiser of a table whose elements are of the type `element`, or none where null will do. It may read
+/// imported globals alone. The standard's section Validation, Tables.
+///
+/// `spaces` is as [`arbitrary_const_expr`] asks, and `element` is valid over its types. Where `element` may not be null,
+/// garbage collection is on.
+///
+/// # Errors
+///
+/// As [`arbitrary_const_expr`] for a reference of the type `element`.
+#[tactic(auto, unfolding(crate::specs::ConstExprs::table_init_at))]
+pub fn arbitrary_table_init(
+    alloc: Global,
+    config: &Config,
+    spaces: &Spaces<'_>,
+    element: RefType,
+    u: &mut Unstructured<'_>,
+) -> Result<Option<Items<ConstInstr>>, Error>
+    requires standing { AreSpacesValid config.now spaces.now }
+    requires element { IsValTypeValid (features_of config.now) (length spaces.now.types.now.types) (Ref element) }
+    requires created { element.nullable ≡ false → IsTrue config.now.gc_enabled }
+    ensures exact { IfOk result (λ initial. table_init_at config.now spaces.now element u.old ≡ Some (initial, u.new)) }
+    ensures none { IfErr result (λ e. e ≡ Error.EmptyChoose → table_init_at config.now spaces.now element u.old ≡ None) }
+    ensures typed { IfOk result (λ initial. IfSome initial (IsConstExpr (seen_by config.now spaces.now false) (Ref element))) }
+    ensures short { IfOk result (λ initial. IfSome initial (λ drawn. length drawn ≤ most_instructions config.now spaces.now.types.now.types)) }
+    ensures gc { IfOk result (λ initial. IsSome initial → IsTrue config.now.gc_enabled) }
+    ensures needed { element.nullable ≡ false → IfOk result IsSome }
+    ensures refusal { IfErr result (MayRefuseConstExpr spaces.now.types.now.types (Ref element)) }
+    ensures left { KeepsPieces u.old u.new }
+{
+    if !config.gc_enabled {
+        return Ok(None);
+    }
+    if element.nullable && u.arbitrary() {
+        return Ok(None);
+    }
+    let drawn = arbitrary_const_expr(alloc, config, spaces, ValType::Ref(element), false, u)?;
+    Ok(Some(drawn))
+}
+
+/// Lists the indices of the immutable globals that an expression may read and whose type is below `wanted`, in ascending
+/// order: imported ones, and where `allow_defined` is set and garbage collection is on also defined ones.
+///
+/// `spaces` and `wanted` are as [`arbitrary_const_expr`] asks.
+pub fn globals_for_const_expr(
+    alloc: Global,
+    config: &Config,
+    spaces: &Spaces<'_>,
+    wanted: ValType,
+    allow_defined: bool,
+) -> Result<Items<u32>, Error>
+    requires standing { AreSpacesValid config.now spaces.now }
+    requires wanted { IsValTypeValid (features_of config.now) (length spaces.now.types.now.types) wanted }
+    ensures exact { IfOk result (λ globals. globals ≡ readable_globals (seen_by config.now spaces.now allow_defined) wanted) }
+    ensures memory { IfErr result (λ e. e ≡ Error.Memory) }
+{
+    let entities = spaces.entities;
+    let visible = visible_end(config, spaces, allow_defined);
+    let globals = &entities.globals[..visible];
+    let mut readable = Items::new(alloc);
+    for index in 0..globals.len() {
+        let global = globals[index];
+        if !global.mutable && is_below(spaces.types, global.val_type, wanted) {
+            readable.push(index as u32)?;
+        }
+    }
+    Ok(readable)
+}

@@ -1,0 +1,208 @@
+ghost use Rattle.std.specs.Prelude.{◌≡◌, ◌≤◌, ◌<◌, ◌++◌, [], ◌∷◌, map, length, slice_get, Some, IfOk, IfErr, OnOk};
+ghost use Rattle.smith_bytes.specs.Source.{KeepsPieces};
+ghost use Rattle.smith_draw.specs.ConstNodes.{fields_there, field_operands, repeated, is_shared_heap, converted, node_of, node_at};
+ghost use Rattle.smith_draw.specs.ConstScopes.{fields_of};
+ghost use Rattle.smith_types.specs.Expressions.{field_values};
+ghost use Rattle.smith_types.specs.declared.value_type.ValType.TheVariants.{I32};
+ghost use Rattle.smith_draw.specs.declared.const_expr.node.Operand.TheVariants.{Value};
+
+use super::choice::Choice;
+use super::constant::constant;
+use super::defaults::unpacked;
+use smith_bytes::{Error, Unstructured};
+use smith_types::{
+    AbstractHeapType, CompositeInnerType, ConstInstr, HeapType, Items, RefType, SubType, ValType,
+};
+use std::alloc::Global;
+
+/// What is drawn before an instruction that takes it.
+#[derive(Clone, Copy)]
+pub(super) enum Operand {
+    Value(ValType),
+    /// The length of an array.
+    Length,
+}
+
+/// An instruction, and what is drawn before it.
+#[derive(Drop)]
+pub(super) struct Node {
+    pub operands: Items<Operand>,
+    pub instruction: ConstInstr,
+}
+
+/// The node that a choice makes.
+#[tactic(auto, unfolding(crate::specs::ConstNodes::node_at))]
+pub(super) fn drawn_node(
+    alloc: Global,
+    types: &[SubType],
+    wanted: ValType,
+    choice: Choice,
+    u: &mut Unstructured<'_>,
+) -> Result<Node, Error>
+    ensures exact { IfOk result (λ node. node_at types.now wanted choice u.old ≡ (node, u.new)) }
+    ensures memory { IfErr result (λ e. e ≡ Error.Memory) }
+    ensures left { KeepsPieces u.old u.new }
+{
+    match choice {
+        Choice::Global(index) => Ok(leaf(alloc, ConstInstr::GlobalGet(index))),
+        Choice::Constant | Choice::Extended => Ok(leaf(alloc, constant(wanted, u))),
+        Choice::Function(index) => Ok(leaf(alloc, ConstInstr::RefFunc(index))),
+        Choice::Struct(index) => of_fields(alloc, types, index, ConstInstr::StructNew(index)),
+        Choice::StructDefault(index) => Ok(leaf(alloc, ConstInstr::StructNewDefault(index))),
+        Choice::Array(index) => {
+            let mut node = of_fields(alloc, types, index, ConstInstr::ArrayNew(index))?;
+            node.operands.push(Operand::Length)?;
+            Ok(node)
+        }
+        Choice::FixedArray(index) => fixed(alloc, types, index, u),
+        Choice::ArrayDefault(index) => {
+            of_one(alloc, Operand::Length, ConstInstr::ArrayNewDefault(index))
+        }
+        Choice::I31 => of_one(alloc, Operand::Value(ValType::I32), ConstInstr::RefI31),
+        Choice::SharedI31 => of_one(
+            alloc,
+            Operand::Value(ValType::I32),
+            ConstInstr::RefI31Shared,
+        ),
+        Choice::FromExtern => of_one(
+            alloc,
+            Operand::Value(converted(wanted, AbstractHeapType::Extern)),
+            ConstInstr::AnyConvertExtern,
+        ),
+        Choice::FromAny => of_one(
+            alloc,
+            Operand::Value(converted(wanted, AbstractHeapType::Any)),
+            ConstInstr::ExternConvertAny,
+        ),
+    }
+}
+
+fn leaf(alloc: Global, instruction: ConstInstr) -> Node
+    ensures { result ≡ node_of [] instruction }
+{
+    Node {
+        operands: Items::new(alloc),
+        instruction,
+    }
+}
+
+fn of_one(alloc: Global, operand: Operand, instruction: ConstInstr) -> Result<Node, Error>
+    ensures exact { IfOk result (λ node. node ≡ node_of (operand ∷ []) instruction) }
+    ensures memory { IfErr result (λ e. e ≡ Error.Memory) }
+{
+    let mut operands = Items::new(alloc);
+    operands.push(operand)?;
+    Ok(Node {
+        operands,
+        instruction,
+    })
+}
+
+fn of_fields(
+    alloc: Global,
+    types: &[SubType],
+    index: u32,
+    instruction: ConstInstr,
+) -> Result<Node, Error>
+    ensures exact { IfOk result (λ node. node ≡ node_of (field_operands types.now index) instruction) }
+    ensures memory { IfErr result (λ e. e ≡ Error.Memory) }
+{
+    let mut operands = Items::new(alloc);
+    push_fields(&mut operands, types, index)?;
+    Ok(Node {
+        operands,
+        instruction,
+    })
+}
+
+#[tactic(auto, unfolding(crate::specs::ConstNodes::node_at))]
+fn fixed(
+    alloc: Global,
+    types: &[SubType],
+    index: u32,
+    u: &mut Unstructured<'_>,
+) -> Result<Node, Error>
+    ensures exact { IfOk result (λ node. node_at types.now I32 (Choice.FixedArray index) u.old ≡ (node, u.new)) }
+    ensures memory { IfErr result (λ e. e ≡ Error.Memory) }
+    ensures left { KeepsPieces u.old u.new }
+{
+    let array_size = u.int_in_range(0..=3u32);
+    let mut operands = Items::new(alloc);
+    push_repeated(&mut operands, types, index, array_size)?;
+    Ok(Node {
+        operands,
+        instruction: ConstInstr::ArrayNewFixed {
+            array_type_index: index,
+            array_size,
+        },
+    })
+}
+
+fn push_repeated(
+    operands: &mut Items<Operand>,
+    types: &[SubType],
+    index: u32,
+    times: u32,
+) -> Result<(), Error>
+    ensures ok { OnOk result (operands.new ≡ operands.old ++ repeated times (field_operands types.now index)) }
+    ensures memory { IfErr result (λ e. e ≡ Error.Memory) }
+{
+    for _ in 0..times {
+        push_fields(operands, types, index)?;
+    }
+    Ok(())
+}
+
+/// An operand for each field of a struct, or for the element of an array.
+fn push_fields(operands: &mut Items<Operand>, types: &[SubType], index: u32) -> Result<(), Error>
+    ensures ok { OnOk result (operands.new ≡ operands.old ++ field_operands types.now index) }
+    ensures memory { IfErr result (λ e. e ≡ Error.Memory) }
+{
+    match types.get(index as usize) {
+        Some(ty) => push_fields_of(operands, &ty.composite_type.inner),
+        None => Ok(()),
+    }
+}
+
+fn push_fields_of(operands: &mut Items<Operand>, inner: &CompositeInnerType) -> Result<(), Error>
+    ensures ok { OnOk result (operands.new ≡ operands.old ++ map Value (field_values (fields_of inner.now))) }
+    ensures memory { IfErr result (λ e. e ≡ Error.Memory) }
+{
+    match inner {
+        CompositeInnerType::Struct(structure) => {
+            for field in structure.fields.as_slice() {
+                operands.push(Operand::Value(unpacked(field.element_type)))?;
+            }
+            Ok(())
+        }
+        CompositeInnerType::Array(array) => {
+            operands.push(Operand::Value(unpacked(array.0.element_type)))
+        }
+        CompositeInnerType::Func(_) => Ok(()),
+    }
+}
+
+/// The reference that is converted to one of this type.
+fn converted(wanted: ValType, ty: AbstractHeapType) -> ValType
+    ensures { result ≡ converted wanted ty }
+{
+    match wanted {
+        ValType::Ref(reference) => ValType::Ref(RefType {
+            nullable: reference.nullable,
+            heap_type: HeapType::Abstract {
+                shared: is_shared_heap(reference.heap_type),
+                ty,
+            },
+        }),
+        value => value,
+    }
+}
+
+fn is_shared_heap(heap_type: HeapType) -> bool
+    ensures { result ≡ is_shared_heap heap_type }
+{
+    match heap_type {
+        HeapType::Abstract { shared, .. } => shared,
+        _ => false,
+    }
+}

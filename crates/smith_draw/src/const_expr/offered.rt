@@ -1,0 +1,302 @@
+ghost use Rattle.std.specs.Prelude.{◌≡◌, ◌<◌, ◌++◌, [], ◌∷◌, length, take, Some, IfOk, IfErr};
+ghost use Rattle.smith_types.specs.Subtyping.{IsValInRange};
+ghost use Rattle.smith_types.specs.Expressions.{unpacked};
+ghost use Rattle.smith_types.specs.declared.value_type.ValType.TheVariants.{Ref};
+ghost use Rattle.smith_draw.specs.ConstScopes.{context_of, IsScope};
+ghost use Rattle.smith_draw.specs.ConstOffers.{
+  past,
+  each_from,
+  offered_if,
+  is_defaultable,
+  are_defaultable,
+  is_integer,
+  global_offers,
+  function_offers,
+  struct_ways,
+  array_ways,
+  struct_offers,
+  array_offers,
+  conversions,
+  other_offers,
+  created_offers,
+  reference_offers,
+  constant_offers,
+  offers,
+};
+
+use super::choice::Choice;
+use super::defaults::{are_defaultable, is_defaultable, unpacked};
+use super::references::{function_reference, gives, i31, is_below};
+use super::scope::Scope;
+use smith_types::{AbstractHeapType, CompositeInnerType, FieldType, HeapType, RefType, ValType};
+
+/// The choice at a place, or how far the place is behind the last choice.
+#[tactic(auto, unfolding(crate::specs::ConstOffers::past))]
+pub(super) fn past_offers(
+    scope: &Scope<'_>,
+    wanted: ValType,
+    fuel: u32,
+    place: usize,
+) -> Result<usize, Choice>
+    requires scope { IsScope (context_of scope.now) }
+    requires upper { IsValInRange (context_of scope.now).types wanted }
+    ensures { result ≡ past (offers (context_of scope.now) wanted fuel) place }
+{
+    let place = past_globals(scope, wanted, place)?;
+    let place = past_constants(scope, wanted, place)?;
+    past_references(scope, wanted, fuel, place)
+}
+
+#[tactic(auto, using(crate::proofs::ConstFoundLaws::past_append, crate::proofs::ConstFoundLaws::past_front), unfolding(crate::specs::ConstOffers::past))]
+fn past_globals(scope: &Scope<'_>, wanted: ValType, place: usize) -> Result<usize, Choice>
+    requires scope { IsScope (context_of scope.now) }
+    requires upper { IsValInRange (context_of scope.now).types wanted }
+    ensures { result ≡ past (each_from (global_offers (context_of scope.now) wanted) 0 (take scope.now.visible (context_of scope.now).globals)) place }
+{
+    let entities = scope.spaces.entities;
+    let globals = &entities.globals[..scope.visible];
+    let mut rest = place;
+    for index in 0..globals.len() {
+        let global = globals[index];
+        let offered = !global.mutable && is_below(scope.spaces.types, global.val_type, wanted);
+        rest = past_if(offered, Choice::Global(index as u32), rest)?;
+    }
+    Ok(rest)
+}
+
+#[tactic(auto, using(crate::proofs::ConstFoundLaws::past_append, crate::proofs::ConstFoundLaws::past_front), unfolding(crate::specs::ConstOffers::past))]
+fn past_constants(scope: &Scope<'_>, wanted: ValType, place: usize) -> Result<usize, Choice>
+    ensures { result ≡ past (constant_offers (context_of scope.now) wanted) place }
+{
+    let place = past_if(is_defaultable(wanted), Choice::Constant, place)?;
+    let extended = is_integer(wanted) && scope.config.extended_const_enabled;
+    past_if(extended, Choice::Extended, place)
+}
+
+#[tactic(auto, using(crate::proofs::ConstFoundLaws::past_append, crate::proofs::ConstFoundLaws::past_front), unfolding(crate::specs::ConstOffers::past))]
+fn past_references(
+    scope: &Scope<'_>,
+    wanted: ValType,
+    fuel: u32,
+    place: usize,
+) -> Result<usize, Choice>
+    requires scope { IsScope (context_of scope.now) }
+    requires upper { IsValInRange (context_of scope.now).types wanted }
+    ensures { result ≡ past (reference_offers (context_of scope.now) wanted fuel) place }
+{
+    match wanted {
+        ValType::Ref(reference) => {
+            let place = past_functions(scope, wanted, place)?;
+            if !scope.config.gc_enabled {
+                return Ok(place);
+            }
+            past_created(scope, reference, fuel, place)
+        }
+        _ => Ok(place),
+    }
+}
+
+#[tactic(auto, using(crate::proofs::ConstFoundLaws::past_append, crate::proofs::ConstFoundLaws::past_front), unfolding(crate::specs::ConstOffers::past))]
+fn past_functions(scope: &Scope<'_>, wanted: ValType, place: usize) -> Result<usize, Choice>
+    requires scope { IsScope (context_of scope.now) }
+    requires upper { IsValInRange (context_of scope.now).types wanted }
+    ensures { result ≡ past (each_from (function_offers (context_of scope.now) wanted) 0 (context_of scope.now).funcs) place }
+{
+    let entities = scope.spaces.entities;
+    let funcs = entities.funcs;
+    let mut rest = place;
+    for index in 0..funcs.len() {
+        let reference = function_reference(scope, index, funcs[index]);
+        let offered = is_below(scope.spaces.types, reference, wanted);
+        rest = past_if(offered, Choice::Function(index as u32), rest)?;
+    }
+    Ok(rest)
+}
+
+#[tactic(auto, using(crate::proofs::ConstFoundLaws::past_append, crate::proofs::ConstFoundLaws::past_front), unfolding(crate::specs::ConstOffers::past))]
+fn past_created(
+    scope: &Scope<'_>,
+    wanted: RefType,
+    fuel: u32,
+    place: usize,
+) -> Result<usize, Choice>
+    requires scope { IsScope (context_of scope.now) }
+    requires upper { IsValInRange (context_of scope.now).types (Ref wanted) }
+    ensures { result ≡ past (created_offers (context_of scope.now) wanted fuel) place }
+{
+    let place = past_structs(scope, ValType::Ref(wanted), fuel, place)?;
+    let place = past_arrays(scope, ValType::Ref(wanted), fuel, place)?;
+    past_others(scope, wanted, fuel, place)
+}
+
+#[tactic(auto, using(crate::proofs::ConstFoundLaws::past_append, crate::proofs::ConstFoundLaws::past_front), unfolding(crate::specs::ConstOffers::past))]
+fn past_structs(
+    scope: &Scope<'_>,
+    wanted: ValType,
+    fuel: u32,
+    place: usize,
+) -> Result<usize, Choice>
+    requires scope { IsScope (context_of scope.now) }
+    requires upper { IsValInRange (context_of scope.now).types wanted }
+    ensures { result ≡ past (each_from (λ index t. struct_offers (context_of scope.now) wanted fuel index t.composite_type.inner) 0 (context_of scope.now).types) place }
+{
+    let types = scope.spaces.types.types();
+    let mut rest = place;
+    for index in 0..types.len() {
+        rest = past_struct(
+            scope,
+            wanted,
+            fuel,
+            index as u32,
+            &types[index].composite_type.inner,
+            rest,
+        )?;
+    }
+    Ok(rest)
+}
+
+#[tactic(auto, using(crate::proofs::ConstFoundLaws::past_append, crate::proofs::ConstFoundLaws::past_front), unfolding(crate::specs::ConstOffers::past))]
+fn past_struct(
+    scope: &Scope<'_>,
+    wanted: ValType,
+    fuel: u32,
+    index: u32,
+    inner: &CompositeInnerType,
+    place: usize,
+) -> Result<usize, Choice>
+    requires there { index < length (context_of scope.now).types }
+    requires upper { IsValInRange (context_of scope.now).types wanted }
+    ensures { result ≡ past (struct_offers (context_of scope.now) wanted fuel index inner.now) place }
+{
+    match inner {
+        CompositeInnerType::Struct(structure) => {
+            if !gives(scope, index, wanted) {
+                return Ok(place);
+            }
+            past_struct_ways(fuel, index, structure.fields.as_slice(), place)
+        }
+        _ => Ok(place),
+    }
+}
+
+#[tactic(auto, using(crate::proofs::ConstFoundLaws::past_append, crate::proofs::ConstFoundLaws::past_front), unfolding(crate::specs::ConstOffers::past))]
+fn past_struct_ways(
+    fuel: u32,
+    index: u32,
+    fields: &[FieldType],
+    place: usize,
+) -> Result<usize, Choice>
+    ensures { result ≡ past (struct_ways fuel index fields.now) place }
+{
+    let place = past_if(fuel > 0 || fields.is_empty(), Choice::Struct(index), place)?;
+    past_if(are_defaultable(fields), Choice::StructDefault(index), place)
+}
+
+#[tactic(auto, using(crate::proofs::ConstFoundLaws::past_append, crate::proofs::ConstFoundLaws::past_front), unfolding(crate::specs::ConstOffers::past))]
+fn past_arrays(scope: &Scope<'_>, wanted: ValType, fuel: u32, place: usize) -> Result<usize, Choice>
+    requires scope { IsScope (context_of scope.now) }
+    requires upper { IsValInRange (context_of scope.now).types wanted }
+    ensures { result ≡ past (each_from (λ index t. array_offers (context_of scope.now) wanted fuel index t.composite_type.inner) 0 (context_of scope.now).types) place }
+{
+    let types = scope.spaces.types.types();
+    let mut rest = place;
+    for index in 0..types.len() {
+        rest = past_array(
+            scope,
+            wanted,
+            fuel,
+            index as u32,
+            &types[index].composite_type.inner,
+            rest,
+        )?;
+    }
+    Ok(rest)
+}
+
+#[tactic(auto, using(crate::proofs::ConstFoundLaws::past_append, crate::proofs::ConstFoundLaws::past_front), unfolding(crate::specs::ConstOffers::past))]
+fn past_array(
+    scope: &Scope<'_>,
+    wanted: ValType,
+    fuel: u32,
+    index: u32,
+    inner: &CompositeInnerType,
+    place: usize,
+) -> Result<usize, Choice>
+    requires there { index < length (context_of scope.now).types }
+    requires upper { IsValInRange (context_of scope.now).types wanted }
+    ensures { result ≡ past (array_offers (context_of scope.now) wanted fuel index inner.now) place }
+{
+    match inner {
+        CompositeInnerType::Array(array) => {
+            if fuel == 0 || !gives(scope, index, wanted) {
+                return Ok(place);
+            }
+            past_array_ways(index, array.0, place)
+        }
+        _ => Ok(place),
+    }
+}
+
+#[tactic(auto, using(crate::proofs::ConstFoundLaws::past_append, crate::proofs::ConstFoundLaws::past_front), unfolding(crate::specs::ConstOffers::past))]
+fn past_array_ways(index: u32, element: FieldType, place: usize) -> Result<usize, Choice>
+    ensures { result ≡ past (array_ways index element) place }
+{
+    let place = past_if(true, Choice::Array(index), place)?;
+    let place = past_if(true, Choice::FixedArray(index), place)?;
+    past_if(
+        is_defaultable(unpacked(element.element_type)),
+        Choice::ArrayDefault(index),
+        place,
+    )
+}
+
+#[tactic(auto, using(crate::proofs::ConstFoundLaws::past_append, crate::proofs::ConstFoundLaws::past_front), unfolding(crate::specs::ConstOffers::past))]
+fn past_others(scope: &Scope<'_>, wanted: RefType, fuel: u32, place: usize) -> Result<usize, Choice>
+    requires upper { IsValInRange (context_of scope.now).types (Ref wanted) }
+    ensures { result ≡ past (other_offers (context_of scope.now) wanted fuel) place }
+{
+    if fuel == 0 {
+        return Ok(place);
+    }
+    let types = scope.spaces.types;
+    let below = is_below(types, i31(false), ValType::Ref(wanted));
+    let place = past_if(below, Choice::I31, place)?;
+    let below = scope.config.shared_everything_threads_enabled
+        && is_below(types, i31(true), ValType::Ref(wanted));
+    let place = past_if(below, Choice::SharedI31, place)?;
+    past_conversions(wanted.heap_type, place)
+}
+
+#[tactic(auto, unfolding(crate::specs::ConstOffers::past))]
+fn past_conversions(heap_type: HeapType, place: usize) -> Result<usize, Choice>
+    ensures { result ≡ past (conversions heap_type) place }
+{
+    match heap_type {
+        HeapType::Abstract { ty, .. } => match ty {
+            AbstractHeapType::Any => past_if(true, Choice::FromExtern, place),
+            AbstractHeapType::Extern => past_if(true, Choice::FromAny, place),
+            _ => Ok(place),
+        },
+        _ => Ok(place),
+    }
+}
+
+/// One choice, if it is offered.
+#[tactic(auto, unfolding(crate::specs::ConstOffers::past))]
+fn past_if(is_offered: bool, choice: Choice, place: usize) -> Result<usize, Choice>
+    ensures { result ≡ past (offered_if is_offered choice) place }
+{
+    if !is_offered {
+        return Ok(place);
+    }
+    if place == 0 {
+        return Err(choice);
+    }
+    Ok(place - 1)
+}
+
+pub(super) fn is_integer(value: ValType) -> bool
+    ensures { result ≡ is_integer value }
+{
+    matches!(value, ValType::I32 | ValType::I64)
+}

@@ -1,0 +1,69 @@
+ghost use Rattle.std.specs.Prelude.{◌≡◌, ◌<◌, length};
+ghost use Rattle.smith_types.specs.Subtyping.{IsValInRange};
+ghost use Rattle.smith_types.specs.Expressions.{reference_to, created, function_reference};
+ghost use Rattle.smith_types.specs.declared.value_type.HeapType.TheVariants.{Abstract};
+ghost use Rattle.smith_types.specs.declared.value_type.AbstractHeapType.TheVariants as heap;
+ghost use Rattle.smith_draw.specs.Below.{is_val_below};
+ghost use Rattle.smith_draw.specs.ConstScopes.{context_of};
+
+use super::scope::Scope;
+use smith_types::{AbstractHeapType, HeapType, RefType, TypeSpace, ValType};
+
+pub(super) fn is_below(types: &TypeSpace, a: ValType, b: ValType) -> bool
+    requires lower { IsValInRange types.now.types a }
+    requires upper { IsValInRange types.now.types b }
+    ensures { result ≡ is_val_below types.now.types a b }
+{
+    let _types = types.types();
+    types.val_type_is_sub_type(a, b)
+}
+
+pub(super) fn i31(shared: bool) -> ValType
+    ensures { result ≡ reference_to (Abstract shared heap.I31) }
+{
+    ValType::Ref(RefType {
+        nullable: false,
+        heap_type: HeapType::Abstract {
+            shared,
+            ty: AbstractHeapType::I31,
+        },
+    })
+}
+
+/// The reference that creation of a type gives.
+fn created(scope: &Scope<'_>, index: u32) -> ValType
+    ensures { result ≡ created (context_of scope.now) index }
+{
+    let heap_type = if scope.config.custom_descriptors_enabled {
+        HeapType::Exact(index)
+    } else {
+        HeapType::Concrete(index)
+    };
+    ValType::Ref(RefType {
+        nullable: false,
+        heap_type,
+    })
+}
+
+/// The reference that names a function whose type has this index.
+pub(super) fn function_reference(scope: &Scope<'_>, function: usize, index: u32) -> ValType
+    ensures { result ≡ function_reference (context_of scope.now) function index }
+{
+    let entities = scope.spaces.entities;
+    if function < entities.imported_funcs {
+        return ValType::Ref(RefType {
+            nullable: false,
+            heap_type: HeapType::Concrete(index),
+        });
+    }
+    created(scope, index)
+}
+
+/// Whether the reference that creation of a type gives is below the wanted type.
+pub(super) fn gives(scope: &Scope<'_>, index: u32, wanted: ValType) -> bool
+    requires there { index < length (context_of scope.now).types }
+    requires upper { IsValInRange (context_of scope.now).types wanted }
+    ensures { result ≡ is_val_below (context_of scope.now).types (created (context_of scope.now) index) wanted }
+{
+    is_below(scope.spaces.types, created(scope, index), wanted)
+}
