@@ -5,3 +5,6 @@ pub mod ShapeExamples
 pub mod OneOfEachKind
 pub mod ShapeFaultExamples
 pub mod ShapeLaws
+pub mod Depths
+pub mod NamesInSets
+pub mod FirstFaults

@@ -5,6 +5,7 @@ pub mod Features
 pub mod OffsetChoices
 pub mod Shapes
 pub mod ShapeFaults
+pub mod Decided
 pub mod Laws
 pub mod ExampleConfigs
 pub mod ExampleCoins

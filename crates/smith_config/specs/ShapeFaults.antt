@@ -1,10 +1,15 @@
 -- What is wrong with a shape: which of its faults is told. Rules of this project.
-use Rattle.std.specs.Prelude.{◌≡◌, ℕ, IsTrue, List, length, map, All}
+use Rattle.std.specs.Prelude.{◌≡◌, ℕ, IsTrue, List, [], ◌∷◌, ◌++◌, length, map, All}
 use Rattle.smith_bytes.specs.declared.error.Which.{Which}
 use Rattle.smith_bytes.specs.declared.error.Which.TheVariants.{Exports}
 use Rattle.smith_bytes.specs.declared.error.ShapeFault.{ShapeFault}
 use Rattle.smith_bytes.specs.declared.error.ShapeFault.TheVariants as fault
+use Rattle.smith_bytes.specs.declared.error.Error.{Error}
+use Rattle.smith_bytes.specs.declared.error.Error.TheVariants as error
 use Rattle.smith_types.specs.Features.{Features, every_feature}
+use Rattle.smith_types.specs.Space.{Space}
+use Rattle.smith_types.specs.Imports.{IndexSpaces}
+use Rattle.smith_types.specs.HeldValues.{values_in}
 use Rattle.smith_types.specs.ValidTypes.{AreTypesValid, IsValTypeValid, IsShareable}
 use Rattle.smith_types.specs.Entities.{AreLimitsValid, most_elements, IsTagValid, IsFuncValid, IsTableValid, IsMemoryValid, IsGlobalValid}
 use Rattle.smith_types.specs.Exports.{AreDistinct, AreExportsStanding}
@@ -15,34 +20,47 @@ use Rattle.smith_types.specs.declared.entity_type.TableType.{TableType}
 use Rattle.smith_config.specs.declared.config.Config.{Config}
 use Rattle.smith_config.specs.declared.shape.Shape.{Shape}
 use Rattle.smith_config.specs.Features.{features_of}
-use Rattle.smith_config.specs.Shapes.{IsShort, IsShallow, IsPlain, HasNothingLeftOut, AreCountsFit, space_of, shape_types, shape_spaces, shape_values}
+use Rattle.smith_config.specs.Shapes.{IsShort, IsShallow, IsPlain, HasNothingLeftOut, AreCountsFor, space_of, shape_spaces}
 
 -- types, and what refers to them, are right where every feature is on; what is shared holds what may be shared
-pub record AreTypesRight (shape : Shape) : Type 0 where
-  pub types : AreTypesValid every_feature (space_of shape.groups)
-  pub values : All (IsValTypeValid every_feature (length (shape_types shape))) (shape_values shape)
-  pub tables : All (λ (table : TableType). IsTrue table.shared → IsShareable (shape_types shape) (Ref table.element_type)) (shape_spaces shape).tables
-  pub globals : All (λ (global : GlobalType). IsTrue global.shared → IsShareable (shape_types shape) global.val_type) (shape_spaces shape).globals
+pub record AreTypesSound (space : Space) (spaces : IndexSpaces) : Type 0 where
+  pub types : AreTypesValid every_feature space
+  pub values : All (IsValTypeValid every_feature (length space.types)) (values_in space.types spaces)
+  pub tables : All (λ (table : TableType). IsTrue table.shared → IsShareable space.types (Ref table.element_type)) spaces.tables
+  pub globals : All (λ (global : GlobalType). IsTrue global.shared → IsShareable space.types global.val_type) spaces.globals
 
 -- functions, tags and exports name what stands and is of the right kind
-pub record AreIndicesRight (shape : Shape) : Type 0 where
-  pub funcs : All (IsFuncValid (shape_types shape)) (shape_spaces shape).funcs
-  pub tags : All (IsTagValid (shape_types shape)) (shape_spaces shape).tags
-  pub exports : AreExportsStanding (shape_spaces shape) shape.exports
+pub record AreIndicesSound (space : Space) (spaces : IndexSpaces) (exported : List (List ℕ × ExportKind × ℕ)) : Type 0 where
+  pub funcs : All (IsFuncValid space.types) spaces.funcs
+  pub tags : All (IsTagValid space.types) spaces.tags
+  pub exports : AreExportsStanding spaces exported
 
 -- tables have limits that fit, memories are right where every feature is on, and supertypes are not too far away
-pub record AreLimitsRight (shape : Shape) : Type 0 where
-  pub tables : All (λ (table : TableType). AreLimitsValid (most_elements table.table64) table.minimum table.maximum) (shape_spaces shape).tables
-  pub memories : All (IsMemoryValid every_feature) (shape_spaces shape).memories
-  pub shallow : IsShallow (shape_types shape)
+pub record AreLimitsSound (space : Space) (spaces : IndexSpaces) : Type 0 where
+  pub tables : All (λ (table : TableType). AreLimitsValid (most_elements table.table64) table.minimum table.maximum) spaces.tables
+  pub memories : All (IsMemoryValid every_feature) spaces.memories
+  pub shallow : IsShallow space.types
 
--- the features of a configuration are enough
-pub record AreFeaturesOn (which : Which) (features : Features) (shape : Shape) : Type 0 where
-  pub types : AreTypesValid features (space_of shape.groups)
-  pub tables : All (IsTableValid features (shape_types shape)) (shape_spaces shape).tables
-  pub memories : All (IsMemoryValid features) (shape_spaces shape).memories
-  pub globals : All (IsGlobalValid features (shape_types shape)) (shape_spaces shape).globals
-  pub counts : AreCountsFit which features shape
+-- these features are enough
+pub record AreFeaturesEnough (which : Which) (features : Features) (space : Space) (spaces : IndexSpaces) : Type 0 where
+  pub types : AreTypesValid features space
+  pub tables : All (IsTableValid features space.types) spaces.tables
+  pub memories : All (IsMemoryValid features) spaces.memories
+  pub globals : All (IsGlobalValid features space.types) spaces.globals
+  pub counts : AreCountsFor which features spaces
+
+-- the same of the types and the index spaces of a shape
+abbrev pub AreTypesRight : Shape → Type 0
+AreTypesRight shape = AreTypesSound (space_of shape.groups) (shape_spaces shape)
+
+abbrev pub AreIndicesRight : Shape → Type 0
+AreIndicesRight shape = AreIndicesSound (space_of shape.groups) (shape_spaces shape) shape.exports
+
+abbrev pub AreLimitsRight : Shape → Type 0
+AreLimitsRight shape = AreLimitsSound (space_of shape.groups) (shape_spaces shape)
+
+abbrev pub AreFeaturesOn : Which → Features → Shape → Type 0
+AreFeaturesOn which features shape = AreFeaturesEnough which features (space_of shape.groups) (shape_spaces shape)
 
 -- what each fault says; a missing feature is one only where every feature would do
 abbrev pub HasShapeFault : Which → Config → Shape → ShapeFault → Type 0
@@ -54,3 +72,21 @@ HasShapeFault which config shape fault.Feature = AreFeaturesOn which every_featu
 HasShapeFault which config shape fault.DuplicateExport = AreDistinct (map (λ (one : List ℕ × ExportKind × ℕ). one.0) shape.exports) → ⊥
 HasShapeFault which config shape fault.NotPlain = (which ≡ Exports) × (IsPlain shape → ⊥)
 HasShapeFault which config shape fault.LeftOut = HasNothingLeftOut shape → ⊥
+
+-- the faults, in the order in which they are looked for
+abbrev pub shape_faults : List ShapeFault
+shape_faults = fault.TooLong ∷ fault.BadType ∷ fault.Index ∷ fault.Limit ∷ fault.Feature ∷ fault.DuplicateExport ∷ fault.NotPlain ∷ fault.LeftOut ∷ []
+
+-- the shape has this fault, and none that comes before it
+pub record IsFirstShapeFault (which : Which) (config : Config) (shape : Shape) (found : ShapeFault) : Type 0 where
+  pub before : List ShapeFault
+  pub after : List ShapeFault
+  pub order : shape_faults ≡ before ++ found ∷ after
+  pub earlier : All (λ other. ¬ HasShapeFault which config shape other) before
+  pub there : HasShapeFault which config shape found
+
+-- why the check refuses a shape: its first fault, or want of memory, of which a shape that is too long takes none
+abbrev pub IsRefused : Which → Config → Shape → Error → Type 0
+IsRefused which config shape error.Memory = IsShort shape
+IsRefused which config shape (error.Shape named found) = (named ≡ which) × IsFirstShapeFault which config shape found
+IsRefused which config shape _ = ⊥

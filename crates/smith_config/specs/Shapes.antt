@@ -1,15 +1,15 @@
 -- Shapes that a module may be asked to have. What a module must meet is the standard's, by the definitions of validity; which
 -- shapes may be handed in is a rule of this project.
-use Rattle.std.specs.Prelude.{◌≡◌, ℕ, ◌+◌, ◌≤◌, ◌^◌, false, IsTrue, List, [], ◌∷◌, ◌++◌, Option, None, is_some, length, map, All, if◌then◌else◌}
-use Rattle.std.specs.List.{flat_map}
-use Rattle.std.specs.declared.ops.Range.{Range}
+use Rattle.std.specs.Prelude.{◌≡◌, ℕ, ◌≤◌, ◌^◌, false, IsTrue, List, ◌++◌, Option, None, is_some, length, All, if◌then◌else◌}
 use Rattle.smith_bytes.specs.declared.error.Which.{Which}
 use Rattle.smith_bytes.specs.declared.error.Which.TheVariants.{AvailableImports, Exports, ModuleShape}
 use Rattle.smith_types.specs.Features.{Features}
 use Rattle.smith_types.specs.Kinds.{kind}
-use Rattle.smith_types.specs.Space.{Space, HasDepth}
-use Rattle.smith_types.specs.ValidTypes.{AreTypesValid, values_of}
+use Rattle.smith_types.specs.Space.{HasDepth}
+use Rattle.smith_types.specs.ValidTypes.{AreTypesValid}
 use Rattle.smith_types.specs.Imports.{IndexSpaces, flattened, imported_spaces}
+pub use Rattle.smith_types.specs.Groups.{ranges_from, space_of}
+use Rattle.smith_types.specs.HeldValues.{values_in}
 use Rattle.smith_types.specs.Entities.{AreEntitiesValid, AreCountsEnabled}
 use Rattle.smith_types.specs.Exports.{AreExportsValid}
 use Rattle.smith_types.specs.declared.value_type.AbstractHeapType.TheVariants as heap
@@ -40,15 +40,6 @@ no_shapes = record { available_imports = None; exports = None; module_shape = No
 -- those that are used: beside a module shape no other is. The definitions of modules speak of these
 abbrev pub in_use : Shapes → Shapes
 in_use shapes = if is_some shapes.module_shape then record no_shapes { module_shape = shapes.module_shape } else shapes
-
--- the ranges of groups that follow one another
-abbrev pub ranges_from : ℕ → List (List SubType) → List (Range ℕ)
-ranges_from start [] = []
-ranges_from start (group ∷ groups) = record { start = start; end = start + length group } ∷ ranges_from (start + length group) groups
-
--- the types of groups, with the groups as ranges of them
-abbrev pub space_of : List (List SubType) → Space
-space_of groups = record { types = flat_map (λ group. group) groups; groups = ranges_from 0 groups }
 
 -- the types of a shape
 abbrev pub shape_types : Shape → List SubType
@@ -100,9 +91,7 @@ pub record IsShallow (types : List SubType) : Type 0 where
 
 -- the value types that a shape names: those of its types, tables and globals
 abbrev pub shape_values : Shape → List ValType
-shape_values shape =
-    flat_map (λ (t : SubType). values_of t.composite_type.inner) (shape_types shape)
-    ++ (map (λ (table : TableType). Ref table.element_type) (shape_spaces shape).tables ++ map (λ (global : GlobalType). global.val_type) (shape_spaces shape).globals)
+shape_values shape = values_in (shape_types shape) (shape_spaces shape)
 
 -- a heap type that a shape may name: it is not exact and not shared
 abbrev pub IsHeapTypeIncluded : HeapType → Type 0
@@ -115,12 +104,16 @@ abbrev pub IsValTypeIncluded : ValType → Type 0
 IsValTypeIncluded (Ref reference) = IsHeapTypeIncluded reference.heap_type
 IsValTypeIncluded _ = Unit {0}
 
--- nothing is shared but memories, and no reference is exact
-pub record HasNothingLeftOut (shape : Shape) : Type 0 where
-  pub types : All (λ (t : SubType). t.composite_type.shared ≡ false) (shape_types shape)
-  pub values : All IsValTypeIncluded (shape_values shape)
-  pub tables : All (λ (table : TableType). table.shared ≡ false) (shape_spaces shape).tables
-  pub globals : All (λ (global : GlobalType). global.shared ≡ false) (shape_spaces shape).globals
+-- of types and index spaces nothing is shared but memories, and no reference is exact
+pub record IsNothingLeftOut (listed : List SubType) (spaces : IndexSpaces) : Type 0 where
+  pub types : All (λ (t : SubType). t.composite_type.shared ≡ false) listed
+  pub values : All IsValTypeIncluded (values_in listed spaces)
+  pub tables : All (λ (table : TableType). table.shared ≡ false) spaces.tables
+  pub globals : All (λ (global : GlobalType). global.shared ≡ false) spaces.globals
+
+-- so it is of a shape's
+abbrev pub HasNothingLeftOut : Shape → Type 0
+HasNothingLeftOut shape = IsNothingLeftOut (shape_types shape) (shape_spaces shape)
 
 -- a type that the exports of a module may name: a final function type without a supertype
 pub record IsTypePlain (t : SubType) : Type 0 where
@@ -139,10 +132,14 @@ abbrev pub HasNoConcrete : ValType → Type 0
 HasNoConcrete (Ref reference) = IsNotConcrete reference.heap_type
 HasNoConcrete _ = Unit {0}
 
--- a shape for exports alone: such types, and no concrete reference to any of them
-pub record IsPlain (shape : Shape) : Type 0 where
-  pub types : All IsTypePlain (shape_types shape)
-  pub values : All HasNoConcrete (shape_values shape)
+-- such types alone, and no concrete reference to any of them
+pub record ArePlain (listed : List SubType) (spaces : IndexSpaces) : Type 0 where
+  pub types : All IsTypePlain listed
+  pub values : All HasNoConcrete (values_in listed spaces)
+
+-- a shape that may be handed in for exports: its types are such
+abbrev pub IsPlain : Shape → Type 0
+IsPlain shape = ArePlain (shape_types shape) (shape_spaces shape)
 
 -- how a shape's items agree with one another and with the features
 pub record IsConsistent (features : Features) (shape : Shape) : Type 0 where
@@ -152,10 +149,14 @@ pub record IsConsistent (features : Features) (shape : Shape) : Type 0 where
   pub exports : AreExportsValid (shape_spaces shape) shape.exports
 
 -- tags, and the numbers of tables and memories, have their features; available imports may hold some that are left aside
+abbrev pub AreCountsFor : Which → Features → IndexSpaces → Type 0
+AreCountsFor AvailableImports features spaces = Unit {0}
+AreCountsFor Exports features spaces = AreCountsEnabled features spaces
+AreCountsFor ModuleShape features spaces = AreCountsEnabled features spaces
+
+-- those of a shape do
 abbrev pub AreCountsFit : Which → Features → Shape → Type 0
-AreCountsFit AvailableImports features shape = Unit {0}
-AreCountsFit Exports features shape = AreCountsEnabled features (shape_spaces shape)
-AreCountsFit ModuleShape features shape = AreCountsEnabled features (shape_spaces shape)
+AreCountsFit which features shape = AreCountsFor which features (shape_spaces shape)
 
 -- a shape that may be handed in for this use, with this configuration
 pub record IsShapeValid (which : Which) (config : Config) (shape : Shape) : Type 0 where

@@ -10,6 +10,7 @@ pub mod laws;
 mod offset_choices;
 mod sanitize;
 mod shape;
+mod shape_check;
 
 pub use config::Config;
 pub use offset_choices::{MemoryOffsetChoices, OffsetChoicesFault};

@@ -1,6 +1,12 @@
 pub mod Lists
 pub mod Growth
 pub mod Lengths
+pub mod HeldValues
+pub mod ReferredTypes
+pub mod GroupTests
+pub mod GroupsAdded
+pub mod StandingEntities
+pub mod ImportedSpaces
 pub mod Paths
 pub mod Spaces
 pub mod Validity

@@ -8,12 +8,16 @@ pub mod Matching
 pub mod Flags
 pub mod ValidTypes
 pub mod Imports
+pub mod IndexSpaces
+pub mod Groups
+pub mod HeldValues
 pub mod OpenTypes
 pub mod Entities
 pub mod Sizes
 pub mod Expressions
 pub mod Segments
 pub mod Exports
+pub mod Decided
 pub mod Bodies
 pub mod Grown
 pub mod Laws

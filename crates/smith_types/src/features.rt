@@ -1,5 +1,6 @@
 ghost use Rattle.std.specs.Prelude.{◌≡◌, ⊤};
-ghost use Rattle.smith_types.specs.FeatureBits.{bits_of, feature_table, has, joined};
+ghost use Rattle.smith_types.specs.FeatureBits.{bits_of, feature_table, has, joined, features_in};
+ghost use Rattle.smith_types.specs.Features.{every_feature};
 
 use bitflags::{Flag, Flags, bitflag_items};
 
@@ -59,6 +60,13 @@ impl Flags for WasmFeatures {
 }
 
 impl WasmFeatures {
+    /// Every feature there is.
+    pub fn every() -> WasmFeatures
+        ensures { features_in result ≡ every_feature }
+    {
+        WasmFeatures(16777215)
+    }
+
     /// Whether every bit of `features` is in this set.
     pub fn contains(self, features: WasmFeatures) -> bool
         ensures { result ≡ has (bits_of self) (bits_of features) }

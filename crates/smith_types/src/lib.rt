@@ -10,14 +10,22 @@ mod entity_type;
 mod exact;
 mod examples;
 mod features;
+mod grouped_types;
+mod held_values;
 mod imports;
+mod index_spaces;
 mod instruction_kind;
 pub mod laws;
 mod list;
 mod matching;
+mod predicate;
 mod segments;
+mod standing_exports;
 mod subtyping;
 mod type_space;
+mod valid_entities;
+mod valid_types;
+mod valid_values;
 mod value_type;
 
 pub use clone_in::CloneIn;
@@ -30,9 +38,22 @@ pub use const_instr::ConstInstr;
 pub use entity_type::{EntityType, ExportKind, GlobalType, MemoryType, TableType};
 pub use exact::{Exact, is_same};
 pub use features::WasmFeatures;
+pub use grouped_types::type_space_of;
+pub use held_values::{all_named_values_hold, all_values_hold};
 pub use imports::{Import, ImportItem, Imports};
+pub use index_spaces::{IndexSpaces, imported_spaces_of};
 pub use instruction_kind::{InstructionKind, InstructionKinds, UnknownKind};
 pub use list::{Items, Name};
+pub use predicate::{Predicate, all_hold};
 pub use segments::{DataSegment, DataSegmentKind, ElementKind, ElementSegment, Elements, Offset};
+pub use standing_exports::are_exports_standing;
 pub use type_space::TypeSpace;
+pub use valid_entities::{
+    are_counts_enabled, are_entities_valid, are_funcs_valid, are_globals_valid, are_limits_valid,
+    are_memories_valid, are_tables_valid, are_tags_valid, most_elements_of,
+};
+pub use valid_types::are_types_valid;
+pub use valid_values::{
+    ShareableValue, StandingValue, ValidValue, is_ref_type_valid, is_val_type_valid,
+};
 pub use value_type::{AbstractHeapType, HeapType, RefType, ValType};

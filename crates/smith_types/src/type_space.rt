@@ -197,7 +197,7 @@ fn size_of_function(ty: &SubType) -> u32
 }
 
 // Where the group behind these begins.
-fn start_after(groups: &[Range<usize>]) -> usize
+pub(crate) fn start_after(groups: &[Range<usize>]) -> usize
     ensures { result ≡ next_start groups.now }
 {
     match groups {

@@ -1,0 +1,30 @@
+-- Facts of a whole by its parts, as decisions meet them: proofs turn each into the definition that it stands for.
+use Rattle.std.specs.Prelude.{◌≡◌, ℕ, ◌≤◌, List, length}
+use Rattle.smith_types.specs.Space.{Space}
+use Rattle.smith_types.specs.Imports.{IndexSpaces}
+use Rattle.smith_types.specs.Decided.{AreFuncsValid, AreTagsValid, AreExportsFound}
+use Rattle.smith_types.specs.declared.entity_type.ExportKind.{ExportKind}
+use Rattle.smith_config.specs.declared.shape.Shape.{Shape}
+use Rattle.smith_config.specs.Shapes.{most_listed, space_of, shape_spaces}
+
+-- no list that a shape holds itself is too long
+pub record AreListsShort (shape : Shape) : Type 0 where
+  pub groups : length shape.groups ≤ most_listed
+  pub import_groups : length shape.imports ≤ most_listed
+  pub funcs : length shape.funcs ≤ most_listed
+  pub tags : length shape.tags ≤ most_listed
+  pub tables : length shape.tables ≤ most_listed
+  pub memories : length shape.memories ≤ most_listed
+  pub globals : length shape.globals ≤ most_listed
+  pub exports : length shape.exports ≤ most_listed
+
+-- functions, tags and exports name what stands, list by list
+pub record AreIndicesFound (space : Space) (spaces : IndexSpaces) (exported : List (List ℕ × ExportKind × ℕ)) : Type 0 where
+  pub of_funcs : AreFuncsValid space.types spaces.funcs
+  pub of_tags : AreTagsValid space.types spaces.tags
+  pub of_exports : AreExportsFound spaces exported
+
+-- a type space and index spaces that were made of a shape
+pub record IsMade (shape : Shape) (space : Space) (spaces : IndexSpaces) : Type 0 where
+  pub types_are : space ≡ space_of shape.groups
+  pub spaces_are : spaces ≡ shape_spaces shape

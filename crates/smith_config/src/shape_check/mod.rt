@@ -1,0 +1,112 @@
+//! What keeps a shape from being handed in, one file a fault: the first in the order of [`ShapeFault`] is told.
+
+ghost use Rattle.std.specs.Prelude.{◌≡◌, OnOk, IfOk, IfErr, MatchOption};
+ghost use Rattle.smith_types.specs.IndexSpaces.{spaces_in};
+ghost use Rattle.smith_config.specs.Shapes.{IsShapeValid, IsShort};
+ghost use Rattle.smith_config.specs.ShapeFaults.{IsRefused, IsFirstShapeFault};
+ghost use Rattle.smith_config.specs.Decided.{IsMade};
+
+mod features;
+mod indices;
+mod left_out;
+mod limits;
+mod names;
+mod plain;
+mod short;
+mod spaces;
+mod types;
+
+use crate::{Config, Shape};
+use features::are_features_enough;
+use indices::are_indices_sound;
+use left_out::is_nothing_left_out;
+use limits::are_limits_sound;
+use names::are_names_distinct;
+use plain::is_plain_enough;
+use short::is_short;
+use smith_bytes::{Error, ShapeFault, Which};
+use smith_types::{IndexSpaces, TypeSpace, type_space_of};
+use spaces::index_spaces_of;
+use std::alloc::Global;
+use types::are_types_sound;
+
+impl Shape {
+    /// Looks for what keeps this shape from being handed in for the use `which`, with a configuration: the first fault in the
+    /// order of [`ShapeFault`]. Takes time linear in the shape, but for names, which go through a set, and for walks over declared
+    /// supertypes.
+    pub fn check(&self, alloc: Global, which: Which, config: &Config) -> Result<(), Error>
+        ensures passes { OnOk result (IsShapeValid which config.now self.now) }
+        ensures refused { IfErr result (IsRefused which config.now self.now) }
+        ensures valid { IsShapeValid which config.now self.now → IfErr result (λ e. e ≡ Error.Memory) }
+    {
+        let found = first_fault(alloc, self, which, config)?;
+        match found {
+            Some(fault) => Err(Error::Shape(which, fault)),
+            None => Ok(()),
+        }
+    }
+}
+
+fn first_fault(
+    alloc: Global,
+    shape: &Shape,
+    which: Which,
+    config: &Config,
+) -> Result<Option<ShapeFault>, Error>
+    ensures found { IfOk result (λ found. MatchOption found (IsShapeValid which config.now shape.now) (IsFirstShapeFault which config.now shape.now)) }
+    ensures memory { IfErr result (λ e. e ≡ Error.Memory) }
+    ensures short { IfErr result (λ e. IsShort shape.now) }
+{
+    if !is_short(shape) {
+        return Ok(Some(ShapeFault::TooLong));
+    }
+    let made = type_space_of(alloc, shape.groups.as_slice())?;
+    match made {
+        Some(space) => {
+            let spaces = index_spaces_of(alloc, shape)?;
+            later_fault(alloc, shape, which, config, &space, &spaces)
+        }
+        None => Ok(Some(ShapeFault::BadType)),
+    }
+}
+
+// The first fault of a shape that is not too long, over its types and index spaces.
+fn later_fault(
+    alloc: Global,
+    shape: &Shape,
+    which: Which,
+    config: &Config,
+    space: &TypeSpace,
+    spaces: &IndexSpaces,
+) -> Result<Option<ShapeFault>, Error>
+    requires short { IsShort shape.now }
+    requires made { IsMade shape.now space.now (spaces_in spaces.now) }
+    ensures found { IfOk result (λ found. MatchOption found (IsShapeValid which config.now shape.now) (IsFirstShapeFault which config.now shape.now)) }
+    ensures memory { IfErr result (λ e. e ≡ Error.Memory) }
+{
+    let exports = shape.exports.as_slice();
+    if !are_types_sound(space, spaces) {
+        return Ok(Some(ShapeFault::BadType));
+    }
+    if !are_indices_sound(space, spaces, exports) {
+        return Ok(Some(ShapeFault::Index));
+    }
+    if !are_limits_sound(space, spaces) {
+        return Ok(Some(ShapeFault::Limit));
+    }
+    let features = config.features();
+    if !are_features_enough(which, features, space, spaces) {
+        return Ok(Some(ShapeFault::Feature));
+    }
+    let distinct = are_names_distinct(alloc, exports)?;
+    if !distinct {
+        return Ok(Some(ShapeFault::DuplicateExport));
+    }
+    if !is_plain_enough(which, space, spaces) {
+        return Ok(Some(ShapeFault::NotPlain));
+    }
+    if !is_nothing_left_out(space, spaces) {
+        return Ok(Some(ShapeFault::LeftOut));
+    }
+    Ok(None)
+}

@@ -1,0 +1,80 @@
+-- Facts of a whole by its parts, as decisions meet them: proofs turn each into the definition of validity that it stands for.
+use Rattle.std.specs.Prelude.{◌≡◌, ◌<◌, ◌≤◌, ℕ, List, [], Some, All, length, slice_get}
+use Rattle.std.specs.declared.ops.Range.{Range}
+use Rattle.smith_types.specs.Features.{Features}
+use Rattle.smith_types.specs.Imports.{IndexSpaces}
+use Rattle.smith_types.specs.ValidTypes.{values_of, IsTypeValid}
+use Rattle.smith_types.specs.Matching.{IsInnerInRange}
+use Rattle.smith_types.specs.Entities.{IsFuncValid, IsTagValid, IsTableValid, IsMemoryValid, IsGlobalValid}
+use Rattle.smith_types.specs.Exports.{AreExportsStanding}
+use Rattle.smith_types.specs.declared.value_type.ValType.{ValType}
+use Rattle.smith_types.specs.declared.value_type.ValType.TheVariants.{Ref}
+use Rattle.smith_types.specs.declared.composite_type.StorageType.{StorageType}
+use Rattle.smith_types.specs.declared.composite_type.StorageType.TheVariants.{I8, I16, Val}
+use Rattle.smith_types.specs.declared.composite_type.FieldType.{FieldType}
+use Rattle.smith_types.specs.declared.composite_type.CompositeInnerType.{CompositeInnerType}
+use Rattle.smith_types.specs.declared.composite_type.CompositeInnerType.TheVariants.{Array, Func, Struct}
+use Rattle.smith_types.specs.declared.composite_type.SubType.{SubType}
+use Rattle.smith_types.specs.declared.entity_type.ExportKind.{ExportKind}
+use Rattle.smith_types.specs.declared.entity_type.ExportKind.TheVariants as kind
+use Rattle.smith_types.specs.declared.entity_type.GlobalType.{GlobalType}
+use Rattle.smith_types.specs.declared.entity_type.TableType.{TableType}
+
+-- the value that is stored, if it is not packed, has a property
+abbrev pub IsStored : (ValType → Type 0) → StorageType → Type 0
+IsStored P I8 = Unit {0}
+IsStored P I16 = Unit {0}
+IsStored P (Val value) = P value
+
+-- each value type of a composite type has a property
+abbrev pub AreHeld : (ValType → Type 0) → CompositeInnerType → Type 0
+AreHeld P (Array array) = IsStored P array.0.element_type
+AreHeld P (Func function) = All P function.params × All P function.results
+AreHeld P (Struct structure) = All (λ (field : FieldType). IsStored P field.element_type) structure.fields
+
+-- each value type that types, tables and globals name has a property
+pub record AreNamed (P : ValType → Type 0) (listed : List SubType) (spaces : IndexSpaces) : Type 0 where
+  pub of_types : All (λ (t : SubType). All P (values_of t.composite_type.inner)) listed
+  pub of_tables : All (λ (table : TableType). P (Ref table.element_type)) spaces.tables
+  pub of_globals : All (λ (global : GlobalType). P global.val_type) spaces.globals
+
+-- each type refers to types that stand
+pub record AreInRange (types : List SubType) : Type 0 where
+  pub each : (i : ℕ) (t : SubType) → slice_get types i ≡ Some t → IsInnerInRange types t.composite_type.inner
+
+-- each type of a group is valid
+pub record AreMembersValid (features : Features) (types : List SubType) (group : Range ℕ) : Type 0 where
+  pub each : (i : ℕ) (t : SubType) → group.start ≤ i → i < group.end → slice_get types i ≡ Some t → IsTypeValid features types group.end t
+
+-- a function type without results
+abbrev pub IsTagType : CompositeInnerType → Type 0
+IsTagType (Func function) = function.results ≡ []
+IsTagType _ = ⊥
+
+-- functions of these types are valid
+pub record AreFuncsValid (types : List SubType) (funcs : List ℕ) : Type 0 where
+  pub each : All (IsFuncValid types) funcs
+
+-- tags of these types are valid
+pub record AreTagsValid (types : List SubType) (tags : List ℕ) : Type 0 where
+  pub each : All (IsTagValid types) tags
+
+-- each entity is valid, list by list
+pub record AreListsValid (features : Features) (types : List SubType) (spaces : IndexSpaces) : Type 0 where
+  pub of_tags : AreTagsValid types spaces.tags
+  pub of_funcs : AreFuncsValid types spaces.funcs
+  pub of_tables : All (IsTableValid features types) spaces.tables
+  pub of_memories : All (IsMemoryValid features) spaces.memories
+  pub of_globals : All (IsGlobalValid features types) spaces.globals
+
+-- how many entities of a kind stand
+abbrev pub count_at : IndexSpaces → ExportKind → ℕ
+count_at spaces kind.Func = length spaces.funcs
+count_at spaces kind.Table = length spaces.tables
+count_at spaces kind.Memory = length spaces.memories
+count_at spaces kind.Global = length spaces.globals
+count_at spaces kind.Tag = length spaces.tags
+
+-- what is exported stands
+pub record AreExportsFound (spaces : IndexSpaces) (exported : List (List ℕ × ExportKind × ℕ)) : Type 0 where
+  pub each : AreExportsStanding spaces exported

@@ -1,0 +1,32 @@
+-- Index spaces of the code, which grow by one entity after another.
+use Rattle.std.specs.Prelude.{List, [], ◌∷◌, ◌++◌, map}
+use Rattle.smith_types.specs.Imports.{IndexSpaces as Given}
+use Rattle.smith_types.specs.declared.index_spaces.IndexSpaces.{IndexSpaces}
+use Rattle.smith_types.specs.declared.imports.ImportItem.{ImportItem}
+use Rattle.smith_types.specs.declared.imports.Imports.{Imports}
+use Rattle.smith_types.specs.declared.imports.Imports.TheVariants.{Single, Compact1, Compact2}
+use Rattle.smith_types.specs.declared.entity_type.EntityType.{EntityType}
+use Rattle.smith_types.specs.declared.entity_type.EntityType.TheVariants as entity
+
+-- the lists of index spaces
+abbrev pub spaces_in : IndexSpaces → Given
+spaces_in spaces = record { tags = spaces.tags; funcs = spaces.funcs; tables = spaces.tables; memories = spaces.memories; globals = spaces.globals }
+
+-- with one more entity
+abbrev pub with_entity : Given → EntityType → Given
+with_entity spaces (entity.Tag index) = record spaces { tags = spaces.tags ++ index ∷ [] }
+with_entity spaces (entity.Func index) = record spaces { funcs = spaces.funcs ++ index ∷ [] }
+with_entity spaces (entity.Table table) = record spaces { tables = spaces.tables ++ table ∷ [] }
+with_entity spaces (entity.Memory memory) = record spaces { memories = spaces.memories ++ memory ∷ [] }
+with_entity spaces (entity.Global global) = record spaces { globals = spaces.globals ++ global ∷ [] }
+
+-- with several more
+abbrev pub with_entities : Given → List EntityType → Given
+with_entities spaces [] = spaces
+with_entities spaces (one ∷ more) = with_entities (with_entity spaces one) more
+
+-- the entities of a group of imports
+abbrev pub entities_of : Imports → List EntityType
+entities_of (Single imported) = imported.entity_type ∷ []
+entities_of (Compact1 from items) = map (λ (item : ImportItem). item.entity_type) items
+entities_of (Compact2 from entity_type names) = map (λ name. entity_type) names

@@ -1,0 +1,43 @@
+ghost use Rattle.std.specs.Prelude.{◌≡◌, ◌+◌, ◌++◌, ◌<◌, ◌^◌, ℕ, List, length, IfOk, IfErr, MatchBool, MatchOption};
+ghost use Rattle.std.specs.List.{flat_map};
+ghost use Rattle.smith_types.specs.Groups.{space_of, AreFollowing};
+
+use crate::clone_in::CloneIn;
+use crate::composite_type::SubType;
+use crate::list::Items;
+use crate::type_space::TypeSpace;
+use smith_bytes::Error;
+use std::alloc::Global;
+
+/// The type space of groups, or None where a declared supertype doesn't stand before its subtype or isn't like it: Validation,
+/// Recursive Types.
+pub fn type_space_of(alloc: Global, groups: &[Items<SubType>]) -> Result<Option<TypeSpace>, Error>
+    requires few { length (space_of groups.now).types + 1 < 2 ^ 32 }
+    ensures found { IfOk result (λ found. MatchOption found (¬ AreFollowing (space_of groups.now).types) (λ space. space ≡ space_of groups.now)) }
+    ensures memory { IfErr result (λ e. e ≡ Error.Memory) }
+{
+    let mut space = TypeSpace::new(alloc);
+    for group in groups {
+        let all = push_members(alloc, &mut space, group.as_slice())?;
+        if !all {
+            return Ok(None);
+        }
+        space.push_group()?;
+    }
+    Ok(Some(space))
+}
+
+// Adds types, as long as each may follow those before it, and says whether all may.
+fn push_members(alloc: Global, space: &mut TypeSpace, members: &[SubType]) -> Result<bool, Error>
+    requires few { length space.old.types + length members.now + 1 < 2 ^ 32 }
+    ensures added { IfOk result (λ all. MatchBool all (space.new ≡ record space.old { types = space.old.types ++ members.now }) (¬ AreFollowing (space.old.types ++ members.now))) }
+    ensures memory { IfErr result (λ e. e ≡ Error.Memory) }
+{
+    for ty in members {
+        if !space.may_follow(ty) {
+            return Ok(false);
+        }
+        space.push_type(ty.clone_in(alloc)?)?;
+    }
+    Ok(true)
+}

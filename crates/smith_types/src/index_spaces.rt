@@ -1,0 +1,111 @@
+ghost use Rattle.std.specs.Prelude.{◌≡◌, ◌++◌, [], ◌∷◌, map, OnOk, IfOk, IfErr};
+ghost use Rattle.std.specs.List.{flat_map};
+ghost use Rattle.smith_types.specs.Imports.{flattened, imported_spaces};
+ghost use Rattle.smith_types.specs.declared.imports.ImportItem.{ImportItem as Item};
+ghost use Rattle.smith_types.specs.IndexSpaces.{spaces_in, with_entity, with_entities, entities_of};
+
+use crate::entity_type::{EntityType, GlobalType, MemoryType, TableType};
+use crate::imports::{ImportItem, Imports};
+use crate::list::{Items, Name};
+use smith_bytes::Error;
+use std::alloc::Global;
+
+/// The index spaces but that of types: Structure, Indices. Tags and functions are given by the indices of their types.
+#[derive(Drop)]
+pub struct IndexSpaces {
+    pub tags: Items<u32>,
+    pub funcs: Items<u32>,
+    pub tables: Items<TableType>,
+    pub memories: Items<MemoryType>,
+    pub globals: Items<GlobalType>,
+}
+
+impl IndexSpaces {
+    /// Index spaces without entities, which take no memory.
+    pub fn new(alloc: Global) -> IndexSpaces
+        ensures { spaces_in result ≡ record { tags = []; funcs = []; tables = []; memories = []; globals = [] } }
+    {
+        IndexSpaces {
+            tags: Items::new(alloc),
+            funcs: Items::new(alloc),
+            tables: Items::new(alloc),
+            memories: Items::new(alloc),
+            globals: Items::new(alloc),
+        }
+    }
+
+    /// Adds an entity last in its space.
+    pub fn push(&mut self, entity: EntityType) -> Result<(), Error>
+        ensures ok { OnOk result (spaces_in self.new ≡ with_entity (spaces_in self.old) entity) }
+        ensures memory { IfErr result (λ e. e ≡ Error.Memory) }
+    {
+        match entity {
+            EntityType::Tag(index) => self.tags.push(index),
+            EntityType::Func(index) => self.funcs.push(index),
+            EntityType::Table(table) => self.tables.push(table),
+            EntityType::Memory(memory) => self.memories.push(memory),
+            EntityType::Global(global) => self.globals.push(global),
+        }
+    }
+}
+
+// Adds the imports of a group; an empty one adds none.
+fn push_group(spaces: &mut IndexSpaces, group: &Imports) -> Result<(), Error>
+    ensures ok { OnOk result (spaces_in spaces.new ≡ with_entities (spaces_in spaces.old) (entities_of group.now)) }
+    ensures memory { IfErr result (λ e. e ≡ Error.Memory) }
+{
+    match group {
+        Imports::Single(import) => spaces.push(import.entity_type),
+        Imports::Compact1 { module: _, items } => push_items(spaces, items.as_slice()),
+        Imports::Compact2 {
+            module: _,
+            entity_type,
+            names,
+        } => push_names(spaces, *entity_type, names.as_slice()),
+    }
+}
+
+fn push_items(spaces: &mut IndexSpaces, items: &[ImportItem]) -> Result<(), Error>
+    ensures ok { OnOk result (spaces_in spaces.new ≡ with_entities (spaces_in spaces.old) (map (λ (item : Item). item.entity_type) items.now)) }
+    ensures memory { IfErr result (λ e. e ≡ Error.Memory) }
+{
+    for item in items {
+        spaces.push(item.entity_type)?;
+    }
+    Ok(())
+}
+
+fn push_names(
+    spaces: &mut IndexSpaces,
+    entity_type: EntityType,
+    names: &[Name],
+) -> Result<(), Error>
+    ensures ok { OnOk result (spaces_in spaces.new ≡ with_entities (spaces_in spaces.old) (map (λ name. entity_type) names.now)) }
+    ensures memory { IfErr result (λ e. e ≡ Error.Memory) }
+{
+    for _name in names {
+        spaces.push(entity_type)?;
+    }
+    Ok(())
+}
+
+/// The index spaces that imports begin, one by one and in order: Validation, Modules.
+#[tactic(auto, using(crate::proofs::ImportedSpaces::imported_is_grown))]
+pub fn imported_spaces_of(alloc: Global, imports: &[Imports]) -> Result<IndexSpaces, Error>
+    ensures ok { IfOk result (λ spaces. spaces_in spaces ≡ imported_spaces (flattened imports.now)) }
+    ensures memory { IfErr result (λ e. e ≡ Error.Memory) }
+{
+    let mut spaces = IndexSpaces::new(alloc);
+    push_groups(&mut spaces, imports)?;
+    Ok(spaces)
+}
+
+fn push_groups(spaces: &mut IndexSpaces, imports: &[Imports]) -> Result<(), Error>
+    ensures ok { OnOk result (spaces_in spaces.new ≡ with_entities (spaces_in spaces.old) (flat_map entities_of imports.now)) }
+    ensures memory { IfErr result (λ e. e ≡ Error.Memory) }
+{
+    for group in imports {
+        push_group(spaces, group)?;
+    }
+    Ok(())
+}

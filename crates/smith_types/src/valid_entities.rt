@@ -1,0 +1,250 @@
+ghost use Rattle.std.specs.Prelude.{◌≡◌, ◌↔◌, ◌⊎◌, IsTrue, IfSome, All, Some, slice_get};
+ghost use Rattle.smith_types.specs.FeatureBits.{features_in};
+ghost use Rattle.smith_types.specs.IndexSpaces.{spaces_in};
+ghost use Rattle.smith_types.specs.Flags.{IsElementEnabled, funcref};
+ghost use Rattle.smith_types.specs.ValidTypes.{IsShareable};
+ghost use Rattle.smith_types.specs.Entities.{
+  AreLimitsValid,
+  most_elements,
+  most_pages as pages,
+  IsFuncValid,
+  IsTagValid,
+  IsTableValid,
+  IsMemoryValid,
+  IsGlobalValid,
+  AreCountsEnabled,
+  AreEntitiesValid,
+};
+ghost use Rattle.smith_types.specs.Decided.{IsTagType, AreTagsValid, AreFuncsValid, AreListsValid};
+ghost use Rattle.smith_types.specs.declared.composite_type.SubType.{SubType};
+
+use crate::composite_type::{CompositeInnerType, SubType};
+use crate::entity_type::{GlobalType, MemoryType, TableType};
+use crate::features::WasmFeatures;
+use crate::index_spaces::IndexSpaces;
+use crate::predicate::{Predicate, all_hold};
+use crate::valid_values::{ShareableValue, is_ref_type_valid, is_val_type_valid};
+use crate::value_type::{AbstractHeapType, HeapType, RefType, ValType};
+
+/// Whether every entity of the index spaces is valid, over the types of the module: Validation, External Types.
+pub fn are_entities_valid(features: WasmFeatures, types: &[SubType], spaces: &IndexSpaces) -> bool
+    ensures { IsTrue result ↔ AreEntitiesValid (features_in features) types.now (spaces_in spaces.now) }
+{
+    are_lists_valid(features, types, spaces)
+}
+
+fn are_lists_valid(features: WasmFeatures, types: &[SubType], spaces: &IndexSpaces) -> bool
+    ensures { IsTrue result ↔ AreListsValid (features_in features) types.now (spaces_in spaces.now) }
+{
+    are_tags_valid(types, spaces.tags.as_slice())
+        && are_funcs_valid(types, spaces.funcs.as_slice())
+        && are_tables_valid(features, types, spaces.tables.as_slice())
+        && are_memories_valid(features, spaces.memories.as_slice())
+        && are_globals_valid(features, types, spaces.globals.as_slice())
+}
+
+/// Whether tags, a second table and a second memory, where there are such, have their features.
+pub fn are_counts_enabled(features: WasmFeatures, spaces: &IndexSpaces) -> bool
+    ensures { IsTrue result ↔ AreCountsEnabled (features_in features) (spaces_in spaces.now) }
+{
+    (spaces.tags.is_empty() || features.contains(WasmFeatures::EXCEPTIONS))
+        && (spaces.tables.len() <= 1 || features.contains(WasmFeatures::REFERENCE_TYPES))
+        && (spaces.memories.len() <= 1 || features.contains(WasmFeatures::MULTI_MEMORY))
+}
+
+/// Whether each tag is valid, given by the index of its type: Validation, Tag Types.
+pub fn are_tags_valid(types: &[SubType], tags: &[u32]) -> bool
+    ensures { IsTrue result ↔ AreTagsValid types.now tags.now }
+{
+    all_hold(&ValidTag { types }, tags)
+}
+
+/// Whether each function is valid, given by the index of its type: Validation, Functions.
+pub fn are_funcs_valid(types: &[SubType], funcs: &[u32]) -> bool
+    ensures { IsTrue result ↔ AreFuncsValid types.now funcs.now }
+{
+    all_hold(&ValidFunc { types }, funcs)
+}
+
+/// Whether each table type is valid.
+pub fn are_tables_valid(features: WasmFeatures, types: &[SubType], tables: &[TableType]) -> bool
+    ensures { IsTrue result ↔ All (IsTableValid (features_in features) types.now) tables.now }
+{
+    tables
+        .iter()
+        .all(|table| is_table_valid(features, types, *table))
+}
+
+/// Whether each memory type is valid.
+pub fn are_memories_valid(features: WasmFeatures, memories: &[MemoryType]) -> bool
+    ensures { IsTrue result ↔ All (IsMemoryValid (features_in features)) memories.now }
+{
+    memories
+        .iter()
+        .all(|memory| is_memory_valid(features, *memory))
+}
+
+/// Whether each global type is valid.
+pub fn are_globals_valid(features: WasmFeatures, types: &[SubType], globals: &[GlobalType]) -> bool
+    ensures { IsTrue result ↔ All (IsGlobalValid (features_in features) types.now) globals.now }
+{
+    globals
+        .iter()
+        .all(|global| is_global_valid(features, types, *global))
+}
+
+/// Whether a minimum is at most the maximum, if there is one, and neither is above `most`: Validation, Limits.
+pub fn are_limits_valid(most: u64, minimum: u64, maximum: Option<u64>) -> bool
+    ensures { IsTrue result ↔ AreLimitsValid most minimum maximum }
+{
+    minimum <= most
+        && match maximum {
+            Some(maximum) => minimum <= maximum && maximum <= most,
+            None => true,
+        }
+}
+
+/// The most elements of a table: Validation, Table Types.
+pub fn most_elements_of(table64: bool) -> u64
+    ensures { result ≡ most_elements table64 }
+{
+    if table64 { u64::MAX } else { u32::MAX as u64 }
+}
+
+fn is_table_valid(features: WasmFeatures, types: &[SubType], table: TableType) -> bool
+    ensures { IsTrue result ↔ IsTableValid (features_in features) types.now table }
+{
+    are_limits_valid(
+        most_elements_of(table.table64),
+        table.minimum,
+        table.maximum,
+    ) && is_ref_type_valid(features, types.len(), table.element_type)
+        && is_element_enabled(features, table.element_type)
+        && (!table.table64 || features.contains(WasmFeatures::MEMORY64))
+        && (!table.shared || may_be_shared(features, types, ValType::Ref(table.element_type)))
+}
+
+fn is_element_enabled(features: WasmFeatures, element: RefType) -> bool
+    ensures { IsTrue result ↔ IsElementEnabled (features_in features) element }
+{
+    is_funcref(element) || features.contains(WasmFeatures::REFERENCE_TYPES)
+}
+
+fn is_funcref(element: RefType) -> bool
+    ensures { IsTrue result ↔ (element ≡ funcref) }
+{
+    element.nullable
+        && match element.heap_type {
+            HeapType::Abstract { shared, ty } => !shared && matches!(ty, AbstractHeapType::Func),
+            _ => false,
+        }
+}
+
+fn is_global_valid(features: WasmFeatures, types: &[SubType], global: GlobalType) -> bool
+    ensures { IsTrue result ↔ IsGlobalValid (features_in features) types.now global }
+{
+    is_val_type_valid(features, types.len(), global.val_type)
+        && (!global.shared || may_be_shared(features, types, global.val_type))
+}
+
+// Whether a shared table or global may hold this value type.
+fn may_be_shared(features: WasmFeatures, types: &[SubType], value: ValType) -> bool
+    ensures { IsTrue result ↔ (IsTrue (features_in features).shared_everything_threads × IsShareable types.now value) }
+{
+    features.contains(WasmFeatures::SHARED_EVERYTHING_THREADS)
+        && ShareableValue { types }.holds(&value)
+}
+
+fn is_memory_valid(features: WasmFeatures, memory: MemoryType) -> bool
+    ensures { IsTrue result ↔ IsMemoryValid (features_in features) memory }
+{
+    is_page_size_valid(features, memory.page_size_log2)
+        && are_limits_valid(
+            most_pages_of(memory.memory64, memory.page_size_log2),
+            memory.minimum,
+            memory.maximum,
+        )
+        && (!memory.memory64 || features.contains(WasmFeatures::MEMORY64))
+        && (!memory.shared
+            || (features.contains(WasmFeatures::THREADS) && memory.maximum.is_some()))
+}
+
+fn is_page_size_valid(features: WasmFeatures, stated: Option<u32>) -> bool
+    ensures { IsTrue result ↔ IfSome stated (λ log2. ((log2 ≡ 0) ⊎ (log2 ≡ 16)) × IsTrue (features_in features).custom_page_sizes) }
+{
+    match stated {
+        Some(log2) => {
+            (log2 == 0 || log2 == 16) && features.contains(WasmFeatures::CUSTOM_PAGE_SIZES)
+        }
+        None => true,
+    }
+}
+
+fn most_pages_of(memory64: bool, stated: Option<u32>) -> u64
+    requires { IfSome stated (λ log2. (log2 ≡ 0) ⊎ (log2 ≡ 16)) }
+    ensures { result ≡ pages memory64 stated }
+{
+    match stated {
+        Some(0) => { if memory64 { u64::MAX } else { u32::MAX as u64 } }
+        _ => { if memory64 { 1 << 48 } else { 1 << 16 } }
+    }
+}
+
+#[derive(Clone, Copy)]
+struct ValidFunc<'a> {
+    types: &'a [SubType],
+}
+
+impl<'a> Predicate<u32> for ValidFunc<'a> {
+    ghost meaning = { λ valid index. IsFuncValid valid.types.now index };
+
+    fn holds(&self, item: &u32) -> bool {
+        is_func_valid(self.types, *item)
+    }
+}
+
+fn is_func_valid(types: &[SubType], index: u32) -> bool
+    ensures { IsTrue result ↔ IsFuncValid types.now index }
+{
+    match types.get(index as usize) {
+        Some(ty) => matches!(&ty.composite_type.inner, CompositeInnerType::Func(_)),
+        None => false,
+    }
+}
+
+#[derive(Clone, Copy)]
+struct ValidTag<'a> {
+    types: &'a [SubType],
+}
+
+impl<'a> Predicate<u32> for ValidTag<'a> {
+    ghost meaning = { λ valid index. IsTagValid valid.types.now index };
+
+    fn holds(&self, item: &u32) -> bool {
+        is_tag_valid(self.types, *item)
+    }
+}
+
+fn is_tag_valid(types: &[SubType], index: u32) -> bool
+    ensures { IsTrue result ↔ IsTagValid types.now index }
+{
+    has_tag_type(types, index)
+}
+
+fn has_tag_type(types: &[SubType], index: u32) -> bool
+    ensures { IsTrue result ↔ ((t : SubType) × (slice_get types.now index ≡ Some t) × IsTagType t.composite_type.inner) }
+{
+    match types.get(index as usize) {
+        Some(ty) => is_tag_type(&ty.composite_type.inner),
+        None => false,
+    }
+}
+
+fn is_tag_type(inner: &CompositeInnerType) -> bool
+    ensures { IsTrue result ↔ IsTagType inner.now }
+{
+    match inner {
+        CompositeInnerType::Func(function) => function.results.is_empty(),
+        _ => false,
+    }
+}
