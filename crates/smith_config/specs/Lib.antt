@@ -9,5 +9,6 @@ pub mod ShapeFaults
 pub mod Decided
 pub mod Laws
 pub mod ExampleConfigs
+pub mod ExampleCoins
 pub mod ExampleShapes
 pub mod Arbitrary

@@ -13,6 +13,7 @@ pub mod Bounds
 pub mod Memories
 pub mod Spelling
 pub mod ExampleSpellings
+pub mod ExampleStanding
 pub mod Below
 pub mod ConstScopes
 pub mod ConstOffers

@@ -3,6 +3,7 @@
 
 mod bounds_examples;
 mod choice;
+mod composite_examples;
 mod composite_type;
 mod const_examples;
 mod const_expr;
@@ -14,10 +15,13 @@ mod matching;
 mod matching_composite;
 mod offered;
 mod offered_examples;
+mod offered_list_examples;
 mod rec_group;
+mod size_examples;
 mod spaces;
 mod sub_type;
 mod super_type;
+mod value_examples;
 mod value_type;
 
 pub use composite_type::{arbitrary_composite_type, arbitrary_func_type, arbitrary_struct_type};

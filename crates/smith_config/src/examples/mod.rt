@@ -1,6 +1,8 @@
 // Values that meet the definitions, and values that do not. The clauses are proved; nothing calls these functions.
 
 mod configurations;
+mod defaults;
+mod draws_in_order;
 mod shape_faults;
 mod shapes;
 mod shapes_in_use;

@@ -8,6 +8,7 @@ mod features;
 mod flags;
 mod grown;
 mod imports;
+mod kind_names;
 mod matching;
 mod open_types;
 mod refused_types;

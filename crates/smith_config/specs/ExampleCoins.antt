@@ -1,0 +1,97 @@
+-- Bytes that give a configuration, in which no two bools drawn one after the other agree.
+use Rattle.std.specs.Prelude.{ℕ, true, List, [], ◌∷◌}
+use Rattle.smith_config.specs.ExampleConfigs.{least_config}
+use Rattle.smith_config.specs.declared.config.Config.{Config}
+
+-- bools that change at each draw, and numbers of their own
+abbrev pub changing_bytes : List ℕ
+changing_bytes =
+    -- counts
+    0 ∷ 21 ∷ 0 ∷ 22 ∷ 0 ∷ 23 ∷ 0 ∷ 24 ∷ 0 ∷ 25 ∷ 0 ∷ 26 ∷ 0 ∷ 27 ∷ 0 ∷ 28 ∷ 0 ∷ 29 ∷ 0 ∷ 30 ∷
+    -- memories, tables, bytes, lengths of numbers
+    31 ∷ 32 ∷ 0 ∷ 0 ∷ 0 ∷ 0 ∷ 33 ∷ 0 ∷ 0 ∷ 0 ∷ 0 ∷ 0 ∷ 0 ∷ 0 ∷ 0 ∷ 34 ∷ 5 ∷
+    -- references and several results of the first four proposals, aliases, depth
+    0 ∷ 1 ∷ 0 ∷ 1 ∷ 0 ∷ 35 ∷ 6 ∷
+    -- the first, third, fifth, seventh and ninth of the other nine, of which the third needs vectors
+    1 ∷ 0 ∷ 1 ∷ 0 ∷ 1 ∷ 0 ∷ 1 ∷ 0 ∷ 1 ∷
+    -- the first, third, fifth, seventh, ninth and eleventh kind of instructions
+    1 ∷ 0 ∷ 1 ∷ 0 ∷ 1 ∷ 0 ∷ 1 ∷ 0 ∷ 1 ∷ 0 ∷ 1 ∷ 0 ∷
+    -- rules
+    1 ∷ 0 ∷ 0 ∷ 36 ∷ 0 ∷ 1 ∷ 0 ∷ 37 ∷ 1 ∷ []
+
+-- what they give
+abbrev pub changing_config : Config
+changing_config = record least_config {
+  max_types = 21;
+  max_imports = 22;
+  max_tags = 23;
+  max_funcs = 24;
+  max_globals = 25;
+  max_exports = 26;
+  max_element_segments = 27;
+  max_elements = 28;
+  max_data_segments = 29;
+  max_instructions = 30;
+  max_memories = 31;
+  max_tables = 32;
+  max_memory32_bytes = 33;
+  max_memory64_bytes = 34;
+  min_uleb_size = 5;
+  reference_types_enabled = true;
+  multi_value_enabled = true;
+  max_aliases = 35;
+  max_nesting_depth = 6;
+  saturating_float_to_int_enabled = true;
+  threads_enabled = true;
+  gc_enabled = true;
+  memory64_enabled = true;
+  allowed_instructions = record { 0 = 1365 };
+  table_max_size_required = true;
+  max_table_elements = 36;
+  allow_floats = true;
+  const_expr_fuel = 37;
+  limit_arrays_in_const_exprs = true;
+}
+
+-- the same numbers, and each bool the other way round
+abbrev pub turned_bytes : List ℕ
+turned_bytes =
+    0 ∷ 21 ∷ 0 ∷ 22 ∷ 0 ∷ 23 ∷ 0 ∷ 24 ∷ 0 ∷ 25 ∷ 0 ∷ 26 ∷ 0 ∷ 27 ∷ 0 ∷ 28 ∷ 0 ∷ 29 ∷ 0 ∷ 30 ∷
+    31 ∷ 1 ∷ 0 ∷ 0 ∷ 0 ∷ 0 ∷ 33 ∷ 0 ∷ 0 ∷ 0 ∷ 0 ∷ 0 ∷ 0 ∷ 0 ∷ 0 ∷ 34 ∷ 5 ∷
+    1 ∷ 0 ∷ 1 ∷ 0 ∷ 0 ∷ 35 ∷ 6 ∷
+    0 ∷ 1 ∷ 0 ∷ 1 ∷ 0 ∷ 1 ∷ 0 ∷ 1 ∷ 0 ∷
+    0 ∷ 1 ∷ 0 ∷ 1 ∷ 0 ∷ 1 ∷ 0 ∷ 1 ∷ 0 ∷ 1 ∷ 0 ∷ 1 ∷
+    0 ∷ 0 ∷ 0 ∷ 36 ∷ 1 ∷ 0 ∷ 1 ∷ 37 ∷ 0 ∷ []
+
+-- what these give: numeric, vector, parametric, table, memory and aggregate instructions
+abbrev pub turned_config : Config
+turned_config = record least_config {
+  max_types = 21;
+  max_imports = 22;
+  max_tags = 23;
+  max_funcs = 24;
+  max_globals = 25;
+  max_exports = 26;
+  max_element_segments = 27;
+  max_elements = 28;
+  max_data_segments = 29;
+  max_instructions = 30;
+  max_memories = 31;
+  max_tables = 1;
+  max_memory32_bytes = 33;
+  max_memory64_bytes = 34;
+  min_uleb_size = 5;
+  bulk_memory_enabled = true;
+  simd_enabled = true;
+  max_aliases = 35;
+  max_nesting_depth = 6;
+  sign_extension_ops_enabled = true;
+  exceptions_enabled = true;
+  tail_call_enabled = true;
+  compact_imports_enabled = true;
+  allowed_instructions = record { 0 = 2991 };
+  max_table_elements = 36;
+  disallow_traps = true;
+  extended_const_enabled = true;
+  const_expr_fuel = 37;
+}

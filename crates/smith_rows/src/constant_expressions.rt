@@ -1,0 +1,338 @@
+ghost use Rattle.std.specs.Prelude.{◌≡◌, [], false, length, IsTrue, IfOk};
+ghost use Rattle.smith_types.specs.ValidTypes.{AreTypesValid, IsValTypeValid};
+ghost use Rattle.smith_types.specs.declared.value_type.HeapType.TheVariants.{Abstract};
+ghost use Rattle.smith_types.specs.declared.value_type.ValType.TheVariants.{I32};
+ghost use Rattle.smith_config.specs.Faults.{Passes};
+ghost use Rattle.smith_config.specs.Features.{features_of};
+ghost use Rattle.smith_config.specs.Sanitized.{IsSanitized};
+
+use smith_draw::{arbitrary_const_expr, arbitrary_table_init, globals_for_const_expr};
+use smith_types::{
+    AbstractHeapType, ConstInstr, GlobalType, HeapType, Items, RefType, TypeSpace, ValType,
+};
+use std::alloc::Global;
+use std::test::Fail;
+use wasm_smith::{Config, Entities, Error, Spaces, Unstructured, arbitrary_types};
+
+const NO_ENTITIES: Entities<'static> = Entities {
+    tags: &[],
+    funcs: &[],
+    tables: &[],
+    memories: &[],
+    globals: &[],
+    imported_funcs: 0,
+    imported_globals: 0,
+};
+
+fn spaces_of<'a>(types: &'a TypeSpace) -> Spaces<'a>
+    ensures types { result.types.now ≡ types.now }
+    ensures functions { result.entities.funcs.now ≡ [] }
+    ensures globals { result.entities.globals.now ≡ [] }
+    ensures imported { result.entities.imported_globals ≡ 0 }
+{
+    Spaces {
+        types,
+        entities: NO_ENTITIES,
+    }
+}
+
+// The defaults with that much fuel, and with arrays limited by it or not.
+fn settled(fuel: u32, limited: bool) -> Result<Config, Error>
+    ensures passes { IfOk result Passes }
+    ensures sanitized { IfOk result IsSanitized }
+    ensures gc { IfOk result (λ config. IsTrue config.gc_enabled) }
+    ensures references { IfOk result (λ config. IsTrue config.reference_types_enabled) }
+{
+    let mut config = Config::default();
+    config.const_expr_fuel = fuel;
+    config.limit_arrays_in_const_exprs = limited;
+    config.sanitize();
+    if let Err(fault) = config.check() {
+        return Err(Error::Config(fault));
+    }
+    Ok(config)
+}
+
+// The types that bytes give.
+#[tactic(auto, using(smith_types::proofs::Validity::no_types))]
+fn types_from(alloc: Global, config: &Config, input: &[u8]) -> Result<TypeSpace, Error>
+    requires passes { Passes config.now }
+    requires sanitized { IsSanitized config.now }
+    ensures valid { IfOk result (AreTypesValid (features_of config.now)) }
+{
+    let mut types = TypeSpace::new(alloc);
+    arbitrary_types(
+        alloc,
+        config,
+        &mut types,
+        &NO_ENTITIES,
+        &mut Unstructured::new(input),
+    )?;
+    Ok(types)
+}
+
+// An expression of a type, over types alone.
+fn drawn(
+    alloc: Global,
+    config: &Config,
+    types: &TypeSpace,
+    wanted: ValType,
+    input: &[u8],
+) -> Result<Items<ConstInstr>, Error>
+    requires types { AreTypesValid (features_of config.now) types.now }
+    requires wanted { IsValTypeValid (features_of config.now) (length types.now.types) wanted }
+{
+    let mut u = Unstructured::new(input);
+    arbitrary_const_expr(alloc, config, &spaces_of(types), wanted, true, &mut u)
+}
+
+// An i32 over nothing.
+fn number(alloc: Global, input: &[u8]) -> Result<Items<ConstInstr>, Error> {
+    let config = settled(50, false)?;
+    let types = types_from(alloc, &config, &[])?;
+    drawn(alloc, &config, &types, ValType::I32, input)
+}
+
+#[test]
+fn a_sum(rt: HostRuntime) -> Result<(), Fail> {
+    let made = number(rt.alloc(), &[1, 1, 0, 5, 0, 0, 0, 0, 7, 0, 0, 0])?;
+    let sum = [
+        ConstInstr::I32Const(7),
+        ConstInstr::I32Const(5),
+        ConstInstr::I32Add,
+    ];
+    assert!(rt; made.as_slice() == sum.as_slice());
+    Ok(())
+}
+
+#[test]
+fn a_longest_sum(rt: HostRuntime) -> Result<(), Fail> {
+    let made = number(rt.alloc(), &[1; 12])?;
+    let mut expected = [ConstInstr::I32Add; 23];
+    for place in 0..12 {
+        expected[place] = ConstInstr::I32Const(0);
+    }
+    assert!(rt; made.as_slice() == expected.as_slice());
+    Ok(())
+}
+
+const fn plain(ty: AbstractHeapType) -> HeapType
+    ensures { result ≡ Abstract false ty }
+{
+    HeapType::Abstract { shared: false, ty }
+}
+
+// An external reference that is not null.
+fn external(alloc: Global, config: &Config) -> Result<Items<ConstInstr>, Error>
+    requires passes { Passes config.now }
+    requires sanitized { IsSanitized config.now }
+    requires gc { IsTrue config.now.gc_enabled }
+    requires references { IsTrue config.now.reference_types_enabled }
+{
+    let types = types_from(alloc, config, &[])?;
+    let wanted = ValType::Ref(RefType {
+        nullable: false,
+        heap_type: plain(AbstractHeapType::Extern),
+    });
+    drawn(alloc, config, &types, wanted, &[])
+}
+
+#[test]
+fn conversions_need_fuel(rt: HostRuntime) -> Result<(), Fail> {
+    let converted = [
+        ConstInstr::I32Const(0),
+        ConstInstr::RefI31,
+        ConstInstr::ExternConvertAny,
+    ];
+    assert!(rt; external(rt.alloc(), &settled(2, false)?)?.as_slice() == converted.as_slice());
+    assert_eq!(rt;
+        external(rt.alloc(), &settled(1, false)?).err(),
+        Some(Error::EmptyChoose)
+    );
+    Ok(())
+}
+
+// A final struct of one constant byte, and a final array of constant bytes.
+const STRUCT: [u8; 6] = [1, 1, 1, 2, 1, 0];
+
+const ARRAY: [u8; 5] = [1, 1, 1, 0, 0];
+
+// How the first type that bytes give is made, where null would do.
+fn of_first(
+    alloc: Global,
+    config: &Config,
+    types: &[u8],
+    input: &[u8],
+) -> Result<Items<ConstInstr>, Error>
+    requires passes { Passes config.now }
+    requires sanitized { IsSanitized config.now }
+    requires gc { IsTrue config.now.gc_enabled }
+    requires references { IsTrue config.now.reference_types_enabled }
+{
+    let types = types_from(alloc, config, types)?;
+    if types.types().is_empty() {
+        return Ok(Items::new(alloc));
+    }
+    let wanted = ValType::Ref(RefType {
+        nullable: true,
+        heap_type: HeapType::Concrete(0),
+    });
+    drawn(alloc, config, &types, wanted, input)
+}
+
+#[test]
+fn structs(rt: HostRuntime) -> Result<(), Fail> {
+    let cases = [
+        (
+            50,
+            [1, 0, 9, 0, 0, 0],
+            [ConstInstr::I32Const(9), ConstInstr::StructNew(0)].as_slice(),
+        ),
+        (
+            0,
+            [1, 0, 0, 0, 0, 0],
+            [ConstInstr::StructNewDefault(0)].as_slice(),
+        ),
+    ];
+    for (fuel, input, want) in cases {
+        let made = of_first(rt.alloc(), &settled(fuel, false)?, &STRUCT, &input)?;
+        assert!(rt; made.as_slice() == want, "at {fuel}");
+    }
+    Ok(())
+}
+
+#[test]
+fn limited_arrays(rt: HostRuntime) -> Result<(), Fail> {
+    let cases = [
+        (50, [3, 7].as_slice(), 7),
+        (u32::MAX, [3, 255, 255, 255, 254].as_slice(), -2),
+    ];
+    for (fuel, input, length) in cases {
+        let made = of_first(rt.alloc(), &settled(fuel, true)?, &ARRAY, input)?;
+        let want = [ConstInstr::I32Const(length), ConstInstr::ArrayNewDefault(0)];
+        assert!(rt; made.as_slice() == want.as_slice(), "at {fuel}");
+    }
+    Ok(())
+}
+
+// The initialiser of a table of functions or null, and how many bytes it leaves.
+fn initialiser(
+    alloc: Global,
+    config: &Config,
+    input: &[u8],
+) -> Result<(Option<Items<ConstInstr>>, usize), Error>
+    requires passes { Passes config.now }
+    requires sanitized { IsSanitized config.now }
+    requires references { IsTrue config.now.reference_types_enabled }
+{
+    let types = types_from(alloc, config, &[])?;
+    let element = RefType {
+        nullable: true,
+        heap_type: plain(AbstractHeapType::Func),
+    };
+    let mut u = Unstructured::new(input);
+    let drawn = arbitrary_table_init(alloc, config, &spaces_of(&types), element, &mut u)?;
+    Ok((drawn, u.len()))
+}
+
+// Whether an expression is that of no function.
+fn is_null(expression: &Items<ConstInstr>) -> bool {
+    expression.as_slice() == [ConstInstr::RefNull(plain(AbstractHeapType::Func))].as_slice()
+}
+
+#[test]
+fn initialisers_of_tables(rt: HostRuntime) -> Result<(), Fail> {
+    let (initial, left) = initialiser(rt.alloc(), &settled(50, false)?, &[0, 7])?;
+    assert!(rt; initial.as_ref().is_some_and(is_null));
+    assert_eq!(rt; left, 1);
+    let (initial, left) = initialiser(rt.alloc(), &settled(50, false)?, &[1, 7])?;
+    assert!(rt; initial.is_none());
+    assert_eq!(rt; left, 1);
+    Ok(())
+}
+
+// The initialiser of a table of i31 that holds no null.
+fn initialiser_of_numbers(
+    alloc: Global,
+    config: &Config,
+    input: &[u8],
+) -> Result<Option<Items<ConstInstr>>, Error>
+    requires passes { Passes config.now }
+    requires sanitized { IsSanitized config.now }
+    requires gc { IsTrue config.now.gc_enabled }
+    requires references { IsTrue config.now.reference_types_enabled }
+{
+    let types = types_from(alloc, config, &[])?;
+    let element = RefType {
+        nullable: false,
+        heap_type: plain(AbstractHeapType::I31),
+    };
+    let mut u = Unstructured::new(input);
+    arbitrary_table_init(alloc, config, &spaces_of(&types), element, &mut u)
+}
+
+fn is_one(expression: &Items<ConstInstr>) -> bool {
+    expression.as_slice() == [ConstInstr::I32Const(1), ConstInstr::RefI31].as_slice()
+}
+
+#[test]
+fn an_initialiser_without_null(rt: HostRuntime) -> Result<(), Fail> {
+    let initial = initialiser_of_numbers(rt.alloc(), &settled(50, false)?, &[0, 1, 0, 0, 0])?;
+    assert!(rt; initial.as_ref().is_some_and(is_one));
+    Ok(())
+}
+
+// A global of an i32.
+const fn number_global(mutable: bool) -> GlobalType
+    ensures value { result.val_type ≡ I32 }
+    ensures shared { result.shared ≡ false }
+{
+    GlobalType {
+        val_type: ValType::I32,
+        mutable,
+        shared: false,
+    }
+}
+
+// Types and globals, of which two are imported.
+fn with_globals<'a>(types: &'a TypeSpace, globals: &'a [GlobalType]) -> Spaces<'a>
+    ensures types { result.types.now ≡ types.now }
+    ensures functions { result.entities.funcs.now ≡ [] }
+    ensures globals { result.entities.globals.now ≡ globals.now }
+    ensures imported { result.entities.imported_globals ≡ 2 }
+{
+    Spaces {
+        types,
+        entities: Entities {
+            tags: &[],
+            funcs: &[],
+            tables: &[],
+            memories: &[],
+            globals,
+            imported_funcs: 0,
+            imported_globals: 2,
+        },
+    }
+}
+
+// The globals that an i32 may be read of: over a variable and a constant that are imported, and a constant that is not.
+fn readable(alloc: Global, config: &Config, allow_defined: bool) -> Result<Items<u32>, Error>
+    requires passes { Passes config.now }
+    requires sanitized { IsSanitized config.now }
+{
+    let types = types_from(alloc, config, &[])?;
+    let globals = [
+        number_global(true),
+        number_global(false),
+        number_global(false),
+    ];
+    let spaces = with_globals(&types, &globals);
+    globals_for_const_expr(alloc, config, &spaces, ValType::I32, allow_defined)
+}
+
+#[test]
+fn readable_globals(rt: HostRuntime) -> Result<(), Fail> {
+    assert!(rt; readable(rt.alloc(), &settled(50, false)?, true)?.as_slice() == [1, 2].as_slice());
+    assert!(rt; readable(rt.alloc(), &settled(50, false)?, false)?.as_slice() == [1].as_slice());
+    Ok(())
+}
