@@ -26,6 +26,7 @@ pub mod RecGroupLaws
 pub mod MemoryLaws
 pub mod OneFunction
 pub mod BelowLaws
+pub mod ReadableLaws
 pub mod ConstScopeLaws
 pub mod ConstOfferLaws
 pub mod ConstFoundLaws
