@@ -27,6 +27,7 @@ pub mod FloatLaws
 pub mod MemoryLaws
 pub mod OneFunction
 pub mod BelowLaws
+pub mod ReadableLaws
 pub mod ConstScopeLaws
 pub mod ConstOfferLaws
 pub mod ConstFoundLaws

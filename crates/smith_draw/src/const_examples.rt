@@ -18,10 +18,11 @@ ghost use Rattle.smith_types.specs.ExampleContexts.{context_types, context_with}
 ghost use Rattle.smith_config.specs.Config.{default_config};
 ghost use Rattle.smith_draw.specs.declared.const_expr.choice.Choice.TheVariants as choice;
 ghost use Rattle.smith_draw.specs.ConstOffers.{offers, readable_globals};
+ghost use Rattle.smith_draw.specs.ConstScopes.{IsReadable};
 ghost use Rattle.smith_draw.specs.ConstBounds.{widest, most_instructions, IsNonNullable, MayLack, MayRefuseConstExpr};
 ghost use Rattle.smith_draw.specs.ConstExprs.{expression_alone_at};
 ghost use Rattle.smith_draw.specs.SpelledConstants.{SpellsI32, SpellsConstant, SpellsConstExpr};
-ghost use Rattle.smith_draw.specs.ExampleConstExprs.{context_of_types, packed_struct, packed_array, MutableGlobalsAreNotRead};
+ghost use Rattle.smith_draw.specs.ExampleConstExprs.{context_of_types, packed_struct, packed_array, MutableGlobalsAreNotRead, NothingIsValid, AFunctionNeedsItsType, AGlobalNeedsItsFeature, ImportedGlobalsStand};
 
 #[tactic(auto, unfolding(crate::specs::ConstOffers::offers, crate::specs::Offered::ancestors, crate::specs::Below::is_heap_below))]
 fn offers_of_numbers()
@@ -73,6 +74,10 @@ fn globals()
     ensures all { readable_globals (context_with usual_features 3) I32 ≡ 0 ∷ 2 ∷ [] }
     ensures of_another_type { readable_globals (context_with usual_features 3) I64 ≡ [] }
     ensures mutable_ones_are_not_read { MutableGlobalsAreNotRead }
+    ensures an_immutable_one { IsReadable (context_with usual_features 2) I32 0 }
+    ensures a_mutable_one { ¬ IsReadable (context_with usual_features 2) I32 1 }
+    ensures one_that_is_not_visible { ¬ IsReadable (context_with usual_features 2) I32 2 }
+    ensures one_of_another_type { ¬ IsReadable (context_with usual_features 2) I64 0 }
 {}
 
 #[tactic(auto, unfolding(crate::specs::ConstBounds::widest))]
@@ -83,6 +88,13 @@ fn bounds()
     ensures of_the_default { most_instructions default_config [] ≡ 3473 }
     ensures without_fuel { most_instructions (record default_config { const_expr_fuel = 0 }) context_types ≡ 23 }
     ensures of_the_most_fuel { most_instructions (record default_config { const_expr_fuel = 2 ^ 32 - 1 }) [] ≡ 296352743378 }
+{}
+
+fn spaces()
+    ensures nothing { NothingIsValid }
+    ensures a_function_of_no_type { AFunctionNeedsItsType }
+    ensures a_global_without_its_feature { AGlobalNeedsItsFeature }
+    ensures imports_that_do_not_stand { ImportedGlobalsStand }
 {}
 
 fn refusals()
