@@ -4,6 +4,8 @@
 #[cfg(test)]
 mod configuration;
 #[cfg(test)]
+mod configured_shapes;
+#[cfg(test)]
 mod drawn_types;
 #[cfg(test)]
 mod function_types;
