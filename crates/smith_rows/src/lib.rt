@@ -4,6 +4,8 @@
 #[cfg(test)]
 mod configuration;
 #[cfg(test)]
+mod configured_shapes;
+#[cfg(test)]
 mod constant_expressions;
 #[cfg(test)]
 mod drawn_types;
