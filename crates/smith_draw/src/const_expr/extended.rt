@@ -11,32 +11,21 @@ use smith_bytes::{Error, Unstructured};
 use smith_types::{ConstInstr, Items, ValType};
 use std::alloc::Global;
 
-/// The instruction of a number of 1 to 3.
+/// The operator of a number of 1 to 3.
 fn operator(wide: bool, kind: u8) -> ConstInstr
     ensures { result ≡ operator wide kind }
 {
-    if kind == 1 {
-        return if wide {
-            ConstInstr::I64Add
-        } else {
-            ConstInstr::I32Add
-        };
-    }
-    if kind == 2 {
-        return if wide {
-            ConstInstr::I64Sub
-        } else {
-            ConstInstr::I32Sub
-        };
-    }
-    if wide {
-        ConstInstr::I64Mul
-    } else {
-        ConstInstr::I32Mul
+    match (kind, wide) {
+        (1, false) => ConstInstr::I32Add,
+        (1, true) => ConstInstr::I64Add,
+        (2, false) => ConstInstr::I32Sub,
+        (2, true) => ConstInstr::I64Sub,
+        (_, false) => ConstInstr::I32Mul,
+        (_, true) => ConstInstr::I64Mul,
     }
 }
 
-/// What is drawn next behind so many instructions: 0 for a constant, else a number of an operator.
+/// Draws what stands before `count` instructions: 0 for a constant, else the number of an operator.
 #[tactic(auto, unfolding(crate::specs::Constants::kind_at))]
 fn extended_kind(count: usize, u: &mut Unstructured<'_>) -> u8
     ensures exact { kind_at count u.old ≡ (result, u.new) }
@@ -49,7 +38,7 @@ fn extended_kind(count: usize, u: &mut Unstructured<'_>) -> u8
     u.int_in_range(0..=3)
 }
 
-/// The instructions of an extended constant, the last one first.
+/// Draws the instructions of an extended constant, the last one first.
 #[tactic(auto, unfolding(crate::specs::Constants::extended_at))]
 fn extended(
     alloc: Global,
@@ -80,7 +69,7 @@ fn extended(
     Ok(drawn)
 }
 
-/// Puts an extended constant behind the instructions that stand.
+/// Draws an extended constant behind the instructions that stand.
 pub(super) fn extended_constant(
     alloc: Global,
     wanted: ValType,
