@@ -8,11 +8,15 @@ mod constant_expressions;
 #[cfg(test)]
 mod drawn_types;
 #[cfg(test)]
+mod first_faults;
+#[cfg(test)]
 mod function_types;
 #[cfg(test)]
 mod gc_draws;
 #[cfg(test)]
 mod gc_modules;
+#[cfg(test)]
+mod hostile_shapes;
 #[cfg(test)]
 mod kinds;
 #[cfg(test)]
@@ -22,6 +26,12 @@ mod matching_types;
 #[cfg(test)]
 mod modules;
 #[cfg(test)]
+mod shape_parts;
+#[cfg(test)]
+mod shapes;
+#[cfg(test)]
 mod subtypes;
 #[cfg(test)]
 mod type_space;
+#[cfg(test)]
+mod valid_shapes;
