@@ -1,19 +1,20 @@
 -- Numbers of few base-256 digits.
-use Rattle.std.proofs.Common.{◌≡◌, ℕ, ◌+◌, ◌*◌, ◌<◌, ◌≤◌, ◌^◌, suc, List, [], ◌∷◌, length, take, drop, get_or, arith, sym, ap, add-one, length-take}
+use Rattle.std.proofs.Common.{◌≡◌, ℕ, zero, refl, ◌+◌, ◌-◌, ◌*◌, ◌<◌, ◌≤◌, ◌^◌, suc, fold, List, [], ◌∷◌, length, take, drop, get_or, arith, sym, ap, ◌∙◌, add-one, length-take, length-drop}
 use Rattle.std.proofs.Math.Nat.{pow-succ', pow-le-pow_right}
 use Rattle.std.proofs.Math.Seq.{take-suc, drop-cons}
 use Rattle.std.proofs.lemmas.List.Sums.{fold-append}
+use Rattle.std.proofs.lemmas.List.{take-append-drop}
 use Rattle.smith_bytes.specs.Draws.{big_endian, little_endian}
 
 -- with one digit more
 pub digit_more : (k number digit : ℕ) → number < 256 ^ k → digit < 256 → 256 * number + digit < 256 ^ (k + 1)
 digit_more k number digit fits small = rw (add-one, pow-succ') (omega arith)
 
--- sixteen digits fit 128 bits
-pub digit_fits : (k number digit : ℕ) → number < 256 ^ k → digit < 256 → k < 16 → 256 * number + digit < 2 ^ 128
+-- eight digits fit 64 bits
+pub digit_fits : (k number digit : ℕ) → number < 256 ^ k → digit < 256 → k < 8 → 256 * number + digit < 2 ^ 64
 digit_fits k number digit fits small few =
-    let room : k + 1 ≤ 16 = omega arith in
-    let top : 256 ^ (k + 1) ≤ 256 ^ 16 = pow-le-pow_right {n = 256} (omega arith) room in
+    let room : k + 1 ≤ 8 = omega arith in
+    let top : 256 ^ (k + 1) ≤ 256 ^ 8 = pow-le-pow_right {n = 256} (omega arith) room in
     omega (arith, digit_more k number digit fits small)
 
 pub big_endian_more : (digits : List ℕ) (k number digit : ℕ) → k < length digits → number ≡ big_endian (take k digits) → digit ≡ get_or digits k 0 → 256 * number + digit ≡ big_endian (take (k + 1) digits)
@@ -33,3 +34,22 @@ front_fits digits n number fits =
     let few : length (take n digits) ≤ n = omega (arith, length-take n digits) in
     let top : 256 ^ length (take n digits) ≤ 256 ^ n = pow-le-pow_right {n = 256} (omega arith) few in
     omega arith
+
+-- digits behind a number
+read_behind : (number : ℕ) (digits : List ℕ) → fold (λ x b. 256 * x + b) number digits ≡ number * 256 ^ length digits + big_endian digits
+read_behind number [] = omega arith
+read_behind number (digit ∷ digits) =
+    let size : 256 ^ length (digit ∷ digits) ≡ 256 * 256 ^ length digits = rw pow-succ' refl in
+    let all : fold (λ x b. 256 * x + b) (256 * number + digit) digits ≡ number * (256 * 256 ^ length digits) + fold (λ x b. 256 * x + b) (256 * 0 + digit) digits =
+    omega (arith, read_behind (256 * number + digit) digits, read_behind (256 * 0 + digit) digits) in
+    rw size all
+
+-- the digits before the last eight, and those
+pub big_endian_halves : (digits : List ℕ) (k : ℕ) → k ≡ length digits - 8 → big_endian digits ≡ big_endian (take k digits) * 2 ^ 64 + big_endian (drop k digits)
+big_endian_halves digits zero is = omega arith
+big_endian_halves digits (suc k) is =
+    let parts : big_endian digits ≡ fold (λ x b. 256 * x + b) (big_endian (take (suc k) digits)) (drop (suc k) digits) =
+    ap big_endian (sym (take-append-drop (suc k) digits)) ∙ fold-append (λ x b. 256 * x + b) 0 (take (suc k) digits) (drop (suc k) digits) in
+    let eight : length (drop (suc k) digits) ≡ 8 = omega (arith, length-drop (suc k) digits) in
+    let read = rw eight at (read_behind (big_endian (take (suc k) digits)) (drop (suc k) digits)) in
+    omega (arith, parts, read)

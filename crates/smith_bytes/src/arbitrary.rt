@@ -110,7 +110,7 @@ impl Arbitrary for bool {
 
     #[tactic(auto, unfolding(crate::specs::Draws::bool_at, crate::specs::Draws::whole_at))]
     fn arbitrary(u: &mut Unstructured<'_>) -> bool {
-        u.whole(1) % 2 == 1
+        u.byte() % 2 == 1
     }
 }
 
@@ -120,7 +120,7 @@ impl Arbitrary for u8 {
     ghost drawn = { whole_at 1 };
 
     fn arbitrary(u: &mut Unstructured<'_>) -> u8 {
-        u.whole(1) as u8
+        u.byte()
     }
 }
 
@@ -150,7 +150,7 @@ impl Arbitrary for u64 {
     ghost drawn = { whole_at 8 };
 
     fn arbitrary(u: &mut Unstructured<'_>) -> u64 {
-        u.whole(8) as u64
+        u.whole(8)
     }
 }
 
@@ -160,7 +160,7 @@ impl Arbitrary for u128 {
     ghost drawn = { whole_at 16 };
 
     fn arbitrary(u: &mut Unstructured<'_>) -> u128 {
-        u.whole(16)
+        u.wide()
     }
 }
 
@@ -182,7 +182,7 @@ impl Arbitrary for i64 {
     ghost drawn = { λ bytes. (cast_signed w64 (whole_at 8 bytes).0, (whole_at 8 bytes).1) };
 
     fn arbitrary(u: &mut Unstructured<'_>) -> i64 {
-        (u.whole(8) as u64).cast_signed()
+        u.whole(8).cast_signed()
     }
 }
 
@@ -193,6 +193,6 @@ impl Arbitrary for i128 {
     ghost drawn = { λ bytes. (cast_signed w128 (whole_at 16 bytes).0, (whole_at 16 bytes).1) };
 
     fn arbitrary(u: &mut Unstructured<'_>) -> i128 {
-        u.whole(16).cast_signed()
+        u.wide().cast_signed()
     }
 }

@@ -5,6 +5,7 @@ ghost use Rattle.smith_bytes.specs.Draws.{little_endian, big_endian, digit_count
 pub(crate) fn count_digits(number: u128) -> usize
     ensures exact { result ≡ digit_count number }
     ensures within { result ≤ 16 }
+    ensures few { number < 2 ^ 64 → result ≤ 8 }
 {
     let mut count = 0;
     let mut rest = number;
@@ -16,26 +17,44 @@ pub(crate) fn count_digits(number: u128) -> usize
 }
 
 /// The number whose base-256 digits these are, the lowest first.
-pub(crate) fn read_little_endian(digits: &[u8]) -> u128
-    requires few { length digits.now ≤ 16 }
+pub(crate) fn read_little_endian(digits: &[u8]) -> u64
+    requires few { length digits.now ≤ 8 }
     ensures exact { result ≡ little_endian digits.now }
     ensures fits { result < 256 ^ length digits.now }
 {
     let mut number = 0;
     for i in (0..digits.len()).rev() {
-        number = 256 * number + u128::from(digits[i]);
+        number = 256 * number + u64::from(digits[i]);
     }
     number
 }
 
-/// The number whose base-256 digits these are, the highest first.
-pub(crate) fn read_big_endian(digits: &[u8]) -> u128
+/// The number of up to sixteen base-256 digits, the lowest first.
+pub(crate) fn read_wide_little_endian(digits: &[u8]) -> u128
     requires few { length digits.now ≤ 16 }
+    ensures exact { result ≡ little_endian digits.now }
+{
+    let (low, high) = digits.split_at(digits.len().min(8));
+    (u128::from(read_little_endian(high)) << 64) + u128::from(read_little_endian(low))
+}
+
+/// The number whose base-256 digits these are, the highest first.
+pub(crate) fn read_big_endian(digits: &[u8]) -> u64
+    requires few { length digits.now ≤ 8 }
     ensures exact { result ≡ big_endian digits.now }
 {
     let mut number = 0;
     for digit in digits {
-        number = 256 * number + u128::from(*digit);
+        number = 256 * number + u64::from(*digit);
     }
     number
+}
+
+/// The number of up to sixteen base-256 digits, the highest first.
+pub(crate) fn read_wide_big_endian(digits: &[u8]) -> u128
+    requires few { length digits.now ≤ 16 }
+    ensures exact { result ≡ big_endian digits.now }
+{
+    let (high, low) = digits.split_at(digits.len().saturating_sub(8));
+    (u128::from(read_big_endian(high)) << 64) + u128::from(read_big_endian(low))
 }

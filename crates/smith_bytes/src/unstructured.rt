@@ -4,7 +4,10 @@ ghost use Rattle.smith_bytes.specs.Source.{KeepsPieces};
 ghost use Rattle.smith_bytes.specs.Draws.{whole_at, range_at, ratio_at, choose_at, length_size, len_at};
 
 use crate::arbitrary::{Arbitrary, Int};
-use crate::digits::{count_digits, read_big_endian, read_little_endian};
+use crate::digits::{
+    count_digits, read_big_endian, read_little_endian, read_wide_big_endian,
+    read_wide_little_endian,
+};
 use crate::error::Error;
 use std::marker::Model;
 use std::ops::RangeInclusive;
@@ -146,15 +149,52 @@ impl<'a> Unstructured<'a> {
         piece
     }
 
+    /// A whole number of one byte.
+    #[tactic(auto, using(crate::proofs::Pieces::keeps_drop), unfolding(crate::specs::Draws::whole_at))]
+    pub(crate) fn byte(&mut self) -> u8
+        ensures exact { whole_at 1 self.old ≡ (result, self.new) }
+        ensures left { KeepsPieces self.old self.new }
+    {
+        match self.bytes {
+            [first, rest @ ..] => {
+                self.bytes = rest;
+                *first
+            }
+            [] => 0,
+        }
+    }
+
     /// A whole number of `n` bytes.
     #[tactic(auto, using(crate::proofs::Endian::front_fits), unfolding(crate::specs::Draws::whole_at))]
-    pub(crate) fn whole(&mut self, n: usize) -> u128
-        requires { n ≤ 16 }
+    pub(crate) fn whole(&mut self, n: usize) -> u64
+        requires { n ≤ 8 }
         ensures exact { whole_at n self.old ≡ (result, self.new) }
         ensures fits { result < 256 ^ n }
         ensures left { KeepsPieces self.old self.new }
     {
         read_little_endian(self.up_to(n))
+    }
+
+    /// A whole number of sixteen bytes.
+    #[tactic(auto, unfolding(crate::specs::Draws::whole_at))]
+    pub(crate) fn wide(&mut self) -> u128
+        ensures exact { whole_at 16 self.old ≡ (result, self.new) }
+        ensures left { KeepsPieces self.old self.new }
+    {
+        read_wide_little_endian(self.up_to(16))
+    }
+
+    /// A number of at most `most`, of one byte at most.
+    #[tactic(auto, unfolding(crate::specs::Draws::range_at, crate::specs::Draws::whole_at, crate::specs::Draws::digit_count))]
+    fn byte_offset(&mut self, most: u8) -> u8
+        ensures exact { range_at 0 most self.old ≡ (result, self.new) }
+        ensures within { result ≤ most }
+        ensures left { KeepsPieces self.old self.new }
+    {
+        if most == 0 {
+            return 0;
+        }
+        (u16::from(self.byte()) % (u16::from(most) + 1)) as u8
     }
 
     /// A number of at most `most`.
@@ -164,7 +204,14 @@ impl<'a> Unstructured<'a> {
         ensures within { result ≤ most }
         ensures left { KeepsPieces self.old self.new }
     {
-        let drawn = read_big_endian(self.up_to(count_digits(most)));
+        if most < 256 {
+            return u128::from(self.byte_offset(most as u8));
+        }
+        let digits = self.up_to(count_digits(most));
+        if most < u128::from(u64::MAX) {
+            return u128::from(read_big_endian(digits) % (most as u64 + 1));
+        }
+        let drawn = read_wide_big_endian(digits);
         if most == u128::MAX {
             drawn
         } else {

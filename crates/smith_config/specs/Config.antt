@@ -1,5 +1,5 @@
 -- The configuration that is asked for where nothing else is said. Rules of this project.
-use Rattle.std.specs.Prelude.{true, false, ◌^◌}
+use Rattle.std.specs.Prelude.{true, false, ◌^◌, None}
 use Rattle.smith_types.specs.Instructions.{every_kind}
 use Rattle.smith_config.specs.OffsetChoices.{default_choices}
 use Rattle.smith_config.specs.declared.config.Config.{Config}
@@ -74,4 +74,7 @@ default_config = record {
   max_modules = 10;
   max_nesting_depth = 10;
   max_values = 10;
+  available_imports = None;
+  exports = None;
+  module_shape = None;
 }

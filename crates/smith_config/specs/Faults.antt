@@ -22,6 +22,7 @@ use Rattle.smith_bytes.specs.declared.error.ConfigFault.TheVariants.{
   Memory64Bytes,
 }
 use Rattle.smith_config.specs.declared.config.Config.{Config}
+use Rattle.smith_config.specs.InUse.{FixesImports, FixesExports}
 
 -- the least number of items of a kind
 abbrev pub minimum_of : Config → Count → ℕ
@@ -51,9 +52,11 @@ maximum_of config DataSegments = config.max_data_segments
 maximum_of config Memories = config.max_memories
 maximum_of config Tables = config.max_tables
 
--- whether both bounds of a count have an effect: those of exports have none where all is exported
+-- whether both bounds of a count have an effect: those of imports have none where a shape fixes them, those of exports
+-- neither where everything is exported
 abbrev pub IsBounded : Config → Count → Type 0
-IsBounded config Exports = config.export_everything ≡ false
+IsBounded config Imports = FixesImports config → ⊥
+IsBounded config Exports = (FixesExports config → ⊥) × (config.export_everything ≡ false)
 IsBounded config count = ⊤
 
 -- a configuration that a module can be drawn for

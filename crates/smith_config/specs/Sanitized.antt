@@ -1,8 +1,9 @@
 -- Configurations whose fields agree with one another. Rules of this project.
-use Rattle.std.specs.Prelude.{◌≡◌, ◌≤◌, false, ◌&&◌, IsTrue, min, if◌then◌else◌}
+use Rattle.std.specs.Prelude.{◌≡◌, ◌≤◌, ◌⊎◌, false, ◌&&◌, IsTrue, IsSome, None, is_some, min, if◌then◌else◌}
 use Rattle.smith_config.specs.declared.config.Config.{Config}
 
--- each field that needs others is on only where these are; without reference types there is one table at most
+-- each field that needs others is on only where these are; without reference types there is one table at most; beside a
+-- module shape no other shape is given
 abbrev pub sanitized : Config → Config
 sanitized config =
     let gc = config.reference_types_enabled && config.gc_enabled in
@@ -14,9 +15,11 @@ sanitized config =
       multibyte_array_access_enabled = gc && config.multibyte_array_access_enabled;
       relaxed_simd_enabled = config.simd_enabled && config.relaxed_simd_enabled;
       acquire_release_atomics_enabled = config.threads_enabled && config.acquire_release_atomics_enabled;
+      available_imports = if is_some config.module_shape then None else config.available_imports;
+      exports = if is_some config.module_shape then None else config.exports;
     }
 
--- nothing is on that needs what is off, and several tables need reference types
+-- nothing is on that needs what is off, several tables need reference types, and a module shape stands alone
 pub record IsSanitized (config : Config) : Type 0 where
   pub one_table : config.reference_types_enabled ≡ false → config.max_tables ≤ 1
   pub gc : IsTrue config.gc_enabled → IsTrue config.reference_types_enabled
@@ -26,8 +29,10 @@ pub record IsSanitized (config : Config) : Type 0 where
   pub multibyte : IsTrue config.multibyte_array_access_enabled → IsTrue config.gc_enabled
   pub relaxed : IsTrue config.relaxed_simd_enabled → IsTrue config.simd_enabled
   pub atomics : IsTrue config.acquire_release_atomics_enabled → IsTrue config.threads_enabled
+  pub imports : IsSome config.module_shape → config.available_imports ≡ None
+  pub exports : IsSome config.module_shape → config.exports ≡ None
 
--- new is old with these seven fields turned off, lowered or as they were
+-- new is old with these nine fields turned off, lowered, taken away or as they were
 pub record IsLowered (old new : Config) : Type 0 where
   pub tables : new.max_tables ≤ old.max_tables
   pub gc : IsTrue new.gc_enabled → IsTrue old.gc_enabled
@@ -36,6 +41,8 @@ pub record IsLowered (old new : Config) : Type 0 where
   pub multibyte : IsTrue new.multibyte_array_access_enabled → IsTrue old.multibyte_array_access_enabled
   pub relaxed : IsTrue new.relaxed_simd_enabled → IsTrue old.relaxed_simd_enabled
   pub atomics : IsTrue new.acquire_release_atomics_enabled → IsTrue old.acquire_release_atomics_enabled
+  pub imports : (new.available_imports ≡ None) ⊎ (new.available_imports ≡ old.available_imports)
+  pub exports : (new.exports ≡ None) ⊎ (new.exports ≡ old.exports)
   pub others : new ≡ record old {
     max_tables = new.max_tables;
     gc_enabled = new.gc_enabled;
@@ -44,4 +51,6 @@ pub record IsLowered (old new : Config) : Type 0 where
     multibyte_array_access_enabled = new.multibyte_array_access_enabled;
     relaxed_simd_enabled = new.relaxed_simd_enabled;
     acquire_release_atomics_enabled = new.acquire_release_atomics_enabled;
+    available_imports = new.available_imports;
+    exports = new.exports;
   }

@@ -1,5 +1,5 @@
 ghost use Rattle.std.specs.Prelude.{◌≡◌, ◌↔◌, IsTrue, IsOk, IfErr};
-ghost use Rattle.smith_config.specs.Faults.{minimum_of, maximum_of, HasFault, IsFirstFault, Passes};
+ghost use Rattle.smith_config.specs.Faults.{minimum_of, maximum_of, IsBounded, HasFault, IsFirstFault, Passes};
 
 use crate::Config;
 use smith_bytes::{ConfigFault, Count};
@@ -44,7 +44,8 @@ const MEMORY64_BYTES: u128 = 1 << 64;
 impl Config {
     /// Looks for what is out of range or contradicts itself: first over all pairs of a minimum and
     /// a maximum, then over the maximums, each in the order of [`Count`], then over the bytes of
-    /// memories.
+    /// memories. The pair of imports is left out where a shape fixes the imports, that of exports
+    /// where a shape fixes the exports or everything is exported.
     pub fn check(&self) -> Result<(), ConfigFault>
         ensures passes { IsOk result ↔ Passes self.now }
         ensures fault { IfErr result (λ fault. IsFirstFault self.now fault) }
@@ -61,13 +62,24 @@ impl Config {
         ensures { IsTrue result ↔ HasFault self.now fault }
     {
         match fault {
-            ConfigFault::MinAboveMax(Count::Exports) => {
-                !self.export_everything && self.min_exports > self.max_exports
+            ConfigFault::MinAboveMax(count) => {
+                self.is_bounded(count) && self.minimum(count) > self.maximum(count)
             }
-            ConfigFault::MinAboveMax(count) => self.minimum(count) > self.maximum(count),
             ConfigFault::MaxTooLarge(count) => self.maximum(count) > MOST,
             ConfigFault::Memory32Bytes => self.max_memory32_bytes > MEMORY32_BYTES,
             ConfigFault::Memory64Bytes => self.max_memory64_bytes > MEMORY64_BYTES,
+        }
+    }
+
+    fn is_bounded(&self, count: Count) -> bool
+        ensures { IsTrue result ↔ IsBounded self.now count }
+    {
+        match count {
+            Count::Imports => self.available_imports.is_none() && self.module_shape.is_none(),
+            Count::Exports => {
+                !self.export_everything && self.exports.is_none() && self.module_shape.is_none()
+            }
+            _ => true,
         }
     }
 

@@ -1,7 +1,7 @@
 ghost use Rattle.std.specs.Prelude.{◌≡◌};
 ghost use Rattle.smith_config.specs.Config.{default_config};
 
-use crate::MemoryOffsetChoices;
+use crate::{MemoryOffsetChoices, Shape};
 use smith_types::InstructionKinds;
 
 /// What may be asked of a module: how much of each kind, which proposals, and which further rules.
@@ -251,6 +251,20 @@ pub struct Config {
     /// The greatest number of values of a component. Default 10. Kept without effect: no
     /// components are made.
     pub max_values: usize,
+
+    /// Imports of which a module gives some, in order, in place of drawn ones. Default none.
+    /// `min_imports` is without effect beside it, and it is set to none beside `module_shape`.
+    pub available_imports: Option<Shape>,
+
+    /// The exports of a module, with the items that they name, in place of drawn ones. Default
+    /// none. `min_exports`, `max_exports` and `export_everything` are without effect beside it, and
+    /// it is set to none beside `module_shape`.
+    pub exports: Option<Shape>,
+
+    /// The types, imports and exports of a module, which keeps all of them and draws the rest.
+    /// Default none. The minimums and maximums of imports and exports, `export_everything`,
+    /// `available_imports` and `exports` are without effect beside it.
+    pub module_shape: Option<Shape>,
 }
 
 impl Default for Config {
@@ -325,6 +339,9 @@ impl Default for Config {
             max_modules: 10,
             max_nesting_depth: 10,
             max_values: 10,
+            available_imports: None,
+            exports: None,
+            module_shape: None,
         }
     }
 }

@@ -3,6 +3,7 @@
 
 mod arbitrary;
 mod check;
+mod clone;
 mod config;
 mod examples;
 mod features;

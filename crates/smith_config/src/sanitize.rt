@@ -4,7 +4,8 @@ ghost use Rattle.smith_config.specs.Sanitized.{sanitized, IsSanitized, IsLowered
 use crate::Config;
 
 impl Config {
-    /// Turns off what other fields rule out, and lowers `max_tables` to 1 without reference types.
+    /// Turns off what other fields rule out, lowers `max_tables` to 1 without reference types, and
+    /// sets `available_imports` and `exports` to none beside a module shape.
     pub fn sanitize(&mut self)
         ensures exact { self.new ≡ sanitized self.old }
         ensures sound { IsSanitized self.new }
@@ -27,6 +28,10 @@ impl Config {
         if !self.threads_enabled {
             self.shared_everything_threads_enabled = false;
             self.acquire_release_atomics_enabled = false;
+        }
+        if self.module_shape.is_some() {
+            self.available_imports = None;
+            self.exports = None;
         }
     }
 }

@@ -60,11 +60,11 @@ module _ (context : Context) (limited : Bool) where
 
   -- an extended constant
   pub extended_read : {wanted : ValType} {s new : State} {r : Result (Unit {0}) Error} {choice : Choice} {after : List ℕ} → choose_at (offers context wanted s.fuel) s.bytes ≡ (Some choice, after) → is_extended choice ≡ true
-      → OnOk r (new ≡ state_of (s.made ++ (extended_at wanted after).0) (s.fuel - 1) (extended_at wanted after).1) → IfErr r (λ e. e ≡ errors.Memory) → ReadsValue context limited wanted s new r
-  extended_read {wanted = wanted} {s = s} {new = new} {r = r} {choice = choice} {after = after} chosen is made memory = record {
+      → OnOk r ((new.made ≡ s.made ++ (extended_at wanted after).0) × (new.bytes ≡ (extended_at wanted after).1)) → new.fuel ≡ s.fuel - 1 → IfErr r (λ e. e ≡ errors.Memory) → ReadsValue context limited wanted s new r
+  extended_read {wanted = wanted} {s = s} {new = new} {r = r} {choice = choice} {after = after} chosen is made spent memory = record {
     exact = λ depth deep.
         let read = turn depth wanted s (omega arith) (Some choice) after chosen in
-        reads_ok r new (expression_at context limited depth wanted s) (on_ok r made (λ same. read ∙ (rw (is, same) refl))) memory;
+        reads_ok r new (expression_at context limited depth wanted s) (on_ok r made (λ (longer, left). read ∙ (rw (is, ← longer, ← left, ← spent) refl))) memory;
   }
     where
       on_ok : {P Q : Type 0} (r : Result (Unit {0}) Error) → OnOk r P → (P → Q) → OnOk r Q

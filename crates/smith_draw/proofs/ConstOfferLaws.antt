@@ -40,6 +40,12 @@ use Rattle.smith_draw.specs.declared.const_expr.node.Operand.TheVariants.{Value,
 use Rattle.smith_draw.proofs.PuttingLaws.{below_itself}
 use Rattle.smith_draw.proofs.BelowLaws.{val_decides}
 use Rattle.smith_draw.proofs.ConstStepLaws.{length_map, lack_alone}
+use Rattle.std.specs.List.{Any}
+use Rattle.std.proofs.lemmas.Option.{slice_get_within, get_or_from_slice_get}
+
+-- what stands in a list and has a property is one that has it
+any_at : {A : Type 0} (P : A → Type 0) (xs : List A) (k : ℕ) (x : A) → slice_get xs k ≡ Some x → P x → Any P xs
+any_at P xs k x at p = (k, x, slice_get_within xs k x at, get_or_from_slice_get xs k x x at, p)
 
 both : (a b : Bool) → (a && b) ≡ true → (a ≡ true) × (b ≡ true)
 both true b e = (refl, e)
@@ -174,7 +180,7 @@ module _ (context : Context) (wanted : ValType) (fuel : ℕ) (scope : IsScope co
         (
           p,
           λ lacks. elim lacks [
-            | inl not_null ↦ inr (record { index = index; ty = t; stands = at; place = start; value = v; held = held; not_null = not_null })
+            | inl not_null ↦ inr (any_at (λ (ty : SubType). Any IsNonNullable (field_values (fields_of ty.composite_type.inner))) context.types index t at (any_at IsNonNullable (field_values (fields_of t.composite_type.inner)) start v held not_null))
             | inr holds ↦ inr holds
           ],
         ),

@@ -1,15 +1,10 @@
 -- What is chosen among the enabled items of a table.
-use Rattle.std.proofs.Common.{◌≡◌, ℕ, zero, suc, ◌-◌, Bool, List, [], ◌∷◌, length, get_or, ◌∙◌}
+use Rattle.std.proofs.Common.{ℕ, zero, suc, ◌-◌, Bool, List, [], ◌∷◌, length, get_or}
 use Rattle.std.specs.Prelude.{IsTrue}
-use Rattle.std.specs.List.{filter, count_by, All, AllByRecursion as ByRecursion}
-use Rattle.std.proofs.lemmas.List.{length-map}
-use Rattle.std.proofs.lemmas.List.Sums.{length-filter}
+use Rattle.std.specs.List.{filter, All, AllByRecursion as ByRecursion}
 use Rattle.std.proofs.lemmas.List.Elements.{All-map, All-filter, filter_passes, recursion_from_All}
 use Rattle.smith_bytes.specs.Draws.{range_at}
 use Rattle.smith_draw.specs.Choices.{enabled, chosen_at}
-
-pub length_enabled : {A : Type 0} (table : List (A × Bool)) → length (enabled table) ≡ count_by (λ row. row.1) table
-length_enabled table = length-map (filter (λ row. row.1) table) (λ row. row.0) ∙ length-filter (λ row. row.1) table
 
 -- what holds of each item that is enabled
 pub enabled_all : {A : Type 0} (P : A → Type 0) (table : List (A × Bool)) → All (λ (row : A × Bool). IsTrue row.1 → P row.0) table → All P (enabled table)

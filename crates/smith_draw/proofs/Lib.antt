@@ -23,9 +23,11 @@ pub mod Copies
 pub mod GroupSizes
 pub mod Groups
 pub mod RecGroupLaws
+pub mod FloatLaws
 pub mod MemoryLaws
 pub mod OneFunction
 pub mod BelowLaws
+pub mod ReadableLaws
 pub mod ConstScopeLaws
 pub mod ConstOfferLaws
 pub mod ConstFoundLaws

@@ -32,7 +32,7 @@ use Rattle.smith_draw.proofs.SharedLaws.{storage_shareable, func_shareable, each
 use Rattle.smith_draw.proofs.MatchingLaws.{all_stay, matching_field_match, matching_field_valid, matched_fields_match, matched_fields_valid, matching_func_match, matching_func_valid}
 
 -- what holds of a list, and of it with each drawn item behind, holds of the list that was made longer
-grow_keeps : {A : Type 0} (P : List A → Type 0) (draw : List A → List ℕ → A × List ℕ) → ((made : List A) (bytes : List ℕ) → P made → P (made ++ (draw made bytes).0 ∷ [])) → (least most : ℕ) (made : List A) (bytes : List ℕ) → P made → P (grow_at draw least most made bytes).0
+pub grow_keeps : {A : Type 0} (P : List A → Type 0) (draw : List A → List ℕ → A × List ℕ) → ((made : List A) (bytes : List ℕ) → P made → P (made ++ (draw made bytes).0 ∷ [])) → (least most : ℕ) (made : List A) (bytes : List ℕ) → P made → P (grow_at draw least most made bytes).0
 unfolding grow_at
 grow_keeps P draw keeps least zero made bytes h = h
 grow_keeps {A = A} P draw keeps least (suc most) made bytes h =
@@ -62,7 +62,7 @@ fields_until_keep P config types must_share limit end fields bytes holds sanitiz
     end (end - length fields) fields bytes
 
 -- what holds of the values of a struct holds of those of each field
-fields_of_values : (P : ValType → Type 0) (fields : List FieldType) → Each P (flat_map (λ (field : FieldType). values_of_storage field.element_type) fields) → Each (λ (field : FieldType). All P (values_of_storage field.element_type)) fields
+pub fields_of_values : (P : ValType → Type 0) (fields : List FieldType) → Each P (flat_map (λ (field : FieldType). values_of_storage field.element_type) fields) → Each (λ (field : FieldType). All P (values_of_storage field.element_type)) fields
 fields_of_values P [] h = tt
 fields_of_values P (field ∷ fields) h =
     let apart = (each_join P (values_of_storage field.element_type) (flat_map (λ (field : FieldType). values_of_storage field.element_type) fields)).0 h in

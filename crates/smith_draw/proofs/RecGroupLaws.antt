@@ -134,7 +134,7 @@ rec_group_valid config allow_empty space bytes sanitized valid =
     (λ on. cloned_or_new_valid config allow_empty space wanted.1 sanitized valid (clone_wanted config space bytes on).1) (new_group_valid config allow_empty space wanted.1 sanitized valid)
 
 -- what each group that is added keeps, the loops keep
-least_keeps : (config : Config) (P : Space → Type 0) → ((space : Space) (bytes : List ℕ) → length space.types < config.min_types → P space → P (rec_group_at config false space bytes).0) → (turns : ℕ) (space : Space) (bytes : List ℕ) → P space → P (least_types_at config turns space bytes).0
+pub least_keeps : (config : Config) (P : Space → Type 0) → ((space : Space) (bytes : List ℕ) → length space.types < config.min_types → P space → P (rec_group_at config false space bytes).0) → (turns : ℕ) (space : Space) (bytes : List ℕ) → P space → P (least_types_at config turns space bytes).0
 unfolding least_types_at
 least_keeps config P step zero space bytes h = h
 least_keeps config P step (suc turns) space bytes h =
@@ -142,7 +142,7 @@ least_keeps config P step (suc turns) space bytes h =
     cond_where (λ (r : Space × List ℕ). P r.0) (nat_lt (length space.types) config.min_types) (least_types_at config turns grown.0 grown.1) (space, bytes)
     (λ few. least_keeps config P step turns grown.0 grown.1 (step space bytes (ltb-true (length space.types) config.min_types few) h)) h
 
-more_keeps : (config : Config) (P : Space → Type 0) → ((space : Space) (bytes : List ℕ) → length space.types < config.max_types → P space → P (rec_group_at config true space bytes).0) → (turns : ℕ) (space : Space) (bytes : List ℕ) → P space → P (more_types_at config turns space bytes).0
+pub more_keeps : (config : Config) (P : Space → Type 0) → ((space : Space) (bytes : List ℕ) → length space.types < config.max_types → P space → P (rec_group_at config true space bytes).0) → (turns : ℕ) (space : Space) (bytes : List ℕ) → P space → P (more_types_at config turns space bytes).0
 unfolding more_types_at
 more_keeps config P step zero space bytes h = h
 more_keeps config P step (suc turns) space bytes h =

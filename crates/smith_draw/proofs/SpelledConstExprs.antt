@@ -1,5 +1,5 @@
 -- A source that begins with the spelling of a constant gives it.
-use Rattle.std.proofs.Common.{◌≡◌, ℕ, ◌+◌, Bool, true, false, List, [], ◌∷◌, ◌++◌, Some, length, take, drop, refl, sym, ap, ◌∙◌}
+use Rattle.std.proofs.Common.{◌≡◌, ℕ, zero, suc, ◌+◌, Bool, true, false, List, [], ◌∷◌, ◌++◌, Some, length, take, drop, refl, sym, ap, ◌∙◌}
 use Rattle.std.proofs.lemmas.Option.{same_Some}
 use Rattle.std.proofs.Math.Seq.{take-append_seam}
 use Rattle.smith_bytes.specs.Draws.{whole_at, range_at, digit_count, choose_at, little_endian}
@@ -18,6 +18,9 @@ use Rattle.smith_draw.specs.ConstExprs.{expression_at, expression_alone_at}
 use Rattle.smith_draw.specs.SpelledConstants.{SpellsConstExpr}
 use Rattle.smith_draw.specs.Below.{is_val_below}
 use Rattle.std.specs.Prelude.{◌&&◌, not}
+use Rattle.std.specs.List.{AllByRecursion as Each}
+use Rattle.std.proofs.lemmas.List.Elements.{recursion_from_All}
+use Rattle.smith_draw.specs.ExampleConstExprs.{MutableGlobalsAreNotRead}
 use Rattle.smith_draw.specs.declared.const_expr.choice.Choice.{Choice}
 use Rattle.smith_types.specs.declared.value_type.ValType.{ValType}
 use Rattle.smith_draw.specs.declared.const_expr.choice.Choice.TheVariants as choice
@@ -32,6 +35,16 @@ no_globals : (context : Context) (wanted : ValType) (start : ℕ) (globals : Lis
 no_globals context wanted start [] h = refl
 no_globals context wanted start (g ∷ globals) h =
     none_offered (not g.mutable && is_val_below context.types g.val_type wanted) start _ _ h (no_globals context wanted (start + 1) globals)
+
+-- where each global is mutable, none is read
+mutable_each : (context : Context) (wanted : ValType) (start n : ℕ) (globals : List GlobalType) → Each (λ (global : GlobalType). global.mutable ≡ true) globals
+    → each_from (λ index (global : GlobalType). offered_if (not global.mutable && is_val_below context.types global.val_type wanted) index) start (take n globals) ≡ []
+mutable_each context wanted start zero globals h = refl
+mutable_each context wanted start (suc n) [] h = refl
+mutable_each context wanted start (suc n) (g ∷ globals) (p, h) = rw p (mutable_each context wanted (start + 1) n globals h)
+
+pub mutable_not_read : MutableGlobalsAreNotRead
+mutable_not_read context wanted mutable = mutable_each context wanted 0 context.visible context.globals (recursion_from_All (λ (global : GlobalType). global.mutable ≡ true) context.globals mutable)
 
 -- a constant, and where it is enabled an extended one
 i32_offers : (context : Context) (fuel : ℕ) → readable_globals context I32 ≡ [] → offers context I32 fuel ≡ choice.Constant ∷ offered_if context.features.extended_const choice.Extended

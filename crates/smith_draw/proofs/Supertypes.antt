@@ -1,6 +1,6 @@
 -- The types that may have subtypes.
-use Rattle.std.proofs.Common.{◌≡◌, ℕ, zero, suc, ◌+◌, ◌-◌, ◌<◌, Bool, true, false, cond, List, [], ◌∷◌, Some, None, length, refl, sym, ap, subst, arith}
-use Rattle.std.specs.Prelude.{slice_get, All}
+use Rattle.std.proofs.Common.{◌≡◌, ℕ, zero, suc, ◌+◌, ◌-◌, ◌<◌, Bool, true, false, cond, List, [], ◌∷◌, Some, None, length, refl, sym, ◌∙◌, ap, subst, arith}
+use Rattle.std.specs.Prelude.{slice_get, slice_index, All}
 use Rattle.std.specs.List.{AllByRecursion as Each}
 use Rattle.std.proofs.lemmas.List.Elements.{All-from_recursion}
 use Rattle.std.proofs.lemmas.Bool.{lt-ltb}
@@ -8,7 +8,7 @@ use Rattle.smith_bytes.specs.Draws.{range_at}
 use Rattle.smith_bytes.proofs.Drawn.{range_within}
 use Rattle.smith_types.specs.declared.composite_type.SubType.{SubType}
 use Rattle.smith_types.specs.Types.{IsOrderly}
-use Rattle.smith_types.specs.Space.{HasDepth, root, deeper}
+use Rattle.smith_types.specs.Space.{HasDepth, AreExtensible, root, deeper, extensible_from}
 use Rattle.smith_draw.specs.Choices.{chosen_at}
 use Rattle.smith_draw.specs.Offered.{supertype_at}
 use Rattle.smith_draw.specs.SubTypes.{depth_at, may_have_subtypes, supertypes_from, supertypes, SomeMayHaveSubtypes}
@@ -22,6 +22,21 @@ depth_is types orderly (root {i = i} {t = t} at none) =
 depth_is types orderly (deeper {i = i} {s = s} {t = t} at up above) =
     let one : supertype_at types i ≡ Some s = rw at up in
     rw (ancestors_up types orderly i s one) (ap suc (depth_is types orderly above))
+
+listed_same : (types : List SubType) (start : ℕ) (rest : List SubType) (depths : List ℕ) → length depths ≡ length rest → ((j i : ℕ) → i ≡ start + j → j < length rest → depth_at types i ≡ slice_index depths j)
+    → extensible_from start rest depths ≡ supertypes_from types start rest
+listed_same types start [] depths long each = refl
+listed_same types start (t ∷ rest) [] long each = absurd (omega arith)
+listed_same types start (t ∷ rest) (depth ∷ depths) long each =
+    let first : depth_at types start ≡ depth = each 0 start (omega arith) (omega arith) in
+    let others = listed_same types (start + 1) rest depths (omega arith) (λ j i is inside. each (suc j) i (omega arith) (omega arith)) in
+    rw (first, others) refl
+
+-- the indices that a type space keeps
+pub extensible_are : (types : List SubType) → IsOrderly types → (indices : List ℕ) → AreExtensible types indices → indices ≡ supertypes types
+unfolding supertypes
+extensible_are types orderly indices kept =
+    kept.exact ∙ listed_same types 0 types kept.depths kept.known.long (λ j i is inside. let same : i ≡ j = omega arith in rw same (sym (depth_is types orderly (kept.known.each j inside))))
 
 -- the type of an index stands, and may have subtypes
 pub record IsSupertype (types : List SubType) (i : ℕ) : Type 0 where

@@ -1,5 +1,6 @@
 -- How long drawn constant expressions are, and when none is drawn. Rules of this project.
-use Rattle.std.specs.Prelude.{◌≡◌, ◌⊎◌, ℕ, ◌+◌, ◌*◌, max, false, List, [], ◌∷◌, Some, length, slice_get}
+use Rattle.std.specs.Prelude.{◌≡◌, ◌⊎◌, ℕ, ◌+◌, ◌*◌, max, false, List, [], ◌∷◌, length}
+use Rattle.std.specs.List.{Any}
 use Rattle.smith_types.specs.Expressions.{field_values}
 use Rattle.smith_types.specs.declared.value_type.ValType.{ValType}
 use Rattle.smith_types.specs.declared.value_type.ValType.TheVariants.{Ref}
@@ -31,14 +32,8 @@ IsNonNullable (Ref reference) = reference.nullable ≡ false
 IsNonNullable _ = ⊥
 
 -- a field of a struct, or the element of an array, is a reference that may not be null
-pub record HoldsNonNullableField (types : List SubType) : Type 0 where
-  pub index : ℕ
-  pub ty : SubType
-  pub stands : slice_get types index ≡ Some ty
-  pub place : ℕ
-  pub value : ValType
-  pub held : slice_get (field_values (fields_of ty.composite_type.inner)) place ≡ Some value
-  pub not_null : IsNonNullable value
+abbrev pub HoldsNonNullableField : List SubType → Type 0
+HoldsNonNullableField types = Any (λ (t : SubType). Any IsNonNullable (field_values (fields_of t.composite_type.inner))) types
 
 -- where there may be nothing to choose from
 abbrev pub MayLack : List SubType → ValType → Type 0

@@ -1,6 +1,8 @@
 -- What constant expressions are drawn over.
 use Rattle.std.specs.Prelude.{◌≡◌, ℕ, ◌<◌, ◌≤◌, ◌^◌, Bool, false, ◌&&◌, if◌then◌else◌, List, [], ◌∷◌, Some, length, slice_get, All}
-use Rattle.smith_types.specs.Expressions.{Context}
+use Rattle.smith_types.specs.Expressions.{Context, IsVisible}
+use Rattle.smith_types.specs.Subtyping.{IsValBelow}
+use Rattle.smith_types.specs.declared.value_type.ValType.{ValType}
 use Rattle.smith_types.specs.Types.{IsOrderly}
 use Rattle.smith_types.specs.ValidTypes.{IsValTypeValid, AreTypesValid}
 use Rattle.smith_types.specs.Entities.{IsFuncValid, IsGlobalValid}
@@ -68,3 +70,7 @@ pub record AreSpacesValid (config : Config) (spaces : Spaces) : Type 0 where
   pub imported : spaces.entities.imported_globals ≤ length spaces.entities.globals.now
   pub few_funcs : length spaces.entities.funcs.now < 2 ^ 32
   pub few_globals : length spaces.entities.globals.now < 2 ^ 32
+
+-- a visible global whose type is below the wanted one (Validation, Constant Expressions)
+abbrev pub IsReadable : Context → ValType → ℕ → Type 0
+IsReadable context wanted index = (value : ValType) × IsVisible context index value × IsValBelow context.types value wanted

@@ -24,3 +24,5 @@ pub mod ConstBounds
 pub mod Putting
 pub mod ConstSteps
 pub mod SpelledConstants
+pub mod SpelledGlobals
+pub mod ExampleConstExprs

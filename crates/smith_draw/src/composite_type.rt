@@ -109,15 +109,8 @@ fn struct_type(
     ensures left { KeepsPieces u.old u.new }
 {
     let count = u.int_in_range(0..=20usize);
-    let fields = fields_until(
-        config,
-        types,
-        must_share,
-        limit,
-        count,
-        Items::new(alloc),
-        u,
-    )?;
+    let none = Items::with_capacity(alloc, count)?;
+    let fields = fields_until(config, types, must_share, limit, count, none, u)?;
     Ok(StructType { fields })
 }
 

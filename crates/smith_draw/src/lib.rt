@@ -5,6 +5,7 @@ mod bounds_examples;
 mod choice;
 mod composite_examples;
 mod composite_type;
+mod const_examples;
 mod const_expr;
 mod entity_type;
 mod examples;

@@ -31,7 +31,8 @@ ghost use Rattle.smith_draw.specs.MatchingTypes.{
   matching_func_type_at,
 };
 
-use crate::offered::{choose_offered, gc_subtypes};
+use crate::choice::choose;
+use crate::offered::gc_subtypes;
 use crate::spaces::{Spaces, orderly};
 use crate::super_type::super_val_types;
 use smith_bytes::{Error, Unstructured};
@@ -54,7 +55,7 @@ fn matching_heap_type(
         return Ok(ty);
     }
     let offered = gc_subtypes(alloc, config, space.types(), ty)?;
-    Ok(choose_offered(offered.as_slice(), u))
+    Ok(choose(offered.as_slice(), u))
 }
 
 #[tactic(auto, unfolding(crate::specs::MatchingTypes::matching_ref_type_at))]
@@ -147,7 +148,7 @@ pub(crate) fn matched_fields(
     ensures memory { IfErr result (λ e. e ≡ Error.Memory) }
     ensures left { KeepsPieces u.old u.new }
 {
-    let mut matched = Items::new(alloc);
+    let mut matched = Items::with_capacity(alloc, fields.len())?;
     for field in fields {
         matched.push(matching_field_type(alloc, config, space, *field, u)?)?;
     }
@@ -166,7 +167,7 @@ fn matching_val_types(
     ensures memory { IfErr result (λ e. e ≡ Error.Memory) }
     ensures left { KeepsPieces u.old u.new }
 {
-    let mut matching = Items::new(alloc);
+    let mut matching = Items::with_capacity(alloc, values.len())?;
     for ty in values {
         matching.push(matching_val_type(alloc, config, space, *ty, u)?)?;
     }

@@ -404,13 +404,3 @@ fn kinds_above(ty: AbstractHeapType) -> &'static [AbstractHeapType]
         _ => &[],
     }
 }
-
-/// Chooses among what is offered.
-#[tactic(auto, unfolding(crate::specs::Choices::chosen_at))]
-pub(crate) fn choose_offered(offered: &[HeapType], u: &mut Unstructured<'_>) -> HeapType
-    requires { 0 < length offered.now }
-    ensures exact { (other : HeapType) → chosen_at other offered.now u.old ≡ (result, u.new) }
-    ensures left { KeepsPieces u.old u.new }
-{
-    offered[u.int_in_range(0..=offered.len() - 1)]
-}

@@ -8,7 +8,6 @@ ghost use Rattle.smith_types.specs.ValidTypes.{IsTypeValid};
 ghost use Rattle.smith_config.specs.Features.{features_of};
 ghost use Rattle.smith_config.specs.Sanitized.{IsSanitized};
 ghost use Rattle.smith_draw.specs.SubTypes.{
-  may_have_subtypes,
   supertypes,
   is_final_at,
   root_type_at,
@@ -21,39 +20,20 @@ ghost use Rattle.smith_draw.specs.SubTypes.{
 };
 ghost use Rattle.smith_draw.specs.Spelling.{IsRoot, SpellsSubType};
 
+use crate::choice::choose;
 use crate::composite_type::composite_type;
 use crate::matching_composite::matching_composite_type;
 use crate::spaces::Spaces;
 use smith_bytes::{Error, Unstructured};
 use smith_config::Config;
-use smith_types::{Items, SubType, TypeSpace};
+use smith_types::{SubType, TypeSpace};
 use std::alloc::Global;
 
-/// Whether the type of an index is not final, and below the greatest depth of a supertype.
-fn may_have_subtypes(space: &TypeSpace, index: u32, ty: &SubType) -> bool
-    requires { slice_get space.now.types index ≡ Some ty.now }
-    ensures { result ≡ may_have_subtypes space.now.types index ty.now }
-{
-    let _types = space.types();
-    let depth = space.depth(index);
-    !ty.is_final && depth < 60
-}
-
 /// The indices of the types that may have subtypes.
-#[tactic(auto, unfolding(crate::specs::SubTypes::supertypes))]
-fn supertypes(alloc: Global, space: &TypeSpace) -> Result<Items<u32>, Error>
-    ensures exact { IfOk result (λ indices. indices ≡ supertypes space.now.types) }
-    ensures memory { IfErr result (λ e. e ≡ Error.Memory) }
+fn supertypes(space: &TypeSpace) -> &[u32]
+    ensures { result.now ≡ supertypes space.now.types }
 {
-    let mut indices = Items::new(alloc);
-    let types = space.types();
-    for index in 0..types.len() {
-        let ty = &types[index];
-        if may_have_subtypes(space, index as u32, ty) {
-            indices.push(index as u32)?;
-        }
-    }
-    Ok(indices)
+    space.extensible()
 }
 
 /// Whether a type is final: without garbage collection it is.
@@ -118,7 +98,7 @@ fn sub_type_below(
 }
 
 /// A type below one of the types of these indices.
-#[tactic(auto, unfolding(crate::specs::SubTypes::sub_type_of_at, crate::specs::Choices::chosen_at))]
+#[tactic(auto, unfolding(crate::specs::SubTypes::sub_type_of_at))]
 fn sub_type_of(
     alloc: Global,
     config: &Config,
@@ -132,7 +112,7 @@ fn sub_type_of(
     ensures memory { IfErr result (λ e. e ≡ Error.Memory) }
     ensures left { KeepsPieces u.old u.new }
 {
-    let index = indices[u.int_in_range(0..=indices.len() - 1)];
+    let index = choose(indices, u);
     sub_type_below(alloc, config, space, limit, index, u)
 }
 
@@ -161,9 +141,9 @@ pub(crate) fn sub_type(
     ensures memory { IfErr result (λ e. e ≡ Error.Memory) }
     ensures left { KeepsPieces u.old u.new }
 {
-    let indices = supertypes(alloc, space)?;
+    let indices = supertypes(space);
     if supertype_wanted(config, indices.len(), u) {
-        return sub_type_of(alloc, config, space, limit, indices.as_slice(), u);
+        return sub_type_of(alloc, config, space, limit, indices, u);
     }
     root_type(alloc, config, space.types(), limit, u)
 }
@@ -208,6 +188,6 @@ pub fn arbitrary_sub_type_of_super_type(
     ensures memory { IfErr result (λ e. e ≡ Error.Memory) }
     ensures left { KeepsPieces u.old u.new }
 {
-    let indices = supertypes(alloc, spaces.types)?;
-    sub_type_of(alloc, config, spaces.types, limit, indices.as_slice(), u)
+    let indices = supertypes(spaces.types);
+    sub_type_of(alloc, config, spaces.types, limit, indices, u)
 }

@@ -8,7 +8,8 @@ ghost use Rattle.smith_draw.specs.Kept.{StaysValid};
 ghost use Rattle.smith_draw.specs.Offered.{supertypes_offered};
 ghost use Rattle.smith_draw.specs.MatchingTypes.{each_at, super_heap_type_at, super_ref_type_at, super_val_type_at};
 
-use crate::offered::{choose_offered, gc_supertypes};
+use crate::choice::choose;
+use crate::offered::gc_supertypes;
 use crate::spaces::{Spaces, orderly};
 use smith_bytes::{Error, Unstructured};
 use smith_config::Config;
@@ -30,7 +31,7 @@ fn super_heap_type(
         return Ok(ty);
     }
     let offered = gc_supertypes(alloc, space.types(), ty)?;
-    Ok(choose_offered(offered.as_slice(), u))
+    Ok(choose(offered.as_slice(), u))
 }
 
 #[tactic(auto, unfolding(crate::specs::MatchingTypes::super_ref_type_at))]
@@ -82,7 +83,7 @@ pub(crate) fn super_val_types(
     ensures memory { IfErr result (λ e. e ≡ Error.Memory) }
     ensures left { KeepsPieces u.old u.new }
 {
-    let mut supertypes = Items::new(alloc);
+    let mut supertypes = Items::with_capacity(alloc, values.len())?;
     for ty in values {
         supertypes.push(super_val_type(alloc, config, space, *ty, u)?)?;
     }

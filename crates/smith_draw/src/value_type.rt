@@ -12,6 +12,8 @@ ghost use Rattle.smith_types.specs.ValidTypes.{
 ghost use Rattle.smith_config.specs.Features.{features_of};
 ghost use Rattle.smith_config.specs.Sanitized.{IsSanitized};
 ghost use Rattle.smith_draw.specs.ValueTypes.{
+  abstract_heap_types,
+  value_classes,
   sharedness_at,
   abstract_heap_type_at,
   index_wanted_at,
@@ -22,9 +24,10 @@ ghost use Rattle.smith_draw.specs.ValueTypes.{
   value_of_class_at,
   val_type_at,
 };
+ghost use Rattle.smith_draw.specs.Choices.{enabled};
 ghost use Rattle.smith_draw.specs.Spelling.{SpellsHeapType, SpellsRefType, SpellsValType};
 
-use crate::choice::choose_enabled;
+use crate::choice::choose;
 use crate::spaces::Spaces;
 use smith_bytes::{Error, Unstructured};
 use smith_config::Config;
@@ -56,27 +59,36 @@ pub(crate) fn sharedness(config: &Config, must_share: bool, u: &mut Unstructured
     false
 }
 
+/// The abstract heap types that are enabled.
+fn abstract_heap_types(config: &Config) -> &'static [AbstractHeapType]
+    ensures { result.now ≡ enabled (abstract_heap_types config.now) }
+{
+    use AbstractHeapType::{
+        Any, Array, Eq, Exn, Extern, Func, I31, NoExtern, NoFunc, None, Struct,
+    };
+    match (config.gc_enabled, config.exceptions_enabled) {
+        (false, false) => &[Func, Extern],
+        (false, true) => &[Func, Extern, Exn],
+        (true, false) => {
+            &[
+                Func, Extern, Any, None, NoExtern, NoFunc, Eq, Struct, Array, I31,
+            ]
+        }
+        (true, true) => {
+            &[
+                Func, Extern, Exn, Any, None, NoExtern, NoFunc, Eq, Struct, Array, I31,
+            ]
+        }
+    }
+}
+
 #[tactic(auto, unfolding(crate::specs::ValueTypes::abstract_heap_type_at))]
 fn abstract_heap_type(config: &Config, must_share: bool, u: &mut Unstructured<'_>) -> HeapType
     ensures exact { abstract_heap_type_at config.now must_share u.old ≡ (result, u.new) }
     ensures left { KeepsPieces u.old u.new }
 {
     let shared = sharedness(config, must_share, u);
-    let gc = config.gc_enabled;
-    let table = [
-        (AbstractHeapType::Func, true),
-        (AbstractHeapType::Extern, true),
-        (AbstractHeapType::Exn, config.exceptions_enabled),
-        (AbstractHeapType::Any, gc),
-        (AbstractHeapType::None, gc),
-        (AbstractHeapType::NoExtern, gc),
-        (AbstractHeapType::NoFunc, gc),
-        (AbstractHeapType::Eq, gc),
-        (AbstractHeapType::Struct, gc),
-        (AbstractHeapType::Array, gc),
-        (AbstractHeapType::I31, gc),
-    ];
-    let ty = choose_enabled(&table, AbstractHeapType::Func, u);
+    let ty = choose(abstract_heap_types(config), u);
     HeapType::Abstract { shared, ty }
 }
 
@@ -169,6 +181,24 @@ fn ref_type(
     }
 }
 
+/// The classes of the value types that are enabled.
+fn value_classes(config: &Config) -> &'static [ValueClass]
+    ensures { result.now ≡ enabled (value_classes config.now) }
+{
+    use ValueClass::{F32, F64, I32, I64, Reference, V128};
+    let references = config.reference_types_enabled;
+    match (config.allow_floats, config.simd_enabled, references) {
+        (false, false, false) => &[I32, I64],
+        (false, false, true) => &[I32, I64, Reference],
+        (false, true, false) => &[I32, I64, V128],
+        (false, true, true) => &[I32, I64, V128, Reference],
+        (true, false, false) => &[I32, I64, F32, F64],
+        (true, false, true) => &[I32, I64, F32, F64, Reference],
+        (true, true, false) => &[I32, I64, F32, F64, V128],
+        (true, true, true) => &[I32, I64, F32, F64, V128, Reference],
+    }
+}
+
 fn value_of_class(
     config: &Config,
     types: &[SubType],
@@ -201,15 +231,7 @@ pub(crate) fn val_type(
     ensures exact { val_type_at config.now types.now must_share limit u.old ≡ (result, u.new) }
     ensures left { KeepsPieces u.old u.new }
 {
-    let table = [
-        (ValueClass::I32, true),
-        (ValueClass::I64, true),
-        (ValueClass::F32, config.allow_floats),
-        (ValueClass::F64, config.allow_floats),
-        (ValueClass::V128, config.simd_enabled),
-        (ValueClass::Reference, config.reference_types_enabled),
-    ];
-    let class = choose_enabled(&table, ValueClass::I32, u);
+    let class = choose(value_classes(config), u);
     value_of_class(config, types, must_share, limit, class, u)
 }
 

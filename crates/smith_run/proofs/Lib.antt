@@ -1,1 +1,2 @@
 pub mod AppendLemmas
+pub mod AnswerLemmas

@@ -1,13 +1,13 @@
 -- What holds of a type space holds with one more type or group.
 use Rattle.std.proofs.Common.{◌≡◌, ◌⊎◌, ℕ, suc, zero, ◌+◌, ◌-◌, ◌^◌, ◌<◌, ◌≤◌, List, [], ◌∷◌, ◌++◌, Some, None, get_or, length, refl, sym, ◌∙◌, subst, inl, inr, arith, ap, add-one}
-use Rattle.std.specs.Prelude.{slice_get, slice_index}
+use Rattle.std.specs.Prelude.{Bool, true, false, not, ◌&&◌, nat_lt, if◌then◌else◌, slice_get, slice_index}
 use Rattle.std.specs.declared.ops.Range.{Range}
 use Rattle.std.proofs.lemmas.Option.{slice_get_within, same_Some}
 use Rattle.std.proofs.lemmas.List.{length-append, get_or_append_left}
 use Rattle.std.proofs.Math.Seq.{get_or-append_seam}
 use Rattle.smith_types.specs.declared.composite_type.SubType.{SubType}
 use Rattle.smith_types.specs.Types.{IsAlike, IsOrderly, end_from, next_start, next_group, AreConsecutive, AreCovered}
-use Rattle.smith_types.specs.Space.{IsSound, MayFollow, HasDepth, root, deeper, AreDepths}
+use Rattle.smith_types.specs.Space.{IsSound, MayFollow, HasDepth, root, deeper, AreDepths, extensible_from}
 use Rattle.smith_types.proofs.Lists.{slice_get-grown, slice_get-last, slice_get-push}
 
 -- what stands below the end of a list stood there before one more was added
@@ -132,3 +132,16 @@ depth_below types depths t s known follows up =
 
 pub depth_alone : (types : List SubType) (t : SubType) → t.supertype ≡ None → HasDepth (types ++ t ∷ []) (length types) 1
 depth_alone types t none = root {t = t} (slice_get-last types t) none
+
+added_behind : (b : Bool) (i : ℕ) (xs ys more : List ℕ) → ys ≡ xs ++ more → (if b then i ∷ ys else ys) ≡ (if b then i ∷ xs else xs) ++ more
+added_behind true i xs ys more e = ap (λ (l : List ℕ). i ∷ l) e
+added_behind false i xs ys more e = e
+
+-- the indices of the types that may have subtypes, with one type more
+pub extensible-push : (first last : ℕ) (types : List SubType) (t : SubType) (depths : List ℕ) (d : ℕ) → length depths ≡ length types → last ≡ first + length types
+    → extensible_from first (types ++ t ∷ []) (depths ++ d ∷ []) ≡ extensible_from first types depths ++ (if not t.is_final && nat_lt d 60 then last ∷ [] else [])
+extensible-push first last [] t [] d long is = let same : last ≡ first = omega arith in rw same refl
+extensible-push first last [] t (e ∷ depths) d long is = absurd (omega arith)
+extensible-push first last (u ∷ types) t [] d long is = absurd (omega arith)
+extensible-push first last (u ∷ types) t (e ∷ depths) d long is =
+    added_behind (not u.is_final && nat_lt e 60) first _ _ _ (extensible-push (first + 1) last types t depths d (omega arith) (omega arith))

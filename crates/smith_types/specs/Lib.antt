@@ -8,6 +8,7 @@ pub mod Matching
 pub mod Flags
 pub mod ValidTypes
 pub mod Imports
+pub mod Floats
 pub mod IndexSpaces
 pub mod Groups
 pub mod HeldValues

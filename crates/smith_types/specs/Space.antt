@@ -1,5 +1,5 @@
 -- The type space: types in the order in which they were added, and their groups so far.
-use Rattle.std.specs.Prelude.{◌≡◌, ℕ, suc, ◌+◌, ◌^◌, ◌<◌, ◌≤◌, List, Some, None, length, slice_get, slice_index}
+use Rattle.std.specs.Prelude.{◌≡◌, ℕ, suc, ◌+◌, ◌^◌, ◌<◌, ◌≤◌, not, ◌&&◌, nat_lt, List, [], ◌∷◌, Some, None, length, slice_get, slice_index, if◌then◌else◌}
 use Rattle.std.specs.declared.ops.Range.{Range}
 use Rattle.smith_types.specs.declared.composite_type.SubType.{SubType}
 use Rattle.smith_types.specs.Types.{IsAlike, IsOrderly, AreConsecutive, next_start}
@@ -29,3 +29,17 @@ pub data HasDepth (types : List SubType) : ℕ → ℕ → Type 0 where
 pub record AreDepths (types : List SubType) (depths : List ℕ) : Type 0 where
   pub long : length depths ≡ length types
   pub each : (i : ℕ) → i < length types → HasDepth types i (slice_index depths i)
+
+-- the indices, from a first one on, of the types that may have subtypes, by the depth of each: types that are not final, of a depth below 60 (own rule)
+abbrev pub extensible_from : ℕ → List SubType → List ℕ → List ℕ
+extensible_from first [] depths = []
+extensible_from first (t ∷ types) [] = []
+extensible_from first (t ∷ types) (depth ∷ depths) =
+    if not t.is_final && nat_lt depth 60 then first ∷ extensible_from (first + 1) types depths
+    else extensible_from (first + 1) types depths
+
+-- these are the indices, in order, of the types that may have subtypes (own rule)
+pub record AreExtensible (types : List SubType) (indices : List ℕ) : Type 0 where
+  pub depths : List ℕ
+  pub known : AreDepths types depths
+  pub exact : indices ≡ extensible_from 0 types depths

@@ -26,7 +26,7 @@ impl<T: Copy> Items<T> {
 
 impl<T: CloneIn> CloneIn for Items<T> {
     fn clone_in(&self, alloc: Global) -> Result<Items<T>, Error> {
-        let mut copies = Items::new(alloc);
+        let mut copies = Items::with_capacity(alloc, self.len())?;
         for item in self.as_slice() {
             copies.push(item.clone_in(alloc)?)?;
         }

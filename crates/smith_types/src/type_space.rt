@@ -17,11 +17,15 @@ ghost use Rattle.std.specs.Prelude.{
   OnOk,
   OnErr,
   slice_get,
+  not,
+  ◌&&◌,
+  nat_lt,
+  if◌then◌else◌,
 };
 ghost use Rattle.std.specs.declared.ops.Range.{Range};
 ghost use Rattle.smith_types.specs.Kinds.{kind_of};
 ghost use Rattle.smith_types.specs.Types.{IsAlike, IsOrderly, next_start, next_group};
-ghost use Rattle.smith_types.specs.Space.{AreDepths, HasDepth, MayFollow};
+ghost use Rattle.smith_types.specs.Space.{AreDepths, AreExtensible, HasDepth, MayFollow};
 ghost use Rattle.smith_types.specs.Sizes.{value_count};
 ghost use Rattle.smith_types.specs.Matching.{IsCompositeMatch, IsInnerInRange};
 ghost use Rattle.smith_types.specs.Subtyping.{IsBelow, IsRefBelow, IsValBelow, IsInRange, IsValInRange};
@@ -36,24 +40,30 @@ use std::alloc::Global;
 use std::marker::Model;
 use std::ops::Range;
 
+// A type of this depth or more has no subtypes.
+const DEPTH_LIMIT: u32 = 60;
+
 /// The types of a module in the order of their indices, and the groups that they were added in.
 /// Types only grow: what stands at an index stays there.
 #[derive(Drop)]
 pub struct TypeSpace {
     types: Vec<SubType>,
     depths: Vec<u32>,
+    extensible: Vec<u32>,
     groups: Vec<Range<usize>>,
 }
 
 impl Model for TypeSpace {
-    ghost use Rattle.smith_types.specs.Space.{Space, IsSound, AreDepths};
+    ghost use Rattle.std.specs.Prelude.{◌≡◌};
+    ghost use Rattle.smith_types.specs.Space.{Space, IsSound, AreDepths, extensible_from};
 
     ghost Value = { Space };
 
     ghost view = { λ a. record { types = a.types.items; groups = a.groups.items } };
 
     ghost invariant = { λ a. IsSound (record { types = a.types.items; groups = a.groups.items })
-        × AreDepths a.types.items a.depths.items };
+        × AreDepths a.types.items a.depths.items
+        × (a.extensible.items ≡ extensible_from 0 a.types.items a.depths.items) };
 }
 
 impl TypeSpace {
@@ -68,6 +78,7 @@ impl TypeSpace {
         TypeSpace {
             types: Vec::new(alloc),
             depths: Vec::new(alloc),
+            extensible: Vec::new(alloc),
             groups: Vec::new(alloc),
         }
     }
@@ -94,6 +105,14 @@ impl TypeSpace {
         self.depths[index as usize]
     }
 
+    /// The indices of the types that may have subtypes, in order: those that are not final, and of a depth below 60.
+    pub fn extensible(&self) -> &[u32]
+        ensures value { AreExtensible self.now.types result.now }
+        ensures sound { IsSound self.now }
+    {
+        self.extensible.as_slice()
+    }
+
     /// Whether `push_type` may add this type.
     pub fn may_follow(&self, added: &SubType) -> bool
         ensures { IsTrue result ↔ MayFollow self.now.types added.now }
@@ -112,11 +131,18 @@ impl TypeSpace {
     {
         let index = self.types.len() as u32;
         let depth = depth_after(self.types.as_slice(), self.depths.as_slice(), &added);
+        let count = self.extensible.len();
+        let is_extensible = may_have_subtypes(&added, depth);
         self.depths.push(depth)?;
+        if push_where(is_extensible, &mut self.extensible, index).is_err() {
+            self.depths.pop();
+            return Err(Error::Memory);
+        }
         match self.types.push(added) {
             Ok(()) => Ok(index),
             Err(_) => {
                 self.depths.pop();
+                self.extensible.truncate(count);
                 Err(Error::Memory)
             }
         }
@@ -183,6 +209,24 @@ impl TypeSpace {
             _ => 1,
         }
     }
+}
+
+// Whether a type of this depth may have subtypes.
+fn may_have_subtypes(ty: &SubType, depth: u32) -> bool
+    ensures { result ≡ (not ty.now.is_final && nat_lt depth 60) }
+{
+    !ty.is_final && depth < DEPTH_LIMIT
+}
+
+// Adds an index where it is wanted.
+fn push_where(wanted: bool, indices: &mut Vec<u32>, index: u32) -> Result<(), Error>
+    ensures ok { OnOk result (indices.new.items ≡ indices.old.items ++ (if wanted then index ∷ [] else [])) }
+    ensures err { OnErr result (indices.new.items ≡ indices.old.items) }
+{
+    if wanted {
+        indices.push(index)?;
+    }
+    Ok(())
 }
 
 // The size of a function of this type.

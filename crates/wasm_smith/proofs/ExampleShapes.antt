@@ -12,8 +12,9 @@ use Rattle.smith_types.specs.declared.entity_type.EntityType.TheVariants as enti
 use Rattle.smith_types.specs.declared.entity_type.ExportKind.{ExportKind}
 use Rattle.smith_types.specs.declared.entity_type.ExportKind.TheVariants as kind
 use Rattle.smith_config.specs.declared.shape.Shape.{Shape}
-use Rattle.smith_config.specs.Shapes.{no_shapes, shape_types, shape_spaces}
-use Rattle.wasm_smith.specs.Bounds.{FixesExports, FixesImports}
+use Rattle.smith_config.specs.Config.{default_config}
+use Rattle.smith_config.specs.InUse.{FixesExports, FixesImports}
+use Rattle.smith_config.specs.Shapes.{shape_types, shape_spaces}
 use Rattle.wasm_smith.specs.Module.{Parts, module_spaces}
 use Rattle.wasm_smith.specs.ShapesKept.{IsSameExport, IsSameType, IsSameFuncType, KeepsAvailableImports, KeepsExports, is_fitting}
 use Rattle.wasm_smith.specs.ExampleParts.{memory, table, global}
@@ -21,10 +22,10 @@ use Rattle.wasm_smith.specs.ExampleModules.{a_type, foo_type, quux_type, one_of_
 use Rattle.wasm_smith.specs.ExampleShapes.{environment, with_environment, five_exports}
 
 -- without shapes neither exports nor imports are fixed
-pub no_exports_fixed : FixesExports no_shapes → ⊥
+pub no_exports_fixed : FixesExports default_config → ⊥
 no_exports_fixed = search rules
 
-pub no_imports_fixed : FixesImports no_shapes → ⊥
+pub no_imports_fixed : FixesImports default_config → ⊥
 no_imports_fixed = search rules
 
 -- an export of a shape is kept where what is exported has the same type

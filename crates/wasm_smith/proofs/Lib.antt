@@ -1,5 +1,6 @@
 pub mod FuncLaws
 pub mod MemoryCounts
+pub mod NoShapes
 pub mod Needless
 pub mod Bodies
 pub mod Alone
@@ -13,3 +14,4 @@ pub mod ExampleShapes
 pub mod ExamplePromises
 pub mod FamilyFits
 pub mod NearNumbers
+pub mod NoFloats

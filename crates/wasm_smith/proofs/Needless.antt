@@ -3,13 +3,16 @@ use Rattle.std.proofs.Common.{◌≡◌, ◌<◌, refl, arith}
 use Rattle.smith_bytes.specs.declared.error.Error.{Error}
 use Rattle.smith_bytes.specs.declared.error.Error.TheVariants as errors
 use Rattle.smith_bytes.specs.declared.error.Why.TheVariants as reasons
+use Rattle.smith_bytes.specs.declared.error.ShapeFault.TheVariants as fault
 use Rattle.smith_bytes.specs.declared.error.Count.{Count}
 use Rattle.smith_bytes.specs.declared.error.Count.TheVariants as counts
 use Rattle.smith_config.specs.declared.config.Config.{Config}
 use Rattle.smith_config.specs.Faults.{Passes, minimum_of}
 use Rattle.smith_config.proofs.FaultLemmas.{no_fault}
+use Rattle.smith_config.specs.InUse.{HasNoShapes}
 use Rattle.wasm_smith.specs.Refusals.{HasNoMinimums}
 use Rattle.wasm_smith.specs.ToCome.{StaysUnmet, MayComeOut}
+use Rattle.wasm_smith.proofs.NoShapes.{none_left_out}
 
 -- a minimum that may stay unmet is above zero
 unmet_some : (config : Config) (count : Count) → StaysUnmet config count → 0 < minimum_of config count
@@ -25,15 +28,16 @@ unmet_some config counts.Elements h = h
 unmet_some config counts.DataSegments h = h
 unmet_some config counts.Tables h = h
 
-pub memory_alone : (config : Config) (e : Error) → Passes config → HasNoMinimums config → MayComeOut config e → e ≡ errors.Memory
-memory_alone config errors.Memory passes none h = refl
-memory_alone config (errors.Config fault) passes none h = absurd (no_fault config passes fault h.there)
-memory_alone config (errors.IncorrectFormat (reasons.Unmet count)) passes none h = let some = unmet_some config count h in absurd (omega (arith, none count))
-memory_alone config (errors.IncorrectFormat reasons.TypeSize) passes none h = absurd h
-memory_alone config (errors.IncorrectFormat reasons.SeveralMemories) passes none h = absurd h
-memory_alone config (errors.IncorrectFormat reasons.SeveralTables) passes none h = absurd h
-memory_alone config (errors.IncorrectFormat reasons.Loop) passes none h = absurd h
-memory_alone config (errors.IncorrectFormat reasons.RawBody) passes none h = absurd h
-memory_alone config errors.EmptyChoose passes none h = absurd h
-memory_alone config errors.NotEnoughData passes none h = absurd h
-memory_alone config (errors.Shape which fault) passes none h = absurd h
+pub memory_alone : (config : Config) (e : Error) → Passes config → HasNoShapes config → HasNoMinimums config → MayComeOut config e → e ≡ errors.Memory
+memory_alone config errors.Memory passes shapeless none h = refl
+memory_alone config (errors.Config fault) passes shapeless none h = absurd (no_fault config passes fault h.there)
+memory_alone config (errors.IncorrectFormat (reasons.Unmet count)) passes shapeless none h = let some = unmet_some config count h in absurd (omega (arith, none count))
+memory_alone config (errors.IncorrectFormat reasons.TypeSize) passes shapeless none h = absurd h
+memory_alone config (errors.IncorrectFormat reasons.SeveralMemories) passes shapeless none h = absurd h
+memory_alone config (errors.IncorrectFormat reasons.SeveralTables) passes shapeless none h = absurd h
+memory_alone config (errors.IncorrectFormat reasons.Loop) passes shapeless none h = absurd h
+memory_alone config (errors.IncorrectFormat reasons.RawBody) passes shapeless none h = absurd h
+memory_alone config errors.EmptyChoose passes shapeless none h = absurd h
+memory_alone config errors.NotEnoughData passes shapeless none h = absurd h
+memory_alone config (errors.Shape for_use fault.LeftOut) passes shapeless none h = absurd (none_left_out config for_use shapeless h)
+memory_alone config (errors.Shape for_use other) passes shapeless none h = absurd h

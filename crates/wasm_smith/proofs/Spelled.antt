@@ -5,9 +5,13 @@ use Rattle.std.specs.Int.{cast_signed, w32}
 use Rattle.smith_bytes.specs.Draws.{big_endian, little_endian, digit_count}
 use Rattle.smith_bytes.specs.Spelling.{SpellsBool, SpellsNumber, SpellsAnyByte, SpellsRefusal, Joined, Listed}
 use Rattle.smith_config.specs.Config.{default_config}
-use Rattle.smith_draw.specs.Spelling.{SpellsPlace, SpellsGroups, SpellsGroup, SpellsSubTypes, SpellsFuncType}
+use Rattle.smith_config.specs.declared.config.Config.{Config}
+use Rattle.smith_draw.specs.Choices.{enabled}
+use Rattle.smith_draw.specs.ValueTypes.{value_classes}
+use Rattle.smith_draw.specs.Spelling.{SpellsPlace, SpellsUnshared, SpellsGroups, SpellsGroup, SpellsSubTypes, SpellsFuncType}
+use Rattle.smith_draw.specs.SpelledConstants.{SpellsI32, SpellsConstant}
 use Rattle.wasm_smith.specs.FuncTypes.{is_tag_type, is_unshared_function}
-use Rattle.wasm_smith.specs.Spelling.{SpellsMember, SpellsI32}
+use Rattle.wasm_smith.specs.Spelling.{SpellsMember, SpellsGlobal}
 use Rattle.wasm_smith.specs.ExampleMembers.{one_function_type}
 
 -- one piece behind another
@@ -82,6 +86,16 @@ regrouped {piece = piece} outer =
 -- a first piece that says more
 pub first_weaker : {First Weaker Second : List ℕ → Type 0} {piece : List ℕ} → ((part : List ℕ) → First part → Weaker part) → Joined First Second piece → Joined Weaker Second piece
 first_weaker less both = record { first = both.first; second = both.second; is_first = less both.first both.is_first; is_second = both.is_second; whole = both.whole }
+
+-- a second piece that says more
+pub second_weaker : {First Second Weaker : List ℕ → Type 0} {piece : List ℕ} → ((part : List ℕ) → Second part → Weaker part) → Joined First Second piece → Joined First Weaker piece
+second_weaker less both = record { first = both.first; second = both.second; is_first = both.is_first; is_second = less both.second both.is_second; whole = both.whole }
+
+-- the parts of a global one behind another
+pub global_parts : (config : Config) (value : ℤ) {piece : List ℕ} → SpellsGlobal config value piece
+    → Joined (SpellsNumber 0 0 (length (enabled (value_classes config)) - 1)) (Joined (SpellsUnshared config) (Joined (SpellsBool true) (SpellsConstant config value))) piece
+unfolding SpellsGlobal
+global_parts config value h = second_weaker (λ part. regrouped {piece = part}) (regrouped h)
 
 pub without_nothing : {Second : List ℕ → Type 0} {piece : List ℕ} → Joined (λ first. first ≡ []) Second piece → Second piece
 without_nothing {Second = Second} {piece = piece} both =

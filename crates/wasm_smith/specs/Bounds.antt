@@ -1,5 +1,5 @@
 -- How much a module has: its type size, the most and the least of each kind. Rules of this project.
-use Rattle.std.specs.Prelude.{◌≡◌, ℕ, ◌+◌, ◌≤◌, ◌⊎◌, max, false, ◌||◌, is_some, IsTrue, IsSome, ⊤, List, [], ◌++◌, Option, Some, option_map, unwrap_or, length, slice_get, sum_by, All, if◌then◌else◌}
+use Rattle.std.specs.Prelude.{◌≡◌, ℕ, ◌+◌, ◌≤◌, ◌⊎◌, max, false, ◌||◌, is_some, IsTrue, ⊤, List, [], ◌++◌, Option, Some, option_map, unwrap_or, length, slice_get, sum_by, All, if◌then◌else◌}
 use Rattle.std.specs.List.{Contains}
 use Rattle.smith_bytes.specs.declared.error.Count.{Count}
 use Rattle.smith_bytes.specs.declared.error.Count.TheVariants as counts
@@ -17,7 +17,8 @@ use Rattle.smith_types.specs.declared.segments.ElementSegment.{ElementSegment}
 use Rattle.smith_config.specs.declared.config.Config.{Config}
 use Rattle.smith_config.specs.declared.shape.Shape.{Shape}
 use Rattle.smith_config.specs.Faults.{minimum_of, maximum_of}
-use Rattle.smith_config.specs.Shapes.{Shapes, shape_types, shape_imports, shape_spaces}
+use Rattle.smith_config.specs.InUse.{shapes_of, FixesImports, FixesExports}
+use Rattle.smith_config.specs.Shapes.{shape_types, shape_imports, shape_spaces}
 use Rattle.smith_draw.specs.Bounds.{IsTableWithin, IsMemoryWithin}
 use Rattle.wasm_smith.specs.Module.{Parts}
 
@@ -74,32 +75,27 @@ brought_by_imports count shape = 0
 abbrev pub where_given : (Shape → ℕ) → Option Shape → ℕ
 where_given of_shape given = unwrap_or (option_map of_shape given) 0
 
--- what shapes may bring of a kind past its maximum, and what they add to it
-abbrev pub brought : Shapes → Count → ℕ
-brought shapes count = where_given (brought_by_module count) shapes.module_shape + where_given (brought_by_imports count) shapes.available_imports
+-- what the shapes of a configuration may bring of a kind past its maximum, and what they add to it
+abbrev pub brought : Config → Count → ℕ
+brought config count =
+    let used = shapes_of config in
+    where_given (brought_by_module count) used.module_shape + where_given (brought_by_imports count) used.available_imports
 
-abbrev pub added : Shapes → Count → ℕ
-added shapes count = where_given (exported_of count) shapes.exports
-
--- a shape fixes the exports, or the imports
-abbrev pub FixesExports : Shapes → Type 0
-FixesExports shapes = IsSome shapes.exports ⊎ IsSome shapes.module_shape
-
-abbrev pub FixesImports : Shapes → Type 0
-FixesImports shapes = IsSome shapes.available_imports ⊎ IsSome shapes.module_shape
+abbrev pub added : Config → Count → ℕ
+added config count = where_given (exported_of count) (shapes_of config).exports
 
 -- the maximum of a kind is kept: that of exports not where a shape fixes them, or everything is exported
-abbrev pub HasMost : Shapes → Config → Count → Type 0
-HasMost shapes config counts.Exports = (FixesExports shapes → ⊥) × (config.export_everything ≡ false)
-HasMost shapes config count = ⊤
+abbrev pub HasMost : Config → Count → Type 0
+HasMost config counts.Exports = (FixesExports config → ⊥) × (config.export_everything ≡ false)
+HasMost config count = ⊤
 
 -- the minimum of a kind is met: that of imports not where a shape fixes them, that of exports neither where everything is
 -- exported; that of elements is each segment's
-abbrev pub HasLeast : Shapes → Config → Count → Type 0
-HasLeast shapes config counts.Imports = FixesImports shapes → ⊥
-HasLeast shapes config counts.Exports = (FixesExports shapes → ⊥) × (config.export_everything ≡ false)
-HasLeast shapes config counts.Elements = ⊥
-HasLeast shapes config count = ⊤
+abbrev pub HasLeast : Config → Count → Type 0
+HasLeast config counts.Imports = FixesImports config → ⊥
+HasLeast config counts.Exports = (FixesExports config → ⊥) × (config.export_everything ≡ false)
+HasLeast config counts.Elements = ⊥
+HasLeast config count = ⊤
 
 -- the size of an import
 abbrev pub import_size : Parts → Import → ℕ
@@ -112,41 +108,42 @@ export_size m _ index = 1
 
 -- what imports add to the type size: nothing where a module shape fixes them, else their sizes, and one more each where they
 -- are drawn freely
-abbrev pub imports_size : Shapes → Parts → ℕ
-imports_size shapes m =
-    if is_some shapes.module_shape then 0
-    else if is_some shapes.available_imports then sum_by (import_size m) (flattened m.imports)
+abbrev pub imports_size : Config → Parts → ℕ
+imports_size config m =
+    if is_some config.module_shape then 0
+    else if is_some config.available_imports then sum_by (import_size m) (flattened m.imports)
     else sum_by (λ one. import_size m one + 1) (flattened m.imports)
 
 -- what exports add to the type size: nothing where a shape fixes them, else their sizes and one more each
-abbrev pub exports_size : Shapes → Parts → ℕ
-exports_size shapes m =
-    if is_some shapes.module_shape || is_some shapes.exports then 0
+abbrev pub exports_size : Config → Parts → ℕ
+exports_size config m =
+    if is_some config.module_shape || is_some config.exports then 0
     else sum_by (λ (one : List ℕ × ExportKind × ℕ). export_size m one.1 one.2 + 1) m.exports
 
--- the tables and memories of the shapes that are given
-abbrev pub of_given : {A : Type 0} → (IndexSpaces → List A) → Shapes → List A
-of_given {A} space shapes =
+-- the tables and memories of the shapes that are used
+abbrev pub of_shapes : {A : Type 0} → (IndexSpaces → List A) → Config → List A
+of_shapes {A} space config =
     let one = λ (given : Option Shape). unwrap_or (option_map (λ (shape : Shape). space (shape_spaces shape)) given) [] in
-    one shapes.available_imports ++ (one shapes.exports ++ one shapes.module_shape)
+    let used = shapes_of config in
+    one used.available_imports ++ (one used.exports ++ one used.module_shape)
 
--- no more than the configuration and the shapes allow
-pub record KeepsBounds (shapes : Shapes) (m : Parts) : Type 0 where
-  pub most : (count : Count) → HasMost shapes m.config count → count_of m count ≤ max (maximum_of m.config count) (brought shapes count) + added shapes count
-  pub tables : All (λ table. Contains (of_given (λ spaces. spaces.tables) shapes) table ⊎ IsTableWithin m.config table) m.tables
-  pub memories : All (λ memory. Contains (of_given (λ spaces. spaces.memories) shapes) memory ⊎ IsMemoryWithin m.config memory) m.memories
-  pub type_size : m.type_size ≡ imports_size shapes m + exports_size shapes m
-  pub type_size_most : m.type_size ≤ m.config.max_type_size
+-- no more than the configuration and its shapes allow
+pub record KeepsBounds (config : Config) (m : Parts) : Type 0 where
+  pub most : (count : Count) → HasMost config count → count_of m count ≤ max (maximum_of config count) (brought config count) + added config count
+  pub tables : All (λ table. Contains (of_shapes (λ spaces. spaces.tables) config) table ⊎ IsTableWithin config table) m.tables
+  pub memories : All (λ memory. Contains (of_shapes (λ spaces. spaces.memories) config) memory ⊎ IsMemoryWithin config memory) m.memories
+  pub type_size : m.type_size ≡ imports_size config m + exports_size config m
+  pub type_size_most : m.type_size ≤ config.max_type_size
 
 -- no function is there that an element of functions might be: each is of a shared type
 abbrev pub HasNoCandidates : Parts → Type 0
 HasNoCandidates m = All (λ index. (t : SubType) × (slice_get m.types index ≡ Some t) × IsTrue (shared t)) m.funcs
 
 -- an element segment has as many items as are asked for, or is an empty list of functions where there is no candidate
-abbrev pub HasEnough : Parts → ElementSegment → Type 0
-HasEnough m segment = (m.config.min_elements ≤ item_count segment.items) ⊎ ((segment.items ≡ Functions []) × HasNoCandidates m)
+abbrev pub HasEnough : Config → Parts → ElementSegment → Type 0
+HasEnough config m segment = (config.min_elements ≤ item_count segment.items) ⊎ ((segment.items ≡ Functions []) × HasNoCandidates m)
 
 -- no fewer than the configuration asks for
-pub record MeetsMinimums (shapes : Shapes) (m : Parts) : Type 0 where
-  pub least : (count : Count) → HasLeast shapes m.config count → minimum_of m.config count ≤ count_of m count
-  pub elements : All (HasEnough m) m.elems
+pub record MeetsMinimums (config : Config) (m : Parts) : Type 0 where
+  pub least : (count : Count) → HasLeast config count → minimum_of config count ≤ count_of m count
+  pub elements : All (HasEnough config m) m.elems

@@ -16,6 +16,7 @@ use Rattle.smith_draw.specs.RecGroups.{types_at}
 use Rattle.smith_draw.specs.Memories.{memtype_at}
 use Rattle.wasm_smith.specs.FuncTypes.{is_tag_type, func_types}
 use Rattle.wasm_smith.specs.Module.{Parts}
+use Rattle.wasm_smith.specs.declared.build.drawn.Drawn.{Drawn}
 use Rattle.smith_types.specs.declared.code.Code.{Code}
 use Rattle.smith_types.specs.declared.code.Instructions.TheVariants.{Unreachable}
 
@@ -71,6 +72,37 @@ elements_at config bytes = do
   segments ← passed_at counts.ElementSegments config.min_element_segments 0 bytes
   passed_at counts.Elements config.min_elements 0 segments
 
+-- the module of the parts that are drawn, with none of those to come
+abbrev pub module_of : Config → Drawn → Parts
+module_of config drawn = record {
+  config = config;
+  types = drawn.types.types;
+  groups = drawn.types.groups;
+  imports = [];
+  num_imports = 0;
+  tags = [];
+  funcs = drawn.funcs;
+  tables = [];
+  defined_tables = [];
+  memories = drawn.memories;
+  globals = [];
+  defined_globals = [];
+  num_defined_tags = 0;
+  num_defined_funcs = length drawn.funcs;
+  num_defined_memories = length drawn.memories;
+  exports = [];
+  start = None;
+  elems = [];
+  segments = [];
+  code = drawn.code;
+  fuel_globals = [];
+  encodes_types = drawn.encodes_types;
+  encodes_imports = drawn.encodes_imports;
+  type_size = 0;
+  interesting_values32 = [];
+  interesting_values64 = [];
+}
+
 -- the module that the bytes give, step by step, and what they leave
 unfoldable pub module_at : Config → List ℕ → Result (Parts × List ℕ) Count
 module_at config bytes = do
@@ -87,33 +119,13 @@ module_at config bytes = do
   elements ← elements_at config type_flag.1
   rest ← passed_at counts.DataSegments config.min_data_segments 0 elements
   Ok (
-    record {
-      config = config;
-      types = types.0.types;
-      groups = types.0.groups;
-      imports = [];
-      num_imports = 0;
-      tags = [];
+    module_of config (record {
+      types = types.0;
       funcs = funcs.0;
-      tables = [];
-      defined_tables = [];
       memories = memories.0;
-      globals = [];
-      defined_globals = [];
-      num_defined_tags = 0;
-      num_defined_funcs = length funcs.0;
-      num_defined_memories = length memories.0;
-      exports = [];
-      start = None;
-      elems = [];
-      segments = [];
       code = replicate (length funcs.0) trap;
-      fuel_globals = [];
       encodes_types = type_flag.0;
       encodes_imports = import_flag.0;
-      type_size = 0;
-      interesting_values32 = [];
-      interesting_values64 = [];
-    },
+    }),
     rest,
   )

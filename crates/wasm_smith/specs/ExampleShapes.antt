@@ -1,8 +1,9 @@
 -- Shapes that the examples speak of, and modules that have them or not.
-use Rattle.std.specs.Prelude.{ℕ, ◌<◌, true, false, List, [], ◌∷◌, Some, None, codes, map}
+use Rattle.std.specs.Prelude.{ℕ, ◌<◌, true, false, List, [], ◌∷◌, Some, None, IsSome, codes, map}
 use Rattle.smith_bytes.specs.declared.error.Error.{Error}
-use Rattle.smith_bytes.specs.declared.error.Error.TheVariants.{IncorrectFormat}
+use Rattle.smith_bytes.specs.declared.error.Error.TheVariants.{IncorrectFormat, Shape as Misshapen}
 use Rattle.smith_bytes.specs.declared.error.Why.TheVariants.{Unmet}
+use Rattle.smith_bytes.specs.declared.error.ShapeFault.TheVariants.{LeftOut}
 use Rattle.smith_bytes.specs.declared.error.Count.{Count}
 use Rattle.smith_bytes.specs.declared.error.Count.TheVariants as counts
 use Rattle.smith_types.specs.Flags.{funcref}
@@ -17,23 +18,23 @@ use Rattle.smith_types.specs.declared.imports.Imports.TheVariants.{Single, Compa
 use Rattle.smith_config.specs.declared.config.Config.{Config}
 use Rattle.smith_config.specs.Config.{default_config}
 use Rattle.smith_config.specs.Faults.{minimum_of}
-use Rattle.smith_config.specs.Shapes.{Shapes, no_shapes}
 pub use Rattle.smith_config.specs.ExampleShapes.{empty_shape}
 use Rattle.smith_config.specs.declared.shape.Shape.{Shape}
 use Rattle.wasm_smith.specs.Module.{Parts}
+use Rattle.wasm_smith.specs.Refusals.{shape_for}
 use Rattle.wasm_smith.specs.ExampleParts.{import_named, memory, table, global, trapping}
 use Rattle.wasm_smith.specs.ExampleModules.{empty_module, group_of, three_memories, foo_type, quux_type, taking}
 use Rattle.wasm_smith.specs.ExampleMembers.{alone, final, taking_a_number}
 
--- shapes for one use alone
-abbrev pub for_module : Shape → Shapes
-for_module shape = record no_shapes { module_shape = Some shape }
+-- a configuration with a shape for one use
+abbrev pub for_module : Shape → Config → Config
+for_module shape config = record config { module_shape = Some shape }
 
-abbrev pub for_imports : Shape → Shapes
-for_imports shape = record no_shapes { available_imports = Some shape }
+abbrev pub for_imports : Shape → Config → Config
+for_imports shape config = record config { available_imports = Some shape }
 
-abbrev pub for_exports : Shape → Shapes
-for_exports shape = record no_shapes { exports = Some shape }
+abbrev pub for_exports : Shape → Config → Config
+for_exports shape config = record config { exports = Some shape }
 
 -- groups of imported memories, two of them empty
 abbrev pub imported_memories : Shape
@@ -171,7 +172,8 @@ IsToCome counts.ElementSegments = Unit {0}
 IsToCome counts.DataSegments = Unit {0}
 IsToCome _ = ⊥
 
--- its minimum is unmet
-abbrev pub IsUnmetToCome : Config → Error → Type 0
-IsUnmetToCome config (IncorrectFormat (Unmet count)) = IsToCome count × (0 < minimum_of config count)
-IsUnmetToCome config _ = ⊥
+-- a refusal that comes until all is drawn: the minimum of such a part is unmet, or a shape is used
+abbrev pub IsRefusalToCome : Config → Error → Type 0
+IsRefusalToCome config (IncorrectFormat (Unmet count)) = IsToCome count × (0 < minimum_of config count)
+IsRefusalToCome config (Misshapen for_use LeftOut) = IsSome (shape_for config for_use)
+IsRefusalToCome config _ = ⊥

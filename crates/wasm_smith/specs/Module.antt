@@ -24,6 +24,7 @@ use Rattle.smith_types.specs.declared.segments.DataSegment.{DataSegment}
 use Rattle.smith_types.specs.declared.code.Code.{Code}
 use Rattle.smith_config.specs.declared.config.Config.{Config}
 use Rattle.smith_config.specs.Features.{features_of}
+use Rattle.smith_config.specs.Sanitized.{sanitized}
 
 -- What a module holds. Each index space is that of its kind as a whole, with what is imported first.
 pub record Parts : Type 0 where
@@ -53,6 +54,10 @@ pub record Parts : Type 0 where
   pub type_size : ℕ
   pub interesting_values32 : List ℕ
   pub interesting_values64 : List ℕ
+
+-- the configuration that a module shows of the one that was handed in: sanitised, and its available imports are used up
+abbrev pub shown_config : Config → Config
+shown_config config = record (sanitized config) { available_imports = None }
 
 -- the features of a module's configuration
 abbrev pub module_features : Parts → Features

@@ -1,12 +1,12 @@
 -- What else a module keeps: which names, types and sections it has. Rules of this project.
 use Rattle.std.specs.Prelude.{◌≡◌, ℕ, zero, suc, ◌<◌, Bool, false, IsTrue, List, [], ◌∷◌, ◌++◌, Option, Some, None, map, length, All}
 use Rattle.std.specs.List.{flat_map}
+use Rattle.smith_types.specs.Floats.{IsNoFloat}
 use Rattle.smith_types.specs.Imports.{flattened}
 use Rattle.smith_types.specs.ValidTypes.{values_of}
 use Rattle.smith_types.specs.Exports.{AreDistinct}
 use Rattle.smith_types.specs.Segments.{IsElementInside, IsDataInside}
 use Rattle.smith_types.specs.declared.value_type.ValType.{ValType}
-use Rattle.smith_types.specs.declared.value_type.ValType.TheVariants.{F32, F64}
 use Rattle.smith_types.specs.declared.composite_type.SubType.{SubType}
 use Rattle.smith_types.specs.declared.entity_type.GlobalType.{GlobalType}
 use Rattle.smith_types.specs.declared.entity_type.ExportKind.{ExportKind}
@@ -18,19 +18,13 @@ use Rattle.smith_types.specs.declared.segments.Elements.{Elements}
 use Rattle.smith_types.specs.declared.segments.Elements.TheVariants.{Functions, Expressions}
 use Rattle.smith_types.specs.declared.segments.ElementSegment.{ElementSegment}
 use Rattle.smith_types.specs.declared.code.Code.{Code}
-use Rattle.smith_config.specs.Shapes.{Shapes, no_shapes}
-use Rattle.wasm_smith.specs.Bounds.{FixesImports, FixesExports}
+use Rattle.smith_config.specs.declared.config.Config.{Config}
+use Rattle.smith_config.specs.InUse.{HasNoShapes, FixesImports, FixesExports}
 use Rattle.wasm_smith.specs.Module.{Parts}
 
 -- no two imports have the same pair of names
 abbrev pub HasDistinctImports : Parts → Type 0
 HasDistinctImports m = AreDistinct {A = List ℕ × List ℕ} (map (λ (one : Import). (one.«module», one.name)) (flattened m.imports))
-
--- a value type that is not a float
-abbrev pub IsNoFloat : ValType → Type 0
-IsNoFloat F32 = ⊥
-IsNoFloat F64 = ⊥
-IsNoFloat _ = Unit {0}
 
 -- an instruction that is not a float's
 abbrev pub GivesNoFloat : ConstInstr → Type 0
@@ -94,10 +88,10 @@ pub record WritesSections (m : Parts) : Type 0 where
 
 -- what a module keeps where it is asked for: distinct names by the call that draws it, not where a shape fixes the imports;
 -- all exports not where a shape fixes them; no floats where no shape is given
-pub record KeepsPromises (distinct : Bool) (shapes : Shapes) (m : Parts) : Type 0 where
-  pub names : IsTrue distinct → (FixesImports shapes → ⊥) → HasDistinctImports m
-  pub no_floats : m.config.allow_floats ≡ false → shapes ≡ no_shapes → HasNoFloats m
-  pub everything : IsTrue m.config.export_everything → (FixesExports shapes → ⊥) → ExportsEverything m
-  pub no_start : m.config.allow_start_export ≡ false → HasNoStart m
-  pub inside : IsTrue m.config.disallow_traps → IsInside m
+pub record KeepsPromises (distinct : Bool) (config : Config) (m : Parts) : Type 0 where
+  pub names : IsTrue distinct → (FixesImports config → ⊥) → HasDistinctImports m
+  pub no_floats : config.allow_floats ≡ false → HasNoShapes config → HasNoFloats m
+  pub everything : IsTrue config.export_everything → (FixesExports config → ⊥) → ExportsEverything m
+  pub no_start : config.allow_start_export ≡ false → HasNoStart m
+  pub inside : IsTrue config.disallow_traps → IsInside m
   pub sections : WritesSections m

@@ -1,5 +1,5 @@
 -- When a module is refused, and when it is not. Rules of this project.
-use Rattle.std.specs.Prelude.{◌≡◌, ◌*◌, ◌+◌, ◌<◌, ◌≤◌, ◌⊎◌, false, IsTrue, IfSome, IsSome, IsSomeAnd, Option, is_some, ◌||◌, if◌then◌else◌}
+use Rattle.std.specs.Prelude.{◌≡◌, ◌*◌, ◌+◌, ◌<◌, ◌≤◌, ◌⊎◌, false, IsTrue, IfSome, IsSome, IsSomeAnd, Option}
 use Rattle.std.specs.List.{Any}
 use Rattle.smith_bytes.specs.declared.error.Error.{Error}
 use Rattle.smith_bytes.specs.declared.error.Error.TheVariants as errors
@@ -9,44 +9,32 @@ use Rattle.smith_bytes.specs.declared.error.Count.{Count}
 use Rattle.smith_bytes.specs.declared.error.Count.TheVariants as counts
 use Rattle.smith_bytes.specs.declared.error.Which.{Which}
 use Rattle.smith_bytes.specs.declared.error.Which.TheVariants as which
-use Rattle.smith_types.specs.declared.value_type.ValType.{ValType}
-use Rattle.smith_types.specs.declared.value_type.ValType.TheVariants.{Ref}
 use Rattle.smith_config.specs.declared.config.Config.{Config}
 use Rattle.smith_config.specs.declared.shape.Shape.{Shape}
-use Rattle.smith_config.specs.Faults.{IsFirstFault, Passes, minimum_of}
-use Rattle.smith_config.specs.Shapes.{Shapes, IsShapeValid, shape_values}
+use Rattle.smith_config.specs.Faults.{IsBounded, IsFirstFault, Passes, minimum_of}
+use Rattle.smith_config.specs.InUse.{shapes_of, FixesExports}
+use Rattle.smith_config.specs.Shapes.{IsShapeValid, shape_values}
 use Rattle.smith_config.specs.ShapeFaults.{HasShapeFault}
-use Rattle.wasm_smith.specs.Bounds.{FixesExports, where_given, exported_of, brought_by_module}
-
--- the configuration as it is checked beside shapes: a minimum that a shape replaces asks for nothing
-abbrev pub checked_beside : Shapes → Config → Config
-checked_beside shapes config = record config {
-  min_imports = if is_some shapes.available_imports || is_some shapes.module_shape then 0 else config.min_imports;
-  min_exports = if is_some shapes.exports || is_some shapes.module_shape then 0 else config.min_exports;
-}
+use Rattle.smith_draw.specs.ConstBounds.{IsNonNullable}
+use Rattle.wasm_smith.specs.Bounds.{where_given, exported_of, brought_by_module}
 
 -- nothing is asked for at least
 abbrev pub HasNoMinimums : Config → Type 0
 HasNoMinimums config = (count : Count) → minimum_of config count ≡ 0
 
--- the shape for each use, where it is given
-abbrev pub shape_for : Shapes → Which → Option Shape
-shape_for shapes which.AvailableImports = shapes.available_imports
-shape_for shapes which.Exports = shapes.exports
-shape_for shapes which.ModuleShape = shapes.module_shape
+-- the shape for each use, where there is one that is used
+abbrev pub shape_for : Config → Which → Option Shape
+shape_for config which.AvailableImports = (shapes_of config).available_imports
+shape_for config which.Exports = (shapes_of config).exports
+shape_for config which.ModuleShape = (shapes_of config).module_shape
 
--- some shape is given
-abbrev pub IsGiven : Shapes → Type 0
-IsGiven shapes = (for_use : Which) × IsSome (shape_for shapes for_use)
+-- some shape is used
+abbrev pub HasShape : Config → Type 0
+HasShape config = (for_use : Which) × IsSome (shape_for config for_use)
 
--- a reference that may not be null
-abbrev pub IsNonNullable : ValType → Type 0
-IsNonNullable (Ref reference) = reference.nullable ≡ false
-IsNonNullable _ = ⊥
-
--- a shape that is given holds a reference that may not be null
-abbrev pub HoldsNonNullable : Shapes → Type 0
-HoldsNonNullable shapes = (for_use : Which) × IsSomeAnd (shape_for shapes for_use) (λ shape. Any IsNonNullable (shape_values shape))
+-- a shape that is used holds a reference that may not be null
+abbrev pub HoldsNonNullable : Config → Type 0
+HoldsNonNullable config = (for_use : Which) × IsSomeAnd (shape_for config for_use) (λ shape. Any IsNonNullable (shape_values shape))
 
 -- where imports may end before there are as many as are asked for: they may be too large together, or some kind too few
 abbrev pub MayLackImports : Config → Type 0
@@ -63,69 +51,66 @@ pub record MayHaveNoExports (config : Config) : Type 0 where
 
 -- where exports may end before there are as many as are asked for: beside a shape, or where they may be too large together,
 -- or where there may be no item
-abbrev pub MayLackExports : Shapes → Config → Type 0
-MayLackExports shapes config =
-    IsGiven shapes ⊎ ((config.max_type_size ≤ 42 * (config.max_imports + config.min_exports)) ⊎ MayHaveNoExports config)
+abbrev pub MayLackExports : Config → Type 0
+MayLackExports config =
+    HasShape config ⊎ ((config.max_type_size ≤ 42 * (config.max_imports + config.min_exports)) ⊎ MayHaveNoExports config)
 
 -- where a minimum that is above zero may stay unmet; those of types, tables, memories and globals never do
-abbrev pub MayBeShort : Shapes → Config → Count → Type 0
-MayBeShort shapes config counts.Types = ⊥
-MayBeShort shapes config counts.Tables = ⊥
-MayBeShort shapes config counts.Memories = ⊥
-MayBeShort shapes config counts.Globals = ⊥
-MayBeShort shapes config counts.ElementSegments = config.bulk_memory_enabled ≡ false
-MayBeShort shapes config counts.DataSegments = config.bulk_memory_enabled ≡ false
-MayBeShort shapes config counts.Imports = MayLackImports config
-MayBeShort shapes config counts.Funcs = config.gc_enabled ≡ false → config.min_types ≡ 0
-MayBeShort shapes config counts.Exports = MayLackExports shapes config
-MayBeShort shapes config counts.Tags = Unit {0}
-MayBeShort shapes config counts.Elements = Unit {0}
+abbrev pub MayBeShort : Config → Count → Type 0
+MayBeShort config counts.Types = ⊥
+MayBeShort config counts.Tables = ⊥
+MayBeShort config counts.Memories = ⊥
+MayBeShort config counts.Globals = ⊥
+MayBeShort config counts.ElementSegments = config.bulk_memory_enabled ≡ false
+MayBeShort config counts.DataSegments = config.bulk_memory_enabled ≡ false
+MayBeShort config counts.Imports = MayLackImports config
+MayBeShort config counts.Funcs = config.gc_enabled ≡ false → config.min_types ≡ 0
+MayBeShort config counts.Exports = MayLackExports config
+MayBeShort config counts.Tags = Unit {0}
+MayBeShort config counts.Elements = Unit {0}
 
-abbrev pub MayBeUnmet : Shapes → Config → Count → Type 0
-MayBeUnmet shapes config count = (0 < minimum_of config count) × MayBeShort shapes config count
+-- a minimum that a shape replaces is not asked for
+abbrev pub MayBeUnmet : Config → Count → Type 0
+MayBeUnmet config count = IsBounded config count × ((0 < minimum_of config count) × MayBeShort config count)
 
 -- the exports of a shape, or a module shape, bring a memory, or a table
-abbrev pub BringsMemory : Shapes → Type 0
-BringsMemory shapes =
-    (0 < where_given (exported_of counts.Memories) shapes.exports) ⊎ (0 < where_given (brought_by_module counts.Memories) shapes.module_shape)
-
-abbrev pub BringsTable : Shapes → Type 0
-BringsTable shapes =
-    (0 < where_given (exported_of counts.Tables) shapes.exports) ⊎ (0 < where_given (brought_by_module counts.Tables) shapes.module_shape)
+abbrev pub Brings : Config → Count → Type 0
+Brings config count =
+    (0 < where_given (exported_of count) (shapes_of config).exports) ⊎ (0 < where_given (brought_by_module count) (shapes_of config).module_shape)
 
 -- why a module may be found to be out of shape
-abbrev pub MayBeOutOfShape : Shapes → Config → Why → Type 0
-MayBeOutOfShape shapes config (reasons.Unmet count) = MayBeUnmet shapes config count
-MayBeOutOfShape shapes config reasons.TypeSize = IsTrue config.export_everything × (FixesExports shapes → ⊥)
-MayBeOutOfShape shapes config reasons.SeveralMemories = BringsMemory shapes × (config.max_memories ≤ 1)
-MayBeOutOfShape shapes config reasons.SeveralTables = BringsTable shapes × (config.reference_types_enabled ≡ false)
-MayBeOutOfShape shapes config reasons.Loop = ⊥
-MayBeOutOfShape shapes config reasons.RawBody = ⊥
+abbrev pub MayBeOutOfShape : Config → Why → Type 0
+MayBeOutOfShape config (reasons.Unmet count) = MayBeUnmet config count
+MayBeOutOfShape config reasons.TypeSize = IsTrue config.export_everything × (FixesExports config → ⊥)
+MayBeOutOfShape config reasons.SeveralMemories = Brings config counts.Memories × (config.max_memories ≤ 1)
+MayBeOutOfShape config reasons.SeveralTables = Brings config counts.Tables × (config.reference_types_enabled ≡ false)
+MayBeOutOfShape config reasons.Loop = ⊥
+MayBeOutOfShape config reasons.RawBody = ⊥
 
--- when each refusal may come, for a sanitised configuration and the shapes that are in use: beside a module shape no other is;
--- Memory only where a growth was refused, which no definition can tell
-abbrev pub MayRefuse : Shapes → Config → Error → Type 0
-MayRefuse shapes config errors.EmptyChoose = HoldsNonNullable shapes
-MayRefuse shapes config errors.NotEnoughData = ⊥
-MayRefuse shapes config (errors.IncorrectFormat why) = MayBeOutOfShape shapes config why
-MayRefuse shapes config (errors.Config fault) = IsFirstFault (checked_beside shapes config) fault
-MayRefuse shapes config (errors.Shape for_use fault) = IsSomeAnd (shape_for shapes for_use) (λ shape. HasShapeFault for_use config shape fault)
-MayRefuse shapes config errors.Memory = Unit {0}
+-- when each refusal may come, for a sanitised configuration; Memory only where a growth was refused, which no definition can
+-- tell
+abbrev pub MayRefuse : Config → Error → Type 0
+MayRefuse config errors.EmptyChoose = HoldsNonNullable config
+MayRefuse config errors.NotEnoughData = ⊥
+MayRefuse config (errors.IncorrectFormat why) = MayBeOutOfShape config why
+MayRefuse config (errors.Config fault) = IsFirstFault config fault
+MayRefuse config (errors.Shape for_use fault) = IsSomeAnd (shape_for config for_use) (λ shape. HasShapeFault for_use config shape fault)
+MayRefuse config errors.Memory = Unit {0}
 
--- the shapes that are given may be handed in
-abbrev pub AreShapesValid : Shapes → Config → Type 0
-AreShapesValid shapes config = (for_use : Which) → IfSome (shape_for shapes for_use) (λ shape. IsShapeValid for_use config shape)
+-- the shapes that are used may be handed in
+abbrev pub AreShapesValid : Config → Type 0
+AreShapesValid config = (for_use : Which) → IfSome (shape_for config for_use) (λ shape. IsShapeValid for_use config shape)
 
 -- where a module may be given at all: configuration and shapes may be handed in
-pub record MayGive (shapes : Shapes) (config : Config) : Type 0 where
-  pub passes : Passes (checked_beside shapes config)
-  pub shapes_valid : AreShapesValid shapes config
+pub record MayGive (config : Config) : Type 0 where
+  pub passes : Passes config
+  pub shapes_valid : AreShapesValid config
 
 -- where only want of memory refuses: a module may be given, nothing is asked for at least, not everything is exported, and a
 -- shape holds nullable references alone, where there may be several tables and memories
-pub record AsksNothingImpossible (shapes : Shapes) (config : Config) : Type 0 where
-  pub may_give : MayGive shapes config
+pub record AsksNothingImpossible (config : Config) : Type 0 where
+  pub may_give : MayGive config
   pub no_minimums : HasNoMinimums config
   pub not_everything : config.export_everything ≡ false
-  pub nullable : HoldsNonNullable shapes → ⊥
-  pub several : IsGiven shapes → IsTrue config.reference_types_enabled × (2 ≤ config.max_memories)
+  pub nullable : HoldsNonNullable config → ⊥
+  pub several : HasShape config → IsTrue config.reference_types_enabled × (2 ≤ config.max_memories)

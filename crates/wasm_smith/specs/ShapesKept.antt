@@ -17,7 +17,8 @@ use Rattle.smith_types.specs.declared.imports.Imports.TheVariants.{Single}
 use Rattle.smith_config.specs.declared.config.Config.{Config}
 use Rattle.smith_config.specs.declared.shape.Shape.{Shape}
 use Rattle.smith_config.specs.Faults.{maximum_of}
-use Rattle.smith_config.specs.Shapes.{Shapes, space_of, shape_types, shape_imports, shape_spaces}
+use Rattle.smith_config.specs.InUse.{shapes_of}
+use Rattle.smith_config.specs.Shapes.{space_of, shape_types, shape_imports, shape_spaces}
 use Rattle.wasm_smith.specs.Bounds.{count_in}
 use Rattle.wasm_smith.specs.Module.{Parts, module_spaces}
 
@@ -116,8 +117,8 @@ pub record KeepsAvailableImports (bytes : List ℕ) (shape : Shape) (m : Parts) 
   pub types : KeepsTypes shape m
   pub imports : flattened m.imports ≡ taken_from m.config (shape_types shape) bytes 0 [] (shape_imports shape)
 
--- a module from this input keeps each shape that is given
-pub record KeepsShapes (bytes : List ℕ) (shapes : Shapes) (m : Parts) : Type 0 where
-  pub module_shape : IfSome shapes.module_shape (λ shape. KeepsModuleShape shape m)
-  pub available_imports : IfSome shapes.available_imports (λ shape. KeepsAvailableImports bytes shape m)
-  pub exports : IfSome shapes.exports (λ shape. KeepsExports shape m)
+-- a module from this input keeps each shape that its configuration uses
+pub record KeepsShapes (config : Config) (bytes : List ℕ) (m : Parts) : Type 0 where
+  pub module_shape : IfSome (shapes_of config).module_shape (λ shape. KeepsModuleShape shape m)
+  pub available_imports : IfSome (shapes_of config).available_imports (λ shape. KeepsAvailableImports bytes shape m)
+  pub exports : IfSome (shapes_of config).exports (λ shape. KeepsExports shape m)

@@ -1,23 +1,19 @@
 -- Which bytes spell a module's types and functions, and the rest of a module that has no more than globals and passive data.
 -- Rules of this project, for a sanitised configuration. One pair of lists has many spellings.
-use Rattle.std.specs.Prelude.{◌≡◌, ℕ, ◌-◌, ◌≤◌, ◌==◌, ◌&&◌, nat_lt, Bool, true, false, ℤ, List, [], ◌∷◌, None, map, length, slice_get, option_to_list}
-use Rattle.std.specs.Int.{cast_signed, w32}
+use Rattle.std.specs.Prelude.{◌≡◌, ℕ, ◌≤◌, ◌==◌, ◌&&◌, nat_lt, Bool, true, false, if◌then◌else◌, ℤ, List, [], ◌∷◌, None, map, length, slice_get, option_to_list}
 use Rattle.std.specs.List.{list_any}
-use Rattle.smith_bytes.specs.Draws.{little_endian}
-use Rattle.smith_bytes.specs.Spelling.{SpellsBool, SpellsNumber, SpellsAnyByte, Where, Joined, Listed}
-use Rattle.smith_types.specs.declared.value_type.ValType.TheVariants as vals
+use Rattle.smith_bytes.specs.Spelling.{SpellsBool, SpellsAnyByte, Where, Joined, Listed}
 use Rattle.smith_types.specs.declared.composite_type.CompositeInnerType.{CompositeInnerType}
 use Rattle.smith_types.specs.declared.composite_type.CompositeInnerType.TheVariants.{Func}
 use Rattle.smith_types.specs.declared.composite_type.SubType.{SubType}
-use Rattle.smith_types.specs.declared.entity_type.GlobalType.{GlobalType}
 use Rattle.smith_types.specs.declared.const_instr.ConstInstr.{ConstInstr}
 use Rattle.smith_types.specs.declared.const_instr.ConstInstr.TheVariants.{I32Const}
 use Rattle.smith_types.specs.declared.segments.DataSegmentKind.TheVariants.{Passive}
 use Rattle.smith_config.specs.declared.config.Config.{Config}
 use Rattle.smith_config.specs.Shapes.{space_of}
-use Rattle.smith_draw.specs.Choices.{enabled}
-use Rattle.smith_draw.specs.ValueTypes.{value_classes}
-use Rattle.smith_draw.specs.Spelling.{SpellsPlace, SpellsUnshared, SpellsGroups}
+use Rattle.smith_draw.specs.Spelling.{SpellsPlace, SpellsGroups}
+use Rattle.smith_draw.specs.SpelledConstants.{SpellsConstant}
+use Rattle.smith_draw.specs.SpelledGlobals.{mutable_i32, SpellsMutableI32}
 use Rattle.wasm_smith.specs.FuncTypes.{is_tag_type, func_types}
 use Rattle.wasm_smith.specs.Module.{Parts}
 
@@ -29,9 +25,10 @@ SpellsNone most = Where (nat_lt 0 most) (SpellsBool false)
 abbrev pub SpellsNoTag : Config → List SubType → List ℕ → Type 0
 SpellsNoTag config types = Where (config.exceptions_enabled && nat_lt 0 config.max_tags && list_any is_tag_type types) (SpellsBool false)
 
--- functions by the places of their types among those that functions may have, where there is such a type
+-- functions by the places of their types among those that functions may have; none, without a byte, where there is no such type
 abbrev pub SpellsFuncs : Config → List SubType → List ℕ → List ℕ → Type 0
-SpellsFuncs config types funcs = Where (nat_lt 0 (length (func_types types))) (Listed (SpellsPlace (func_types types)) config.max_funcs funcs)
+SpellsFuncs config types funcs =
+    Listed (SpellsPlace (func_types types)) (if nat_lt 0 (length (func_types types)) then config.max_funcs else 0) funcs
 
 -- types, no import, whether the imports section is written, no tag, functions
 unfoldable pub SpellsMember : Config → List (List SubType) → List ℕ → List ℕ → Type 0
@@ -40,16 +37,9 @@ SpellsMember config groups funcs =
     Joined (SpellsGroups config [] false groups)
     (Joined (SpellsNone config.max_imports) (Joined SpellsAnyByte (Joined (SpellsNoTag config types) (SpellsFuncs config types funcs))))
 
--- a number of 32 bits, with sign: its four bytes, the lowest first
-pub record SpellsI32 (value : ℤ) (piece : List ℕ) : Type 0 where
-  pub four : length piece ≡ 4
-  pub read : value ≡ cast_signed w32 (little_endian piece)
-
--- a mutable global with this number: the first class, unshared, mutable, a constant, where there is a choice the first one
+-- a mutable global with this number: its type, then its constant
 unfoldable pub SpellsGlobal : Config → ℤ → List ℕ → Type 0
-SpellsGlobal config value =
-    Joined (SpellsNumber 0 0 (length (enabled (value_classes config)) - 1))
-    (Joined (SpellsUnshared config) (Joined (SpellsBool true) (Joined (Where config.extended_const_enabled (SpellsNumber 0 0 1)) (SpellsI32 value))))
+SpellsGlobal config value = Joined (SpellsMutableI32 config) (SpellsConstant config value)
 
 -- bytes, each behind a bool that asks for it, then a bool that ends them
 unfoldable pub SpellsBytes : List ℕ → List ℕ → Type 0
@@ -69,9 +59,11 @@ is_start_type types index = list_any (λ (t : SubType). takes_and_gives_nothing 
 abbrev pub SpellsNoStart : Config → List SubType → List ℕ → List ℕ → Type 0
 SpellsNoStart config types funcs = Where (config.allow_start_export && list_any (is_start_type types) funcs) (SpellsBool false)
 
--- with bulk memory: no element segment, then passive data
+-- no element segment, then passive data; none, without a byte, where there is no bulk memory
 abbrev pub SpellsSegments : Config → List (List ℕ) → List ℕ → Type 0
-SpellsSegments config passive = Where config.bulk_memory_enabled (Joined (SpellsNone config.max_element_segments) (Listed SpellsBytes config.max_data_segments passive))
+SpellsSegments config passive =
+    let most = λ (count : ℕ). if config.bulk_memory_enabled then count else 0 in
+    Joined (SpellsNone (most config.max_element_segments)) (Listed SpellsBytes (most config.max_data_segments) passive)
 
 -- what may stand behind a member: so many numbers, and byte lists only with bulk memory
 pub record IsRest (config : Config) (numbers : List ℤ) (passive : List (List ℕ)) : Type 0 where
@@ -89,10 +81,6 @@ SpellsRest config groups funcs numbers passive =
     (Joined (SpellsNone config.max_exports)
     (Joined (Where (length types == 0) SpellsAnyByte)
     (Joined (SpellsNoStart config types funcs) (SpellsSegments config passive))))))
-
--- a mutable number
-abbrev pub mutable_i32 : GlobalType
-mutable_i32 = record { val_type = vals.I32; mutable = true; shared = false }
 
 -- a module has these types and functions
 pub record HasMember (groups : List (List SubType)) (funcs : List ℕ) (m : Parts) : Type 0 where

@@ -1,15 +1,18 @@
 -- What stands until every part of a module is drawn.
-use Rattle.std.specs.Prelude.{◌≡◌, ◌<◌, false, None, [], Result, Ok, Err}
+use Rattle.std.specs.Prelude.{◌≡◌, ◌<◌, false, None, IsSome, [], Result, Ok, Err}
 use Rattle.smith_bytes.specs.declared.error.Error.{Error}
 use Rattle.smith_bytes.specs.declared.error.Error.TheVariants as errors
 use Rattle.smith_bytes.specs.declared.error.Why.TheVariants.{Unmet}
+use Rattle.smith_bytes.specs.declared.error.Which.{Which}
+use Rattle.smith_bytes.specs.declared.error.Which.TheVariants as which
+use Rattle.smith_bytes.specs.declared.error.ShapeFault.TheVariants.{LeftOut}
 use Rattle.smith_bytes.specs.declared.error.Count.{Count}
 use Rattle.smith_bytes.specs.declared.error.Count.TheVariants as counts
 use Rattle.smith_config.specs.declared.config.Config.{Config}
 use Rattle.smith_config.specs.Faults.{IsFirstFault, Passes, minimum_of}
 use Rattle.smith_config.specs.Sanitized.{sanitized}
-use Rattle.smith_config.specs.Shapes.{no_shapes}
-use Rattle.wasm_smith.specs.Module.{Parts, IsValid}
+use Rattle.smith_config.specs.InUse.{HasNoShapes}
+use Rattle.wasm_smith.specs.Module.{Parts, IsValid, shown_config}
 use Rattle.wasm_smith.specs.Bounds.{KeepsBounds, MeetsMinimums}
 use Rattle.wasm_smith.specs.Promises.{WritesSections}
 
@@ -32,13 +35,14 @@ pub record HasNoMore (m : Parts) : Type 0 where
   pub interesting_values32 : m.interesting_values32 ≡ []
   pub interesting_values64 : m.interesting_values64 ≡ []
 
--- all that holds of a module that is drawn for a configuration
+-- all that holds of a module that is drawn for a configuration, which uses no shape
 pub record IsDrawn (config : Config) (m : Parts) : Type 0 where
-  pub accepts : m.config ≡ sanitized config
-  pub passes : Passes m.config
+  pub accepts : m.config ≡ shown_config config
+  pub passes : Passes (sanitized config)
+  pub no_shapes : HasNoShapes (sanitized config)
   pub valid : IsValid m
-  pub bounds : KeepsBounds no_shapes m
-  pub minimums : MeetsMinimums no_shapes m
+  pub bounds : KeepsBounds (sanitized config) m
+  pub minimums : MeetsMinimums (sanitized config) m
   pub sections : WritesSections m
   pub no_more : HasNoMore m
 
@@ -50,11 +54,19 @@ StaysUnmet config counts.Memories = ⊥
 StaysUnmet config counts.Funcs = (0 < config.min_funcs) × (config.gc_enabled ≡ false → config.min_types ≡ 0)
 StaysUnmet config count = 0 < minimum_of config count
 
+-- the shape for which a configuration is refused, since no part of it is used yet: the module shape, else the available
+-- imports, else the exports
+abbrev pub IsLeftOut : Config → Which → Type 0
+IsLeftOut config which.ModuleShape = IsSome config.module_shape
+IsLeftOut config which.AvailableImports = (config.module_shape ≡ None) × IsSome config.available_imports
+IsLeftOut config which.Exports = (config.module_shape ≡ None) × ((config.available_imports ≡ None) × IsSome config.exports)
+
 -- when each refusal may come, for a sanitised configuration: with less cause than it may when every part is drawn, but
--- for the minimums of parts that are not
+-- for shapes, and for the minimums of parts that are not
 abbrev pub MayComeOut : Config → Error → Type 0
 MayComeOut config (errors.Config fault) = IsFirstFault config fault
 MayComeOut config (errors.IncorrectFormat (Unmet count)) = StaysUnmet config count
+MayComeOut config (errors.Shape for_use LeftOut) = IsLeftOut config for_use
 MayComeOut config errors.Memory = Unit {0}
 MayComeOut config _ = ⊥
 

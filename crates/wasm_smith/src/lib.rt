@@ -11,7 +11,7 @@ pub use smith_bytes::{
     Arbitrary, ConfigFault, Count, Error, Int, ShapeFault, Unstructured, Which, Why,
     arbitrary_loop, limited_str, limited_string, unique_kebab_string, unique_string, unique_url,
 };
-pub use smith_config::{Config, MemoryOffsetChoices, OffsetChoicesFault};
+pub use smith_config::{Config, MemoryOffsetChoices, OffsetChoicesFault, Shape};
 pub use smith_draw::{
     Entities, Spaces, add_type, arbitrary_composite_type, arbitrary_field_type,
     arbitrary_func_type, arbitrary_heap_type, arbitrary_limits64, arbitrary_matching_field_type,

@@ -1,9 +1,9 @@
-ghost use Rattle.std.specs.Prelude.{◌≡◌, IfOk, IfErr};
+ghost use Rattle.std.specs.Prelude.{◌≡◌, false, IfOk, OnOk, IfErr, IsErrOf};
 ghost use Rattle.smith_bytes.specs.Source.{IsPiece};
 ghost use Rattle.smith_config.specs.Faults.{Passes};
 
-use crate::build::build;
-use smith_bytes::{Error, Unstructured};
+use crate::build::{build, shape_left_out};
+use smith_bytes::{Error, ShapeFault, Unstructured, Which};
 use smith_config::Config;
 use smith_types::{
     Code, ConstInstr, DataSegment, ElementSegment, ExportKind, GlobalType, Imports, Items,
@@ -81,36 +81,45 @@ impl Model for Module {
 
 impl Module {
     ghost use Rattle.smith_config.specs.Sanitized.{sanitized};
-    ghost use Rattle.smith_config.specs.Shapes.{no_shapes};
-    ghost use Rattle.wasm_smith.specs.Module.{IsValid};
+    ghost use Rattle.smith_config.specs.InUse.{HasNoShapes};
+    ghost use Rattle.wasm_smith.specs.Module.{IsValid, shown_config};
     ghost use Rattle.wasm_smith.specs.Bounds.{KeepsBounds, MeetsMinimums};
-    ghost use Rattle.wasm_smith.specs.Promises.{WritesSections};
+    ghost use Rattle.wasm_smith.specs.Promises.{HasNoFloats, WritesSections};
     ghost use Rattle.wasm_smith.specs.Refusals.{HasNoMinimums};
-    ghost use Rattle.wasm_smith.specs.ToCome.{HasNoMore, MayComeOut};
+    ghost use Rattle.wasm_smith.specs.ToCome.{HasNoMore, IsLeftOut, MayComeOut};
 
     /// Draws a module from the bytes. The configuration is sanitised and checked first.
     ///
-    /// It refuses a configuration that fails its check, a minimum that can't be met, and want of memory.
+    /// It refuses a configuration that fails its check, a minimum that can't be met, and want of memory. Until shapes
+    /// are used, it refuses a configuration with a shape before it draws anything, as one that is left out: the module
+    /// shape, else the available imports, else the exports.
     pub fn new(alloc: Global, mut config: Config, u: &mut Unstructured<'_>) -> Result<Module, Error>
-        ensures config { IfOk result (λ m. m.config ≡ sanitized config) }
-        ensures passes { IfOk result (λ m. Passes m.config) }
+        ensures config { IfOk result (λ m. m.config ≡ shown_config config) }
+        ensures passes { OnOk result (Passes (sanitized config)) }
+        ensures no_shapes { OnOk result (HasNoShapes (sanitized config)) }
         ensures valid { IfOk result IsValid }
-        ensures bounds { IfOk result (KeepsBounds no_shapes) }
-        ensures minimums { IfOk result (MeetsMinimums no_shapes) }
+        ensures bounds { IfOk result (KeepsBounds (sanitized config)) }
+        ensures minimums { IfOk result (MeetsMinimums (sanitized config)) }
+        ensures floats { config.allow_floats ≡ false → IfOk result HasNoFloats }
         ensures sections { IfOk result WritesSections }
         ensures no_more { IfOk result HasNoMore }
         ensures refusals { IfErr result (MayComeOut (sanitized config)) }
-        ensures needless { Passes (sanitized config) → HasNoMinimums (sanitized config) → IfErr result (λ e. e ≡ Error.Memory) }
+        ensures needless { Passes (sanitized config) → HasNoShapes (sanitized config) → HasNoMinimums (sanitized config) → IfErr result (λ e. e ≡ Error.Memory) }
+        ensures shape { (for_use : Which) → Passes (sanitized config) → IsLeftOut (sanitized config) for_use → IsErrOf result (Error.Shape for_use ShapeFault.LeftOut) }
+        ensures undrawn { (for_use : Which) → IsLeftOut (sanitized config) for_use → u.new ≡ u.old }
         ensures source { IsPiece u.old u.new }
     {
         config.sanitize();
         if let Err(fault) = config.check() {
             return Err(Error::Config(fault));
         }
+        if let Some(which) = shape_left_out(&config) {
+            return Err(Error::Shape(which, ShapeFault::LeftOut));
+        }
         build(alloc, config, u)
     }
 
-    /// The configuration that the module was drawn for, sanitised.
+    /// The configuration that the module was drawn for, sanitised. Its available imports were used up and show as none.
     pub fn config(&self) -> &Config
         ensures { result.now ≡ self.now.config }
     {

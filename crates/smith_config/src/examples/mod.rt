@@ -5,3 +5,4 @@ mod defaults;
 mod draws_in_order;
 mod shape_faults;
 mod shapes;
+mod shapes_in_use;

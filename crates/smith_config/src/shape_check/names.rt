@@ -17,11 +17,17 @@ pub(crate) fn are_names_distinct(
 {
     let mut names: HashSet<&str> = HashSet::new(alloc);
     for one in exports {
-        let name = one.0.as_str();
+        let name = name_of(one);
         let is_new = names.insert(name)?;
         if !is_new {
             return Ok(false);
         }
     }
     Ok(true)
+}
+
+fn name_of(one: &(Name, ExportKind, u32)) -> &str
+    ensures { result.now ≡ one.now.0 }
+{
+    one.0.as_str()
 }

@@ -36,11 +36,11 @@ fn expression(
     ensures left { KeepsPieces u.old u.new }
 {
     let choice = chosen(scope, wanted, *fuel, u)?;
+    *fuel = fuel.saturating_sub(1);
     if is_extended(choice) {
-        return extended_value(alloc, wanted, fuel, out, u);
+        return extended_constant(alloc, wanted, out, u);
     }
     let node = drawn_node(alloc, scope.spaces.types.types(), wanted, choice, u)?;
-    *fuel = fuel.saturating_sub(1);
     operands(alloc, scope, node.operands.as_slice(), fuel, out, u)?;
     out.push(node.instruction)
 }
@@ -109,24 +109,6 @@ fn limited_length(
     let length = u.int_in_range(0..=*fuel);
     *fuel -= length;
     out.push(ConstInstr::I32Const(length.cast_signed()))
-}
-
-/// Draws an extended constant behind the instructions that stand.
-fn extended_value(
-    alloc: Global,
-    wanted: ValType,
-    fuel: &mut u32,
-    out: &mut Items<ConstInstr>,
-    u: &mut Unstructured<'_>,
-) -> Result<(), Error>
-    requires { (wanted ≡ I32) ⊎ (wanted ≡ I64) }
-    ensures exact { OnOk result (state_of out.new fuel.new u.new ≡ state_of (out.old ++ (extended_at wanted u.old).0) (fuel.old - 1) (extended_at wanted u.old).1) }
-    ensures drawn { (context : Context) → IsTrue context.features.extended_const → OnOk result (IsDrawn context (wanted ∷ []) out.old fuel.old out.new fuel.new) }
-    ensures memory { IfErr result (λ e. e ≡ Error.Memory) }
-    ensures left { KeepsPieces u.old u.new }
-{
-    *fuel = fuel.saturating_sub(1);
-    extended_constant(alloc, wanted, out, u)
 }
 
 /// Draws an expression of its own, with all of the configured fuel.

@@ -88,7 +88,7 @@ pub(super) fn extended_constant(
     u: &mut Unstructured<'_>,
 ) -> Result<(), Error>
     requires { (wanted ≡ I32) ⊎ (wanted ≡ I64) }
-    ensures exact { OnOk result ((drawn : List ConstInstr) × (out.new ≡ out.old ++ drawn) × (extended_at wanted u.old ≡ (drawn, u.new))) }
+    ensures exact { OnOk result ((out.new ≡ out.old ++ (extended_at wanted u.old).0) × (u.new ≡ (extended_at wanted u.old).1)) }
     ensures short { OnOk result (length out.new ≤ length out.old + 23) }
     ensures puts { (context : Context) → IsTrue context.features.extended_const → OnOk result (Puts context (wanted ∷ []) out.old out.new) }
     ensures memory { IfErr result (λ e. e ≡ Error.Memory) }

@@ -1,6 +1,7 @@
 //! Drawn constant expressions, by recursion under fuel.
 
-ghost use Rattle.std.specs.Prelude.{◌≡◌, ◌≤◌, Some, None, [], length, IsTrue, IfOk, IfErr, IfSome, IsSome, false};
+ghost use Rattle.std.specs.Prelude.{◌≡◌, ◌≤◌, ◌↔◌, ℕ, Some, None, [], length, IsTrue, IfOk, IfErr, IfSome, IsSome, false};
+ghost use Rattle.std.specs.List.{Contains};
 ghost use Rattle.smith_bytes.specs.Source.{KeepsPieces};
 ghost use Rattle.smith_bytes.specs.Takes.{Takes};
 ghost use Rattle.smith_types.specs.ValidTypes.{IsValTypeValid};
@@ -10,7 +11,7 @@ ghost use Rattle.smith_config.specs.Features.{features_of};
 ghost use Rattle.smith_draw.specs.SpelledConstants.{SpellsConstExpr};
 ghost use Rattle.smith_draw.specs.ConstOffers.{readable_globals};
 ghost use Rattle.smith_draw.specs.ConstExprs.{const_expr_at, table_init_at};
-ghost use Rattle.smith_draw.specs.ConstScopes.{seen_by, AreSpacesValid};
+ghost use Rattle.smith_draw.specs.ConstScopes.{seen_by, IsReadable, AreSpacesValid};
 ghost use Rattle.smith_draw.specs.ConstBounds.{most_instructions, MayRefuseConstExpr};
 
 mod choice;
@@ -125,8 +126,10 @@ pub fn globals_for_const_expr(
     requires standing { AreSpacesValid config.now spaces.now }
     requires wanted { IsValTypeValid (features_of config.now) (length spaces.now.types.now.types) wanted }
     ensures exact { IfOk result (λ globals. globals ≡ readable_globals (seen_by config.now spaces.now allow_defined) wanted) }
+    ensures readable { IfOk result (λ globals. (index : ℕ) → Contains globals index ↔ IsReadable (seen_by config.now spaces.now allow_defined) wanted index) }
     ensures memory { IfErr result (λ e. e ≡ Error.Memory) }
 {
+    let _types = spaces.types.types();
     let entities = spaces.entities;
     let visible = visible_end(config, spaces, allow_defined);
     let globals = &entities.globals[..visible];

@@ -1,7 +1,7 @@
 ghost use Rattle.std.specs.Prelude.{◌≡◌, ◌+◌, ◌^◌, List, [], ◌∷◌, Some, None, length};
 ghost use Rattle.smith_types.specs.declared.composite_type.SubType.{SubType};
 ghost use Rattle.smith_types.specs.Types.{IsAlike, IsOrderly, AreConsecutive, AreCovered, end_from, next_start, next_group};
-ghost use Rattle.smith_types.specs.Space.{IsSound, MayFollow, HasDepth, AreDepths};
+ghost use Rattle.smith_types.specs.Space.{IsSound, MayFollow, HasDepth, AreDepths, AreExtensible, extensible_from};
 ghost use Rattle.smith_types.specs.ExampleTypes.{
   open_type,
   final_type,
@@ -71,4 +71,11 @@ fn depths()
     ensures of_all { AreDepths struct_and_below (1 ∷ 2 ∷ []) }
     ensures of_all_but_one { ¬ AreDepths struct_and_below (1 ∷ []) }
     ensures of_another { ¬ AreDepths struct_and_below (1 ∷ 1 ∷ []) }
+{}
+
+fn extensible()
+    ensures a_type_on_its_own { AreExtensible (open_type None empty_struct ∷ []) (0 ∷ []) }
+    ensures a_final_one { ¬ AreExtensible (final_type empty_struct ∷ []) (0 ∷ []) }
+    ensures behind_a_final_one { extensible_from 2 (final_type empty_struct ∷ open_type None empty_struct ∷ []) (1 ∷ 1 ∷ []) ≡ 3 ∷ [] }
+    ensures not_too_deep { extensible_from 5 (open_type None empty_struct ∷ open_type None empty_struct ∷ []) (59 ∷ 60 ∷ []) ≡ 5 ∷ [] }
 {}

@@ -14,7 +14,7 @@ pub(crate) fn code(alloc: Global, funcs: usize) -> Result<Items<Code>, Error>
     ensures each { IfOk result (λ code. length code ≡ funcs) }
     ensures memory { IfErr result (λ e. e ≡ Error.Memory) }
 {
-    let mut code = Items::new(alloc);
+    let mut code = Items::with_capacity(alloc, funcs)?;
     for _ in 0..funcs {
         code.push(Code {
             locals: Items::new(alloc),

@@ -1,5 +1,6 @@
-ghost use Rattle.std.specs.Prelude.{◌≡◌, ◌≤◌, ◌<◌, ◌+◌, ◌^◌, ◌⊎◌, false, length, slice_index_or, IfOk, IfErr, All};
+ghost use Rattle.std.specs.Prelude.{◌≡◌, ◌≤◌, ◌<◌, ◌+◌, ◌^◌, ◌⊎◌, false, [], length, IfOk, IfErr, All};
 ghost use Rattle.smith_bytes.specs.Source.{KeepsPieces};
+ghost use Rattle.smith_bytes.specs.Growth.{grow_at};
 ghost use Rattle.smith_types.specs.ValidTypes.{AreTypesValid};
 ghost use Rattle.smith_config.specs.Faults.{Passes};
 ghost use Rattle.smith_config.specs.Features.{features_of};
@@ -8,7 +9,7 @@ ghost use Rattle.smith_types.specs.Entities.{IsFuncValid};
 ghost use Rattle.wasm_smith.specs.ToCome.{MayComeOut};
 ghost use Rattle.smith_draw.specs.Choices.{chosen_at};
 ghost use Rattle.wasm_smith.specs.FuncTypes.{is_function, is_unshared_function, func_types};
-ghost use Rattle.wasm_smith.specs.Build.{Gives, chosen_funcs_at, funcs_at};
+ghost use Rattle.wasm_smith.specs.Build.{Gives, funcs_at};
 
 use smith_bytes::{Count, Error, Unstructured, Why, goes_on};
 use smith_config::Config;
@@ -40,47 +41,39 @@ fn count_func_types(types: &[SubType]) -> usize
     count
 }
 
-/// The index of the type at a place among those of unshared functions.
-fn func_type_at(types: &[SubType], mut place: usize) -> u32
-    requires { length types.now < 2 ^ 32 }
-    ensures { result ≡ slice_index_or (func_types types.now) place 0 }
+/// The indices of the types of unshared functions, by how many there are.
+fn func_types(alloc: Global, types: &[SubType], count: usize) -> Result<Items<u32>, Error>
+    requires few { length types.now < 2 ^ 32 }
+    ensures exact { IfOk result (λ indices. indices ≡ func_types types.now) }
+    ensures memory { IfErr result (λ e. e ≡ Error.Memory) }
 {
+    let mut indices = Items::with_capacity(alloc, count)?;
     for (index, t) in types.iter().enumerate() {
-        if !is_unshared_function(t) {
-            continue;
+        if is_unshared_function(t) {
+            indices.push(index as u32)?;
         }
-        if place == 0 {
-            return index as u32;
-        }
-        place -= 1;
     }
-    0
+    Ok(indices)
 }
 
-/// Chooses among the types of unshared functions, by the place of the last of them.
 #[tactic(auto, unfolding(smith_draw::specs::Choices::chosen_at))]
-fn choose_func_type(types: &[SubType], last: usize, u: &mut Unstructured<'_>) -> u32
-    requires few { length types.now < 2 ^ 32 }
-    requires last { length (func_types types.now) ≡ last + 1 }
-    ensures exact { chosen_at 0 (func_types types.now) u.old ≡ (result, u.new) }
+fn choose_func_type(indices: &[u32], u: &mut Unstructured<'_>) -> u32
+    requires { 0 < length indices.now }
+    ensures exact { chosen_at 0 indices.now u.old ≡ (result, u.new) }
     ensures left { KeepsPieces u.old u.new }
 {
-    let place = u.int_in_range(0..=last);
-    func_type_at(types, place)
+    indices[u.int_in_range(0..=indices.len() - 1)]
 }
 
-/// The type of each function, by the place of the last type that it may have.
-#[tactic(auto, unfolding(crate::specs::Build::chosen_funcs_at))]
+/// The type of each function, among those of these indices.
 fn chosen_funcs(
     alloc: Global,
     config: &Config,
-    types: &[SubType],
-    last: usize,
+    indices: &[u32],
     u: &mut Unstructured<'_>,
 ) -> Result<Items<u32>, Error>
-    requires few { length types.now < 2 ^ 32 }
-    requires last { length (func_types types.now) ≡ last + 1 }
-    ensures exact { IfOk result (λ funcs. chosen_funcs_at config.now types.now u.old ≡ (funcs, u.new)) }
+    requires { 0 < length indices.now }
+    ensures exact { IfOk result (λ funcs. grow_at (λ _. chosen_at 0 indices.now) config.now.min_funcs config.now.max_funcs [] u.old ≡ (funcs, u.new)) }
     ensures memory { IfErr result (λ e. e ≡ Error.Memory) }
     ensures left { KeepsPieces u.old u.new }
 {
@@ -89,14 +82,14 @@ fn chosen_funcs(
         if !goes_on(u, made, config.min_funcs) {
             return Ok(funcs);
         }
-        let func = choose_func_type(types, last, u);
+        let func = choose_func_type(indices, u);
         funcs.push(func)?;
     }
     Ok(funcs)
 }
 
 // The index of the type of each function: none where no type is that of an unshared function.
-#[tactic(auto, unfolding(crate::specs::Build::funcs_at))]
+#[tactic(auto, unfolding(crate::specs::Build::funcs_at, crate::specs::Build::chosen_funcs_at))]
 fn drawn_funcs(
     alloc: Global,
     config: &Config,
@@ -111,7 +104,8 @@ fn drawn_funcs(
 {
     let count = count_func_types(types);
     if count > 0 {
-        return chosen_funcs(alloc, config, types, count - 1, u);
+        let indices = func_types(alloc, types, count)?;
+        return chosen_funcs(alloc, config, indices.as_slice(), u);
     }
     if config.min_funcs > 0 {
         return Err(Error::IncorrectFormat(Why::Unmet(Count::Funcs)));

@@ -1,15 +1,34 @@
 //! Parts that are not drawn yet. Each takes the bool with which its loop would begin, where it would draw one.
 
-ghost use Rattle.std.specs.Prelude.{◌≡◌, ◌<◌, length, OnOk, IfErr};
+ghost use Rattle.std.specs.Prelude.{◌≡◌, ◌<◌, length, Some, OnOk, IfErr, IfSome, IfNone};
 ghost use Rattle.std.specs.List.{list_any};
 ghost use Rattle.smith_bytes.specs.Source.{KeepsPieces};
-ghost use Rattle.wasm_smith.specs.ToCome.{MayComeOut};
+ghost use Rattle.smith_config.specs.InUse.{HasNoShapes};
+ghost use Rattle.wasm_smith.specs.ToCome.{IsLeftOut, MayComeOut};
 ghost use Rattle.wasm_smith.specs.FuncTypes.{gives_nothing, is_tag_type};
 ghost use Rattle.wasm_smith.specs.Build.{Gives, passed_at, may_have_tags, tags_at, elements_at};
 
-use smith_bytes::{Count, Error, Unstructured, Why};
+use smith_bytes::{Count, Error, Unstructured, Which, Why};
 use smith_config::Config;
 use smith_types::{CompositeInnerType, SubType};
+
+/// The first of the shapes that are given, none of which is used yet.
+pub(crate) fn shape_left_out(config: &Config) -> Option<Which>
+    ensures given { IfSome result (IsLeftOut config.now) }
+    ensures first { (for_use : Which) → IsLeftOut config.now for_use → result ≡ Some for_use }
+    ensures none { IfNone result (HasNoShapes config.now) }
+{
+    if config.module_shape.is_some() {
+        return Some(Which::ModuleShape);
+    }
+    if config.available_imports.is_some() {
+        return Some(Which::AvailableImports);
+    }
+    if config.exports.is_some() {
+        return Some(Which::Exports);
+    }
+    None
+}
 
 // A part that is not drawn yet: of its loop only the bool that would begin it, and its minimum can't be met.
 #[tactic(auto, unfolding(crate::specs::Build::passed_at))]

@@ -1,5 +1,6 @@
-ghost use Rattle.std.specs.Prelude.{◌≡◌, ◌≤◌, ◌<◌, true, false, [], length, IfOk, IfErr};
+ghost use Rattle.std.specs.Prelude.{◌≡◌, ◌≤◌, ◌<◌, true, false, [], length, IfOk, IfErr, All};
 ghost use Rattle.smith_bytes.specs.Source.{KeepsPieces};
+ghost use Rattle.smith_types.specs.Floats.{HasNoFloat};
 ghost use Rattle.smith_types.specs.ValidTypes.{AreTypesValid};
 ghost use Rattle.smith_config.specs.Faults.{Passes};
 ghost use Rattle.smith_config.specs.Features.{features_of};
@@ -26,6 +27,7 @@ pub(crate) fn types(
     ensures valid { IfOk result (AreTypesValid (features_of config.now)) }
     ensures most { IfOk result (λ space. length space.types ≤ config.now.max_types) }
     ensures least { IfOk result (λ space. config.now.min_types ≤ length space.types) }
+    ensures floats { config.now.allow_floats ≡ false → IfOk result (λ space. All HasNoFloat space.types) }
     ensures memory { IfErr result (λ e. e ≡ Error.Memory) }
     ensures left { KeepsPieces u.old u.new }
 {

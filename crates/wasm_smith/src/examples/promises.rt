@@ -9,8 +9,7 @@ ghost use Rattle.smith_types.specs.declared.segments.Offset.TheVariants.{Const32
 ghost use Rattle.smith_types.specs.declared.code.Instructions.TheVariants.{Unreachable};
 ghost use Rattle.smith_types.specs.ExampleTypes.{struct, constant};
 ghost use Rattle.smith_config.specs.Config.{default_config};
-ghost use Rattle.smith_config.specs.Shapes.{no_shapes};
-ghost use Rattle.wasm_smith.specs.ExampleShapes.{for_imports, for_exports, environment, exporting};
+ghost use Rattle.wasm_smith.specs.ExampleShapes.{for_module, for_imports, for_exports, environment, exporting};
 ghost use Rattle.wasm_smith.specs.Promises.{HasDistinctImports, HasNoFloats, ExportsEverything, HasNoStart, IsInside, WritesSections, KeepsPromises};
 ghost use Rattle.wasm_smith.specs.ExampleParts.{global, number, import_named, passive_elements};
 ghost use Rattle.wasm_smith.specs.ExampleMembers.{final};
@@ -90,20 +89,21 @@ fn sections()
 {}
 
 fn asked_for()
-    ensures distinct_names { KeepsPromises true no_shapes (named_imports [] (codes "1")) }
-    ensures one_name_twice { ¬ KeepsPromises true no_shapes (named_imports [] []) }
-    ensures one_name_twice_where_it_may_be { KeepsPromises false no_shapes (named_imports [] []) }
-    ensures one_name_twice_in_a_shape { KeepsPromises true (for_imports environment) (named_imports [] []) }
-    ensures one_name_twice_beside_exports_of_a_shape { ¬ KeepsPromises true (for_exports exporting) (named_imports [] []) }
-    ensures a_float { ¬ KeepsPromises false no_shapes (record a_float { config = record default_config { allow_floats = false } }) }
-    ensures a_float_where_they_may_be { KeepsPromises false no_shapes a_float }
-    ensures a_float_beside_a_shape { KeepsPromises false (for_exports exporting) (record a_float { config = record default_config { allow_floats = false } }) }
-    ensures everything_exported { KeepsPromises false no_shapes two_exports }
-    ensures not_everything_exported { ¬ KeepsPromises false no_shapes (record one_function { config = two_exports.config }) }
-    ensures not_everything_beside_a_shape { KeepsPromises false (for_exports exporting) (record one_function { config = two_exports.config }) }
-    ensures a_start { ¬ KeepsPromises false no_shapes (record (filled_table (Const32 (pos 0))) { config = record default_config { allow_start_export = false } }) }
-    ensures a_start_where_it_may_be { KeepsPromises false no_shapes (filled_table (Const32 (pos 0))) }
-    ensures a_trap { ¬ KeepsPromises false no_shapes (record (filled_table (Const32 (pos 1))) { config = record default_config { disallow_traps = true } }) }
-    ensures a_trap_where_it_may_be { KeepsPromises false no_shapes (filled_table (Const32 (pos 1))) }
-    ensures no_section_of_types { ¬ KeepsPromises false no_shapes (record one_function { encodes_types = false }) }
+    ensures distinct_names { KeepsPromises true default_config (named_imports [] (codes "1")) }
+    ensures one_name_twice { ¬ KeepsPromises true default_config (named_imports [] []) }
+    ensures one_name_twice_where_it_may_be { KeepsPromises false default_config (named_imports [] []) }
+    ensures one_name_twice_in_a_shape { KeepsPromises true (for_imports environment default_config) (named_imports [] []) }
+    ensures one_name_twice_beside_exports_of_a_shape { ¬ KeepsPromises true (for_exports exporting default_config) (named_imports [] []) }
+    ensures a_float { ¬ KeepsPromises false (record default_config { allow_floats = false }) a_float }
+    ensures a_float_where_they_may_be { KeepsPromises false default_config a_float }
+    ensures a_float_beside_a_shape { KeepsPromises false (for_exports exporting (record default_config { allow_floats = false })) a_float }
+    ensures a_float_beside_an_unused_shape { KeepsPromises false (for_module environment (for_exports exporting (record default_config { allow_floats = false }))) a_float }
+    ensures everything_exported { KeepsPromises false two_exports.config two_exports }
+    ensures not_everything_exported { ¬ KeepsPromises false two_exports.config one_function }
+    ensures not_everything_beside_a_shape { KeepsPromises false (for_exports exporting two_exports.config) one_function }
+    ensures a_start { ¬ KeepsPromises false (record default_config { allow_start_export = false }) (filled_table (Const32 (pos 0))) }
+    ensures a_start_where_it_may_be { KeepsPromises false default_config (filled_table (Const32 (pos 0))) }
+    ensures a_trap { ¬ KeepsPromises false (record default_config { disallow_traps = true }) (filled_table (Const32 (pos 1))) }
+    ensures a_trap_where_it_may_be { KeepsPromises false default_config (filled_table (Const32 (pos 1))) }
+    ensures no_section_of_types { ¬ KeepsPromises false default_config (record one_function { encodes_types = false }) }
 {}

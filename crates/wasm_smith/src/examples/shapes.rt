@@ -1,9 +1,9 @@
-ghost use Rattle.std.specs.Prelude.{[], ◌∷◌, ◌≡◌, ◌++◌, take, drop, false, Some, None, codes};
+ghost use Rattle.std.specs.Prelude.{[], ◌∷◌, ◌≡◌, ◌++◌, take, drop, true, false, Some, None, codes};
 ghost use Rattle.smith_types.specs.declared.entity_type.EntityType.TheVariants as entity;
 ghost use Rattle.smith_types.specs.declared.entity_type.ExportKind.TheVariants as kind;
 ghost use Rattle.smith_types.specs.declared.imports.Imports.TheVariants.{Single, Compact1, Compact2};
 ghost use Rattle.smith_config.specs.Config.{default_config};
-ghost use Rattle.smith_config.specs.Shapes.{no_shapes};
+ghost use Rattle.wasm_smith.specs.Module.{shown_config};
 ghost use Rattle.wasm_smith.specs.ShapesKept.{kept_groups, taken_from, KeepsTypes, KeepsModuleShape, KeepsAvailableImports, KeepsExports, KeepsShapes, IsSameType};
 ghost use Rattle.wasm_smith.specs.ExampleParts.{memory};
 ghost use Rattle.wasm_smith.specs.ExampleModules.{group_of, one_function, one_of_each, three_memories, foo_type, quux_type};
@@ -92,13 +92,21 @@ fn exports()
 {}
 
 fn shapes()
-    ensures none { KeepsShapes [] no_shapes one_function }
-    ensures of_exports { KeepsShapes [] (for_exports five_exports) one_of_each }
-    ensures of_exports_not_kept { ¬ KeepsShapes [] (for_exports five_exports) one_function }
-    ensures of_a_module { KeepsShapes [] (for_module imported_memories) three_memories }
-    ensures of_a_module_not_kept { ¬ KeepsShapes [] (for_module imported_memories) one_function }
-    ensures of_available_imports { KeepsShapes (1 ∷ 1 ∷ []) (for_imports environment) with_environment }
-    ensures of_available_imports_not_kept { ¬ KeepsShapes (1 ∷ 0 ∷ []) (for_imports environment) with_environment }
+    ensures none { KeepsShapes default_config [] one_function }
+    ensures of_exports { KeepsShapes (for_exports five_exports default_config) [] one_of_each }
+    ensures of_exports_not_kept { ¬ KeepsShapes (for_exports five_exports default_config) [] one_function }
+    ensures of_a_module { KeepsShapes (for_module imported_memories default_config) [] three_memories }
+    ensures of_a_module_not_kept { ¬ KeepsShapes (for_module imported_memories default_config) [] one_function }
+    ensures of_available_imports { KeepsShapes (for_imports environment default_config) (1 ∷ 1 ∷ []) with_environment }
+    ensures of_a_module_beside_others { KeepsShapes (for_module imported_memories (for_imports environment (for_exports five_exports default_config))) [] three_memories }
+    ensures of_available_imports_not_kept { ¬ KeepsShapes (for_imports environment default_config) (1 ∷ 0 ∷ []) with_environment }
+{}
+
+fn shown()
+    ensures sanitised { shown_config (record default_config { gc_enabled = false; custom_descriptors_enabled = true }) ≡ record default_config { gc_enabled = false } }
+    ensures available_imports_are_used_up { shown_config (for_imports environment default_config) ≡ default_config }
+    ensures exports_stay { shown_config (for_exports exporting default_config) ≡ for_exports exporting default_config }
+    ensures a_module_shape_stays { shown_config (for_module environment (for_exports exporting default_config)) ≡ for_module environment default_config }
 {}
 
 fn types_of_exports()

@@ -12,7 +12,6 @@ ghost use Rattle.wasm_smith.specs.Spelling.{
   SpellsNone,
   SpellsNoTag,
   SpellsFuncs,
-  SpellsI32,
   SpellsGlobal,
   SpellsBytes,
   SpellsNoStart,
@@ -72,6 +71,7 @@ fn parts_of_members()
     ensures first_function_type { ¬ SpellsFuncs default_config (final plain_function ∷ final bytes_array ∷ final taking_a_number ∷ []) (2 ∷ []) (1 ∷ 0 ∷ 0 ∷ []) }
     ensures no_function_type { SpellsFuncs default_config (final bytes_array ∷ []) [] [] }
     ensures a_bool_without_function_type { ¬ SpellsFuncs default_config (final bytes_array ∷ []) [] (0 ∷ []) }
+    ensures a_function_of_no_type { ¬ SpellsFuncs default_config (final bytes_array ∷ []) (0 ∷ []) [] }
     ensures a_function_too_many { ¬ SpellsFuncs (record default_config { max_funcs = 0 }) (final plain_function ∷ []) (0 ∷ []) (1 ∷ []) }
 {}
 
@@ -91,13 +91,8 @@ fn parts_of_rests()
     ensures no_start_that_takes_a_number { SpellsNoStart default_config (final taking_a_number ∷ []) (0 ∷ []) [] }
     ensures no_start_that_gives_numbers { SpellsNoStart default_config (final giving_two ∷ []) (0 ∷ []) [] }
     ensures segments_without_bulk_memory { SpellsSegments (record default_config { bulk_memory_enabled = false }) [] [] }
+    ensures data_without_bulk_memory { ¬ SpellsSegments (record default_config { bulk_memory_enabled = false }) ((42 ∷ []) ∷ []) [] }
     ensures a_bool_without_bulk_memory { ¬ SpellsSegments (record default_config { bulk_memory_enabled = false }) [] (0 ∷ []) }
-{}
-
-fn numbers()
-    ensures number_of_four_bytes { SpellsI32 (negsuc 0) (255 ∷ 255 ∷ 255 ∷ 255 ∷ []) }
-    ensures number_of_three_bytes { ¬ SpellsI32 (pos 7) (7 ∷ 0 ∷ 0 ∷ []) }
-    ensures highest_byte_of_a_number_first { ¬ SpellsI32 (pos 7) (0 ∷ 0 ∷ 0 ∷ 7 ∷ []) }
 {}
 
 fn other_spellings()

@@ -1,6 +1,8 @@
 ghost use Rattle.std.specs.Prelude.{◌⊎◌, true, false, [], ◌∷◌, pos, Some, None, Ok, Err};
 ghost use Rattle.smith_bytes.specs.declared.error.Error.{Error};
-ghost use Rattle.smith_bytes.specs.declared.error.Error.TheVariants.{EmptyChoose, IncorrectFormat, Memory, Config as Faulty};
+ghost use Rattle.smith_bytes.specs.declared.error.Error.TheVariants.{EmptyChoose, IncorrectFormat, Memory, Config as Faulty, Shape as Misshapen};
+ghost use Rattle.smith_bytes.specs.declared.error.Which.TheVariants.{AvailableImports, Exports, ModuleShape};
+ghost use Rattle.smith_bytes.specs.declared.error.ShapeFault.TheVariants.{DuplicateExport, LeftOut};
 ghost use Rattle.smith_bytes.specs.declared.error.ConfigFault.TheVariants.{MinAboveMax};
 ghost use Rattle.smith_bytes.specs.declared.error.Count.TheVariants as counts;
 ghost use Rattle.smith_bytes.specs.declared.error.Why.TheVariants.{Unmet, TypeSize};
@@ -9,15 +11,14 @@ ghost use Rattle.smith_types.specs.declared.segments.Elements.TheVariants.{Funct
 ghost use Rattle.smith_types.specs.declared.entity_type.ExportKind.TheVariants as kind;
 ghost use Rattle.smith_config.specs.Config.{default_config};
 ghost use Rattle.smith_config.specs.declared.config.Config.{Config};
-ghost use Rattle.smith_config.specs.Shapes.{no_shapes};
 ghost use Rattle.wasm_smith.specs.Refusals.{MayRefuse};
 ghost use Rattle.wasm_smith.specs.ToCome.{MayComeOut, HasNoMore, IsDrawn, Allows};
 ghost use Rattle.wasm_smith.specs.ExampleParts.{table, number, passive_elements, active_data};
 ghost use Rattle.wasm_smith.specs.ExampleModules.{one_function, one_import, empty_module};
-ghost use Rattle.wasm_smith.specs.ExampleShapes.{IsUnmetToCome};
+ghost use Rattle.wasm_smith.specs.ExampleShapes.{for_module, for_imports, for_exports, environment, five_exports, IsRefusalToCome};
 
 fn refusals()
-    ensures allowed_later { (config : Config) (e : Error) → MayComeOut config e → MayRefuse no_shapes config e ⊎ IsUnmetToCome config e }
+    ensures allowed_later { (config : Config) (e : Error) → MayComeOut config e → MayRefuse config e ⊎ IsRefusalToCome config e }
     ensures tables_are_refused { MayComeOut (record default_config { min_tables = 1 }) (IncorrectFormat (Unmet counts.Tables)) }
     ensures types_are_not { ¬ MayComeOut (record default_config { min_types = 1 }) (IncorrectFormat (Unmet counts.Types)) }
     ensures memories_are_not { ¬ MayComeOut (record default_config { min_memories = 1 }) (IncorrectFormat (Unmet counts.Memories)) }
@@ -26,6 +27,14 @@ fn refusals()
     ensures nothing_asked_for { ¬ MayComeOut default_config (IncorrectFormat (Unmet counts.Tags)) }
     ensures crossed_bounds { MayComeOut (record default_config { min_types = 101 }) (Faulty (MinAboveMax counts.Types)) }
     ensures no_crossed_bounds { ¬ MayComeOut default_config (Faulty (MinAboveMax counts.Types)) }
+    ensures a_shape { MayComeOut (for_exports five_exports default_config) (Misshapen Exports LeftOut) }
+    ensures a_shape_by_another_fault { ¬ MayComeOut (for_exports five_exports default_config) (Misshapen Exports DuplicateExport) }
+    ensures a_shape_by_another_use { ¬ MayComeOut (for_exports five_exports default_config) (Misshapen ModuleShape LeftOut) }
+    ensures available_imports_first { MayComeOut (for_imports environment (for_exports five_exports default_config)) (Misshapen AvailableImports LeftOut) }
+    ensures exports_behind_available_imports { ¬ MayComeOut (for_imports environment (for_exports five_exports default_config)) (Misshapen Exports LeftOut) }
+    ensures a_module_shape_first { MayComeOut (for_module environment (for_exports five_exports default_config)) (Misshapen ModuleShape LeftOut) }
+    ensures exports_behind_a_module_shape { ¬ MayComeOut (for_module environment (for_exports five_exports default_config)) (Misshapen Exports LeftOut) }
+    ensures no_shape { ¬ MayComeOut default_config (Misshapen ModuleShape LeftOut) }
     ensures memory { MayComeOut default_config Memory }
     ensures choice { ¬ MayComeOut default_config EmptyChoose }
     ensures type_size { ¬ MayComeOut (record default_config { export_everything = true }) (IncorrectFormat TypeSize) }
@@ -59,6 +68,7 @@ fn drawn()
     ensures too_few { ¬ IsDrawn (record default_config { min_funcs = 2 }) (record one_function { config = record default_config { min_funcs = 2 } }) }
     ensures types_that_are_not_written { ¬ IsDrawn default_config (record one_function { encodes_types = false }) }
     ensures a_start { ¬ IsDrawn default_config (record one_function { start = Some 0 }) }
+    ensures beside_a_shape { ¬ IsDrawn (for_exports five_exports default_config) (record one_function { config = for_exports five_exports default_config }) }
     ensures a_module { Allows default_config (Ok one_function) }
     ensures another_module { ¬ Allows default_config (Ok (record one_function { groups = [] })) }
     ensures want_of_memory { Allows default_config (Err Memory) }

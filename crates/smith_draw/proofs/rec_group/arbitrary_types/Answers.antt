@@ -1,11 +1,14 @@
 use Rattle.std.proofs.Common.{◌≤◌, length}
 use Rattle.std.proofs.lemmas.Result.{on_ok_weaker}
 use Rattle.smith_bytes.specs.declared.error.Count.TheVariants.{Types}
+use Rattle.std.specs.Prelude.{All}
+use Rattle.smith_types.specs.Floats.{HasNoFloat}
 use Rattle.smith_types.specs.Space.{Space}
 use Rattle.smith_types.specs.ValidTypes.{AreTypesValid}
 use Rattle.smith_config.specs.Features.{features_of}
 use Rattle.smith_draw.proofs.ValueTypeLaws.{drawn_is}
 use Rattle.smith_draw.proofs.RecGroupLaws.{types_valid, types_most, types_least}
+use Rattle.smith_draw.proofs.FloatLaws.{types_no_float}
 use Rattle.smith_draw.proofs.Taken.{types_taken}
 use Rattle.smith_draw.proofs.rec_group.arbitrary_types.Goals as goal
 
@@ -32,3 +35,8 @@ returns-clause-least c =
 
 pub returns-clause-reach : goal.returns-clause-reach
 returns-clause-reach c = λ least empty. on_ok_weaker c.all_types.result (types_taken _ _ _ _ _ c.requires.sanitized least empty) c.all_types.ensures.exact
+
+pub returns-clause-floats : goal.returns-clause-floats
+returns-clause-floats c = λ off all.
+    on_ok_weaker c.all_types.result
+    (drawn_is (λ (space : Space). All HasNoFloat space.types) _ (types_no_float _ off _ _ all)) c.all_types.ensures.exact

@@ -1,24 +1,22 @@
-use Rattle.std.proofs.Common.{◌≡◌, ◌∙◌}
 use Rattle.std.specs.Prelude.{IsSome}
 use Rattle.std.proofs.lemmas.Result.{IfOk-weaker}
 use Rattle.smith_types.specs.ValidTypes.{IsTypeValid}
 use Rattle.smith_types.specs.declared.composite_type.SubType.{SubType}
 use Rattle.smith_config.specs.Features.{features_of}
-use Rattle.smith_draw.specs.SubTypes.{HasSuperType, supertypes}
+use Rattle.smith_draw.specs.SubTypes.{HasSuperType}
 use Rattle.smith_draw.proofs.ValueTypeLaws.{drawn_is}
 use Rattle.smith_draw.proofs.Supertypes.{some_listed}
 use Rattle.smith_draw.proofs.SubTypeLaws.{sub_type_of_valid, sub_type_of_follows, sub_type_of_some}
 use Rattle.smith_draw.proofs.sub_type.arbitrary_sub_type_of_super_type.Goals as goal
 
 pub sub_type_of-requires : goal.sub_type_of-requires
-sub_type_of-requires c = rw (c.as_slice.ensures, c.in_ok-indices.ensures.exact) (some_listed _ c.requires.valid.orderly c.requires.some)
+sub_type_of-requires c = rw c.supertypes-indices.ensures (some_listed _ c.requires.valid.orderly c.requires.some)
 
 pub returns : goal.returns
 returns c =
     let types = c.args.spaces.now.types.now.types in
-    let listed : c.as_slice.result.now ≡ supertypes types = c.as_slice.ensures ∙ c.in_ok-indices.ensures.exact in
     let some = some_listed types c.requires.valid.orderly c.requires.some in
-    let exact = rw listed at c.sub_type_of.ensures.exact in
+    let exact = rw c.supertypes-indices.ensures at c.sub_type_of.ensures.exact in
     record {
       exact = exact;
       below = IfOk-weaker c.sub_type_of.result _ _ (λ _ e. drawn_is (λ (t : SubType). IsSome t.supertype) _ (sub_type_of_some _ _ _ _ some) e) exact;

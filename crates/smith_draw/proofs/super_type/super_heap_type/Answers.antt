@@ -6,4 +6,4 @@ pub returns-then-not-config-clause-exact : goal.returns-then-not-config-clause-e
 returns-then-not-config-clause-exact c = super_without_gc _ _ _ _ c.if-not-config.true
 
 pub returns-clause-exact : goal.returns-clause-exact
-returns-clause-exact c = super_with_gc _ _ _ _ _ _ _ c.if-not-config.false c.types.ensures.value (c.as_slice.ensures ∙ c.in_ok-offered.ensures.exact) (c.choose_offered.ensures.exact _)
+returns-clause-exact c = super_with_gc _ _ _ _ _ _ _ c.if-not-config.false c.types.ensures.value (c.as_slice.ensures ∙ c.in_ok-offered.ensures.exact) (c.choose.ensures.exact _)

@@ -2,7 +2,7 @@ use Rattle.std.proofs.Common.{arith, ◌-◌, refl, sym, ◌∙◌}
 use Rattle.std.proofs.lemmas.Result.{on_ok_weaker}
 use Rattle.smith_draw.specs.ConstScopes.{context_of}
 use Rattle.smith_draw.specs.ConstExprs.{state_of}
-use Rattle.smith_draw.proofs.ConstStepLaws.{drawn_by, drawn_turn, passed_on, operand_refuses, node_refuses, node_made}
+use Rattle.smith_draw.proofs.ConstStepLaws.{drawn_by, drawn_extended, ok_both, drawn_turn, passed_on, operand_refuses, node_refuses, node_made}
 use Rattle.smith_draw.proofs.ConstExprLaws.{reading_more, none_chosen, extended_read, node_refused, node_read, reading_refused, reading_all}
 use Rattle.smith_draw.proofs.const_expr.drawn.+expression.Goals as goal
 
@@ -30,7 +30,14 @@ expression-returns-in_err-choice-clause-exact t c =
 
 pub expression-returns-then-is_extended-clause-exact : goal.expression-returns-then-is_extended-clause-exact
 expression-returns-then-is_extended-clause-exact t c =
-    extended_read (context_of c.args.scope.now) _ {s = state_of c.args.out.now c.args.fuel.now c.args.u.now} c.in_ok-choice.ensures.exact (sym c.is_extended.ensures ∙ c.if-is_extended.true) c.extended_value.ensures.exact c.extended_value.ensures.memory
+    extended_read (context_of c.args.scope.now) _ {s = state_of c.args.out.now c.args.fuel.now c.args.u.now} c.in_ok-choice.ensures.exact (sym c.is_extended.ensures ∙ c.if-is_extended.true) c.extended_constant.ensures.exact c.saturating_sub.ensures c.extended_constant.ensures.memory
+
+pub expression-returns-then-is_extended-clause-drawn : goal.expression-returns-then-is_extended-clause-drawn
+expression-returns-then-is_extended-clause-drawn t c =
+    let is = sym c.is_extended.ensures ∙ c.if-is_extended.true in
+    let (number, enabled) = c.in_ok-choice.ensures.fits.extended is in
+    let less = c.saturating_sub.ensures in
+    ok_both c.extended_constant.result (λ p q. drawn_extended p q (omega arith)) (c.extended_constant.ensures.puts (context_of c.args.scope.now) enabled) c.extended_constant.ensures.short
 
 pub expression-returns-in_err-operands-clause-exact : goal.expression-returns-in_err-operands-clause-exact
 expression-returns-in_err-operands-clause-exact t c =

@@ -1,4 +1,4 @@
-use Rattle.std.proofs.Common.{arith, [], ◌∷◌, None, true}
+use Rattle.std.proofs.Common.{arith, [], ◌∷◌, None, Some, true}
 use Rattle.std.specs.Prelude.{◌⊎◌}
 use Rattle.std.specs.List.{Contains}
 use Rattle.std.proofs.lemmas.List.Elements.{All-head}
@@ -9,6 +9,7 @@ use Rattle.smith_config.specs.declared.config.Config.{Config}
 use Rattle.smith_config.specs.Config.{default_config}
 use Rattle.smith_draw.specs.Bounds.{IsTableWithin, IsMemoryWithin}
 use Rattle.wasm_smith.specs.ExampleParts.{memory, shared_memory, table}
+use Rattle.wasm_smith.specs.ExampleShapes.{for_module, for_exports, empty_shape, exporting}
 use Rattle.wasm_smith.proofs.examples.bounds.limits.Goals as goal
 
 -- what is kept of a memory and of a table where no shape is given
@@ -27,6 +28,13 @@ not_forced = search arith
 memory_without_maximum : IsMemoryKept (record default_config { max_memories = 2; memory_max_size_required = true }) (memory 1 None) → ⊥
 memory_without_maximum = search arith
 
+-- no byte beside shapes of which the exports are not used
+abbrev no_bytes : Config
+no_bytes = for_module empty_shape (for_exports exporting (record default_config { max_memory32_bytes = 0 }))
+
+no_page : IsMemoryKept no_bytes (memory 1 (Some 10)) → ⊥
+no_page = search arith
+
 table_too_large : IsTableKept (record default_config { max_table_elements = 6788 }) (table funcref 6789 None) → ⊥
 table_too_large = search arith
 
@@ -38,6 +46,9 @@ table_without_maximum = search arith
 
 pub returns-clause-a_memory_too_large : goal.returns-clause-a_memory_too_large
 returns-clause-a_memory_too_large c = λ bounds. too_large (All-head (IsMemoryKept (record default_config { max_memory32_bytes = 65535 })) (memory 1 None) [] bounds.memories)
+
+pub returns-clause-a_memory_of_a_shape_beside_a_module : goal.returns-clause-a_memory_of_a_shape_beside_a_module
+returns-clause-a_memory_of_a_shape_beside_a_module c = λ bounds. no_page (All-head (IsMemoryKept no_bytes) (memory 1 (Some 10)) [] bounds.memories)
 
 pub returns-clause-a_page_that_is_not_forced : goal.returns-clause-a_page_that_is_not_forced
 returns-clause-a_page_that_is_not_forced c = λ bounds. not_forced (All-head (IsMemoryKept (record default_config { max_memory32_bytes = 0 })) (shared_memory 1) [] bounds.memories)

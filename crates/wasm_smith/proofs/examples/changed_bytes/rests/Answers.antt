@@ -5,8 +5,9 @@ use Rattle.smith_bytes.specs.Draws.{big_endian, little_endian, digit_count}
 use Rattle.smith_bytes.specs.Spelling.{SpellsBool, SpellsNumber, SpellsAnyByte, Joined, Listed}
 use Rattle.smith_config.specs.Config.{default_config}
 use Rattle.smith_draw.specs.Spelling.{SpellsUnshared}
-use Rattle.wasm_smith.specs.Spelling.{SpellsRest, SpellsNone, SpellsGlobal, SpellsI32, SpellsBytes, SpellsNoStart, SpellsSegments}
-use Rattle.wasm_smith.proofs.Spelled.{one_odd, bool_first, any_first, digit_first, this_first, word_first, without_nothing, opened}
+use Rattle.smith_draw.specs.SpelledConstants.{SpellsI32}
+use Rattle.wasm_smith.specs.Spelling.{SpellsRest, SpellsNone, SpellsGlobal, SpellsBytes, SpellsNoStart, SpellsSegments}
+use Rattle.wasm_smith.proofs.Spelled.{one_odd, bool_first, any_first, digit_first, this_first, word_first, without_nothing, global_parts, opened}
 use Rattle.wasm_smith.proofs.examples.changed_bytes.rests.Goals as goal
 
 -- what stands behind the globals, from the exports on
@@ -26,7 +27,7 @@ asked tables memories next class b h =
     let (memory, second) = bool_first first in
     let (more, third) = bool_first (opened (SpellsBool true) (Joined (SpellsGlobal default_config (pos 7)) (SpellsBool false)) second (λ part is. is)) in
     let global = opened (SpellsGlobal default_config (pos 7)) (SpellsBool false) third (λ part is. is) in
-    let (class, fourth) = digit_first refl (opened (SpellsNumber 0 0 5) (Joined (SpellsUnshared default_config) Mutable) global (λ part is. is)) in
+    let (class, fourth) = digit_first refl (opened (SpellsNumber 0 0 5) (Joined (SpellsUnshared default_config) Mutable) global (λ part is. global_parts default_config (pos 7) is)) in
     (table, (memory, (more, (class, without_nothing (opened (SpellsUnshared default_config) Mutable fourth (λ part is. is))))))
 
 -- its number, and that nothing follows

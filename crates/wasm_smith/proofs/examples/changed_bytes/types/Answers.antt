@@ -73,9 +73,9 @@ unfolding SpellsMember SpellsGroups
 returns-clause-a_byte_less c = λ h. let flag = without_nothing (without_nothing h) in cc flag.whole
 
 pub returns-clause-a_byte_more : goal.returns-clause-a_byte_more
-unfolding SpellsMember SpellsGroups
+unfolding SpellsMember SpellsGroups Listed
 returns-clause-a_byte_more c = λ h. let behind = any_first (without_nothing (without_nothing h)) in cc (without_nothing behind)
 
 pub returns-clause-another_import_flag : goal.returns-clause-another_import_flag
-unfolding SpellsMember SpellsGroups
+unfolding SpellsMember SpellsGroups Listed
 returns-clause-another_import_flag c = joined [] (7 ∷ []) refl (joined [] (7 ∷ []) refl (joined (7 ∷ []) [] (any_byte 7) (joined [] [] refl refl)))

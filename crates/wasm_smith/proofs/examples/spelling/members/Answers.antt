@@ -18,11 +18,11 @@ returns-clause-in_other_bytes c =
     one_function_spelled 3 102 255 4 2 4 8 6 9 2 5 200 refl (record { digits = refl; read = refl }) refl (record { digits = refl; read = refl }) refl refl refl refl refl refl refl
 
 pub returns-clause-nothing : goal.returns-clause-nothing
-unfolding SpellsMember SpellsGroups
+unfolding SpellsMember SpellsGroups Listed
 returns-clause-nothing c = joined (0 ∷ []) (0 ∷ 0 ∷ []) stop (joined (0 ∷ []) (0 ∷ []) stop (joined (0 ∷ []) [] (any_byte 0) (joined [] [] refl refl)))
 
 pub returns-clause-nothing_where_nothing_may_be : goal.returns-clause-nothing_where_nothing_may_be
-unfolding SpellsMember SpellsGroups
+unfolding SpellsMember SpellsGroups Listed
 returns-clause-nothing_where_nothing_may_be c = joined [] (0 ∷ []) refl (joined [] (0 ∷ []) refl (joined (0 ∷ []) [] (any_byte 0) (joined [] [] refl refl)))
 
 pub returns-clause-full_without_gc : goal.returns-clause-full_without_gc
@@ -36,7 +36,7 @@ returns-clause-full_without_gc c =
     joined (1 ∷ 1 ∷ 0 ∷ 0 ∷ 0 ∷ []) (0 ∷ 0 ∷ 0 ∷ 1 ∷ []) groups (joined (0 ∷ []) (0 ∷ 0 ∷ 1 ∷ []) stop (joined (0 ∷ []) (0 ∷ 1 ∷ []) (any_byte 0) (joined (0 ∷ []) (1 ∷ []) stop funcs)))
 
 pub returns-clause-array_and_struct : goal.returns-clause-array_and_struct
-unfolding SpellsMember SpellsGroups SpellsGroup SpellsSubTypes SpellsValType SpellsField SpellsStructType Each digit_count is_tag_type is_unshared_function
+unfolding SpellsMember SpellsGroups SpellsGroup SpellsSubTypes SpellsValType SpellsField SpellsStructType Each Listed digit_count is_tag_type is_unshared_function
 returns-clause-array_and_struct c =
     let array = joined [] (1 ∷ 0 ∷ 0 ∷ 0 ∷ []) refl (joined (1 ∷ []) (0 ∷ 0 ∷ 0 ∷ []) go (joined [] (0 ∷ 0 ∷ 0 ∷ []) refl
     (joined (0 ∷ []) (0 ∷ 0 ∷ []) (record { digits = refl; read = refl }) (joined (0 ∷ []) (0 ∷ []) (record { digits = refl; read = refl }) stop)))) in

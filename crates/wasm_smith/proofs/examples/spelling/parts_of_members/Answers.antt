@@ -30,13 +30,17 @@ unfolding is_tag_type
 returns-clause-no_tag_of_a_type_with_results c = refl
 
 pub returns-clause-no_function_type : goal.returns-clause-no_function_type
-unfolding is_unshared_function
+unfolding is_unshared_function Listed
 returns-clause-no_function_type c = refl
 
 pub returns-clause-a_bool_without_function_type : goal.returns-clause-a_bool_without_function_type
-unfolding is_unshared_function
+unfolding is_unshared_function Listed
 returns-clause-a_bool_without_function_type c = λ h. cc h
 
 pub returns-clause-a_function_too_many : goal.returns-clause-a_function_too_many
 unfolding is_unshared_function Listed
 returns-clause-a_function_too_many c = λ spelled. spelled
+
+pub returns-clause-a_function_of_no_type : goal.returns-clause-a_function_of_no_type
+unfolding is_unshared_function Listed
+returns-clause-a_function_of_no_type c = λ spelled. spelled

@@ -8,8 +8,9 @@ use Rattle.wasm_smith.proofs.examples.spelling.rests.Goals as goal
 pub returns-clause-a_number : goal.returns-clause-a_number
 unfolding SpellsRest SpellsGlobal Listed digit_count
 returns-clause-a_number c =
-    let number = joined (0 ∷ []) (1 ∷ 0 ∷ 7 ∷ 0 ∷ 0 ∷ 0 ∷ []) (record { digits = refl; read = refl }) (joined [] (1 ∷ 0 ∷ 7 ∷ 0 ∷ 0 ∷ 0 ∷ []) refl
-    (joined (1 ∷ []) (0 ∷ 7 ∷ 0 ∷ 0 ∷ 0 ∷ []) go (joined (0 ∷ []) (7 ∷ 0 ∷ 0 ∷ 0 ∷ []) (record { digits = refl; read = refl }) (record { four = refl; read = refl })))) in
+    let type = joined (0 ∷ []) (1 ∷ []) (record { digits = refl; read = refl }) (joined [] (1 ∷ []) refl go) in
+    let constant = joined (0 ∷ []) (7 ∷ 0 ∷ 0 ∷ 0 ∷ []) (record { digits = refl; read = refl }) (record { four = refl; read = refl }) in
+    let number = joined (0 ∷ 1 ∷ []) (0 ∷ 7 ∷ 0 ∷ 0 ∷ 0 ∷ []) type constant in
     let globals = joined (1 ∷ []) (0 ∷ 1 ∷ 0 ∷ 7 ∷ 0 ∷ 0 ∷ 0 ∷ 0 ∷ []) go (joined (0 ∷ 1 ∷ 0 ∷ 7 ∷ 0 ∷ 0 ∷ 0 ∷ []) (0 ∷ []) number stop) in
     joined (0 ∷ []) (0 ∷ 1 ∷ 0 ∷ 1 ∷ 0 ∷ 7 ∷ 0 ∷ 0 ∷ 0 ∷ 0 ∷ 0 ∷ 0 ∷ 0 ∷ 0 ∷ []) stop
     (joined (0 ∷ []) (1 ∷ 0 ∷ 1 ∷ 0 ∷ 7 ∷ 0 ∷ 0 ∷ 0 ∷ 0 ∷ 0 ∷ 0 ∷ 0 ∷ 0 ∷ []) stop

@@ -12,6 +12,7 @@ function_drawn : IsDrawn default_config one_function
 function_drawn = record {
   accepts = refl;
   passes = search rules;
+  no_shapes = search rules;
   valid = valid_alone one_function (search rules) (search rules) (function_types (module_features one_function)) functions_valid (search rules) (search rules) (search rules);
   bounds = search rules;
   minimums = search rules;

@@ -1,0 +1,21 @@
+-- The shapes that a configuration uses, and what they fix. Rules of this project.
+use Rattle.std.specs.Prelude.{◌≡◌, ◌⊎◌, None, IsSome}
+use Rattle.smith_config.specs.declared.config.Config.{Config}
+use Rattle.smith_config.specs.Shapes.{Shapes, in_use}
+
+-- the shapes that are used: beside a module shape no other is
+abbrev pub shapes_of : Config → Shapes
+shapes_of config = in_use (record { available_imports = config.available_imports; exports = config.exports; module_shape = config.module_shape })
+
+-- no shape is given
+pub record HasNoShapes (config : Config) : Type 0 where
+  pub available_imports : config.available_imports ≡ None
+  pub exports : config.exports ≡ None
+  pub module_shape : config.module_shape ≡ None
+
+-- a shape fixes the imports, or the exports
+abbrev pub FixesImports : Config → Type 0
+FixesImports config = IsSome config.available_imports ⊎ IsSome config.module_shape
+
+abbrev pub FixesExports : Config → Type 0
+FixesExports config = IsSome config.exports ⊎ IsSome config.module_shape

@@ -1,0 +1,25 @@
+-- What the written line says of the answer, and when writing it failed.
+use Rattle.std.proofs.Common.{rules, ◌≡◌, ℕ, Bool, true, false, List, Option, Result, Ok, Err, inl, refl}
+use Rattle.std.specs.Prelude.{◌⊎◌, ◌↔◌, ◌||◌, IfOk, IfErr, OnOk, IsErrOf, is_err}
+use Rattle.std.specs.Io.KnownBytes.{Appends}
+use Rattle.smith_bytes.specs.declared.error.Error.{Error}
+use Rattle.wasm_smith.specs.Module.{Parts}
+use Rattle.smith_run.specs.declared.run.Outcome.{Outcome}
+use Rattle.smith_run.specs.declared.run.RunFault.{RunFault}
+use Rattle.smith_run.specs.declared.run.RunFault.TheVariants as fault
+use Rattle.smith_run.specs.Input.{AreKnown}
+use Rattle.smith_run.specs.Line.{line_of}
+use Rattle.smith_run.specs.Run.{MayAnswer, IsAnswered, IsUnread, outcome_of}
+
+-- the line of an answer that the generator may give was written
+pub answer_told : (drawn : Bool) (left : Option (List ℕ)) (input : List ℕ) (answer : Result Parts Error) (before after : Option (List ℕ)) (result : Result Outcome RunFault)
+    → AreKnown left input → MayAnswer drawn input answer → OnOk result (Appends before after (line_of answer)) → IfOk result (λ outcome. outcome ≡ outcome_of answer)
+    → IfOk result (λ outcome. IsAnswered drawn left before after outcome ⊎ IsUnread before after outcome)
+answer_told drawn left input answer before after (Ok outcome) read allowed written told = inl (record { input = input; answer = answer; read = read; allowed = allowed; written = written; told = told })
+answer_told drawn left input answer before after (Err e) read allowed written told = search rules
+
+-- the sink has failed exactly where this is answered
+pub failed_writing : (before after : Bool) (result : Result Outcome RunFault) → before ≡ false → IfErr result (λ e. e ≡ fault.Write) → after ≡ (before || is_err result)
+    → IsErrOf result fault.Write ↔ (after ≡ true)
+failed_writing before after (Ok outcome) sound told failed = search rules
+failed_writing before after (Err e) sound told failed = search rules

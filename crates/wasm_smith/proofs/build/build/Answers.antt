@@ -1,7 +1,0 @@
-use Rattle.std.proofs.Common.{rules}
-use Rattle.wasm_smith.proofs.Alone.{valid_alone}
-use Rattle.wasm_smith.proofs.build.build.Goals as goal
-
-pub returns-clause-valid : goal.returns-clause-valid
-returns-clause-valid c =
-    valid_alone _ (search rules) (search rules) c.in_ok-types.ensures.valid (search rules) c.in_ok-memories.ensures.valid c.in_ok-memories.ensures.several c.in_ok-code.ensures.valid
