@@ -2,6 +2,8 @@
 #![tactic(auto)]
 
 #[cfg(test)]
+mod clones;
+#[cfg(test)]
 mod configuration;
 #[cfg(test)]
 mod constant_expressions;
@@ -26,6 +28,8 @@ mod matching_types;
 #[cfg(test)]
 mod modules;
 #[cfg(test)]
+mod section_flags;
+#[cfg(test)]
 mod shape_parts;
 #[cfg(test)]
 mod shapes;
@@ -33,5 +37,7 @@ mod shapes;
 mod subtypes;
 #[cfg(test)]
 mod type_space;
+#[cfg(test)]
+mod unmet_minimums;
 #[cfg(test)]
 mod valid_shapes;
