@@ -49,3 +49,24 @@ fn one_name_alone(rt: HostRuntime) -> Result<(), AllocError> {
     assert_eq!(rt; text.as_str(), "part 0 names no kind of instructions");
     Ok(())
 }
+
+#[test]
+fn the_name_of_each_kind(rt: HostRuntime) {
+    let cases = [
+        ("numeric_non_float", InstructionKind::NumericInt),
+        ("numeric", InstructionKind::Numeric),
+        ("vector_non_float", InstructionKind::VectorInt),
+        ("vector", InstructionKind::Vector),
+        ("reference", InstructionKind::Reference),
+        ("parametric", InstructionKind::Parametric),
+        ("variable", InstructionKind::Variable),
+        ("table", InstructionKind::Table),
+        ("memory_non_float", InstructionKind::MemoryInt),
+        ("memory", InstructionKind::Memory),
+        ("control", InstructionKind::Control),
+        ("aggregate", InstructionKind::Aggregate),
+    ];
+    for (text, want) in cases {
+        assert_eq!(rt; InstructionKind::from_str(text), Ok(want), "at {text}");
+    }
+}

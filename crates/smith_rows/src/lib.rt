@@ -2,6 +2,8 @@
 #![tactic(auto)]
 
 #[cfg(test)]
+mod clones;
+#[cfg(test)]
 mod configuration;
 #[cfg(test)]
 mod configured_shapes;
@@ -10,11 +12,15 @@ mod constant_expressions;
 #[cfg(test)]
 mod drawn_types;
 #[cfg(test)]
+mod first_faults;
+#[cfg(test)]
 mod function_types;
 #[cfg(test)]
 mod gc_draws;
 #[cfg(test)]
 mod gc_modules;
+#[cfg(test)]
+mod hostile_shapes;
 #[cfg(test)]
 mod kinds;
 #[cfg(test)]
@@ -24,6 +30,16 @@ mod matching_types;
 #[cfg(test)]
 mod modules;
 #[cfg(test)]
+mod section_flags;
+#[cfg(test)]
+mod shape_parts;
+#[cfg(test)]
+mod shapes;
+#[cfg(test)]
 mod subtypes;
 #[cfg(test)]
 mod type_space;
+#[cfg(test)]
+mod unmet_minimums;
+#[cfg(test)]
+mod valid_shapes;

@@ -120,37 +120,49 @@ fn empty_input_makes_the_empty_module(rt: HostRuntime) -> Result<(), Fail> {
     Ok(())
 }
 
-// Whether an input is told by a line that begins with these counts.
-fn is_told(alloc: Global, input: &[u8], counts: &str) -> bool {
+// Whether an input, with a drawn configuration or without, is told by a line that begins with these counts.
+fn is_told(alloc: Global, drawn: bool, input: &[u8], counts: &str) -> bool {
     let mut out = Vec::new(alloc);
     let mut source = FromRead::new(input);
     let mut sink = FromWrite::new(&mut out);
-    let ended = run(alloc, false, &mut source, &mut sink);
+    let ended = run(alloc, drawn, &mut source, &mut sink);
     ended == Ok(Outcome::Made) && out.as_slice().starts_with(counts.as_bytes())
 }
 
 #[test]
-fn groups_of_types_are_counted(rt: HostRuntime) -> Result<(), Fail> {
-    let alloc = rt.alloc();
-    assert!(rt; is_told(alloc, &[1], "types 0 groups 1 imports 0 tags 0 funcs 0 "));
-    assert!(rt; is_told(alloc, &[1, 2], "types 2 groups 1 imports 0 tags 0 funcs 0 "));
-    let with_a_clone = [1, 1, 0, 0, 0, 0, 1];
-    assert!(rt;
-        is_told(
-            alloc,
-            &with_a_clone,
-            "types 2 groups 2 imports 0 tags 0 funcs 0 "
-        )
-    );
-    let with_a_function = [1, 1, 1, 1, 0, 0, 0, 0, 0, 0, 1, 0];
-    assert!(rt;
-        is_told(
-            alloc,
-            &with_a_function,
-            "types 1 groups 1 imports 0 tags 0 funcs 1 "
-        )
-    );
-    Ok(())
+fn groups_of_types_are_counted(rt: HostRuntime) {
+    let cases = [
+        ([1].as_slice(), "types 0 groups 1 imports 0 tags 0 funcs 0 "),
+        ([1, 2].as_slice(), "types 2 groups 1 imports 0 tags 0 funcs 0 "),
+        (
+            [1, 1, 0, 0, 0, 0, 1].as_slice(),
+            "types 2 groups 2 imports 0 tags 0 funcs 0 ",
+        ),
+        (
+            [1, 1, 1, 1, 0, 0, 0, 0, 0, 0, 1, 0].as_slice(),
+            "types 1 groups 1 imports 0 tags 0 funcs 1 ",
+        ),
+    ];
+    for (input, counts) in cases {
+        assert!(rt; is_told(rt.alloc(), false, input, counts), "at {counts}");
+    }
+}
+
+// The bytes of a configuration that has one type at most and everything else off, and of what is behind it: whether there is a
+// type, which then is of functions that take and give nothing.
+const fn one_type_at_most(is_there: u8) -> [u8; 77] {
+    let mut input = [0; 77];
+    input[1] = 1;
+    input[74] = is_there;
+    input
+}
+
+#[test]
+fn the_module_is_drawn_behind_the_configuration(rt: HostRuntime) {
+    let none = "types 0 groups 0 imports 0 tags 0 funcs 0 ";
+    let one = "types 1 groups 1 imports 0 tags 0 funcs 0 ";
+    assert!(rt; is_told(rt.alloc(), true, &one_type_at_most(0), none));
+    assert!(rt; is_told(rt.alloc(), true, &one_type_at_most(1), one));
 }
 
 #[test]

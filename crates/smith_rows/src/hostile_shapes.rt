@@ -1,0 +1,116 @@
+use crate::shape_parts::{chain, empty_struct, fault, module_fault, no_shape, of_type, of_types};
+use smith_config::{Config, Shape};
+use smith_types::{
+    CompositeInnerType, CompositeType, ExportKind, FieldType, GlobalType, HeapType, Items, Name,
+    RefType, StorageType, StructType, SubType, ValType,
+};
+use std::alloc::Global;
+use std::test::Fail;
+use wasm_smith::{Error, ShapeFault, Which};
+
+// How many there are of each thing.
+const MANY: u32 = 10_000;
+
+#[test]
+fn a_chain_of_supertypes(rt: HostRuntime) -> Result<(), Fail> {
+    let shape = of_types(rt.alloc(), chain(rt.alloc(), MANY)?)?;
+    assert_eq!(rt; module_fault(rt.alloc(), &shape)?, Some(ShapeFault::Limit));
+    Ok(())
+}
+
+// Struct types each of which is below the next, and the last below the first.
+fn cycle(alloc: Global) -> Result<Items<SubType>, Error> {
+    let mut types = Items::new(alloc);
+    for index in 0..MANY {
+        types.push(empty_struct(alloc, false, Some((index + 1) % MANY)))?;
+    }
+    Ok(types)
+}
+
+#[test]
+fn a_cycle_of_supertypes(rt: HostRuntime) -> Result<(), Fail> {
+    let shape = of_types(rt.alloc(), cycle(rt.alloc())?)?;
+    assert_eq!(rt;
+        module_fault(rt.alloc(), &shape)?,
+        Some(ShapeFault::BadType)
+    );
+    Ok(())
+}
+
+// A struct type of many fields that refer to it.
+fn wide_struct(alloc: Global) -> Result<SubType, Error> {
+    let mut fields = Items::new(alloc);
+    for _ in 0..MANY {
+        fields.push(FieldType {
+            element_type: StorageType::Val(ValType::Ref(RefType {
+                nullable: true,
+                heap_type: HeapType::Concrete(0),
+            })),
+            mutable: false,
+        })?;
+    }
+    Ok(SubType {
+        is_final: true,
+        supertype: None,
+        composite_type: CompositeType {
+            inner: CompositeInnerType::Struct(StructType { fields }),
+            shared: false,
+        },
+    })
+}
+
+#[test]
+fn a_struct_of_many_fields(rt: HostRuntime) -> Result<(), Fail> {
+    let shape = of_type(rt.alloc(), wide_struct(rt.alloc())?)?;
+    assert_eq!(rt; module_fault(rt.alloc(), &shape)?, None);
+    Ok(())
+}
+
+#[test]
+fn indices_at_the_limit(rt: HostRuntime) -> Result<(), Fail> {
+    let mut function = no_shape(rt.alloc());
+    function.funcs.push(u32::MAX)?;
+    assert_eq!(rt;
+        module_fault(rt.alloc(), &function)?,
+        Some(ShapeFault::Index)
+    );
+    let supertype = of_type(rt.alloc(), empty_struct(rt.alloc(), false, Some(u32::MAX)))?;
+    assert_eq!(rt;
+        module_fault(rt.alloc(), &supertype)?,
+        Some(ShapeFault::BadType)
+    );
+    Ok(())
+}
+
+// Many exports of one global, each with a name of its own but the last, which has this one.
+fn many_exports(alloc: Global, last: &str) -> Result<Shape, Error> {
+    let mut shape = no_shape(alloc);
+    shape.globals.push(GlobalType {
+        val_type: ValType::I32,
+        mutable: false,
+        shared: false,
+    })?;
+    for index in 1..MANY {
+        let name = Name::from_string(format!(in alloc; "{index}")?);
+        shape.exports.push((name, ExportKind::Global, 0))?;
+    }
+    shape
+        .exports
+        .push((Name::from_text(alloc, last)?, ExportKind::Global, 0))?;
+    Ok(shape)
+}
+
+#[test]
+fn ten_thousand_exports(rt: HostRuntime) -> Result<(), Fail> {
+    let cases = [
+        ("0", None),
+        ("1", Some(ShapeFault::DuplicateExport)),
+        ("9999", Some(ShapeFault::DuplicateExport)),
+    ];
+    for (last, want) in cases {
+        let shape = many_exports(rt.alloc(), last)?;
+        let found = fault(rt.alloc(), Which::Exports, &Config::default(), &shape)?;
+        assert_eq!(rt; found, want, "at {last}");
+    }
+    Ok(())
+}

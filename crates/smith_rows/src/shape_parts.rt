@@ -1,0 +1,96 @@
+use smith_config::{Config, Shape};
+use smith_types::{
+    CompositeInnerType, CompositeType, FuncType, Items, StructType, SubType, ValType,
+};
+use std::alloc::Global;
+use wasm_smith::{Error, ShapeFault, Which};
+
+/// A shape of nothing.
+pub(crate) fn no_shape(alloc: Global) -> Shape {
+    Shape {
+        groups: Items::new(alloc),
+        imports: Items::new(alloc),
+        funcs: Items::new(alloc),
+        tags: Items::new(alloc),
+        tables: Items::new(alloc),
+        memories: Items::new(alloc),
+        globals: Items::new(alloc),
+        exports: Items::new(alloc),
+    }
+}
+
+/// A shape of one group of types.
+pub(crate) fn of_types(alloc: Global, types: Items<SubType>) -> Result<Shape, Error> {
+    let mut shape = no_shape(alloc);
+    shape.groups.push(types)?;
+    Ok(shape)
+}
+
+/// A shape of one type.
+pub(crate) fn of_type(alloc: Global, ty: SubType) -> Result<Shape, Error> {
+    let mut types = Items::new(alloc);
+    types.push(ty)?;
+    of_types(alloc, types)
+}
+
+/// A struct type without fields.
+pub(crate) fn empty_struct(alloc: Global, is_final: bool, supertype: Option<u32>) -> SubType {
+    SubType {
+        is_final,
+        supertype,
+        composite_type: CompositeType {
+            inner: CompositeInnerType::Struct(StructType {
+                fields: Items::new(alloc),
+            }),
+            shared: false,
+        },
+    }
+}
+
+/// A function type that takes and gives these.
+pub(crate) fn function(
+    alloc: Global,
+    is_final: bool,
+    params: &[ValType],
+    results: &[ValType],
+) -> Result<SubType, Error> {
+    Ok(SubType {
+        is_final,
+        supertype: None,
+        composite_type: CompositeType {
+            inner: CompositeInnerType::Func(FuncType {
+                params: Items::from_slice(alloc, params)?,
+                results: Items::from_slice(alloc, results)?,
+            }),
+            shared: false,
+        },
+    })
+}
+
+/// Struct types, so many, each below the one before.
+pub(crate) fn chain(alloc: Global, count: u32) -> Result<Items<SubType>, Error> {
+    let mut types = Items::new(alloc);
+    for index in 0..count {
+        types.push(empty_struct(alloc, false, index.checked_sub(1)))?;
+    }
+    Ok(types)
+}
+
+/// The fault of a shape in a use, if it has one.
+pub(crate) fn fault(
+    alloc: Global,
+    which: Which,
+    config: &Config,
+    shape: &Shape,
+) -> Result<Option<ShapeFault>, Error> {
+    match shape.check(alloc, which, config) {
+        Ok(()) => Ok(None),
+        Err(Error::Shape(named, found)) if named == which => Ok(Some(found)),
+        Err(other) => Err(other),
+    }
+}
+
+/// The fault of a module shape under the defaults, if it has one.
+pub(crate) fn module_fault(alloc: Global, shape: &Shape) -> Result<Option<ShapeFault>, Error> {
+    fault(alloc, Which::ModuleShape, &Config::default(), shape)
+}

@@ -1,0 +1,70 @@
+use std::alloc::Global;
+use wasm_smith::{Config, Count, Error, Module, Unstructured, Why};
+
+// The defaults, with one thing of this kind at least.
+fn at_least_one(count: Count) -> Config {
+    let mut config = Config::default();
+    match count {
+        Count::Types => config.min_types = 1,
+        Count::Imports => config.min_imports = 1,
+        Count::Tags => config.min_tags = 1,
+        Count::Funcs => config.min_funcs = 1,
+        Count::Globals => config.min_globals = 1,
+        Count::Exports => config.min_exports = 1,
+        Count::ElementSegments => config.min_element_segments = 1,
+        Count::Elements => config.min_elements = 1,
+        Count::DataSegments => config.min_data_segments = 1,
+        Count::Memories => config.min_memories = 1,
+        Count::Tables => config.min_tables = 1,
+    }
+    config
+}
+
+// Why a configuration gives no module on no bytes, if it gives none.
+fn refusal(alloc: Global, config: Config) -> Option<Error> {
+    Module::new(alloc, config, &mut Unstructured::new(&[])).err()
+}
+
+#[test]
+fn minimums_that_are_not_met(rt: HostRuntime) {
+    let unmet = [
+        Count::Imports,
+        Count::Tags,
+        Count::Funcs,
+        Count::Globals,
+        Count::Exports,
+        Count::ElementSegments,
+        Count::Elements,
+        Count::DataSegments,
+        Count::Tables,
+    ];
+    for count in unmet {
+        let found = refusal(rt.alloc(), at_least_one(count));
+        assert_eq!(rt; found, Some(Error::IncorrectFormat(Why::Unmet(count))));
+    }
+}
+
+#[test]
+fn minimums_that_are_met(rt: HostRuntime) {
+    for count in [Count::Types, Count::Memories] {
+        let found = refusal(rt.alloc(), at_least_one(count));
+        assert_eq!(rt; found, None, "at {count}");
+    }
+}
+
+#[test]
+fn exports_where_everything_is_exported(rt: HostRuntime) {
+    let mut config = at_least_one(Count::Exports);
+    config.export_everything = true;
+    let unmet = Error::IncorrectFormat(Why::Unmet(Count::Exports));
+    assert_eq!(rt; refusal(rt.alloc(), config), Some(unmet));
+}
+
+#[test]
+fn the_first_section_is_told(rt: HostRuntime) {
+    let mut config = at_least_one(Count::Tables);
+    config.min_imports = 1;
+    config.min_globals = 1;
+    let unmet = Error::IncorrectFormat(Why::Unmet(Count::Imports));
+    assert_eq!(rt; refusal(rt.alloc(), config), Some(unmet));
+}

@@ -1,0 +1,183 @@
+use crate::shape_parts::{fault, function, no_shape};
+use smith_config::{Config, Shape};
+use smith_types::{
+    AbstractHeapType, EntityType, ExportKind, GlobalType, HeapType, Import, ImportItem, Imports,
+    Items, MemoryType, Name, RefType, TableType, ValType,
+};
+use std::alloc::Global;
+use std::test::Fail;
+use wasm_smith::{Error, Which};
+
+fn name(alloc: Global, text: &str) -> Result<Name, Error> {
+    Name::from_text(alloc, text)
+}
+
+const PAGE: MemoryType = MemoryType {
+    minimum: 1,
+    maximum: None,
+    memory64: false,
+    shared: false,
+    page_size_log2: None,
+};
+
+// A group of imports of different types: so many memories.
+fn of_items(alloc: Global, count: u32) -> Result<Imports, Error> {
+    let mut items = Items::new(alloc);
+    for _ in 0..count {
+        items.push(ImportItem {
+            name: name(alloc, "memory")?,
+            entity_type: EntityType::Memory(PAGE),
+        })?;
+    }
+    Ok(Imports::Compact1 {
+        module: name(alloc, "env")?,
+        items,
+    })
+}
+
+// A group of imports of one type.
+fn of_names(alloc: Global, entity_type: EntityType, count: u32) -> Result<Imports, Error> {
+    let mut names = Items::new(alloc);
+    for _ in 0..count {
+        names.push(name(alloc, "memory")?)?;
+    }
+    Ok(Imports::Compact2 {
+        module: name(alloc, "env")?,
+        entity_type,
+        names,
+    })
+}
+
+// A group of each form with imports, one of each without, and one of no function without.
+fn of_groups(alloc: Global) -> Result<Shape, Error> {
+    let mut shape = no_shape(alloc);
+    shape.imports.push(of_items(alloc, 1)?)?;
+    shape.imports.push(of_items(alloc, 0)?)?;
+    shape
+        .imports
+        .push(of_names(alloc, EntityType::Memory(PAGE), 2)?)?;
+    shape
+        .imports
+        .push(of_names(alloc, EntityType::Memory(PAGE), 0)?)?;
+    shape
+        .imports
+        .push(of_names(alloc, EntityType::Func(9), 0)?)?;
+    Ok(shape)
+}
+
+#[test]
+fn groups_of_imports_count_as_flat(rt: HostRuntime) -> Result<(), Fail> {
+    let shape = of_groups(rt.alloc())?;
+    for compact in [true, false] {
+        let mut config = Config::default();
+        config.max_memories = 3;
+        config.compact_imports_enabled = compact;
+        let found = fault(rt.alloc(), Which::ModuleShape, &config, &shape)?;
+        assert_eq!(rt; found, None, "with compact groups: {compact}");
+    }
+    Ok(())
+}
+
+// Adds an export of the first of its kind.
+fn export(alloc: Global, shape: &mut Shape, text: &str, kind: ExportKind) -> Result<(), Error> {
+    shape.exports.push((name(alloc, text)?, kind, 0))
+}
+
+// A type of functions, and one of tags, in groups of their own.
+fn of_two_types(alloc: Global) -> Result<Shape, Error> {
+    let mut shape = no_shape(alloc);
+    let mut functions = Items::new(alloc);
+    functions.push(function(alloc, true, &[ValType::I32], &[ValType::I64])?)?;
+    shape.groups.push(functions)?;
+    let mut tags = Items::new(alloc);
+    tags.push(function(alloc, true, &[ValType::F32], &[])?)?;
+    shape.groups.push(tags)?;
+    Ok(shape)
+}
+
+// One definition of each kind.
+fn define(shape: &mut Shape) -> Result<(), Error> {
+    shape.funcs.push(0)?;
+    shape.tags.push(1)?;
+    shape.globals.push(GlobalType {
+        val_type: ValType::F32,
+        mutable: false,
+        shared: false,
+    })?;
+    shape.memories.push(MemoryType {
+        maximum: Some(10),
+        ..PAGE
+    })?;
+    shape.tables.push(TableType {
+        element_type: RefType {
+            nullable: true,
+            heap_type: HeapType::Abstract {
+                shared: false,
+                ty: AbstractHeapType::Extern,
+            },
+        },
+        minimum: 5,
+        maximum: Some(10),
+        table64: false,
+        shared: false,
+    })
+}
+
+// One export of each kind.
+fn of_exports(alloc: Global) -> Result<Shape, Error> {
+    let mut shape = of_two_types(alloc)?;
+    define(&mut shape)?;
+    export(alloc, &mut shape, "foo", ExportKind::Func)?;
+    export(alloc, &mut shape, "bar", ExportKind::Global)?;
+    export(alloc, &mut shape, "baz", ExportKind::Memory)?;
+    export(alloc, &mut shape, "qux", ExportKind::Table)?;
+    export(alloc, &mut shape, "quux", ExportKind::Tag)?;
+    Ok(shape)
+}
+
+#[test]
+fn an_export_of_each_kind(rt: HostRuntime) -> Result<(), Fail> {
+    let shape = of_exports(rt.alloc())?;
+    let mut config = Config::default();
+    config.max_memories = 2;
+    for which in [Which::Exports, Which::ModuleShape, Which::AvailableImports] {
+        assert_eq!(rt;
+            fault(rt.alloc(), which, &config, &shape)?,
+            None,
+            "as {which}"
+        );
+    }
+    Ok(())
+}
+
+// A function and a memory to import.
+fn of_imports(alloc: Global) -> Result<Shape, Error> {
+    let mut shape = no_shape(alloc);
+    let mut functions = Items::new(alloc);
+    functions.push(function(alloc, true, &[ValType::I32], &[])?)?;
+    shape.groups.push(functions)?;
+    shape.imports.push(Imports::Single(Import {
+        module: name(alloc, "env")?,
+        name: name(alloc, "ping")?,
+        entity_type: EntityType::Func(0),
+    }))?;
+    shape.imports.push(Imports::Single(Import {
+        module: name(alloc, "env")?,
+        name: name(alloc, "memory")?,
+        entity_type: EntityType::Memory(PAGE),
+    }))?;
+    Ok(shape)
+}
+
+#[test]
+fn two_available_imports(rt: HostRuntime) -> Result<(), Fail> {
+    let shape = of_imports(rt.alloc())?;
+    let found = fault(
+        rt.alloc(),
+        Which::AvailableImports,
+        &Config::default(),
+        &shape,
+    )?;
+    assert_eq!(rt; found, None);
+    Ok(())
+}
