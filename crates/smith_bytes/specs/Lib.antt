@@ -1,6 +1,7 @@
 pub mod Source
 pub mod Draws
 pub mod Growth
+pub mod ByteLists
 pub mod Spelling
 pub mod Takes
 pub mod ReadLaws

@@ -122,3 +122,11 @@ func_and_below upper lower = open_type None (Func upper) ∷ open_type (Some 0) 
 -- these types in one group
 abbrev pub in_one_group : List SubType → Space
 in_one_group types = record { types = types; groups = range 0 (length types) ∷ [] }
+
+-- the abstract heap types that nothing is above
+abbrev pub tops : List AbstractHeapType
+tops = heap.Any ∷ heap.Func ∷ heap.Extern ∷ heap.Exn ∷ []
+
+-- the abstract heap types that stand directly below eq
+abbrev pub kinds_of_values : List AbstractHeapType
+kinds_of_values = heap.I31 ∷ heap.Struct ∷ heap.Array ∷ []

@@ -1,4 +1,6 @@
--- Subtyping of heap, reference and value types. Sections are those of the WebAssembly Core Specification 3.0.
+-- Subtyping of heap, reference and value types. Sections are those of the WebAssembly Core Specification 3.0. Rules of this
+-- project: equal groups are different types, so that fewer types are below one another than in the standard; sharedness; exact
+-- types.
 use Rattle.std.specs.Prelude.{◌≡◌, ◌<◌, Bool, true, false, IsTrue, List, length, Some, slice_get}
 use Rattle.smith_types.specs.declared.value_type.AbstractHeapType.{AbstractHeapType}
 use Rattle.smith_types.specs.declared.value_type.AbstractHeapType.TheVariants.{Func, Extern, Any, None, NoExtern, NoFunc, Eq, Struct, Array, I31, Exn, NoExn}

@@ -6,6 +6,7 @@ use crate::value_type::ValType;
 pub struct Code {
     /// The types of the locals behind the parameters.
     pub locals: Items<ValType>,
+    /// The instructions of the body.
     pub instructions: Instructions,
 }
 

@@ -12,7 +12,9 @@ pub enum StorageType {
 /// A field of a struct, or the element of an array. The standard's section Structure, Composite Types.
 #[derive(Clone, Copy, Debug, PartialEq)]
 pub struct FieldType {
+    /// The type that the field stores.
     pub element_type: StorageType,
+    /// Whether the field may be set.
     pub mutable: bool,
 }
 
@@ -23,13 +25,16 @@ pub struct ArrayType(pub FieldType);
 /// A struct type. The standard's section Structure, Composite Types.
 #[derive(Debug, Drop, PartialEq)]
 pub struct StructType {
+    /// The fields, in the order of their indices.
     pub fields: Items<FieldType>,
 }
 
 /// A function type. The standard's section Structure, Composite Types.
 #[derive(Debug, Drop, PartialEq)]
 pub struct FuncType {
+    /// The types of the parameters, in order.
     pub params: Items<ValType>,
+    /// The types of the results, in order.
     pub results: Items<ValType>,
 }
 
@@ -45,15 +50,19 @@ pub enum CompositeInnerType {
 /// shared-everything-threads proposal.
 #[derive(Debug, Drop, PartialEq)]
 pub struct CompositeType {
+    /// The array, function or struct type.
     pub inner: CompositeInnerType,
+    /// Whether values of the type may be shared among threads.
     pub shared: bool,
 }
 
 /// One type of a recursive group. The standard's section Structure, Recursive Types.
 #[derive(Debug, Drop, PartialEq)]
 pub struct SubType {
+    /// Whether the type has no subtypes.
     pub is_final: bool,
     /// The index of the declared supertype.
     pub supertype: Option<u32>,
+    /// The structure of the type.
     pub composite_type: CompositeType,
 }

@@ -3,21 +3,28 @@ use crate::value_type::{RefType, ValType};
 /// A table type: the standard's section Structure, Table Types. Limits are in elements.
 #[derive(Clone, Copy, Debug, PartialEq)]
 pub struct TableType {
+    /// The type of each element.
     pub element_type: RefType,
+    /// The least number of elements.
     pub minimum: u64,
+    /// The greatest number of elements, where there is one.
     pub maximum: Option<u64>,
     /// Whether indices are 64 bits wide.
     pub table64: bool,
+    /// Whether the table may be shared among threads.
     pub shared: bool,
 }
 
 /// A memory type: the standard's section Structure, Memory Types. Limits are in pages.
 #[derive(Clone, Copy, Debug, PartialEq)]
 pub struct MemoryType {
+    /// The least number of pages.
     pub minimum: u64,
+    /// The greatest number of pages, where there is one.
     pub maximum: Option<u64>,
     /// Whether addresses are 64 bits wide.
     pub memory64: bool,
+    /// Whether the memory may be shared among threads.
     pub shared: bool,
     /// The binary logarithm of the bytes of a page; 16 where it is not stated.
     pub page_size_log2: Option<u32>,
@@ -26,8 +33,11 @@ pub struct MemoryType {
 /// A global type: the standard's section Structure, Global Types.
 #[derive(Clone, Copy, Debug, PartialEq)]
 pub struct GlobalType {
+    /// The type of the value.
     pub val_type: ValType,
+    /// Whether the value may be set.
     pub mutable: bool,
+    /// Whether the global may be shared among threads.
     pub shared: bool,
 }
 

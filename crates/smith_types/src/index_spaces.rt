@@ -13,10 +13,15 @@ use std::alloc::Global;
 /// The index spaces but that of types: Structure, Indices. Tags and functions are given by the indices of their types.
 #[derive(Drop)]
 pub struct IndexSpaces {
+    /// The index of the type of each tag.
     pub tags: Items<u32>,
+    /// The index of the type of each function.
     pub funcs: Items<u32>,
+    /// The type of each table.
     pub tables: Items<TableType>,
+    /// The type of each memory.
     pub memories: Items<MemoryType>,
+    /// The type of each global.
     pub globals: Items<GlobalType>,
 }
 

@@ -40,6 +40,7 @@ pub enum InstructionKind {
 #[derive(Clone, Copy, Debug, PartialEq, Eq, Error)]
 #[error("part {part} names no kind of instructions")]
 pub struct UnknownKind {
+    /// The place of the name among those that were read, from 0.
     pub part: usize,
 }
 

@@ -54,7 +54,7 @@ impl<T> Items<T> {
         })
     }
 
-    /// The list of these elements. Takes no memory.
+    /// The list of the elements of `items`. Takes no memory.
     pub fn from_vec(items: Vec<T>) -> Self
         ensures { result ≡ items.items }
     {
@@ -69,18 +69,21 @@ impl<T> Items<T> {
         items
     }
 
+    /// Lends the elements, in order.
     pub fn as_slice(&self) -> &[T]
         ensures { result.now ≡ self.now }
     {
         self.items.as_slice()
     }
 
+    /// The number of elements.
     pub fn len(&self) -> usize
         ensures { result ≡ length self.now }
     {
         self.items.len()
     }
 
+    /// Whether the list has no element.
     pub fn is_empty(&self) -> bool
         ensures { IsTrue result ↔ (length self.now ≡ 0) }
     {
@@ -168,7 +171,7 @@ impl Model for Name {
 }
 
 impl Name {
-    /// The name that is this text. Takes no memory.
+    /// The name that is `text`. Takes no memory.
     pub fn from_string(text: String) -> Self
         ensures { result ≡ string_bytes text }
     {
@@ -191,6 +194,7 @@ impl Name {
         text
     }
 
+    /// Lends the text.
     pub fn as_str(&self) -> &str
         ensures { result.now ≡ self.now }
     {
@@ -204,6 +208,7 @@ impl Name {
         self.text.len()
     }
 
+    /// Whether the name has no byte.
     pub fn is_empty(&self) -> bool
         ensures { IsTrue result ↔ (length self.now ≡ 0) }
     {

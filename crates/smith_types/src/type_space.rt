@@ -71,7 +71,7 @@ impl TypeSpace {
     ghost use Rattle.smith_types.specs.Types.{next_group, AreCovered};
     ghost use Rattle.smith_types.specs.Sizes.{size_in, IsTyped};
 
-    /// A space without types and groups, which takes no memory. It grows by this allocator.
+    /// A space without types and groups, which takes no memory. It grows by `alloc`.
     pub fn new(alloc: Global) -> TypeSpace
         ensures { result ≡ record { types = []; groups = [] } }
     {
@@ -97,6 +97,7 @@ impl TypeSpace {
         })
     }
 
+    /// The types, in the order of their indices.
     pub fn types(&self) -> &[SubType]
         ensures value { result.now ≡ self.now.types }
         ensures sound { IsSound self.now }
@@ -111,7 +112,8 @@ impl TypeSpace {
         self.groups.as_slice()
     }
 
-    /// How many types stand on the way up from this one, itself included.
+    /// The depth of the type `index`, which stands: the number of types on the way up from it by declared supertypes, itself
+    /// included.
     pub fn depth(&self, index: u32) -> u32
         requires { index < length self.now.types }
         ensures { HasDepth self.now.types index result }
@@ -127,14 +129,18 @@ impl TypeSpace {
         self.extensible.as_slice()
     }
 
-    /// Whether `push_type` may add this type.
+    /// Whether [`TypeSpace::push_type`] may add the type `added`: its supertype stands and is of its kind and sharedness, and an
+    /// index is left.
     pub fn may_follow(&self, added: &SubType) -> bool
         ensures { IsTrue result ↔ MayFollow self.now.types added.now }
     {
         self.types.len() < u32::MAX as usize && is_supertype_at(self.types.as_slice(), added)
     }
 
-    /// Adds a type last and gives its index. It belongs to no group until `push_group`.
+    /// Adds the type `added` last and gives its index. The type belongs to no group until [`TypeSpace::push_group`].
+    ///
+    /// The supertype of `added`, if there is one, stands and is of its kind and sharedness, and an index is left:
+    /// [`TypeSpace::may_follow`] tells it. After want of memory the space is unchanged, and `added` is gone.
     pub fn push_type(&mut self, added: SubType) -> Result<u32, Error>
         requires { MayFollow self.old.types added }
         ensures ok { OnOk result (self.new ≡ record self.old { types = self.old.types ++ added ∷ [] }) }

@@ -19,17 +19,20 @@ pub enum AbstractHeapType {
 /// descriptors proposal, shared types those of the shared-everything-threads proposal.
 #[derive(Clone, Copy, Debug, PartialEq)]
 pub enum HeapType {
+    /// The abstract type `ty`, shared among threads or not.
     Abstract { shared: bool, ty: AbstractHeapType },
-    /// The type of this index, and those below it.
+    /// The type of an index, and those below it.
     Concrete(u32),
-    /// The type of this index alone.
+    /// The type of an index alone.
     Exact(u32),
 }
 
 /// A reference type: the standard's section Structure, Reference Types.
 #[derive(Clone, Copy, Debug, PartialEq)]
 pub struct RefType {
+    /// Whether the reference may be null.
     pub nullable: bool,
+    /// The heap type of what the reference refers to.
     pub heap_type: HeapType,
 }
 

@@ -15,3 +15,4 @@ pub mod ExamplePromises
 pub mod FamilyFits
 pub mod NearNumbers
 pub mod NoFloats
+pub mod SpellExamples

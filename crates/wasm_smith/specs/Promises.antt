@@ -86,8 +86,12 @@ pub record WritesSections (m : Parts) : Type 0 where
   pub types : 0 < length m.types → IsTrue m.encodes_types
   pub imports : 0 < length m.imports → IsTrue m.encodes_imports
 
--- what a module keeps where it is asked for: distinct names by the call that draws it, not where a shape fixes the imports;
--- all exports not where a shape fixes them; no floats where no shape is given
+-- no global counts fuel, as in every module that is drawn: a counter is added later, where a module's calls are to end
+abbrev pub HasNoFuel : Parts → Type 0
+HasNoFuel m = m.fuel_globals ≡ []
+
+-- what a drawn module keeps where it is asked for: distinct names by the call that draws it, not where a shape fixes the
+-- imports; all exports not where a shape fixes them; no floats where no shape is given; and always no counter of fuel
 pub record KeepsPromises (distinct : Bool) (config : Config) (m : Parts) : Type 0 where
   pub names : IsTrue distinct → (FixesImports config → ⊥) → HasDistinctImports m
   pub no_floats : config.allow_floats ≡ false → HasNoShapes config → HasNoFloats m
@@ -95,3 +99,4 @@ pub record KeepsPromises (distinct : Bool) (config : Config) (m : Parts) : Type 
   pub no_start : config.allow_start_export ≡ false → HasNoStart m
   pub inside : IsTrue config.disallow_traps → IsInside m
   pub sections : WritesSections m
+  pub no_fuel : HasNoFuel m

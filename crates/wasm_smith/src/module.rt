@@ -85,7 +85,7 @@ impl Module {
     ghost use Rattle.wasm_smith.specs.Build.{IsGiven};
     ghost use Rattle.wasm_smith.specs.Module.{IsValid, shown_config};
     ghost use Rattle.wasm_smith.specs.Bounds.{KeepsBounds, MeetsMinimums};
-    ghost use Rattle.wasm_smith.specs.Promises.{HasNoFloats, WritesSections};
+    ghost use Rattle.wasm_smith.specs.Promises.{HasNoFloats, HasNoFuel, WritesSections};
     ghost use Rattle.wasm_smith.specs.Refusals.{HasNoMinimums};
     ghost use Rattle.wasm_smith.specs.ToCome.{HasNoMore, IsFaulted, IsLeftOut, MayComeOut};
 
@@ -105,6 +105,7 @@ impl Module {
         ensures minimums { IfOk result (MeetsMinimums (sanitized config)) }
         ensures floats { config.allow_floats ≡ false → IfOk result HasNoFloats }
         ensures sections { IfOk result WritesSections }
+        ensures fuel { IfOk result HasNoFuel }
         ensures no_more { IfOk result HasNoMore }
         ensures refusals { IfErr result (MayComeOut (sanitized config)) }
         ensures needless { Passes (sanitized config) → HasNoShapes (sanitized config) → HasNoMinimums (sanitized config) → IfErr result (λ e. e ≡ Error.Memory) }

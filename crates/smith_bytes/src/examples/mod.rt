@@ -1,5 +1,6 @@
 // Values that meet the definitions, and values that do not. The clauses are proved; nothing calls these functions.
 
+mod byte_lists;
 mod draws;
 mod growth;
 mod kebab;

@@ -139,6 +139,8 @@ fn globals()
     ensures read_by_a_table { IsConstExpr (seeing (context_with usual_features 0) (seen_by_tables (context_with usual_features 0))) I32 (GlobalGet 0 ∷ []) }
     ensures defined_read_by_a_table { ¬ IsConstExpr (seeing (context_with usual_features 0) (seen_by_tables (context_with usual_features 0))) I32 (GlobalGet 2 ∷ []) }
     ensures defined_read_by_a_segment { IsConstExpr (seeing (context_with usual_features 0) (seen_by_segments (context_with usual_features 0))) I32 (GlobalGet 2 ∷ []) }
+    ensures imported_read_without_gc { IsConstExpr (seeing (context_with without_gc 0) (seen_by_segments (context_with without_gc 0))) I32 (GlobalGet 0 ∷ []) }
+    ensures imported_read_by_a_global_without_gc { IsConstExpr (seeing (context_with without_gc 0) (seen_by_global (context_with without_gc 0) 2)) I32 (GlobalGet 0 ∷ []) }
     ensures defined_read_without_gc { ¬ IsConstExpr (seeing (context_with without_gc 0) (seen_by_segments (context_with without_gc 0))) I32 (GlobalGet 2 ∷ []) }
 {}
 
@@ -212,6 +214,10 @@ fn conversions()
     ensures null_given_out { IsConstExpr (context_with usual_features 2) (Ref (nullable (plain heap.Extern))) (RefNull (plain heap.Any) ∷ ExternConvertAny ∷ []) }
     ensures i31_given_out { IsConstExpr (context_with usual_features 2) (Ref (not_null (plain heap.Extern))) (I32Const (pos 1) ∷ RefI31 ∷ ExternConvertAny ∷ []) }
     ensures shared_given_out { HasType (context_with usual_features 2) ExternConvertAny (shared_anyref ∷ []) (Ref (nullable (Abstract true heap.Extern))) }
+    ensures shared_taken_in { HasType (context_with usual_features 2) AnyConvertExtern (Ref (nullable (Abstract true heap.Extern)) ∷ []) shared_anyref }
+    ensures shared_taken_in_as_unshared { ¬ HasType (context_with usual_features 2) AnyConvertExtern (Ref (nullable (Abstract true heap.Extern)) ∷ []) anyref }
+    ensures unshared_taken_in_as_shared { ¬ HasType (context_with usual_features 2) AnyConvertExtern (Ref (nullable (plain heap.Extern)) ∷ []) shared_anyref }
+    ensures shared_given_out_as_unshared { ¬ HasType (context_with usual_features 2) ExternConvertAny (shared_anyref ∷ []) (Ref (nullable (plain heap.Extern))) }
     ensures null_stays_null { ¬ HasType (context_with usual_features 2) ExternConvertAny (anyref ∷ []) (Ref (not_null (plain heap.Extern))) }
     ensures sharedness_stays { ¬ HasType (context_with usual_features 2) ExternConvertAny (anyref ∷ []) (Ref (nullable (Abstract true heap.Extern))) }
     ensures the_other_way { HasType (context_with usual_features 2) AnyConvertExtern (Ref (not_null (plain heap.Extern)) ∷ []) (Ref (not_null (plain heap.Any))) }

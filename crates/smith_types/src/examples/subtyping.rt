@@ -1,11 +1,13 @@
 ghost use Rattle.std.specs.Prelude.{◌≡◌, [], ◌∷◌, true, IsTrue, Some, None};
+ghost use Rattle.std.specs.List.{All};
+ghost use Rattle.smith_types.specs.declared.value_type.AbstractHeapType.{AbstractHeapType};
 ghost use Rattle.smith_types.specs.declared.value_type.AbstractHeapType.TheVariants as heap;
 ghost use Rattle.smith_types.specs.declared.value_type.HeapType.TheVariants.{Abstract, Concrete, Exact};
 ghost use Rattle.smith_types.specs.declared.value_type.ValType.TheVariants.{I32, I64, F32, F64, V128, Ref};
 ghost use Rattle.smith_types.specs.declared.composite_type.StorageType.TheVariants.{I8};
 ghost use Rattle.smith_types.specs.Kinds.{kind, bottom, shared};
 ghost use Rattle.smith_types.specs.Subtyping.{IsBelow, IsRefBelow, IsValBelow, IsInRange, IsValInRange};
-ghost use Rattle.smith_types.specs.ExampleTypes.{open_type, final_type, shared_type, array, empty_struct, plain_func, struct_and_below, plain, nullable, not_null, anyref, eqref, variable};
+ghost use Rattle.smith_types.specs.ExampleTypes.{open_type, final_type, shared_type, array, empty_struct, plain_func, struct_and_below, plain, nullable, not_null, anyref, eqref, variable, tops, kinds_of_values};
 
 fn kinds()
     ensures of_a_struct { kind (final_type empty_struct) ≡ heap.Struct }
@@ -49,6 +51,11 @@ fn abstract_types()
     ensures shared_ones { IsBelow [] (Abstract true heap.I31) (Abstract true heap.Any) }
     ensures shared_below_plain { ¬ IsBelow [] (Abstract true heap.Eq) (plain heap.Any) }
     ensures plain_below_shared { ¬ IsBelow [] (plain heap.Eq) (Abstract true heap.Any) }
+{}
+
+fn abstract_types_apart()
+    ensures tops { All (λ (a : AbstractHeapType). All (λ (b : AbstractHeapType). IsBelow [] (plain a) (plain b) → a ≡ b) tops) tops }
+    ensures kinds { All (λ (a : AbstractHeapType). All (λ (b : AbstractHeapType). IsBelow [] (plain a) (plain b) → a ≡ b) kinds_of_values) kinds_of_values }
 {}
 
 fn concrete_types()

@@ -10,7 +10,7 @@ ghost use Rattle.smith_types.specs.declared.code.Instructions.TheVariants.{Unrea
 ghost use Rattle.smith_types.specs.ExampleTypes.{struct, constant};
 ghost use Rattle.smith_config.specs.Config.{default_config};
 ghost use Rattle.wasm_smith.specs.ExampleShapes.{for_module, for_imports, for_exports, environment, exporting};
-ghost use Rattle.wasm_smith.specs.Promises.{HasDistinctImports, HasNoFloats, ExportsEverything, HasNoStart, IsInside, WritesSections, KeepsPromises};
+ghost use Rattle.wasm_smith.specs.Promises.{HasDistinctImports, HasNoFloats, ExportsEverything, HasNoStart, HasNoFuel, IsInside, WritesSections, KeepsPromises};
 ghost use Rattle.wasm_smith.specs.ExampleParts.{global, number, import_named, passive_elements};
 ghost use Rattle.wasm_smith.specs.ExampleMembers.{final};
 ghost use Rattle.wasm_smith.specs.ExampleModules.{
@@ -88,6 +88,11 @@ fn sections()
     ensures of_nothing { WritesSections (record one_number { encodes_types = true; encodes_imports = true }) }
 {}
 
+fn fuel()
+    ensures none { HasNoFuel one_number }
+    ensures a_counter { ¬ HasNoFuel counting_fuel }
+{}
+
 fn asked_for()
     ensures distinct_names { KeepsPromises true default_config (named_imports [] (codes "1")) }
     ensures one_name_twice { ¬ KeepsPromises true default_config (named_imports [] []) }
@@ -105,5 +110,7 @@ fn asked_for()
     ensures a_start_where_it_may_be { KeepsPromises false default_config (filled_table (Const32 (pos 0))) }
     ensures a_trap { ¬ KeepsPromises false (record default_config { disallow_traps = true }) (filled_table (Const32 (pos 1))) }
     ensures a_trap_where_it_may_be { KeepsPromises false default_config (filled_table (Const32 (pos 1))) }
+    ensures a_counter { ¬ KeepsPromises false default_config counting_fuel }
+    ensures the_same_global_that_counts_nothing { KeepsPromises false default_config (record counting_fuel { fuel_globals = [] }) }
     ensures no_section_of_types { ¬ KeepsPromises false default_config (record one_function { encodes_types = false }) }
 {}

@@ -4,26 +4,16 @@ use Rattle.smith_types.specs.declared.value_type.ValType.TheVariants.{I32}
 use Rattle.smith_types.specs.Entities.{IsFuncValid}
 use Rattle.smith_config.specs.Config.{default_config}
 use Rattle.wasm_smith.specs.Family.{IsMemberType, IsMemberField}
-use Rattle.wasm_smith.specs.ExampleModules.{plain_function}
 use Rattle.wasm_smith.specs.ExampleMembers.{final, field_of, struct_of, taking_a_number, one_of_each_without_gc}
 use Rattle.wasm_smith.proofs.Places.{each_place}
+use Rattle.wasm_smith.proofs.SpellExamples.{function_in_family}
 use Rattle.wasm_smith.proofs.examples.family.members.Goals as goal
-
-function : IsMemberType default_config 0 (final plain_function)
-function = search rules
 
 taking : IsMemberType one_of_each_without_gc 0 (final taking_a_number)
 taking = search rules
 
 pub returns-clause-a_function : goal.returns-clause-a_function
-returns-clause-a_function c = record {
-  filled = search rules;
-  single = search rules;
-  few_types = omega arith;
-  each_type = each_place (IsMemberType default_config) (final plain_function ∷ []) (function, tt);
-  few_funcs = omega arith;
-  each_func = All-from_recursion (IsFuncValid (final plain_function ∷ [])) (0 ∷ []) ((record { params = []; results = [] }, (final plain_function, refl, refl)), tt);
-}
+returns-clause-a_function c = function_in_family
 
 pub returns-clause-full_without_gc : goal.returns-clause-full_without_gc
 returns-clause-full_without_gc c = record {
