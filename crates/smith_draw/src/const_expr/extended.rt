@@ -3,6 +3,7 @@ ghost use Rattle.smith_types.specs.declared.const_instr.ConstInstr.{ConstInstr};
 ghost use Rattle.smith_bytes.specs.Source.{KeepsPieces};
 ghost use Rattle.smith_types.specs.Expressions.{Context};
 ghost use Rattle.smith_types.specs.declared.value_type.ValType.TheVariants.{I32, I64};
+ghost use Rattle.smith_draw.specs.Drawing.{AlwaysDraws};
 ghost use Rattle.smith_draw.specs.Constants.{is_wide, operator, kind_at, extended_at};
 ghost use Rattle.smith_draw.specs.Putting.{Adds, Puts};
 
@@ -39,9 +40,8 @@ fn operator(wide: bool, kind: u8) -> ConstInstr
 /// What is drawn next behind so many instructions: 0 for a constant, else a number of an operator.
 #[tactic(auto, unfolding(crate::specs::Constants::kind_at))]
 fn extended_kind(count: usize, u: &mut Unstructured<'_>) -> u8
-    ensures exact { kind_at count u.old ≡ (result, u.new) }
+    ensures draws { AlwaysDraws (kind_at count u.old) result u.old u.new }
     ensures few { 10 < count → result ≡ 0 }
-    ensures left { KeepsPieces u.old u.new }
 {
     if u.is_empty() || count > 10 {
         return 0;
