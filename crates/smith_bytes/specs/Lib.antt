@@ -9,3 +9,4 @@ pub mod Names
 pub mod Kebab
 pub mod Loop
 pub mod ExampleBytes
+pub mod ErrorNames

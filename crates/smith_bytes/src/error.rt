@@ -1,4 +1,4 @@
-ghost use Rattle.std.specs.Prelude.{◌≡◌};
+ghost use Rattle.std.specs.Prelude.{◌≡◌, ◌≤◌, length};
 ghost use Rattle.smith_bytes.specs.declared.error.Error.TheVariants.{Memory};
 
 use std::alloc::{AllocError, AllocFailed};
@@ -114,6 +114,25 @@ pub enum Error {
     /// A growth was refused.
     #[error("out of memory")]
     Memory,
+}
+
+impl Error {
+    ghost use Rattle.smith_bytes.specs.ErrorNames.{kind_name};
+
+    /// The name of the kind of refusal, as a line of text can hold it: `Memory`, `Config`. At most 15 bytes.
+    pub fn name(&self) -> &'static str
+        ensures name { result.now ≡ kind_name self.now }
+        ensures short { length result.now ≤ 15 }
+    {
+        match self {
+            Error::EmptyChoose => "EmptyChoose",
+            Error::NotEnoughData => "NotEnoughData",
+            Error::IncorrectFormat(_) => "IncorrectFormat",
+            Error::Config(_) => "Config",
+            Error::Shape(_, _) => "Shape",
+            Error::Memory => "Memory",
+        }
+    }
 }
 
 impl From<AllocError> for Error {

@@ -1,3 +1,4 @@
+pub mod Drawing
 pub mod Choices
 pub mod ValueTypes
 pub mod FieldTypes

@@ -6,7 +6,7 @@ use smith_bytes::Unstructured;
 
 /// Chooses among the items of a list, each as likely as the others.
 #[tactic(auto, unfolding(crate::specs::Choices::chosen_at))]
-pub(crate) fn choose<T: Copy>(items: &[T], u: &mut Unstructured<'_>) -> T
+pub fn choose<T: Copy>(items: &[T], u: &mut Unstructured<'_>) -> T
     requires { 0 < length items.now }
     ensures exact { (other : T) → chosen_at other items.now u.old ≡ (result, u.new) }
     ensures left { KeepsPieces u.old u.new }

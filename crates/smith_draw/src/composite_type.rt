@@ -1,5 +1,4 @@
-ghost use Rattle.std.specs.Prelude.{◌≡◌, false, IsTrue, IfOk, IfErr, All, length, ◌≤◌};
-ghost use Rattle.smith_bytes.specs.Source.{KeepsPieces};
+ghost use Rattle.std.specs.Prelude.{◌≡◌, false, IsTrue, IfOk, All, length, ◌≤◌};
 ghost use Rattle.smith_bytes.specs.Takes.{Takes, SpellsSuch};
 ghost use Rattle.smith_types.specs.declared.composite_type.CompositeInnerType.TheVariants.{Func, Struct};
 ghost use Rattle.smith_types.specs.Flags.{IsInnerEnabled};
@@ -7,6 +6,7 @@ ghost use Rattle.smith_types.specs.Matching.{IsFuncInRange, IsFieldInRange, IsIn
 ghost use Rattle.smith_types.specs.ValidTypes.{values_of, IsFuncTypeValid, IsValTypeValid, IsShareable};
 ghost use Rattle.smith_config.specs.Features.{features_of};
 ghost use Rattle.smith_config.specs.Sanitized.{IsSanitized};
+ghost use Rattle.smith_draw.specs.Drawing.{AlwaysDraws, Draws};
 ghost use Rattle.smith_draw.specs.FieldTypes.{fields_until_at};
 ghost use Rattle.smith_draw.specs.CompositeTypes.{
   most_results,
@@ -41,9 +41,7 @@ fn val_types(
     most: usize,
     u: &mut Unstructured<'_>,
 ) -> Result<Items<ValType>, Error>
-    ensures exact { IfOk result (λ drawn. val_types_at config.now types.now must_share limit most u.old ≡ (drawn, u.new)) }
-    ensures memory { IfErr result (λ e. e ≡ Error.Memory) }
-    ensures left { KeepsPieces u.old u.new }
+    ensures { Draws (val_types_at config.now types.now must_share limit most u.old) result u.old u.new }
 {
     let mut drawn = Items::new(alloc);
     for made in 0..most {
@@ -64,9 +62,7 @@ fn func_type(
     limit: u32,
     u: &mut Unstructured<'_>,
 ) -> Result<FuncType, Error>
-    ensures exact { IfOk result (λ drawn. func_type_at config.now types.now must_share limit u.old ≡ (drawn, u.new)) }
-    ensures memory { IfErr result (λ e. e ≡ Error.Memory) }
-    ensures left { KeepsPieces u.old u.new }
+    ensures { Draws (func_type_at config.now types.now must_share limit u.old) result u.old u.new }
 {
     let most_results = if config.multi_value_enabled { 20 } else { 1 };
     let params = val_types(alloc, config, types, must_share, limit, 20, u)?;
@@ -85,9 +81,7 @@ pub(crate) fn fields_until(
     mut fields: Items<FieldType>,
     u: &mut Unstructured<'_>,
 ) -> Result<Items<FieldType>, Error>
-    ensures exact { IfOk result (λ drawn. fields_until_at config.now types.now must_share limit end fields u.old ≡ (drawn, u.new)) }
-    ensures memory { IfErr result (λ e. e ≡ Error.Memory) }
-    ensures left { KeepsPieces u.old u.new }
+    ensures { Draws (fields_until_at config.now types.now must_share limit end fields u.old) result u.old u.new }
 {
     for made in fields.len()..end {
         fields.push(field_type(config, types, must_share, limit, u))?;
@@ -104,9 +98,7 @@ fn struct_type(
     limit: u32,
     u: &mut Unstructured<'_>,
 ) -> Result<StructType, Error>
-    ensures exact { IfOk result (λ drawn. struct_type_at config.now types.now must_share limit u.old ≡ (drawn, u.new)) }
-    ensures memory { IfErr result (λ e. e ≡ Error.Memory) }
-    ensures left { KeepsPieces u.old u.new }
+    ensures { Draws (struct_type_at config.now types.now must_share limit u.old) result u.old u.new }
 {
     let count = u.int_in_range(0..=20usize);
     let none = Items::with_capacity(alloc, count)?;
@@ -115,8 +107,7 @@ fn struct_type(
 }
 
 fn inner_number(config: &Config, u: &mut Unstructured<'_>) -> u8
-    ensures exact { inner_number_at config.now u.old ≡ (result, u.new) }
-    ensures left { KeepsPieces u.old u.new }
+    ensures { AlwaysDraws (inner_number_at config.now u.old) result u.old u.new }
 {
     if config.gc_enabled {
         return u.int_in_range(0..=2u8);
@@ -134,9 +125,7 @@ fn inner_of_number(
     number: u8,
     u: &mut Unstructured<'_>,
 ) -> Result<CompositeInnerType, Error>
-    ensures exact { IfOk result (λ drawn. inner_of_number_at config.now types.now must_share limit number u.old ≡ (drawn, u.new)) }
-    ensures memory { IfErr result (λ e. e ≡ Error.Memory) }
-    ensures left { KeepsPieces u.old u.new }
+    ensures { Draws (inner_of_number_at config.now types.now must_share limit number u.old) result u.old u.new }
 {
     match number {
         0 => {
@@ -162,9 +151,7 @@ pub(crate) fn composite_type(
     limit: u32,
     u: &mut Unstructured<'_>,
 ) -> Result<CompositeType, Error>
-    ensures exact { IfOk result (λ drawn. composite_type_at config.now types.now limit u.old ≡ (drawn, u.new)) }
-    ensures memory { IfErr result (λ e. e ≡ Error.Memory) }
-    ensures left { KeepsPieces u.old u.new }
+    ensures { Draws (composite_type_at config.now types.now limit u.old) result u.old u.new }
 {
     let shared = sharedness(config, false, u);
     let number = inner_number(config, u);
@@ -184,13 +171,11 @@ pub fn arbitrary_func_type(
 ) -> Result<FuncType, Error>
     requires sanitized { IsSanitized config.now }
     requires may_share { IsTrue must_share → IsTrue config.now.shared_everything_threads_enabled }
-    ensures exact { IfOk result (λ drawn. func_type_at config.now spaces.now.types.now.types must_share limit u.old ≡ (drawn, u.new)) }
+    ensures draws { Draws (func_type_at config.now spaces.now.types.now.types must_share limit u.old) result u.old u.new }
     ensures valid { IfOk result (IsFuncTypeValid (features_of config.now) limit) }
     ensures stands { IfOk result (IsFuncInRange spaces.now.types.now.types) }
     ensures shared { IsTrue must_share → IfOk result (λ drawn. All (IsShareable spaces.now.types.now.types) (values_of (Func drawn))) }
     ensures reach { must_share ≡ false → IfOk result (λ drawn. Takes (SpellsSuch (IsFuncInRange spaces.now.types.now.types) (SpellsFuncType config.now limit)) u.old drawn u.new) }
-    ensures memory { IfErr result (λ e. e ≡ Error.Memory) }
-    ensures left { KeepsPieces u.old u.new }
 {
     func_type(alloc, config, spaces.types.types(), must_share, limit, u)
 }
@@ -206,14 +191,12 @@ pub fn arbitrary_struct_type(
 ) -> Result<StructType, Error>
     requires sanitized { IsSanitized config.now }
     requires may_share { IsTrue must_share → IsTrue config.now.shared_everything_threads_enabled }
-    ensures exact { IfOk result (λ drawn. struct_type_at config.now spaces.now.types.now.types must_share limit u.old ≡ (drawn, u.new)) }
+    ensures draws { Draws (struct_type_at config.now spaces.now.types.now.types must_share limit u.old) result u.old u.new }
     ensures few { IfOk result (λ drawn. length drawn.fields ≤ 20) }
     ensures valid { IfOk result (λ drawn. All (IsValTypeValid (features_of config.now) limit) (values_of (Struct drawn))) }
     ensures stands { IfOk result (λ drawn. All (IsFieldInRange spaces.now.types.now.types) drawn.fields) }
     ensures shared { IsTrue must_share → IfOk result (λ drawn. All (IsShareable spaces.now.types.now.types) (values_of (Struct drawn))) }
     ensures reach { must_share ≡ false → IfOk result (λ drawn. Takes (SpellsSuch (λ structure. All (IsFieldInRange spaces.now.types.now.types) structure.fields) (SpellsStructType config.now limit)) u.old drawn u.new) }
-    ensures memory { IfErr result (λ e. e ≡ Error.Memory) }
-    ensures left { KeepsPieces u.old u.new }
 {
     struct_type(alloc, config, spaces.types.types(), must_share, limit, u)
 }
@@ -228,15 +211,13 @@ pub fn arbitrary_composite_type(
     u: &mut Unstructured<'_>,
 ) -> Result<CompositeType, Error>
     requires sanitized { IsSanitized config.now }
-    ensures exact { IfOk result (λ drawn. composite_type_at config.now spaces.now.types.now.types limit u.old ≡ (drawn, u.new)) }
+    ensures draws { Draws (composite_type_at config.now spaces.now.types.now.types limit u.old) result u.old u.new }
     ensures enabled { IfOk result (λ drawn. IsInnerEnabled (features_of config.now) drawn.inner) }
     ensures may_be_shared { IfOk result (λ drawn. IsTrue drawn.shared → IsTrue config.now.shared_everything_threads_enabled) }
     ensures valid { IfOk result (λ drawn. All (IsValTypeValid (features_of config.now) limit) (values_of drawn.inner)) }
     ensures stands { IfOk result (λ drawn. IsInnerInRange spaces.now.types.now.types drawn.inner) }
     ensures shared { IfOk result (λ drawn. IsTrue drawn.shared → All (IsShareable spaces.now.types.now.types) (values_of drawn.inner)) }
     ensures reach { IfOk result (λ drawn. Takes (SpellsSuch (λ composite. IsInnerInRange spaces.now.types.now.types composite.inner) (SpellsCompositeType config.now limit)) u.old drawn u.new) }
-    ensures memory { IfErr result (λ e. e ≡ Error.Memory) }
-    ensures left { KeepsPieces u.old u.new }
 {
     composite_type(alloc, config, spaces.types.types(), limit, u)
 }

@@ -3,6 +3,7 @@ ghost use Rattle.smith_bytes.specs.Source.{KeepsPieces};
 ghost use Rattle.smith_types.specs.Entities.{IsMemoryValid, page_log2};
 ghost use Rattle.smith_config.specs.Features.{features_of};
 ghost use Rattle.smith_config.specs.Faults.{Passes};
+ghost use Rattle.smith_draw.specs.Drawing.{AlwaysDraws};
 ghost use Rattle.smith_draw.specs.Bounds.{IsMemoryWithin};
 ghost use Rattle.smith_draw.specs.Memories.{shared_memory_at, memory64_at, stated_page_at, page_size_at, least_pages, drawn_pages, likely_pages, memtype_at};
 
@@ -15,9 +16,8 @@ const GIBIBYTE: u64 = 1 << 30;
 
 #[tactic(auto, unfolding(crate::specs::Memories::shared_memory_at))]
 fn shared_memory(config: &Config, u: &mut Unstructured<'_>) -> bool
-    ensures exact { shared_memory_at config.now u.old ≡ (result, u.new) }
+    ensures draws { AlwaysDraws (shared_memory_at config.now u.old) result u.old u.new }
     ensures enabled { IsTrue result → IsTrue config.now.threads_enabled }
-    ensures left { KeepsPieces u.old u.new }
 {
     if config.threads_enabled {
         return u.ratio(1u32, 4);
@@ -27,9 +27,8 @@ fn shared_memory(config: &Config, u: &mut Unstructured<'_>) -> bool
 
 #[tactic(auto, unfolding(crate::specs::Memories::memory64_at))]
 fn memory64(config: &Config, u: &mut Unstructured<'_>) -> bool
-    ensures exact { memory64_at config.now u.old ≡ (result, u.new) }
+    ensures draws { AlwaysDraws (memory64_at config.now u.old) result u.old u.new }
     ensures enabled { IsTrue result → IsTrue config.now.memory64_enabled }
-    ensures left { KeepsPieces u.old u.new }
 {
     if config.memory64_enabled {
         return u.arbitrary();
@@ -39,9 +38,8 @@ fn memory64(config: &Config, u: &mut Unstructured<'_>) -> bool
 
 #[tactic(auto, unfolding(crate::specs::Memories::stated_page_at))]
 fn stated_page(u: &mut Unstructured<'_>) -> Option<u32>
-    ensures exact { stated_page_at u.old ≡ (result, u.new) }
+    ensures draws { AlwaysDraws (stated_page_at u.old) result u.old u.new }
     ensures sizes { IfSome result (λ log2. (log2 ≡ 0) ⊎ (log2 ≡ 16)) }
-    ensures left { KeepsPieces u.old u.new }
 {
     if u.arbitrary() {
         return Some(0);
@@ -51,10 +49,9 @@ fn stated_page(u: &mut Unstructured<'_>) -> Option<u32>
 
 #[tactic(auto, unfolding(crate::specs::Memories::page_size_at))]
 fn page_size(config: &Config, u: &mut Unstructured<'_>) -> Option<u32>
-    ensures exact { page_size_at config.now u.old ≡ (result, u.new) }
+    ensures draws { AlwaysDraws (page_size_at config.now u.old) result u.old u.new }
     ensures small { page_log2 result ≤ 16 }
     ensures sizes { IfSome result (λ log2. ((log2 ≡ 0) ⊎ (log2 ≡ 16)) × IsTrue config.now.custom_page_sizes_enabled) }
-    ensures left { KeepsPieces u.old u.new }
 {
     if !config.custom_page_sizes_enabled {
         return None;
@@ -120,10 +117,9 @@ fn needs_maximum(config: &Config, shared: bool) -> bool
 #[tactic(auto, unfolding(crate::specs::Memories::memtype_at))]
 fn memory_type(config: &Config, u: &mut Unstructured<'_>) -> MemoryType
     requires { Passes config.now }
-    ensures exact { memtype_at config.now u.old ≡ (result, u.new) }
+    ensures draws { AlwaysDraws (memtype_at config.now u.old) result u.old u.new }
     ensures valid { IsMemoryValid (features_of config.now) result }
     ensures within { IsMemoryWithin config.now result }
-    ensures left { KeepsPieces u.old u.new }
 {
     let shared = shared_memory(config, u);
     let memory64 = memory64(config, u);

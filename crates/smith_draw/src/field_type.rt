@@ -1,10 +1,10 @@
-ghost use Rattle.std.specs.Prelude.{◌≡◌, false, IsTrue, IfOk, IfErr, All};
-ghost use Rattle.smith_bytes.specs.Source.{KeepsPieces};
+ghost use Rattle.std.specs.Prelude.{◌≡◌, false, IsTrue, IfOk, All};
 ghost use Rattle.smith_bytes.specs.Takes.{Takes, SpellsSuch};
 ghost use Rattle.smith_types.specs.Matching.{IsStorageInRange, IsFieldInRange};
 ghost use Rattle.smith_types.specs.ValidTypes.{values_of_storage, IsValTypeValid, IsShareable};
 ghost use Rattle.smith_config.specs.Features.{features_of};
 ghost use Rattle.smith_config.specs.Sanitized.{IsSanitized};
+ghost use Rattle.smith_draw.specs.Drawing.{AlwaysDraws, Draws};
 ghost use Rattle.smith_draw.specs.FieldTypes.{storage_of_number_at, storage_type_at, field_type_at};
 ghost use Rattle.smith_draw.specs.Spelling.{SpellsStorage, SpellsField};
 
@@ -23,8 +23,7 @@ fn storage_type(
     limit: u32,
     u: &mut Unstructured<'_>,
 ) -> StorageType
-    ensures exact { storage_type_at config.now types.now must_share limit u.old ≡ (result, u.new) }
-    ensures left { KeepsPieces u.old u.new }
+    ensures { AlwaysDraws (storage_type_at config.now types.now must_share limit u.old) result u.old u.new }
 {
     match u.int_in_range(0..=2u8) {
         0 => StorageType::I8,
@@ -41,8 +40,7 @@ pub(crate) fn field_type(
     limit: u32,
     u: &mut Unstructured<'_>,
 ) -> FieldType
-    ensures exact { field_type_at config.now types.now must_share limit u.old ≡ (result, u.new) }
-    ensures left { KeepsPieces u.old u.new }
+    ensures { AlwaysDraws (field_type_at config.now types.now must_share limit u.old) result u.old u.new }
 {
     let element_type = storage_type(config, types, must_share, limit, u);
     let mutable = u.arbitrary();
@@ -63,13 +61,11 @@ pub fn arbitrary_storage_type(
 ) -> Result<StorageType, Error>
     requires sanitized { IsSanitized config.now }
     requires may_share { IsTrue must_share → IsTrue config.now.shared_everything_threads_enabled }
-    ensures exact { IfOk result (λ drawn. storage_type_at config.now spaces.now.types.now.types must_share limit u.old ≡ (drawn, u.new)) }
+    ensures draws { Draws (storage_type_at config.now spaces.now.types.now.types must_share limit u.old) result u.old u.new }
     ensures valid { IfOk result (λ drawn. All (IsValTypeValid (features_of config.now) limit) (values_of_storage drawn)) }
     ensures stands { IfOk result (IsStorageInRange spaces.now.types.now.types) }
     ensures shared { IsTrue must_share → IfOk result (λ drawn. All (IsShareable spaces.now.types.now.types) (values_of_storage drawn)) }
     ensures reach { must_share ≡ false → IfOk result (λ drawn. Takes (SpellsSuch (IsStorageInRange spaces.now.types.now.types) (SpellsStorage config.now limit)) u.old drawn u.new) }
-    ensures memory { IfErr result (λ e. e ≡ Error.Memory) }
-    ensures left { KeepsPieces u.old u.new }
 {
     Ok(storage_type(config, spaces.types.types(), must_share, limit, u))
 }
@@ -85,13 +81,11 @@ pub fn arbitrary_field_type(
 ) -> Result<FieldType, Error>
     requires sanitized { IsSanitized config.now }
     requires may_share { IsTrue must_share → IsTrue config.now.shared_everything_threads_enabled }
-    ensures exact { IfOk result (λ drawn. field_type_at config.now spaces.now.types.now.types must_share limit u.old ≡ (drawn, u.new)) }
+    ensures draws { Draws (field_type_at config.now spaces.now.types.now.types must_share limit u.old) result u.old u.new }
     ensures valid { IfOk result (λ drawn. All (IsValTypeValid (features_of config.now) limit) (values_of_storage drawn.element_type)) }
     ensures stands { IfOk result (IsFieldInRange spaces.now.types.now.types) }
     ensures shared { IsTrue must_share → IfOk result (λ drawn. All (IsShareable spaces.now.types.now.types) (values_of_storage drawn.element_type)) }
     ensures reach { must_share ≡ false → IfOk result (λ drawn. Takes (SpellsSuch (IsFieldInRange spaces.now.types.now.types) (SpellsField config.now limit)) u.old drawn u.new) }
-    ensures memory { IfErr result (λ e. e ≡ Error.Memory) }
-    ensures left { KeepsPieces u.old u.new }
 {
     Ok(field_type(config, spaces.types.types(), must_share, limit, u))
 }

@@ -1,11 +1,8 @@
 //! Drawn types, entities and constant expressions, over the type space and the index spaces that stand so far.
 #![tactic(auto)]
 
-mod bounds_examples;
 mod choice;
-mod composite_examples;
 mod composite_type;
-mod const_examples;
 mod const_expr;
 mod entity_type;
 mod examples;
@@ -14,16 +11,13 @@ mod limits;
 mod matching;
 mod matching_composite;
 mod offered;
-mod offered_examples;
-mod offered_list_examples;
 mod rec_group;
-mod size_examples;
 mod spaces;
 mod sub_type;
 mod super_type;
-mod value_examples;
 mod value_type;
 
+pub use choice::choose;
 pub use composite_type::{arbitrary_composite_type, arbitrary_func_type, arbitrary_struct_type};
 pub use const_expr::{arbitrary_const_expr, arbitrary_table_init, globals_for_const_expr};
 pub use entity_type::arbitrary_memtype;

@@ -1,5 +1,5 @@
 ghost use Rattle.std.specs.Prelude.{◌≡◌, ◌≤◌, true, IfSome, IsSome};
-ghost use Rattle.smith_bytes.specs.Source.{KeepsPieces};
+ghost use Rattle.smith_draw.specs.Drawing.{AlwaysDraws};
 ghost use Rattle.smith_draw.specs.Limits.{scaled, sixth_power, gradual, gradually_at, limits64_at};
 
 use smith_bytes::Unstructured;
@@ -49,10 +49,9 @@ fn grow_by(min: u64, inbounds: u64, max: u64, x: u32) -> u64
 pub fn gradually_grow(min: u64, inb: u64, max: u64, u: &mut Unstructured<'_>) -> u64
     requires low { min ≤ inb }
     requires high { inb ≤ max }
-    ensures exact { gradually_at min inb max u.old ≡ (result, u.new) }
+    ensures draws { AlwaysDraws (gradually_at min inb max u.old) result u.old u.new }
     ensures above { min ≤ result }
     ensures within { result ≤ max }
-    ensures left { KeepsPieces u.old u.new }
 {
     if min == max {
         return min;
@@ -72,11 +71,10 @@ pub fn arbitrary_limits64(
 ) -> (u64, Option<u64>)
     requires low { least ≤ inbounds }
     requires high { inbounds ≤ most }
-    ensures exact { limits64_at least most required inbounds u.old ≡ (result, u.new) }
+    ensures draws { AlwaysDraws (limits64_at least most required inbounds u.old) result u.old u.new }
     ensures minimum { (least ≤ result.0) × (result.0 ≤ most) }
     ensures maximum { IfSome result.1 (λ maximum. (result.0 ≤ maximum) × (maximum ≤ most)) }
     ensures required { required ≡ true → IsSome result.1 }
-    ensures left { KeepsPieces u.old u.new }
 {
     let minimum = gradually_grow(least, inbounds, most, u);
     if required || u.arbitrary() {

@@ -1,6 +1,5 @@
-ghost use Rattle.std.specs.Prelude.{◌≡◌, ◌↔◌, Some, IfOk, IfErr};
+ghost use Rattle.std.specs.Prelude.{◌≡◌, ◌↔◌, Some, IfOk};
 ghost use Rattle.smith_bytes.specs.Draws.{choose_at};
-ghost use Rattle.smith_bytes.specs.Source.{KeepsPieces};
 ghost use Rattle.smith_types.specs.Subtyping.{IsBelow, IsRefBelow, IsValBelow, IsInRange, IsValInRange};
 ghost use Rattle.smith_types.specs.Matching.{IsStorageMatch, IsFieldMatch, IsFuncMatch, IsStorageInRange, IsFieldInRange, IsFuncInRange};
 ghost use Rattle.smith_types.specs.ValidTypes.{
@@ -12,6 +11,7 @@ ghost use Rattle.smith_types.specs.ValidTypes.{
   IsShareable,
 };
 ghost use Rattle.smith_config.specs.Features.{features_of};
+ghost use Rattle.smith_draw.specs.Drawing.{Draws};
 ghost use Rattle.smith_draw.specs.Kept.{
   StaysValid,
   IsStorageValid,
@@ -47,9 +47,7 @@ fn matching_heap_type(
     ty: HeapType,
     u: &mut Unstructured<'_>,
 ) -> Result<HeapType, Error>
-    ensures exact { IfOk result (λ drawn. matching_heap_type_at config.now space.now.types ty u.old ≡ (drawn, u.new)) }
-    ensures memory { IfErr result (λ e. e ≡ Error.Memory) }
-    ensures left { KeepsPieces u.old u.new }
+    ensures { Draws (matching_heap_type_at config.now space.now.types ty u.old) result u.old u.new }
 {
     if !config.gc_enabled {
         return Ok(ty);
@@ -66,9 +64,7 @@ fn matching_ref_type(
     ty: RefType,
     u: &mut Unstructured<'_>,
 ) -> Result<RefType, Error>
-    ensures exact { IfOk result (λ drawn. matching_ref_type_at config.now space.now.types ty u.old ≡ (drawn, u.new)) }
-    ensures memory { IfErr result (λ e. e ≡ Error.Memory) }
-    ensures left { KeepsPieces u.old u.new }
+    ensures { Draws (matching_ref_type_at config.now space.now.types ty u.old) result u.old u.new }
 {
     let heap_type = matching_heap_type(alloc, config, space, ty.heap_type, u)?;
     Ok(RefType {
@@ -84,9 +80,7 @@ fn matching_val_type(
     ty: ValType,
     u: &mut Unstructured<'_>,
 ) -> Result<ValType, Error>
-    ensures exact { IfOk result (λ drawn. matching_val_type_at config.now space.now.types ty u.old ≡ (drawn, u.new)) }
-    ensures memory { IfErr result (λ e. e ≡ Error.Memory) }
-    ensures left { KeepsPieces u.old u.new }
+    ensures { Draws (matching_val_type_at config.now space.now.types ty u.old) result u.old u.new }
 {
     if let ValType::Ref(reference) = ty {
         let drawn = matching_ref_type(alloc, config, space, reference, u)?;
@@ -102,9 +96,7 @@ fn matching_storage_type(
     ty: StorageType,
     u: &mut Unstructured<'_>,
 ) -> Result<StorageType, Error>
-    ensures exact { IfOk result (λ drawn. matching_storage_type_at config.now space.now.types ty u.old ≡ (drawn, u.new)) }
-    ensures memory { IfErr result (λ e. e ≡ Error.Memory) }
-    ensures left { KeepsPieces u.old u.new }
+    ensures { Draws (matching_storage_type_at config.now space.now.types ty u.old) result u.old u.new }
 {
     if let StorageType::Val(value) = ty {
         let drawn = matching_val_type(alloc, config, space, value, u)?;
@@ -121,9 +113,7 @@ pub(crate) fn matching_field_type(
     field: FieldType,
     u: &mut Unstructured<'_>,
 ) -> Result<FieldType, Error>
-    ensures exact { IfOk result (λ drawn. matching_field_type_at config.now space.now.types field u.old ≡ (drawn, u.new)) }
-    ensures memory { IfErr result (λ e. e ≡ Error.Memory) }
-    ensures left { KeepsPieces u.old u.new }
+    ensures { Draws (matching_field_type_at config.now space.now.types field u.old) result u.old u.new }
 {
     if field.mutable {
         return Ok(field);
@@ -144,9 +134,7 @@ pub(crate) fn matched_fields(
     fields: &[FieldType],
     u: &mut Unstructured<'_>,
 ) -> Result<Items<FieldType>, Error>
-    ensures exact { IfOk result (λ drawn. matched_fields_at config.now space.now.types fields.now u.old ≡ (drawn, u.new)) }
-    ensures memory { IfErr result (λ e. e ≡ Error.Memory) }
-    ensures left { KeepsPieces u.old u.new }
+    ensures { Draws (matched_fields_at config.now space.now.types fields.now u.old) result u.old u.new }
 {
     let mut matched = Items::with_capacity(alloc, fields.len())?;
     for field in fields {
@@ -163,9 +151,7 @@ fn matching_val_types(
     values: &[ValType],
     u: &mut Unstructured<'_>,
 ) -> Result<Items<ValType>, Error>
-    ensures exact { IfOk result (λ drawn. each_at (matching_val_type_at config.now space.now.types) values.now u.old ≡ (drawn, u.new)) }
-    ensures memory { IfErr result (λ e. e ≡ Error.Memory) }
-    ensures left { KeepsPieces u.old u.new }
+    ensures { Draws (each_at (matching_val_type_at config.now space.now.types) values.now u.old) result u.old u.new }
 {
     let mut matching = Items::with_capacity(alloc, values.len())?;
     for ty in values {
@@ -182,9 +168,7 @@ pub(crate) fn matching_func_type(
     function: &FuncType,
     u: &mut Unstructured<'_>,
 ) -> Result<FuncType, Error>
-    ensures exact { IfOk result (λ drawn. matching_func_type_at config.now space.now.types function.now u.old ≡ (drawn, u.new)) }
-    ensures memory { IfErr result (λ e. e ≡ Error.Memory) }
-    ensures left { KeepsPieces u.old u.new }
+    ensures { Draws (matching_func_type_at config.now space.now.types function.now u.old) result u.old u.new }
 {
     let params = super_val_types(alloc, config, space, function.params.as_slice(), u)?;
     let results = matching_val_types(alloc, config, space, function.results.as_slice(), u)?;
@@ -200,14 +184,12 @@ pub fn arbitrary_matching_heap_type(
     ty: HeapType,
     u: &mut Unstructured<'_>,
 ) -> Result<HeapType, Error>
-    ensures exact { IfOk result (λ drawn. matching_heap_type_at config.now spaces.now.types.now.types ty u.old ≡ (drawn, u.new)) }
+    ensures draws { Draws (matching_heap_type_at config.now spaces.now.types.now.types ty u.old) result u.old u.new }
     ensures offered { IfOk result (λ drawn. choose_at (subtypes_offered config.now spaces.now.types.now.types ty) u.old ≡ (Some drawn, u.new)) }
     ensures below { IfOk result (λ drawn. IsBelow spaces.now.types.now.types drawn ty) }
     ensures shared { IfOk result (λ drawn. IsHeapTypeShared spaces.now.types.now.types drawn ↔ IsHeapTypeShared spaces.now.types.now.types ty) }
     ensures valid { IfOk result (StaysValid (IsHeapTypeValid (features_of config.now)) (features_of config.now) spaces.now.types.now.types ty) }
     ensures stands { IfOk result (λ drawn. IsInRange spaces.now.types.now.types ty → IsInRange spaces.now.types.now.types drawn) }
-    ensures memory { IfErr result (λ e. e ≡ Error.Memory) }
-    ensures left { KeepsPieces u.old u.new }
 {
     orderly(spaces);
     matching_heap_type(alloc, config, spaces.types, ty, u)
@@ -221,14 +203,12 @@ pub fn arbitrary_matching_ref_type(
     ty: RefType,
     u: &mut Unstructured<'_>,
 ) -> Result<RefType, Error>
-    ensures exact { IfOk result (λ drawn. matching_ref_type_at config.now spaces.now.types.now.types ty u.old ≡ (drawn, u.new)) }
+    ensures draws { Draws (matching_ref_type_at config.now spaces.now.types.now.types ty u.old) result u.old u.new }
     ensures below { IfOk result (λ drawn. IsRefBelow spaces.now.types.now.types drawn ty) }
     ensures nullable { IfOk result (λ drawn. drawn.nullable ≡ ty.nullable) }
     ensures shared { IfOk result (λ drawn. IsHeapTypeShared spaces.now.types.now.types drawn.heap_type ↔ IsHeapTypeShared spaces.now.types.now.types ty.heap_type) }
     ensures valid { IfOk result (StaysValid (IsRefTypeValid (features_of config.now)) (features_of config.now) spaces.now.types.now.types ty) }
     ensures stands { IfOk result (λ drawn. IsInRange spaces.now.types.now.types ty.heap_type → IsInRange spaces.now.types.now.types drawn.heap_type) }
-    ensures memory { IfErr result (λ e. e ≡ Error.Memory) }
-    ensures left { KeepsPieces u.old u.new }
 {
     orderly(spaces);
     matching_ref_type(alloc, config, spaces.types, ty, u)
@@ -242,13 +222,11 @@ pub fn arbitrary_matching_val_type(
     ty: ValType,
     u: &mut Unstructured<'_>,
 ) -> Result<ValType, Error>
-    ensures exact { IfOk result (λ drawn. matching_val_type_at config.now spaces.now.types.now.types ty u.old ≡ (drawn, u.new)) }
+    ensures draws { Draws (matching_val_type_at config.now spaces.now.types.now.types ty u.old) result u.old u.new }
     ensures below { IfOk result (λ drawn. IsValBelow spaces.now.types.now.types drawn ty) }
     ensures shared { IfOk result (λ drawn. IsShareable spaces.now.types.now.types drawn ↔ IsShareable spaces.now.types.now.types ty) }
     ensures valid { IfOk result (StaysValid (IsValTypeValid (features_of config.now)) (features_of config.now) spaces.now.types.now.types ty) }
     ensures stands { IfOk result (λ drawn. IsValInRange spaces.now.types.now.types ty → IsValInRange spaces.now.types.now.types drawn) }
-    ensures memory { IfErr result (λ e. e ≡ Error.Memory) }
-    ensures left { KeepsPieces u.old u.new }
 {
     orderly(spaces);
     matching_val_type(alloc, config, spaces.types, ty, u)
@@ -262,13 +240,11 @@ pub fn arbitrary_matching_storage_type(
     ty: StorageType,
     u: &mut Unstructured<'_>,
 ) -> Result<StorageType, Error>
-    ensures exact { IfOk result (λ drawn. matching_storage_type_at config.now spaces.now.types.now.types ty u.old ≡ (drawn, u.new)) }
+    ensures draws { Draws (matching_storage_type_at config.now spaces.now.types.now.types ty u.old) result u.old u.new }
     ensures below { IfOk result (λ drawn. IsStorageMatch spaces.now.types.now.types drawn ty) }
     ensures shared { IfOk result (λ drawn. IsStorageShareable spaces.now.types.now.types drawn ↔ IsStorageShareable spaces.now.types.now.types ty) }
     ensures valid { IfOk result (StaysValid (IsStorageValid (features_of config.now)) (features_of config.now) spaces.now.types.now.types ty) }
     ensures stands { IfOk result (λ drawn. IsStorageInRange spaces.now.types.now.types ty → IsStorageInRange spaces.now.types.now.types drawn) }
-    ensures memory { IfErr result (λ e. e ≡ Error.Memory) }
-    ensures left { KeepsPieces u.old u.new }
 {
     orderly(spaces);
     matching_storage_type(alloc, config, spaces.types, ty, u)
@@ -282,13 +258,11 @@ pub fn arbitrary_matching_field_type(
     field: FieldType,
     u: &mut Unstructured<'_>,
 ) -> Result<FieldType, Error>
-    ensures exact { IfOk result (λ drawn. matching_field_type_at config.now spaces.now.types.now.types field u.old ≡ (drawn, u.new)) }
+    ensures draws { Draws (matching_field_type_at config.now spaces.now.types.now.types field u.old) result u.old u.new }
     ensures below { IfOk result (λ drawn. IsFieldMatch spaces.now.types.now.types drawn field) }
     ensures shared { IfOk result (λ drawn. IsStorageShareable spaces.now.types.now.types drawn.element_type ↔ IsStorageShareable spaces.now.types.now.types field.element_type) }
     ensures valid { IfOk result (StaysValid (IsFieldValid (features_of config.now)) (features_of config.now) spaces.now.types.now.types field) }
     ensures stands { IfOk result (λ drawn. IsFieldInRange spaces.now.types.now.types field → IsFieldInRange spaces.now.types.now.types drawn) }
-    ensures memory { IfErr result (λ e. e ≡ Error.Memory) }
-    ensures left { KeepsPieces u.old u.new }
 {
     orderly(spaces);
     matching_field_type(alloc, config, spaces.types, field, u)
@@ -303,13 +277,11 @@ pub fn arbitrary_matching_func_type(
     function: &FuncType,
     u: &mut Unstructured<'_>,
 ) -> Result<FuncType, Error>
-    ensures exact { IfOk result (λ drawn. matching_func_type_at config.now spaces.now.types.now.types function.now u.old ≡ (drawn, u.new)) }
+    ensures draws { Draws (matching_func_type_at config.now spaces.now.types.now.types function.now u.old) result u.old u.new }
     ensures below { IfOk result (λ drawn. IsFuncMatch spaces.now.types.now.types drawn function.now) }
     ensures shared { IfOk result (λ drawn. IsFuncShareable spaces.now.types.now.types drawn ↔ IsFuncShareable spaces.now.types.now.types function.now) }
     ensures valid { IfOk result (StaysValid (IsFuncTypeValid (features_of config.now)) (features_of config.now) spaces.now.types.now.types function.now) }
     ensures stands { IfOk result (λ drawn. IsFuncInRange spaces.now.types.now.types function.now → IsFuncInRange spaces.now.types.now.types drawn) }
-    ensures memory { IfErr result (λ e. e ≡ Error.Memory) }
-    ensures left { KeepsPieces u.old u.new }
 {
     orderly(spaces);
     matching_func_type(alloc, config, spaces.types, function, u)

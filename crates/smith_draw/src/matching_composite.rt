@@ -1,10 +1,10 @@
-ghost use Rattle.std.specs.Prelude.{◌≡◌, ◌+◌, ◌≤◌, IsTrue, IfOk, IfErr, length, All};
-ghost use Rattle.smith_bytes.specs.Source.{KeepsPieces};
+ghost use Rattle.std.specs.Prelude.{◌+◌, ◌≤◌, IsTrue, IfOk, length, All};
 ghost use Rattle.smith_types.specs.declared.composite_type.CompositeInnerType.TheVariants.{Struct};
 ghost use Rattle.smith_types.specs.Matching.{AreFieldsMatched};
 ghost use Rattle.smith_types.specs.ValidTypes.{values_of, IsValTypeValid, IsShareable};
 ghost use Rattle.smith_config.specs.Features.{features_of};
 ghost use Rattle.smith_config.specs.Sanitized.{IsSanitized};
+ghost use Rattle.smith_draw.specs.Drawing.{Draws};
 ghost use Rattle.smith_draw.specs.Kept.{IsSharingEnabled};
 ghost use Rattle.smith_draw.specs.MatchingComposites.{
   matching_struct_type_at,
@@ -30,9 +30,7 @@ fn matching_struct_type(
     limit: u32,
     u: &mut Unstructured<'_>,
 ) -> Result<StructType, Error>
-    ensures exact { IfOk result (λ drawn. matching_struct_type_at config.now space.now.types must_share limit structure.now u.old ≡ (drawn, u.new)) }
-    ensures memory { IfErr result (λ e. e ≡ Error.Memory) }
-    ensures left { KeepsPieces u.old u.new }
+    ensures { Draws (matching_struct_type_at config.now space.now.types must_share limit structure.now u.old) result u.old u.new }
 {
     let extra = u.int_in_range(0..=5usize);
     let matched = matched_fields(alloc, config, space, structure.fields.as_slice(), u)?;
@@ -51,9 +49,7 @@ fn matching_inner(
     inner: &CompositeInnerType,
     u: &mut Unstructured<'_>,
 ) -> Result<CompositeInnerType, Error>
-    ensures exact { IfOk result (λ drawn. matching_inner_at config.now space.now.types must_share limit inner.now u.old ≡ (drawn, u.new)) }
-    ensures memory { IfErr result (λ e. e ≡ Error.Memory) }
-    ensures left { KeepsPieces u.old u.new }
+    ensures { Draws (matching_inner_at config.now space.now.types must_share limit inner.now u.old) result u.old u.new }
 {
     match inner {
         CompositeInnerType::Array(array) => {
@@ -83,9 +79,7 @@ pub(crate) fn matching_composite_type(
     composite: &CompositeType,
     u: &mut Unstructured<'_>,
 ) -> Result<CompositeType, Error>
-    ensures exact { IfOk result (λ drawn. matching_composite_type_at config.now space.now.types limit composite.now u.old ≡ (drawn, u.new)) }
-    ensures memory { IfErr result (λ e. e ≡ Error.Memory) }
-    ensures left { KeepsPieces u.old u.new }
+    ensures { Draws (matching_composite_type_at config.now space.now.types limit composite.now u.old) result u.old u.new }
 {
     let shared = composite.shared;
     let inner = matching_inner(alloc, config, space, shared, limit, &composite.inner, u)?;
@@ -109,13 +103,11 @@ pub fn arbitrary_matching_struct_type(
     requires room { length spaces.now.types.now.types ≤ limit }
     requires sharing { All (IsSharingEnabled (features_of config.now)) spaces.now.types.now.types }
     requires valid { All (IsValTypeValid (features_of config.now) limit) (values_of (Struct structure.now)) }
-    ensures exact { IfOk result (λ drawn. matching_struct_type_at config.now spaces.now.types.now.types must_share limit structure.now u.old ≡ (drawn, u.new)) }
+    ensures draws { Draws (matching_struct_type_at config.now spaces.now.types.now.types must_share limit structure.now u.old) result u.old u.new }
     ensures below { IfOk result (λ drawn. AreFieldsMatched spaces.now.types.now.types drawn.fields structure.now.fields) }
     ensures valid { IfOk result (λ drawn. All (IsValTypeValid (features_of config.now) limit) (values_of (Struct drawn))) }
     ensures shared { IsTrue must_share → All (IsShareable spaces.now.types.now.types) (values_of (Struct structure.now))
         → IfOk result (λ drawn. All (IsShareable spaces.now.types.now.types) (values_of (Struct drawn))) }
-    ensures memory { IfErr result (λ e. e ≡ Error.Memory) }
-    ensures left { KeepsPieces u.old u.new }
 {
     orderly(spaces);
     matching_struct_type(alloc, config, spaces.types, structure, must_share, limit, u)

@@ -8,6 +8,7 @@ ghost use Rattle.smith_config.specs.Faults.{Passes};
 ghost use Rattle.smith_config.specs.Features.{features_of};
 ghost use Rattle.smith_config.specs.Sanitized.{IsSanitized};
 ghost use Rattle.smith_config.specs.Shapes.{space_of};
+ghost use Rattle.smith_draw.specs.Drawing.{AlwaysDraws, DrawsInto};
 ghost use Rattle.smith_draw.specs.RecGroups.{
   types_left,
   types_until_at,
@@ -53,10 +54,8 @@ fn types_until(
     u: &mut Unstructured<'_>,
 ) -> Result<(), Error>
     requires few { limit + 1 < 2 ^ 32 }
-    ensures exact { OnOk result (types_until_at config.now limit types.old.types u.old ≡ (types.new.types, u.new)) }
+    ensures draws { DrawsInto (types_until_at config.now limit types.old.types u.old) types.new.types result u.old u.new }
     ensures groups { OnOk result (types.new.groups ≡ types.old.groups) }
-    ensures memory { IfErr result (λ e. e ≡ Error.Memory) }
-    ensures left { KeepsPieces u.old u.new }
 {
     for made in types.types().len()..limit as usize {
         let added = sub_type(alloc, config, types, limit, u)?;
@@ -67,9 +66,8 @@ fn types_until(
 
 fn group_size(config: &Config, allow_empty: bool, most: usize, u: &mut Unstructured<'_>) -> usize
     requires { 0 < most }
-    ensures exact { group_size_at config.now allow_empty most u.old ≡ (result, u.new) }
+    ensures draws { AlwaysDraws (group_size_at config.now allow_empty most u.old) result u.old u.new }
     ensures within { result ≤ most }
-    ensures left { KeepsPieces u.old u.new }
 {
     if !config.gc_enabled {
         return 1;
@@ -89,9 +87,7 @@ fn new_group(
 ) -> Result<(), Error>
     requires room { length types.old.types < config.now.max_types }
     requires few { config.now.max_types ≤ 2 ^ 31 }
-    ensures exact { OnOk result (new_group_at config.now allow_empty types.old u.old ≡ (types.new, u.new)) }
-    ensures memory { IfErr result (λ e. e ≡ Error.Memory) }
-    ensures left { KeepsPieces u.old u.new }
+    ensures { DrawsInto (new_group_at config.now allow_empty types.old u.old) types.new result u.old u.new }
 {
     let start = types.types().len();
     let size = group_size(config, allow_empty, config.max_types - start, u);
@@ -170,9 +166,8 @@ fn clone_group(
 
 /// Whether a clone is asked for.
 fn clone_wanted(config: &Config, types: &TypeSpace, u: &mut Unstructured<'_>) -> bool
-    ensures exact { clone_wanted_at config.now types.now u.old ≡ (result, u.new) }
+    ensures draws { AlwaysDraws (clone_wanted_at config.now types.now u.old) result u.old u.new }
     ensures some { IsTrue result → 0 < length types.now.groups }
-    ensures left { KeepsPieces u.old u.new }
 {
     if !config.gc_enabled || types.rec_groups().len() == 0 {
         return false;
@@ -192,9 +187,7 @@ fn rec_group(
 ) -> Result<(), Error>
     requires room { length types.old.types < config.now.max_types }
     requires few { config.now.max_types ≤ 2 ^ 31 }
-    ensures exact { OnOk result (rec_group_at config.now allow_empty types.old u.old ≡ (types.new, u.new)) }
-    ensures memory { IfErr result (λ e. e ≡ Error.Memory) }
-    ensures left { KeepsPieces u.old u.new }
+    ensures { DrawsInto (rec_group_at config.now allow_empty types.old u.old) types.new result u.old u.new }
 {
     if !clone_wanted(config, types, u) {
         return new_group(alloc, config, types, allow_empty, u);
@@ -215,9 +208,7 @@ fn least_types(
 ) -> Result<(), Error>
     requires ordered { config.now.min_types ≤ config.now.max_types }
     requires few { config.now.max_types ≤ 2 ^ 31 }
-    ensures exact { OnOk result (least_types_at config.now config.now.min_types types.old u.old ≡ (types.new, u.new)) }
-    ensures memory { IfErr result (λ e. e ≡ Error.Memory) }
-    ensures left { KeepsPieces u.old u.new }
+    ensures { DrawsInto (least_types_at config.now config.now.min_types types.old u.old) types.new result u.old u.new }
 {
     while types.types().len() < config.min_types {
         rec_group(alloc, config, types, false, u)?;
@@ -233,9 +224,7 @@ fn more_types(
     u: &mut Unstructured<'_>,
 ) -> Result<(), Error>
     requires few { config.now.max_types ≤ 2 ^ 31 }
-    ensures exact { OnOk result (more_types_at config.now (length u.old + 1) types.old u.old ≡ (types.new, u.new)) }
-    ensures memory { IfErr result (λ e. e ≡ Error.Memory) }
-    ensures left { KeepsPieces u.old u.new }
+    ensures { DrawsInto (more_types_at config.now (length u.old + 1) types.old u.old) types.new result u.old u.new }
 {
     while types.types().len() < config.max_types {
         if !u.arbitrary::<bool>() {
@@ -255,9 +244,7 @@ fn all_types(
 ) -> Result<(), Error>
     requires ordered { config.now.min_types ≤ config.now.max_types }
     requires few { config.now.max_types ≤ 2 ^ 31 }
-    ensures exact { OnOk result (types_at config.now types.old u.old ≡ (types.new, u.new)) }
-    ensures memory { IfErr result (λ e. e ≡ Error.Memory) }
-    ensures left { KeepsPieces u.old u.new }
+    ensures { DrawsInto (types_at config.now types.old u.old) types.new result u.old u.new }
 {
     least_types(alloc, config, types, u)?;
     more_types(alloc, config, types, u)
@@ -301,13 +288,11 @@ pub fn arbitrary_rec_group(
     requires sanitized { IsSanitized config.now }
     requires valid { AreTypesValid (features_of config.now) types.old }
     requires room { length types.old.types < config.now.max_types }
-    ensures exact { OnOk result (rec_group_at config.now allow_empty types.old u.old ≡ (types.new, u.new)) }
+    ensures draws { DrawsInto (rec_group_at config.now allow_empty types.old u.old) types.new result u.old u.new }
     ensures valid { OnOk result (AreTypesValid (features_of config.now) types.new) }
     ensures most { OnOk result (length types.new.types ≤ config.now.max_types) }
     ensures some { OnOk result (allow_empty ≡ false → length types.old.types < length types.new.types) }
     ensures reach { allow_empty ≡ true → All IsRoot types.old.types → OnOk result (Takes (SpellsAdded config.now types.old) u.old types.new u.new) }
-    ensures memory { IfErr result (λ e. e ≡ Error.Memory) }
-    ensures left { KeepsPieces u.old u.new }
 {
     rec_group(alloc, config, types, allow_empty, u)
 }
@@ -323,14 +308,12 @@ pub fn arbitrary_types(
     requires passes { Passes config.now }
     requires sanitized { IsSanitized config.now }
     requires valid { AreTypesValid (features_of config.now) types.old }
-    ensures exact { OnOk result (types_at config.now types.old u.old ≡ (types.new, u.new)) }
+    ensures draws { DrawsInto (types_at config.now types.old u.old) types.new result u.old u.new }
     ensures valid { OnOk result (AreTypesValid (features_of config.now) types.new) }
     ensures most { OnOk result (length types.old.types ≤ config.now.max_types → length types.new.types ≤ config.now.max_types) }
     ensures least { OnOk result (config.now.min_types ≤ length types.new.types) }
     ensures floats { config.now.allow_floats ≡ false → All HasNoFloat types.old.types → OnOk result (All HasNoFloat types.new.types) }
     ensures reach { config.now.min_types ≡ 0 → types.old ≡ space_of [] → OnOk result (Takes (SpellsSpace config.now) u.old types.new u.new) }
-    ensures memory { IfErr result (λ e. e ≡ Error.Memory) }
-    ensures left { KeepsPieces u.old u.new }
 {
     all_types(alloc, config, types, u)
 }

@@ -1,3 +1,4 @@
+ghost use Rattle.std.specs.Prelude.{◌≡◌, []};
 ghost use Rattle.smith_types.specs.Types.{IsOrderly};
 
 use smith_types::{GlobalType, MemoryType, TableType, TypeSpace};
@@ -16,6 +17,29 @@ pub struct Entities<'a> {
     pub imported_funcs: usize,
     /// How many of the globals are imported.
     pub imported_globals: usize,
+}
+
+impl<'a> Entities<'a> {
+    /// Index spaces without an entity.
+    pub fn none() -> Entities<'a>
+        ensures tags { result.tags.now ≡ [] }
+        ensures funcs { result.funcs.now ≡ [] }
+        ensures tables { result.tables.now ≡ [] }
+        ensures memories { result.memories.now ≡ [] }
+        ensures globals { result.globals.now ≡ [] }
+        ensures imported_funcs { result.imported_funcs ≡ 0 }
+        ensures imported_globals { result.imported_globals ≡ 0 }
+    {
+        Entities {
+            tags: &[],
+            funcs: &[],
+            tables: &[],
+            memories: &[],
+            globals: &[],
+            imported_funcs: 0,
+            imported_globals: 0,
+        }
+    }
 }
 
 /// What is drawn may refer to these.

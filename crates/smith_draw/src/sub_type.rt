@@ -1,5 +1,4 @@
-ghost use Rattle.std.specs.Prelude.{◌≡◌, ◌<◌, ◌+◌, ◌^◌, None, Some, length, slice_get, IsTrue, IsSome, IfOk, IfErr, All};
-ghost use Rattle.smith_bytes.specs.Source.{KeepsPieces};
+ghost use Rattle.std.specs.Prelude.{◌≡◌, ◌<◌, ◌+◌, ◌^◌, None, Some, length, slice_get, IsTrue, IsSome, IfOk, All};
 ghost use Rattle.smith_bytes.specs.Takes.{Takes, SpellsSuch};
 ghost use Rattle.smith_types.specs.Matching.{IsInnerInRange};
 ghost use Rattle.smith_types.specs.Space.{MayFollow};
@@ -7,6 +6,7 @@ ghost use Rattle.smith_types.specs.OpenTypes.{AreTypesOpen};
 ghost use Rattle.smith_types.specs.ValidTypes.{IsTypeValid};
 ghost use Rattle.smith_config.specs.Features.{features_of};
 ghost use Rattle.smith_config.specs.Sanitized.{IsSanitized};
+ghost use Rattle.smith_draw.specs.Drawing.{AlwaysDraws, Draws};
 ghost use Rattle.smith_draw.specs.SubTypes.{
   supertypes,
   is_final_at,
@@ -38,8 +38,7 @@ fn supertypes(space: &TypeSpace) -> &[u32]
 
 /// Whether a type is final: without garbage collection it is.
 fn is_final(config: &Config, u: &mut Unstructured<'_>) -> bool
-    ensures exact { is_final_at config.now u.old ≡ (result, u.new) }
-    ensures left { KeepsPieces u.old u.new }
+    ensures { AlwaysDraws (is_final_at config.now u.old) result u.old u.new }
 {
     if config.gc_enabled {
         return u.arbitrary();
@@ -56,9 +55,7 @@ fn root_type(
     limit: u32,
     u: &mut Unstructured<'_>,
 ) -> Result<SubType, Error>
-    ensures exact { IfOk result (λ drawn. root_type_at config.now types.now limit u.old ≡ (drawn, u.new)) }
-    ensures memory { IfErr result (λ e. e ≡ Error.Memory) }
-    ensures left { KeepsPieces u.old u.new }
+    ensures { Draws (root_type_at config.now types.now limit u.old) result u.old u.new }
 {
     let is_final = is_final(config, u);
     let composite_type = composite_type(alloc, config, types, limit, u)?;
@@ -78,9 +75,7 @@ fn sub_type_below(
     index: u32,
     u: &mut Unstructured<'_>,
 ) -> Result<SubType, Error>
-    ensures exact { IfOk result (λ drawn. sub_type_below_at config.now space.now.types limit index (slice_get space.now.types index) u.old ≡ (drawn, u.new)) }
-    ensures memory { IfErr result (λ e. e ≡ Error.Memory) }
-    ensures left { KeepsPieces u.old u.new }
+    ensures { Draws (sub_type_below_at config.now space.now.types limit index (slice_get space.now.types index) u.old) result u.old u.new }
 {
     match space.types().get(index as usize) {
         Some(supertype) => {
@@ -108,9 +103,7 @@ fn sub_type_of(
     u: &mut Unstructured<'_>,
 ) -> Result<SubType, Error>
     requires { 0 < length indices.now }
-    ensures exact { IfOk result (λ drawn. sub_type_of_at config.now space.now.types limit indices.now u.old ≡ (drawn, u.new)) }
-    ensures memory { IfErr result (λ e. e ≡ Error.Memory) }
-    ensures left { KeepsPieces u.old u.new }
+    ensures { Draws (sub_type_of_at config.now space.now.types limit indices.now u.old) result u.old u.new }
 {
     let index = choose(indices, u);
     sub_type_below(alloc, config, space, limit, index, u)
@@ -118,9 +111,8 @@ fn sub_type_of(
 
 /// Whether a supertype is asked for, where there are so many.
 fn supertype_wanted(config: &Config, count: usize, u: &mut Unstructured<'_>) -> bool
-    ensures exact { supertype_wanted_at config.now count u.old ≡ (result, u.new) }
+    ensures draws { AlwaysDraws (supertype_wanted_at config.now count u.old) result u.old u.new }
     ensures some { IsTrue result → 0 < count }
-    ensures left { KeepsPieces u.old u.new }
 {
     if !config.gc_enabled || count == 0 {
         return false;
@@ -137,9 +129,7 @@ pub(crate) fn sub_type(
     limit: u32,
     u: &mut Unstructured<'_>,
 ) -> Result<SubType, Error>
-    ensures exact { IfOk result (λ drawn. sub_type_at config.now space.now.types limit u.old ≡ (drawn, u.new)) }
-    ensures memory { IfErr result (λ e. e ≡ Error.Memory) }
-    ensures left { KeepsPieces u.old u.new }
+    ensures { Draws (sub_type_at config.now space.now.types limit u.old) result u.old u.new }
 {
     let indices = supertypes(space);
     if supertype_wanted(config, indices.len(), u) {
@@ -159,12 +149,10 @@ pub fn arbitrary_sub_type(
 ) -> Result<SubType, Error>
     requires sanitized { IsSanitized config.now }
     requires valid { AreTypesOpen (features_of config.now) limit spaces.now.types.now }
-    ensures exact { IfOk result (λ drawn. sub_type_at config.now spaces.now.types.now.types limit u.old ≡ (drawn, u.new)) }
+    ensures draws { Draws (sub_type_at config.now spaces.now.types.now.types limit u.old) result u.old u.new }
     ensures valid { IfOk result (IsTypeValid (features_of config.now) spaces.now.types.now.types limit) }
     ensures follows { IfOk result (HasSuperType spaces.now.types.now.types) }
     ensures reach { All IsRoot spaces.now.types.now.types → IfOk result (λ drawn. Takes (SpellsSuch (λ t. IsInnerInRange spaces.now.types.now.types t.composite_type.inner) (SpellsSubType config.now spaces.now.types.now.types limit)) u.old drawn u.new) }
-    ensures memory { IfErr result (λ e. e ≡ Error.Memory) }
-    ensures left { KeepsPieces u.old u.new }
 {
     sub_type(alloc, config, spaces.types, limit, u)
 }
@@ -181,12 +169,10 @@ pub fn arbitrary_sub_type_of_super_type(
     requires gc { IsTrue config.now.gc_enabled }
     requires valid { AreTypesOpen (features_of config.now) limit spaces.now.types.now }
     requires some { SomeMayHaveSubtypes spaces.now.types.now.types }
-    ensures exact { IfOk result (λ drawn. sub_type_of_at config.now spaces.now.types.now.types limit (supertypes spaces.now.types.now.types) u.old ≡ (drawn, u.new)) }
+    ensures draws { Draws (sub_type_of_at config.now spaces.now.types.now.types limit (supertypes spaces.now.types.now.types) u.old) result u.old u.new }
     ensures below { IfOk result (λ drawn. IsSome drawn.supertype) }
     ensures valid { IfOk result (IsTypeValid (features_of config.now) spaces.now.types.now.types limit) }
     ensures follows { IfOk result (HasSuperType spaces.now.types.now.types) }
-    ensures memory { IfErr result (λ e. e ≡ Error.Memory) }
-    ensures left { KeepsPieces u.old u.new }
 {
     let indices = supertypes(spaces.types);
     sub_type_of(alloc, config, spaces.types, limit, indices, u)

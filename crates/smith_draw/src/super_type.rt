@@ -1,9 +1,9 @@
-ghost use Rattle.std.specs.Prelude.{◌≡◌, ◌↔◌, true, Some, IfOk, IfErr};
+ghost use Rattle.std.specs.Prelude.{◌≡◌, ◌↔◌, true, Some, IfOk};
 ghost use Rattle.smith_bytes.specs.Draws.{choose_at};
-ghost use Rattle.smith_bytes.specs.Source.{KeepsPieces};
 ghost use Rattle.smith_types.specs.Subtyping.{IsBelow, IsRefBelow, IsValBelow, IsInRange, IsValInRange};
 ghost use Rattle.smith_types.specs.ValidTypes.{IsHeapTypeValid, IsRefTypeValid, IsValTypeValid, IsHeapTypeShared, IsShareable};
 ghost use Rattle.smith_config.specs.Features.{features_of};
+ghost use Rattle.smith_draw.specs.Drawing.{Draws};
 ghost use Rattle.smith_draw.specs.Kept.{StaysValid};
 ghost use Rattle.smith_draw.specs.Offered.{supertypes_offered};
 ghost use Rattle.smith_draw.specs.MatchingTypes.{each_at, super_heap_type_at, super_ref_type_at, super_val_type_at};
@@ -23,9 +23,7 @@ fn super_heap_type(
     ty: HeapType,
     u: &mut Unstructured<'_>,
 ) -> Result<HeapType, Error>
-    ensures exact { IfOk result (λ drawn. super_heap_type_at config.now space.now.types ty u.old ≡ (drawn, u.new)) }
-    ensures memory { IfErr result (λ e. e ≡ Error.Memory) }
-    ensures left { KeepsPieces u.old u.new }
+    ensures { Draws (super_heap_type_at config.now space.now.types ty u.old) result u.old u.new }
 {
     if !config.gc_enabled {
         return Ok(ty);
@@ -42,9 +40,7 @@ fn super_ref_type(
     ty: RefType,
     u: &mut Unstructured<'_>,
 ) -> Result<RefType, Error>
-    ensures exact { IfOk result (λ drawn. super_ref_type_at config.now space.now.types ty u.old ≡ (drawn, u.new)) }
-    ensures memory { IfErr result (λ e. e ≡ Error.Memory) }
-    ensures left { KeepsPieces u.old u.new }
+    ensures { Draws (super_ref_type_at config.now space.now.types ty u.old) result u.old u.new }
 {
     let heap_type = super_heap_type(alloc, config, space, ty.heap_type, u)?;
     Ok(RefType {
@@ -60,9 +56,7 @@ fn super_val_type(
     ty: ValType,
     u: &mut Unstructured<'_>,
 ) -> Result<ValType, Error>
-    ensures exact { IfOk result (λ drawn. super_val_type_at config.now space.now.types ty u.old ≡ (drawn, u.new)) }
-    ensures memory { IfErr result (λ e. e ≡ Error.Memory) }
-    ensures left { KeepsPieces u.old u.new }
+    ensures { Draws (super_val_type_at config.now space.now.types ty u.old) result u.old u.new }
 {
     if let ValType::Ref(reference) = ty {
         let drawn = super_ref_type(alloc, config, space, reference, u)?;
@@ -79,9 +73,7 @@ pub(crate) fn super_val_types(
     values: &[ValType],
     u: &mut Unstructured<'_>,
 ) -> Result<Items<ValType>, Error>
-    ensures exact { IfOk result (λ drawn. each_at (super_val_type_at config.now space.now.types) values.now u.old ≡ (drawn, u.new)) }
-    ensures memory { IfErr result (λ e. e ≡ Error.Memory) }
-    ensures left { KeepsPieces u.old u.new }
+    ensures { Draws (each_at (super_val_type_at config.now space.now.types) values.now u.old) result u.old u.new }
 {
     let mut supertypes = Items::with_capacity(alloc, values.len())?;
     for ty in values {
@@ -99,14 +91,12 @@ pub fn arbitrary_super_type_of_heap_type(
     ty: HeapType,
     u: &mut Unstructured<'_>,
 ) -> Result<HeapType, Error>
-    ensures exact { IfOk result (λ drawn. super_heap_type_at config.now spaces.now.types.now.types ty u.old ≡ (drawn, u.new)) }
+    ensures draws { Draws (super_heap_type_at config.now spaces.now.types.now.types ty u.old) result u.old u.new }
     ensures offered { IfOk result (λ drawn. choose_at (supertypes_offered config.now spaces.now.types.now.types ty) u.old ≡ (Some drawn, u.new)) }
     ensures above { IfOk result (λ drawn. IsBelow spaces.now.types.now.types ty drawn) }
     ensures shared { IfOk result (λ drawn. IsHeapTypeShared spaces.now.types.now.types drawn ↔ IsHeapTypeShared spaces.now.types.now.types ty) }
     ensures valid { IfOk result (StaysValid (IsHeapTypeValid (features_of config.now)) (features_of config.now) spaces.now.types.now.types ty) }
     ensures stands { IfOk result (λ drawn. IsInRange spaces.now.types.now.types ty → IsInRange spaces.now.types.now.types drawn) }
-    ensures memory { IfErr result (λ e. e ≡ Error.Memory) }
-    ensures left { KeepsPieces u.old u.new }
 {
     orderly(spaces);
     super_heap_type(alloc, config, spaces.types, ty, u)
@@ -120,14 +110,12 @@ pub fn arbitrary_super_type_of_ref_type(
     ty: RefType,
     u: &mut Unstructured<'_>,
 ) -> Result<RefType, Error>
-    ensures exact { IfOk result (λ drawn. super_ref_type_at config.now spaces.now.types.now.types ty u.old ≡ (drawn, u.new)) }
+    ensures draws { Draws (super_ref_type_at config.now spaces.now.types.now.types ty u.old) result u.old u.new }
     ensures above { IfOk result (λ drawn. IsRefBelow spaces.now.types.now.types ty drawn) }
     ensures nullable { IfOk result (λ drawn. drawn.nullable ≡ true) }
     ensures shared { IfOk result (λ drawn. IsHeapTypeShared spaces.now.types.now.types drawn.heap_type ↔ IsHeapTypeShared spaces.now.types.now.types ty.heap_type) }
     ensures valid { IfOk result (StaysValid (IsRefTypeValid (features_of config.now)) (features_of config.now) spaces.now.types.now.types ty) }
     ensures stands { IfOk result (λ drawn. IsInRange spaces.now.types.now.types ty.heap_type → IsInRange spaces.now.types.now.types drawn.heap_type) }
-    ensures memory { IfErr result (λ e. e ≡ Error.Memory) }
-    ensures left { KeepsPieces u.old u.new }
 {
     orderly(spaces);
     super_ref_type(alloc, config, spaces.types, ty, u)
@@ -141,13 +129,11 @@ pub fn arbitrary_super_type_of_val_type(
     ty: ValType,
     u: &mut Unstructured<'_>,
 ) -> Result<ValType, Error>
-    ensures exact { IfOk result (λ drawn. super_val_type_at config.now spaces.now.types.now.types ty u.old ≡ (drawn, u.new)) }
+    ensures draws { Draws (super_val_type_at config.now spaces.now.types.now.types ty u.old) result u.old u.new }
     ensures above { IfOk result (λ drawn. IsValBelow spaces.now.types.now.types ty drawn) }
     ensures shared { IfOk result (λ drawn. IsShareable spaces.now.types.now.types drawn ↔ IsShareable spaces.now.types.now.types ty) }
     ensures valid { IfOk result (StaysValid (IsValTypeValid (features_of config.now)) (features_of config.now) spaces.now.types.now.types ty) }
     ensures stands { IfOk result (λ drawn. IsValInRange spaces.now.types.now.types ty → IsValInRange spaces.now.types.now.types drawn) }
-    ensures memory { IfErr result (λ e. e ≡ Error.Memory) }
-    ensures left { KeepsPieces u.old u.new }
 {
     orderly(spaces);
     super_val_type(alloc, config, spaces.types, ty, u)

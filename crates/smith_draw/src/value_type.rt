@@ -1,5 +1,4 @@
-ghost use Rattle.std.specs.Prelude.{◌≡◌, false, ◌<◌, IsTrue, IfOk, IfErr, slice_get};
-ghost use Rattle.smith_bytes.specs.Source.{KeepsPieces};
+ghost use Rattle.std.specs.Prelude.{◌≡◌, false, ◌<◌, IsTrue, IfOk, slice_get};
 ghost use Rattle.smith_bytes.specs.Takes.{Takes, SpellsSuch};
 ghost use Rattle.smith_types.specs.Subtyping.{IsInRange, IsValInRange};
 ghost use Rattle.smith_types.specs.ValidTypes.{
@@ -11,6 +10,7 @@ ghost use Rattle.smith_types.specs.ValidTypes.{
 };
 ghost use Rattle.smith_config.specs.Features.{features_of};
 ghost use Rattle.smith_config.specs.Sanitized.{IsSanitized};
+ghost use Rattle.smith_draw.specs.Drawing.{AlwaysDraws, Draws};
 ghost use Rattle.smith_draw.specs.ValueTypes.{
   abstract_heap_types,
   value_classes,
@@ -47,8 +47,7 @@ enum ValueClass {
 
 #[tactic(auto, unfolding(crate::specs::ValueTypes::sharedness_at))]
 pub(crate) fn sharedness(config: &Config, must_share: bool, u: &mut Unstructured<'_>) -> bool
-    ensures exact { sharedness_at config.now must_share u.old ≡ (result, u.new) }
-    ensures left { KeepsPieces u.old u.new }
+    ensures { AlwaysDraws (sharedness_at config.now must_share u.old) result u.old u.new }
 {
     if must_share {
         return true;
@@ -84,8 +83,7 @@ fn abstract_heap_types(config: &Config) -> &'static [AbstractHeapType]
 
 #[tactic(auto, unfolding(crate::specs::ValueTypes::abstract_heap_type_at))]
 fn abstract_heap_type(config: &Config, must_share: bool, u: &mut Unstructured<'_>) -> HeapType
-    ensures exact { abstract_heap_type_at config.now must_share u.old ≡ (result, u.new) }
-    ensures left { KeepsPieces u.old u.new }
+    ensures { AlwaysDraws (abstract_heap_type_at config.now must_share u.old) result u.old u.new }
 {
     let shared = sharedness(config, must_share, u);
     let ty = choose(abstract_heap_types(config), u);
@@ -94,9 +92,8 @@ fn abstract_heap_type(config: &Config, must_share: bool, u: &mut Unstructured<'_
 
 /// Whether a type index is asked for.
 fn index_wanted(config: &Config, limit: u32, u: &mut Unstructured<'_>) -> bool
-    ensures exact { index_wanted_at config.now limit u.old ≡ (result, u.new) }
+    ensures draws { AlwaysDraws (index_wanted_at config.now limit u.old) result u.old u.new }
     ensures below { IsTrue result → 0 < limit }
-    ensures left { KeepsPieces u.old u.new }
 {
     if !config.gc_enabled || limit == 0 {
         return false;
@@ -129,8 +126,7 @@ fn type_index(
     limit: u32,
     u: &mut Unstructured<'_>,
 ) -> Option<u32>
-    ensures exact { type_index_at config.now types.now must_share limit u.old ≡ (result, u.new) }
-    ensures left { KeepsPieces u.old u.new }
+    ensures { AlwaysDraws (type_index_at config.now types.now must_share limit u.old) result u.old u.new }
 {
     if !index_wanted(config, limit, u) {
         return None;
@@ -147,8 +143,7 @@ fn heap_type(
     limit: u32,
     u: &mut Unstructured<'_>,
 ) -> HeapType
-    ensures exact { heap_type_at config.now types.now must_share limit u.old ≡ (result, u.new) }
-    ensures left { KeepsPieces u.old u.new }
+    ensures { AlwaysDraws (heap_type_at config.now types.now must_share limit u.old) result u.old u.new }
 {
     match type_index(config, types, must_share, limit, u) {
         Some(index) => HeapType::Concrete(index),
@@ -164,8 +159,7 @@ fn ref_type(
     limit: u32,
     u: &mut Unstructured<'_>,
 ) -> RefType
-    ensures exact { ref_type_at config.now types.now must_share limit u.old ≡ (result, u.new) }
-    ensures left { KeepsPieces u.old u.new }
+    ensures { AlwaysDraws (ref_type_at config.now types.now must_share limit u.old) result u.old u.new }
 {
     let heap_type = if config.reference_types_enabled {
         heap_type(config, types, must_share, limit, u)
@@ -207,8 +201,7 @@ fn value_of_class(
     class: ValueClass,
     u: &mut Unstructured<'_>,
 ) -> ValType
-    ensures exact { value_of_class_at config.now types.now must_share limit class u.old ≡ (result, u.new) }
-    ensures left { KeepsPieces u.old u.new }
+    ensures { AlwaysDraws (value_of_class_at config.now types.now must_share limit class u.old) result u.old u.new }
 {
     match class {
         ValueClass::I32 => ValType::I32,
@@ -228,8 +221,7 @@ pub(crate) fn val_type(
     limit: u32,
     u: &mut Unstructured<'_>,
 ) -> ValType
-    ensures exact { val_type_at config.now types.now must_share limit u.old ≡ (result, u.new) }
-    ensures left { KeepsPieces u.old u.new }
+    ensures { AlwaysDraws (val_type_at config.now types.now must_share limit u.old) result u.old u.new }
 {
     let class = choose(value_classes(config), u);
     value_of_class(config, types, must_share, limit, class, u)
@@ -247,13 +239,11 @@ pub fn arbitrary_heap_type(
 ) -> Result<HeapType, Error>
     requires sanitized { IsSanitized config.now }
     requires may_share { IsTrue must_share → IsTrue config.now.shared_everything_threads_enabled }
-    ensures exact { IfOk result (λ drawn. heap_type_at config.now spaces.now.types.now.types must_share limit u.old ≡ (drawn, u.new)) }
+    ensures draws { Draws (heap_type_at config.now spaces.now.types.now.types must_share limit u.old) result u.old u.new }
     ensures valid { IfOk result (IsHeapTypeValid (features_of config.now) limit) }
     ensures stands { IfOk result (IsInRange spaces.now.types.now.types) }
     ensures shared { IsTrue must_share → IfOk result (IsHeapTypeShared spaces.now.types.now.types) }
     ensures reach { must_share ≡ false → IfOk result (λ drawn. Takes (SpellsSuch (IsInRange spaces.now.types.now.types) (SpellsHeapType config.now limit)) u.old drawn u.new) }
-    ensures memory { IfErr result (λ e. e ≡ Error.Memory) }
-    ensures left { KeepsPieces u.old u.new }
 {
     Ok(heap_type(config, spaces.types.types(), must_share, limit, u))
 }
@@ -269,13 +259,11 @@ pub fn arbitrary_ref_type(
 ) -> Result<RefType, Error>
     requires sanitized { IsSanitized config.now }
     requires may_share { IsTrue must_share → IsTrue config.now.shared_everything_threads_enabled }
-    ensures exact { IfOk result (λ drawn. ref_type_at config.now spaces.now.types.now.types must_share limit u.old ≡ (drawn, u.new)) }
+    ensures draws { Draws (ref_type_at config.now spaces.now.types.now.types must_share limit u.old) result u.old u.new }
     ensures valid { IfOk result (IsRefTypeValid (features_of config.now) limit) }
     ensures stands { IfOk result (λ drawn. IsInRange spaces.now.types.now.types drawn.heap_type) }
     ensures shared { IsTrue must_share → IfOk result (λ drawn. IsHeapTypeShared spaces.now.types.now.types drawn.heap_type) }
     ensures reach { must_share ≡ false → IfOk result (λ drawn. Takes (SpellsSuch (λ reference. IsInRange spaces.now.types.now.types reference.heap_type) (SpellsRefType config.now limit)) u.old drawn u.new) }
-    ensures memory { IfErr result (λ e. e ≡ Error.Memory) }
-    ensures left { KeepsPieces u.old u.new }
 {
     Ok(ref_type(config, spaces.types.types(), must_share, limit, u))
 }
@@ -291,13 +279,11 @@ pub fn arbitrary_valtype(
 ) -> Result<ValType, Error>
     requires sanitized { IsSanitized config.now }
     requires may_share { IsTrue must_share → IsTrue config.now.shared_everything_threads_enabled }
-    ensures exact { IfOk result (λ drawn. val_type_at config.now spaces.now.types.now.types must_share limit u.old ≡ (drawn, u.new)) }
+    ensures draws { Draws (val_type_at config.now spaces.now.types.now.types must_share limit u.old) result u.old u.new }
     ensures valid { IfOk result (IsValTypeValid (features_of config.now) limit) }
     ensures stands { IfOk result (IsValInRange spaces.now.types.now.types) }
     ensures shared { IsTrue must_share → IfOk result (IsShareable spaces.now.types.now.types) }
     ensures reach { must_share ≡ false → IfOk result (λ drawn. Takes (SpellsSuch (IsValInRange spaces.now.types.now.types) (SpellsValType config.now limit)) u.old drawn u.new) }
-    ensures memory { IfErr result (λ e. e ≡ Error.Memory) }
-    ensures left { KeepsPieces u.old u.new }
 {
     Ok(val_type(config, spaces.types.types(), must_share, limit, u))
 }

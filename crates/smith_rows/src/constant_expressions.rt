@@ -14,16 +14,6 @@ use std::alloc::Global;
 use std::test::Fail;
 use wasm_smith::{Config, Entities, Error, Spaces, Unstructured, arbitrary_types};
 
-const NO_ENTITIES: Entities<'static> = Entities {
-    tags: &[],
-    funcs: &[],
-    tables: &[],
-    memories: &[],
-    globals: &[],
-    imported_funcs: 0,
-    imported_globals: 0,
-};
-
 fn spaces_of<'a>(types: &'a TypeSpace) -> Spaces<'a>
     ensures types { result.types.now ≡ types.now }
     ensures functions { result.entities.funcs.now ≡ [] }
@@ -32,7 +22,7 @@ fn spaces_of<'a>(types: &'a TypeSpace) -> Spaces<'a>
 {
     Spaces {
         types,
-        entities: NO_ENTITIES,
+        entities: Entities::none(),
     }
 }
 
@@ -65,7 +55,7 @@ fn types_from(alloc: Global, config: &Config, input: &[u8]) -> Result<TypeSpace,
         alloc,
         config,
         &mut types,
-        &NO_ENTITIES,
+        &Entities::none(),
         &mut Unstructured::new(input),
     )?;
     Ok(types)
@@ -304,13 +294,9 @@ fn with_globals<'a>(types: &'a TypeSpace, globals: &'a [GlobalType]) -> Spaces<'
     Spaces {
         types,
         entities: Entities {
-            tags: &[],
-            funcs: &[],
-            tables: &[],
-            memories: &[],
             globals,
-            imported_funcs: 0,
             imported_globals: 2,
+            ..Entities::none()
         },
     }
 }

@@ -10,21 +10,11 @@ use wasm_smith::{
     arbitrary_rec_group, arbitrary_ref_type, arbitrary_valtype,
 };
 
-const NO_ENTITIES: Entities<'static> = Entities {
-    tags: &[],
-    funcs: &[],
-    tables: &[],
-    memories: &[],
-    globals: &[],
-    imported_funcs: 0,
-    imported_globals: 0,
-};
-
 // The spaces of a module without entities.
 fn spaces_of<'a>(types: &'a TypeSpace) -> Spaces<'a> {
     Spaces {
         types,
-        entities: NO_ENTITIES,
+        entities: Entities::none(),
     }
 }
 
@@ -166,9 +156,9 @@ fn a_group_is_one_type(rt: HostRuntime) -> Result<(), Fail> {
     let mut u = Unstructured::new(&[0, 1, 1, 0, 0, 0, 7]);
     assert!(rt; config.check().is_ok());
     assert!(rt; types.types().len() < config.max_types);
-    arbitrary_rec_group(alloc, &config, &mut types, &NO_ENTITIES, false, &mut u)?;
+    arbitrary_rec_group(alloc, &config, &mut types, &Entities::none(), false, &mut u)?;
     assert!(rt; types.types().len() < config.max_types);
-    arbitrary_rec_group(alloc, &config, &mut types, &NO_ENTITIES, true, &mut u)?;
+    arbitrary_rec_group(alloc, &config, &mut types, &Entities::none(), true, &mut u)?;
     assert!(rt; are_two_groups(&types));
     assert_eq!(rt; u.len(), 1);
     Ok(())

@@ -9,20 +9,10 @@ use wasm_smith::{
     arbitrary_storage_type, arbitrary_struct_type,
 };
 
-const NO_ENTITIES: Entities<'static> = Entities {
-    tags: &[],
-    funcs: &[],
-    tables: &[],
-    memories: &[],
-    globals: &[],
-    imported_funcs: 0,
-    imported_globals: 0,
-};
-
 fn spaces_of<'a>(types: &'a TypeSpace) -> Spaces<'a> {
     Spaces {
         types,
-        entities: NO_ENTITIES,
+        entities: Entities::none(),
     }
 }
 

@@ -13,22 +13,12 @@ use wasm_smith::{
     arbitrary_sub_type, arbitrary_sub_type_of_super_type, arbitrary_types, clone_rec_group,
 };
 
-const NO_ENTITIES: Entities<'static> = Entities {
-    tags: &[],
-    funcs: &[],
-    tables: &[],
-    memories: &[],
-    globals: &[],
-    imported_funcs: 0,
-    imported_globals: 0,
-};
-
 fn spaces_of<'a>(types: &'a TypeSpace) -> Spaces<'a>
     ensures types { result.types.now ≡ types.now }
 {
     Spaces {
         types,
-        entities: NO_ENTITIES,
+        entities: Entities::none(),
     }
 }
 
@@ -59,7 +49,7 @@ fn types_from(alloc: Global, config: &Config, input: &[u8]) -> Result<TypeSpace,
         alloc,
         config,
         &mut types,
-        &NO_ENTITIES,
+        &Entities::none(),
         &mut Unstructured::new(input),
     )?;
     Ok(types)
@@ -136,7 +126,7 @@ fn counts_with_clone(
         return Ok(None);
     }
     let mut u = Unstructured::new(&[]);
-    if !clone_rec_group(alloc, config, &mut types, &NO_ENTITIES, true, &mut u)? {
+    if !clone_rec_group(alloc, config, &mut types, &Entities::none(), true, &mut u)? {
         return Ok(None);
     }
     Ok(Some((types.types().len(), types.rec_groups().len())))

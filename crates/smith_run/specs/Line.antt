@@ -1,7 +1,7 @@
 -- The lines that the program writes to standard output.
 use Rattle.std.specs.Prelude.{ℕ, List, ◌++◌, length, Option, Some, None, Result, Ok, Err, codes, decimal}
 use Rattle.smith_bytes.specs.declared.error.Error.{Error}
-use Rattle.smith_bytes.specs.declared.error.Error.TheVariants.{EmptyChoose, NotEnoughData, IncorrectFormat, Config, Shape, Memory}
+use Rattle.smith_bytes.specs.ErrorNames.{kind_name}
 use Rattle.wasm_smith.specs.Module.{Parts}
 
 -- an index in decimal digits, or the word for none
@@ -25,15 +25,6 @@ counts_line parts =
     ++ codes " elems " ++ decimal (length parts.elems)
     ++ codes " data " ++ decimal (length parts.segments)
     ++ codes "\n"
-
--- the name of a kind of refusal
-abbrev pub kind_name : Error → List ℕ
-kind_name EmptyChoose = codes "EmptyChoose"
-kind_name NotEnoughData = codes "NotEnoughData"
-kind_name (IncorrectFormat _) = codes "IncorrectFormat"
-kind_name (Config _) = codes "Config"
-kind_name (Shape _ _) = codes "Shape"
-kind_name Memory = codes "Memory"
 
 -- the line that tells a module or a refusal
 abbrev pub line_of : Result Parts Error → List ℕ

@@ -1,6 +1,7 @@
 ghost use Rattle.std.specs.Prelude.{◌≡◌, ◌+◌, ◌≤◌, ◌++◌, length, decimal, codes};
 ghost use Rattle.arrayvec.specs.ArrayString.{array_string_len};
-ghost use Rattle.smith_run.specs.Line.{line_of, counts_line, kind_name, index_or_none};
+ghost use Rattle.smith_bytes.specs.ErrorNames.{kind_name};
+ghost use Rattle.smith_run.specs.Line.{line_of, counts_line, index_or_none};
 
 use arrayvec::ArrayString;
 use wasm_smith::{Error, Module};
@@ -64,21 +65,7 @@ fn refused(refusal: &Error) -> Line
 {
     let mut line = Line::new();
     line.push_str("refused: ");
-    line.push_str(name_of(refusal));
+    line.push_str(refusal.name());
     line.push_str("\n");
     line
-}
-
-fn name_of(refusal: &Error) -> &'static str
-    ensures name { result.now ≡ kind_name refusal.now }
-    ensures short { length result.now ≤ 15 }
-{
-    match refusal {
-        Error::EmptyChoose => "EmptyChoose",
-        Error::NotEnoughData => "NotEnoughData",
-        Error::IncorrectFormat(_) => "IncorrectFormat",
-        Error::Config(_) => "Config",
-        Error::Shape(_, _) => "Shape",
-        Error::Memory => "Memory",
-    }
 }

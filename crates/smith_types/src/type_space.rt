@@ -37,6 +37,7 @@ use crate::subtyping::{heap_type_is_below, ref_type_is_below, val_type_is_below}
 use crate::value_type::{HeapType, RefType, ValType};
 use smith_bytes::Error;
 use std::alloc::Global;
+use std::fmt;
 use std::marker::Model;
 use std::ops::Range;
 
@@ -64,6 +65,16 @@ impl Model for TypeSpace {
     ghost invariant = { λ a. IsSound (record { types = a.types.items; groups = a.groups.items })
         × AreDepths a.types.items a.depths.items
         × (a.extensible.items ≡ extensible_from 0 a.types.items a.depths.items) };
+}
+
+/// Prints the types and the groups.
+impl fmt::Debug for TypeSpace {
+    fn fmt<W: fmt::Write>(&self, f: &mut fmt::Formatter<W>) -> fmt::Result {
+        f.debug_struct("TypeSpace")
+            .field("types", &self.types)
+            .field("groups", &self.groups)
+            .finish_non_exhaustive()
+    }
 }
 
 impl TypeSpace {

@@ -10,6 +10,7 @@ use smith_types::{
     MemoryType, Name, SubType, TableType, TypeSpace,
 };
 use std::alloc::Global;
+use std::fmt;
 use std::marker::Model;
 use std::ops::Range;
 
@@ -294,5 +295,14 @@ impl Module {
         ensures { result.now ≡ self.now.interesting_values64 }
     {
         self.interesting_values64.as_slice()
+    }
+}
+
+/// Prints the configuration, and that there is more.
+impl fmt::Debug for Module {
+    fn fmt<W: fmt::Write>(&self, f: &mut fmt::Formatter<W>) -> fmt::Result {
+        f.debug_struct("Module")
+            .field("config", &self.config)
+            .finish_non_exhaustive()
     }
 }

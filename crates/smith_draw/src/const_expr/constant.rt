@@ -1,5 +1,4 @@
-ghost use Rattle.std.specs.Prelude.{◌≡◌};
-ghost use Rattle.smith_bytes.specs.Source.{KeepsPieces};
+ghost use Rattle.smith_draw.specs.Drawing.{AlwaysDraws};
 ghost use Rattle.smith_draw.specs.Constants.{constant_at};
 
 use smith_bytes::Unstructured;
@@ -8,8 +7,7 @@ use smith_types::{ConstInstr, ValType};
 /// A constant of a type: its value or bits drawn, of a reference null.
 #[tactic(auto, unfolding(crate::specs::Constants::constant_at))]
 pub(super) fn constant(wanted: ValType, u: &mut Unstructured<'_>) -> ConstInstr
-    ensures exact { constant_at wanted u.old ≡ (result, u.new) }
-    ensures left { KeepsPieces u.old u.new }
+    ensures { AlwaysDraws (constant_at wanted u.old) result u.old u.new }
 {
     match wanted {
         ValType::I32 => ConstInstr::I32Const(u.arbitrary()),

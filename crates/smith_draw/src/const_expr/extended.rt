@@ -3,6 +3,7 @@ ghost use Rattle.smith_types.specs.declared.const_instr.ConstInstr.{ConstInstr};
 ghost use Rattle.smith_bytes.specs.Source.{KeepsPieces};
 ghost use Rattle.smith_types.specs.Expressions.{Context};
 ghost use Rattle.smith_types.specs.declared.value_type.ValType.TheVariants.{I32, I64};
+ghost use Rattle.smith_draw.specs.Drawing.{AlwaysDraws};
 ghost use Rattle.smith_draw.specs.Constants.{is_wide, operation, operator_of, operator_at, extended_at};
 ghost use Rattle.smith_draw.specs.Putting.{Adds, Puts};
 
@@ -47,9 +48,8 @@ fn operator_of(number: u8) -> Option<Operator>
 /// Draws the operator before `count` instructions, or none where a constant stands there.
 #[tactic(auto, unfolding(crate::specs::Constants::operator_at))]
 fn drawn_operator(count: usize, u: &mut Unstructured<'_>) -> Option<Operator>
-    ensures exact { operator_at count u.old ≡ (result, u.new) }
+    ensures draws { AlwaysDraws (operator_at count u.old) result u.old u.new }
     ensures few { 10 < count → result ≡ None }
-    ensures left { KeepsPieces u.old u.new }
 {
     if u.is_empty() || count > 10 {
         return None;

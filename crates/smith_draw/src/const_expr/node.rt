@@ -1,5 +1,5 @@
 ghost use Rattle.std.specs.Prelude.{◌≡◌, ◌≤◌, ◌<◌, ◌++◌, [], ◌∷◌, map, length, slice_get, Some, IfOk, IfErr, OnOk};
-ghost use Rattle.smith_bytes.specs.Source.{KeepsPieces};
+ghost use Rattle.smith_draw.specs.Drawing.{Draws};
 ghost use Rattle.smith_draw.specs.ConstNodes.{fields_there, field_operands, repeated, is_shared_heap, converted, node_of, node_at};
 ghost use Rattle.smith_draw.specs.ConstScopes.{fields_of};
 ghost use Rattle.smith_types.specs.Expressions.{field_values};
@@ -39,9 +39,7 @@ pub(super) fn drawn_node(
     choice: Choice,
     u: &mut Unstructured<'_>,
 ) -> Result<Node, Error>
-    ensures exact { IfOk result (λ node. node_at types.now wanted choice u.old ≡ (node, u.new)) }
-    ensures memory { IfErr result (λ e. e ≡ Error.Memory) }
-    ensures left { KeepsPieces u.old u.new }
+    ensures { Draws (node_at types.now wanted choice u.old) result u.old u.new }
 {
     match choice {
         Choice::Global(index) => Ok(leaf(alloc, ConstInstr::GlobalGet(index))),
@@ -131,9 +129,7 @@ fn fixed_array(
     index: u32,
     u: &mut Unstructured<'_>,
 ) -> Result<Node, Error>
-    ensures exact { IfOk result (λ node. node_at types.now I32 (Choice.FixedArray index) u.old ≡ (node, u.new)) }
-    ensures memory { IfErr result (λ e. e ≡ Error.Memory) }
-    ensures left { KeepsPieces u.old u.new }
+    ensures { Draws (node_at types.now I32 (Choice.FixedArray index) u.old) result u.old u.new }
 {
     let array_size = u.int_in_range(0..=3u32);
     let mut operands = Items::new(alloc);

@@ -7,12 +7,14 @@ ghost use Rattle.smith_config.specs.Features.{features_of};
 ghost use Rattle.smith_config.specs.Sanitized.{IsSanitized};
 ghost use Rattle.smith_types.specs.Entities.{IsFuncValid};
 ghost use Rattle.wasm_smith.specs.ToCome.{MayComeOut};
+ghost use Rattle.smith_draw.specs.Drawing.{Draws};
 ghost use Rattle.smith_draw.specs.Choices.{chosen_at};
 ghost use Rattle.wasm_smith.specs.FuncTypes.{is_function, is_unshared_function, func_types};
 ghost use Rattle.wasm_smith.specs.Build.{Gives, funcs_at};
 
 use smith_bytes::{Count, Error, Unstructured, Why, goes_on};
 use smith_config::Config;
+use smith_draw::choose;
 use smith_types::{CompositeInnerType, Items, SubType, TypeSpace};
 use std::alloc::Global;
 
@@ -56,15 +58,6 @@ fn func_types(alloc: Global, types: &[SubType], count: usize) -> Result<Items<u3
     Ok(indices)
 }
 
-#[tactic(auto, unfolding(smith_draw::specs::Choices::chosen_at))]
-fn choose_func_type(indices: &[u32], u: &mut Unstructured<'_>) -> u32
-    requires { 0 < length indices.now }
-    ensures exact { chosen_at 0 indices.now u.old ≡ (result, u.new) }
-    ensures left { KeepsPieces u.old u.new }
-{
-    indices[u.int_in_range(0..=indices.len() - 1)]
-}
-
 /// The type of each function, among those of these indices.
 fn chosen_funcs(
     alloc: Global,
@@ -73,17 +66,14 @@ fn chosen_funcs(
     u: &mut Unstructured<'_>,
 ) -> Result<Items<u32>, Error>
     requires { 0 < length indices.now }
-    ensures exact { IfOk result (λ funcs. grow_at (λ _. chosen_at 0 indices.now) config.now.min_funcs config.now.max_funcs [] u.old ≡ (funcs, u.new)) }
-    ensures memory { IfErr result (λ e. e ≡ Error.Memory) }
-    ensures left { KeepsPieces u.old u.new }
+    ensures { Draws (grow_at (λ _. chosen_at 0 indices.now) config.now.min_funcs config.now.max_funcs [] u.old) result u.old u.new }
 {
     let mut funcs = Items::new(alloc);
     for made in 0..config.max_funcs {
         if !goes_on(u, made, config.min_funcs) {
             return Ok(funcs);
         }
-        let func = choose_func_type(indices, u);
-        funcs.push(func)?;
+        funcs.push(choose(indices, u))?;
     }
     Ok(funcs)
 }

@@ -1,8 +1,8 @@
-ghost use Rattle.std.specs.Prelude.{◌≡◌, ◌≤◌, ◌<◌, length, IsTrue, IfOk, IfErr, All};
-ghost use Rattle.smith_bytes.specs.Source.{KeepsPieces};
+ghost use Rattle.std.specs.Prelude.{◌≤◌, ◌<◌, length, IsTrue, IfOk, All};
 ghost use Rattle.smith_types.specs.Entities.{IsMemoryValid};
 ghost use Rattle.smith_config.specs.Faults.{Passes};
 ghost use Rattle.smith_config.specs.Features.{features_of};
+ghost use Rattle.smith_draw.specs.Drawing.{Draws};
 ghost use Rattle.smith_draw.specs.Bounds.{IsMemoryWithin};
 ghost use Rattle.wasm_smith.specs.Build.{memories_at};
 
@@ -20,11 +20,9 @@ fn drawn_memories(
     u: &mut Unstructured<'_>,
 ) -> Result<Items<MemoryType>, Error>
     requires { Passes config.now }
-    ensures exact { IfOk result (λ memories. memories_at config.now u.old ≡ (memories, u.new)) }
+    ensures draws { Draws (memories_at config.now u.old) result u.old u.new }
     ensures valid { IfOk result (All (IsMemoryValid (features_of config.now))) }
     ensures within { IfOk result (All (IsMemoryWithin config.now)) }
-    ensures memory { IfErr result (λ e. e ≡ Error.Memory) }
-    ensures left { KeepsPieces u.old u.new }
 {
     let mut memories = Items::new(alloc);
     for made in 0..config.max_memories {
@@ -44,14 +42,12 @@ pub(crate) fn memories(
     u: &mut Unstructured<'_>,
 ) -> Result<Items<MemoryType>, Error>
     requires { Passes config.now }
-    ensures exact { IfOk result (λ memories. memories_at config.now u.old ≡ (memories, u.new)) }
+    ensures draws { Draws (memories_at config.now u.old) result u.old u.new }
     ensures valid { IfOk result (All (IsMemoryValid (features_of config.now))) }
     ensures within { IfOk result (All (IsMemoryWithin config.now)) }
     ensures most { IfOk result (λ memories. length memories ≤ config.now.max_memories) }
     ensures least { IfOk result (λ memories. config.now.min_memories ≤ length memories) }
     ensures several { IfOk result (λ memories. 1 < length memories → IsTrue (features_of config.now).multi_memory) }
-    ensures memory { IfErr result (λ e. e ≡ Error.Memory) }
-    ensures left { KeepsPieces u.old u.new }
 {
     drawn_memories(alloc, config, u)
 }

@@ -66,12 +66,7 @@ fn is_tag_type(t: &SubType) -> bool
 fn any_tag_type(types: &[SubType]) -> bool
     ensures { result ≡ list_any is_tag_type types.now }
 {
-    for t in types {
-        if is_tag_type(t) {
-            return true;
-        }
-    }
-    false
+    types.iter().any(|t| is_tag_type(t))
 }
 
 fn may_have_tags(config: &Config, types: &[SubType]) -> bool

@@ -11,17 +11,15 @@ pub returns : goal.returns
 returns c =
     let types = c.args.spaces.now.types.now.types in
     let config = c.args.config.now in
-    let exact = rw c.types.ensures.value at c.func_type.ensures.exact in
+    let draws = rw c.types.ensures.value at c.func_type.ensures in
     let P = λ (function : FuncType). IsFuncTypeDrawn config types c.args.must_share c.args.limit function in
-    let drawn = IfOk-weaker c.func_type.result _ P (λ _ e. drawn_is P _ (func_type_drawn _ _ _ _ _ c.requires.sanitized c.requires.may_share) e) exact in
+    let drawn = IfOk-weaker c.func_type.result _ P (λ _ e. drawn_is P _ (func_type_drawn _ _ _ _ _ c.requires.sanitized c.requires.may_share) e) draws.exact in
     record {
-      exact = exact;
+      draws = draws;
       valid = IfOk-weaker c.func_type.result P _ (func_type_valid config types c.args.must_share c.args.limit) drawn;
       stands = IfOk-weaker c.func_type.result P _ (λ f h. (func_drawn config types c.args.must_share c.args.limit f h).stands) drawn;
       shared = λ must.
           IfOk-weaker c.func_type.result P _
           (λ f h. values_shared config types c.args.must_share c.args.limit (values_of (Func f)) must (func_drawn config types c.args.must_share c.args.limit f h).values) drawn;
-      reach = λ no. IfOk-weaker c.func_type.result _ _ (λ _ e. func_type_taken _ _ _ _ _ _ _ no e) exact;
-      memory = c.func_type.ensures.memory;
-      left = c.func_type.ensures.left;
+      reach = λ no. IfOk-weaker c.func_type.result _ _ (λ _ e. func_type_taken _ _ _ _ _ _ _ no e) draws.exact;
     }

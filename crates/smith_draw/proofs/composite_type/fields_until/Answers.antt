@@ -1,3 +1,4 @@
+use Rattle.std.proofs.Common.{rules}
 use Rattle.smith_bytes.proofs.Growing.{grow_full}
 use Rattle.smith_draw.proofs.Until.{until_go}
 use Rattle.smith_draw.proofs.composite_type.fields_until.Goals as goal
@@ -5,5 +6,5 @@ use Rattle.smith_draw.proofs.composite_type.fields_until.Goals as goal
 pub loop-made-preserved : goal.loop-made-preserved
 loop-made-preserved c = until_go c.loop-made.invariant c.loop-made-test.true c.field_type.ensures.exact c.in_ok-push.ensures.ok c.field_type.ensures.left
 
-pub returns-clause-exact : goal.returns-clause-exact
-returns-clause-exact c = grow_full c.loop-made.invariant c.loop-made-test.false
+pub returns : goal.returns
+returns c = record { exact = grow_full c.loop-made.invariant c.loop-made-test.false; memory = search rules; left = search rules }

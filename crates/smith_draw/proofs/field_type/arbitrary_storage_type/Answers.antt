@@ -13,11 +13,9 @@ returns c =
     let drawn = drawn_is (λ (ty : StorageType). IsStorageDrawn config types c.args.must_share c.args.limit ty) _ (storage_type_drawn _ _ _ _ _ c.requires.sanitized c.requires.may_share) exact in
     let values = values_of_storage c.storage_type.result in
     record {
-      exact = exact;
+      draws = record { exact = exact; memory = tt; left = c.storage_type.ensures.left };
       valid = values_valid config types c.args.must_share c.args.limit values drawn.values;
       stands = drawn.stands;
       shared = λ must. values_shared config types c.args.must_share c.args.limit values must drawn.values;
       reach = λ no. storage_type_taken _ _ _ _ _ _ _ no exact;
-      memory = tt;
-      left = c.storage_type.ensures.left;
     }

@@ -6,6 +6,6 @@ use Rattle.smith_draw.proofs.matching.matched_fields.Goals as goal
 pub loop-field-preserved : goal.loop-field-preserved
 loop-field-preserved c = each_more c.loop-field.invariant c.loop-field-test.true (search rules) c.in_ok-matching_field_type.ensures.exact c.in_ok-push.ensures.ok c.matching_field_type.ensures.left
 
-pub returns-clause-exact : goal.returns-clause-exact
+pub returns : goal.returns
 unfolding matched_fields_at
-returns-clause-exact c = each_all c.loop-field.invariant c.loop-field-test.false
+returns c = record { exact = each_all c.loop-field.invariant c.loop-field-test.false; memory = search rules; left = search rules }

@@ -9,7 +9,6 @@ pub returns : goal.returns
 returns c =
     let types = c.args.spaces.now.types.now.types in
     let config = c.args.config.now in
-    let exact = c.matching_struct_type.ensures.exact in
     let P = λ (drawn : StructType). IsInnerMatching config types c.args.must_share c.args.limit (Struct c.args.structure.now) (Struct drawn) in
     let matching =
     matching_struct config types c.args.must_share c.args.limit c.args.structure.now c.args.u.now (record {
@@ -22,12 +21,10 @@ returns c =
       enabled = c.requires.gc;
       values = c.requires.valid;
     }) in
-    let drawn = IfOk-weaker c.matching_struct_type.result _ P (λ _ e. drawn_is P _ matching e) exact in
+    let drawn = IfOk-weaker c.matching_struct_type.result _ P (λ _ e. drawn_is P _ matching e) c.matching_struct_type.ensures.exact in
     record {
-      exact = exact;
+      draws = c.matching_struct_type.ensures;
       below = IfOk-weaker c.matching_struct_type.result P _ (λ _ h. h.matched) drawn;
       valid = IfOk-weaker c.matching_struct_type.result P _ (λ _ h. h.values) drawn;
       shared = λ must old. IfOk-weaker c.matching_struct_type.result P _ (λ _ h. h.shareable must old) drawn;
-      memory = c.matching_struct_type.ensures.memory;
-      left = c.matching_struct_type.ensures.left;
     }

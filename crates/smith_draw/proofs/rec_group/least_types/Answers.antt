@@ -1,4 +1,4 @@
-use Rattle.std.proofs.Common.{◌<◌, length, refl, arith}
+use Rattle.std.proofs.Common.{◌<◌, length, refl, arith, rules}
 use Rattle.smith_draw.proofs.Groups.{group_adds, least_go, least_full}
 use Rattle.smith_draw.proofs.rec_group.least_types.Goals as goal
 
@@ -21,5 +21,5 @@ loop-types-preserved c =
     group_adds c.args.config.now c.loop-types.types c.rec_group.new.types c.loop-types.u c.rec_group.new.u (record { consecutive = sound.consecutive; within = sound.within }) (omega arith) c.in_ok-rec_group.ensures.exact in
     least_go c.loop-types.invariant few c.in_ok-rec_group.ensures.exact longer c.in_ok-rec_group.ensures.left
 
-pub returns-clause-exact : goal.returns-clause-exact
-returns-clause-exact c = least_full c.loop-types.invariant (rw c.types.ensures.value at c.loop-types-test.false)
+pub returns : goal.returns
+returns c = record { exact = least_full c.loop-types.invariant (rw c.types.ensures.value at c.loop-types-test.false); memory = search rules; left = search rules }

@@ -1,4 +1,4 @@
-use Rattle.std.proofs.Common.{◌+◌, Bool, length, refl, ap, ◌∙◌, arith}
+use Rattle.std.proofs.Common.{◌+◌, Bool, length, refl, ap, ◌∙◌, arith, rules}
 use Rattle.smith_draw.proofs.Groups.{bool_takes, piece_short, more_go, more_stop, more_full}
 use Rattle.smith_draw.proofs.rec_group.more_types.Goals as goal
 
@@ -15,8 +15,8 @@ pub loop-types-preserved : goal.loop-types-preserved
 loop-types-preserved c =
     more_go c.loop-types.invariant (rw c.types.ensures.value at c.loop-types-test.true) c.arbitrary.ensures.exact c.if-not-arbitrary.false c.in_ok-rec_group.ensures.exact c.arbitrary.ensures.left c.in_ok-rec_group.ensures.left
 
-pub returns-then-not-arbitrary-clause-exact : goal.returns-then-not-arbitrary-clause-exact
-returns-then-not-arbitrary-clause-exact c = more_stop c.loop-types.invariant (rw c.types.ensures.value at c.loop-types-test.true) c.arbitrary.ensures.exact c.if-not-arbitrary.true
+pub returns-then-not-arbitrary : goal.returns-then-not-arbitrary
+returns-then-not-arbitrary c = record { exact = more_stop c.loop-types.invariant (rw c.types.ensures.value at c.loop-types-test.true) c.arbitrary.ensures.exact c.if-not-arbitrary.true; memory = search rules; left = search rules }
 
-pub returns-clause-exact : goal.returns-clause-exact
-returns-clause-exact c = more_full c.loop-types.invariant (rw c.types.ensures.value at c.loop-types-test.false)
+pub returns : goal.returns
+returns c = record { exact = more_full c.loop-types.invariant (rw c.types.ensures.value at c.loop-types-test.false); memory = search rules; left = search rules }

@@ -1,4 +1,4 @@
-use Rattle.std.proofs.Common.{ap, ◌∙◌, arith}
+use Rattle.std.proofs.Common.{ap, ◌∙◌, arith, rules}
 use Rattle.smith_bytes.proofs.Growing.{grow_full}
 use Rattle.smith_types.specs.Space.{Space}
 use Rattle.smith_draw.specs.SubTypes.{HasSuperType}
@@ -19,5 +19,5 @@ loop-made-preserved c = record {
   groups = ap (λ (s : Space). s.groups) c.in_ok-add_type.ensures.ok ∙ c.loop-made.invariant.groups;
 }
 
-pub returns-clause-exact : goal.returns-clause-exact
-returns-clause-exact c = grow_full c.loop-made.invariant.grown c.loop-made-test.false
+pub returns-clause-draws : goal.returns-clause-draws
+returns-clause-draws c = record { exact = grow_full c.loop-made.invariant.grown c.loop-made-test.false; memory = search rules; left = search rules }

@@ -16,12 +16,10 @@ pub returns : goal.returns
 returns c =
     let types = c.args.spaces.now.types.now.types in
     let some = some_listed types c.requires.valid.orderly c.requires.some in
-    let exact = rw c.supertypes-indices.ensures at c.sub_type_of.ensures.exact in
+    let draws = rw c.supertypes-indices.ensures at c.sub_type_of.ensures in
     record {
-      exact = exact;
-      below = IfOk-weaker c.sub_type_of.result _ _ (λ _ e. drawn_is (λ (t : SubType). IsSome t.supertype) _ (sub_type_of_some _ _ _ _ some) e) exact;
-      valid = IfOk-weaker c.sub_type_of.result _ _ (λ _ e. drawn_is (IsTypeValid (features_of c.args.config.now) types c.args.limit) _ (sub_type_of_valid _ _ _ _ c.requires.sanitized c.requires.gc c.requires.valid some) e) exact;
-      follows = IfOk-weaker c.sub_type_of.result _ _ (λ _ e. drawn_is (HasSuperType types) _ (sub_type_of_follows _ _ _ _ some) e) exact;
-      memory = c.sub_type_of.ensures.memory;
-      left = c.sub_type_of.ensures.left;
+      draws = draws;
+      below = IfOk-weaker c.sub_type_of.result _ _ (λ _ e. drawn_is (λ (t : SubType). IsSome t.supertype) _ (sub_type_of_some _ _ _ _ some) e) draws.exact;
+      valid = IfOk-weaker c.sub_type_of.result _ _ (λ _ e. drawn_is (IsTypeValid (features_of c.args.config.now) types c.args.limit) _ (sub_type_of_valid _ _ _ _ c.requires.sanitized c.requires.gc c.requires.valid some) e) draws.exact;
+      follows = IfOk-weaker c.sub_type_of.result _ _ (λ _ e. drawn_is (HasSuperType types) _ (sub_type_of_follows _ _ _ _ some) e) draws.exact;
     }

@@ -1,3 +1,4 @@
+use Rattle.std.proofs.Common.{rules}
 use Rattle.smith_types.specs.Entities.{IsMemoryValid}
 use Rattle.smith_config.specs.Features.{features_of}
 use Rattle.smith_draw.specs.Bounds.{IsMemoryWithin}
@@ -5,8 +6,8 @@ use Rattle.std.proofs.lemmas.List.Elements.{All-push}
 use Rattle.smith_bytes.proofs.Growing.{grow_go, grow_stop, grow_full}
 use Rattle.wasm_smith.proofs.build.memories.drawn_memories.Goals as goal
 
-pub returns-then-not-goes_on-clause-exact : goal.returns-then-not-goes_on-clause-exact
-returns-then-not-goes_on-clause-exact c = grow_stop c.loop-made.invariant.growing c.loop-made-test.true c.goes_on.ensures.exact c.if-not-goes_on.true
+pub returns-then-not-goes_on-clause-draws : goal.returns-then-not-goes_on-clause-draws
+returns-then-not-goes_on-clause-draws c = record { exact = grow_stop c.loop-made.invariant.growing c.loop-made-test.true c.goes_on.ensures.exact c.if-not-goes_on.true; memory = search rules; left = search rules }
 
 pub loop-made-preserved : goal.loop-made-preserved
 loop-made-preserved c =
@@ -17,5 +18,5 @@ loop-made-preserved c =
       within = rw pushed (All-push (IsMemoryWithin c.args.config.now) _ _ c.loop-made.invariant.within c.in_ok-memory.ensures.within);
     }
 
-pub returns-clause-exact : goal.returns-clause-exact
-returns-clause-exact c = grow_full c.loop-made.invariant.growing c.loop-made-test.false
+pub returns-clause-draws : goal.returns-clause-draws
+returns-clause-draws c = record { exact = grow_full c.loop-made.invariant.growing c.loop-made-test.false; memory = search rules; left = search rules }

@@ -8,12 +8,12 @@ use Rattle.wasm_smith.proofs.build.memories.memories.Goals as goal
 
 pub returns-clause-most : goal.returns-clause-most
 returns-clause-most c =
-    IfOk-weaker c.drawn_memories.result _ _ (λ _. drawn_is (λ (memories : List MemoryType). length memories ≤ c.args.config.now.max_memories) _ (memories_most _ _)) c.drawn_memories.ensures.exact
+    IfOk-weaker c.drawn_memories.result _ _ (λ _. drawn_is (λ (memories : List MemoryType). length memories ≤ c.args.config.now.max_memories) _ (memories_most _ _)) c.drawn_memories.ensures.draws.exact
 
 pub returns-clause-least : goal.returns-clause-least
 returns-clause-least c =
-    IfOk-weaker c.drawn_memories.result _ _ (λ _. drawn_is (λ (memories : List MemoryType). c.args.config.now.min_memories ≤ length memories) _ (memories_least _ _ (c.requires.ordered Memories tt))) c.drawn_memories.ensures.exact
+    IfOk-weaker c.drawn_memories.result _ _ (λ _. drawn_is (λ (memories : List MemoryType). c.args.config.now.min_memories ≤ length memories) _ (memories_least _ _ (c.requires.ordered Memories tt))) c.drawn_memories.ensures.draws.exact
 
 pub returns-clause-several : goal.returns-clause-several
 returns-clause-several c =
-    IfOk-weaker c.drawn_memories.result _ _ (λ _. drawn_is (λ (memories : List MemoryType). 1 < length memories → nat_lt 1 c.args.config.now.max_memories ≡ true) _ (memories_several _ _)) c.drawn_memories.ensures.exact
+    IfOk-weaker c.drawn_memories.result _ _ (λ _. drawn_is (λ (memories : List MemoryType). 1 < length memories → nat_lt 1 c.args.config.now.max_memories ≡ true) _ (memories_several _ _)) c.drawn_memories.ensures.draws.exact

@@ -4,7 +4,7 @@ use Rattle.smith_draw.specs.Constants.{constant_at, extended_at, extended_within
 use Rattle.smith_draw.specs.ConstOffers.{offers}
 use Rattle.smith_draw.specs.ConstNodes.{node_at}
 use Rattle.smith_draw.specs.ConstExprs.{expression_at, expression_alone_at}
-use Rattle.smith_draw.proofs.const_examples.draws.Goals as goal
+use Rattle.smith_draw.proofs.examples.const_exprs.draws.Goals as goal
 
 pub returns-clause-a_sum : goal.returns-clause-a_sum
 unfolding expression_alone_at expression_at node_at constant_at extended_at extended_within operator_at offers choose_at range_at whole_at digit_count

@@ -1,5 +1,5 @@
 use Rattle.smith_draw.proofs.Ancestors.{ancestors_up}
-use Rattle.smith_draw.proofs.offered_examples.ancestors_are_all.Goals as goal
+use Rattle.smith_draw.proofs.examples.offered.ancestors_are_all.Goals as goal
 
 pub returns : goal.returns
 returns c = ancestors_up
