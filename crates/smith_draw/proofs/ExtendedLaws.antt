@@ -1,9 +1,8 @@
 -- Extended constants, drawn last instruction first.
 use Rattle.std.proofs.Common.{rules, ◌≡◌, ◌⊎◌, inl, inr, Bool, ℕ, zero, suc, ◌+◌, ◌-◌, ◌≤◌, ◌<◌, List, [], ◌∷◌, ◌++◌, length, refl, sym, subst, ap, ◌∙◌, arith, append_assoc, length-append}
-use Rattle.std.specs.Prelude.{All, replicate, reverse, IsTrue, ◌==◌, false}
+use Rattle.std.specs.Prelude.{All, replicate, reverse, IsTrue}
 use Rattle.std.proofs.lemmas.List.{append-nil, replicate_more, reverse-append, length-reverse}
 use Rattle.std.proofs.lemmas.List.Elements.{All-nil, All-cons}
-use Rattle.std.proofs.lemmas.Bool.Decides.{nat_tests}
 use Rattle.smith_bytes.specs.Source.{KeepsPieces}
 use Rattle.smith_types.specs.Expressions.{Context, HasType, AreStackSteps}
 use Rattle.smith_types.specs.Flags.{IsInstrEnabled}
@@ -12,7 +11,9 @@ use Rattle.smith_types.specs.declared.value_type.ValType.TheVariants.{I32, I64}
 use Rattle.smith_types.specs.declared.const_instr.ConstInstr.{ConstInstr}
 use Rattle.smith_types.proofs.ConstSteps.{one_step}
 use Rattle.smith_types.proofs.Validity.{before_or_not}
-use Rattle.smith_draw.specs.Constants.{constant_at, is_wide, operator, kind_at, extended_within, extended_at}
+use Rattle.std.specs.Prelude.{Some, None}
+use Rattle.smith_draw.specs.Constants.{constant_at, is_wide, operation, operator_at, extended_within, extended_at}
+use Rattle.smith_draw.specs.declared.const_expr.extended.Operator.{Operator}
 use Rattle.smith_draw.specs.Putting.{Adds}
 use Rattle.smith_draw.proofs.PuttingLaws.{below_itself}
 
@@ -84,19 +85,19 @@ unfolding constant_at
 constant_typed context wanted bytes (inl is) = rw is ((refl, refl), tt)
 constant_typed context wanted bytes (inr is) = rw is ((refl, refl), tt)
 
-operator_typed : (context : Context) (wanted : ValType) (wide : Bool) (kind : ℕ) → IsTrue context.features.extended_const → wide ≡ is_wide wanted → (wanted ≡ I32) ⊎ (wanted ≡ I64)
-    → HasType context (operator wide kind) (wanted ∷ wanted ∷ []) wanted × IsInstrEnabled context.features context.imported_globals (operator wide kind)
-operator_typed context wanted wide kind on width number = search rules
+operator_typed : (context : Context) (wanted : ValType) (wide : Bool) (operator : Operator) → IsTrue context.features.extended_const → wide ≡ is_wide wanted → (wanted ≡ I32) ⊎ (wanted ≡ I64)
+    → HasType context (operation wide operator) (wanted ∷ wanted ∷ []) wanted × IsInstrEnabled context.features context.imported_globals (operation wide operator)
+operator_typed context wanted wide operator on width number = search rules
 
-turn_constant : (most needed : ℕ) (wanted : ValType) (made : List ConstInstr) (bytes : List ℕ) (kind : ℕ) (middle after : List ℕ) (constant : ConstInstr) → kind_at (length made) bytes ≡ (kind, middle) → kind ≡ 0 → constant_at wanted middle ≡ (constant, after)
+turn_constant : (most needed : ℕ) (wanted : ValType) (made : List ConstInstr) (bytes middle after : List ℕ) (constant : ConstInstr) → operator_at (length made) bytes ≡ (None, middle) → constant_at wanted middle ≡ (constant, after)
     → extended_within (suc most) wanted (suc needed) made bytes ≡ extended_within most wanted needed (constant ∷ made) after
 unfolding extended_within
-turn_constant most needed wanted made bytes kind middle after constant kinds zeroth draws = rw (kinds, zeroth, draws) refl
+turn_constant most needed wanted made bytes middle after constant none draws = rw (none, draws) refl
 
-turn_operator : (most needed : ℕ) (wanted : ValType) (made : List ConstInstr) (bytes : List ℕ) (kind : ℕ) (middle : List ℕ) → kind_at (length made) bytes ≡ (kind, middle) → (kind == 0) ≡ false
-    → extended_within (suc most) wanted (suc needed) made bytes ≡ extended_within most wanted (suc (suc needed)) (operator (is_wide wanted) kind ∷ made) middle
+turn_operator : (most needed : ℕ) (wanted : ValType) (made : List ConstInstr) (bytes : List ℕ) (operator : Operator) (middle : List ℕ) → operator_at (length made) bytes ≡ (Some operator, middle)
+    → extended_within (suc most) wanted (suc needed) made bytes ≡ extended_within most wanted (suc (suc needed)) (operation (is_wide wanted) operator ∷ made) middle
 unfolding extended_within
-turn_operator most needed wanted made bytes kind middle kinds other = rw (kinds, other) refl
+turn_operator most needed wanted made bytes operator middle some = rw some refl
 
 stopped : (most : ℕ) (wanted : ValType) (made : List ConstInstr) (bytes : List ℕ) → extended_within most wanted 0 made bytes ≡ (made, bytes)
 unfolding extended_within
@@ -104,18 +105,18 @@ stopped zero wanted made bytes = refl
 stopped (suc most) wanted made bytes = refl
 
 -- one turn that draws a constant
-pub extending_constant : {wanted : ValType} {wide : Bool} {needed less kind : ℕ} {drawn more : List ConstInstr} {start bytes middle after : List ℕ} {constant : ConstInstr}
-    → IsExtending wanted wide needed drawn start bytes → less + 1 ≡ needed → kind_at (length drawn) bytes ≡ (kind, middle) → kind ≡ 0 → constant_at wanted middle ≡ (constant, after) → more ≡ drawn ++ constant ∷ [] → KeepsPieces bytes middle → KeepsPieces middle after
+pub extending_constant : {wanted : ValType} {wide : Bool} {needed less : ℕ} {drawn more : List ConstInstr} {start bytes middle after : List ℕ} {constant : ConstInstr}
+    → IsExtending wanted wide needed drawn start bytes → less + 1 ≡ needed → operator_at (length drawn) bytes ≡ (None, middle) → constant_at wanted middle ≡ (constant, after) → more ≡ drawn ++ constant ∷ [] → KeepsPieces bytes middle → KeepsPieces middle after
     → IsExtending wanted wide less more start after
-extending_constant {wanted = wanted} {wide = wide} {needed = needed} {less = less} {kind = kind} {drawn = drawn} {more = more} {start = start} {bytes = bytes} {middle = middle} {after = after} {constant = constant} now one kinds zeroth draws longer p q =
+extending_constant {wanted = wanted} {wide = wide} {needed = needed} {less = less} {drawn = drawn} {more = more} {start = start} {bytes = bytes} {middle = middle} {after = after} {constant = constant} now one none draws longer p q =
     let back : reverse more ≡ constant ∷ reverse drawn = ap reverse longer ∙ reverse-append drawn (constant ∷ []) in
     let len : length more ≡ length drawn + 1 = rw longer (simp length-append refl) in
     let few = now.few in
     let most = now.most in
     let fuel : 23 - length drawn ≡ suc (23 - length more) = omega arith in
     let need : needed ≡ suc less = omega arith in
-    let kinds' : kind_at (length (reverse drawn)) bytes ≡ (kind, middle) = rw (length-reverse drawn) kinds in
-    let turn = turn_constant (23 - length more) less wanted (reverse drawn) bytes kind middle after constant kinds' zeroth draws in
+    let none' : operator_at (length (reverse drawn)) bytes ≡ (None, middle) = rw (length-reverse drawn) none in
+    let turn = turn_constant (23 - length more) less wanted (reverse drawn) bytes middle after constant none' draws in
     record {
       number = now.number;
       width = now.width;
@@ -130,33 +131,33 @@ extending_constant {wanted = wanted} {wide = wide} {needed = needed} {less = les
     }
 
 -- one turn that draws an operator
-pub extending_operator : {wanted : ValType} {wide : Bool} {needed kind : ℕ} {drawn more : List ConstInstr} {start bytes middle : List ℕ} {operation : ConstInstr}
-    → IsExtending wanted wide needed drawn start bytes → 0 < needed → kind_at (length drawn) bytes ≡ (kind, middle) → (kind ≡ 0 → ⊥) → (10 < length drawn → kind ≡ 0) → operation ≡ operator wide kind → more ≡ drawn ++ operation ∷ [] → KeepsPieces bytes middle
+pub extending_operator : {wanted : ValType} {wide : Bool} {needed : ℕ} {operator : Operator} {drawn more : List ConstInstr} {start bytes middle : List ℕ} {instruction : ConstInstr}
+    → IsExtending wanted wide needed drawn start bytes → 0 < needed → operator_at (length drawn) bytes ≡ (Some operator, middle) → (10 < length drawn → Some operator ≡ None) → instruction ≡ operation wide operator → more ≡ drawn ++ instruction ∷ [] → KeepsPieces bytes middle
     → IsExtending wanted wide (needed + 1) more start middle
-extending_operator {wanted = wanted} {wide = wide} {needed = needed} {kind = kind} {drawn = drawn} {more = more} {start = start} {bytes = bytes} {middle = middle} {operation = operation} now some kinds other limit is longer p =
-    let back : reverse more ≡ operation ∷ reverse drawn = ap reverse longer ∙ reverse-append drawn (operation ∷ []) in
+extending_operator {wanted = wanted} {wide = wide} {needed = needed} {operator = operator} {drawn = drawn} {more = more} {start = start} {bytes = bytes} {middle = middle} {instruction = instruction} now some found limit is longer p =
+    let never : Some operator ≡ None → ⊥ = λ same. cc same in
+    let back : reverse more ≡ instruction ∷ reverse drawn = ap reverse longer ∙ reverse-append drawn (instruction ∷ []) in
     let len : length more ≡ length drawn + 1 = rw longer (simp length-append refl) in
     let few = now.few in
     let most = now.most in
     let less = needed - 1 in
-    let short : length drawn ≤ 10 = elim (before_or_not 10 (length drawn)) [ inl above ↦ absurd (other (limit above)) | inr below ↦ below ] in
+    let short : length drawn ≤ 10 = elim (before_or_not 10 (length drawn)) [ inl above ↦ absurd (never (limit above)) | inr below ↦ below ] in
     let fuel : 23 - length drawn ≡ suc (23 - length more) = omega arith in
     let need : needed ≡ suc less = omega arith in
     let up : suc (suc less) ≡ needed + 1 = omega arith in
     let two : less + 2 ≡ needed + 1 = omega arith in
     let down : less + 1 ≡ needed = omega arith in
-    let test : (kind == 0) ≡ false = grind (arith, nat_tests) in
-    let kinds' : kind_at (length (reverse drawn)) bytes ≡ (kind, middle) = rw (length-reverse drawn) kinds in
-    let named : operation ≡ operator (is_wide wanted) kind = is ∙ ap (λ (b : Bool). operator b kind) now.width in
-    let turn = turn_operator (23 - length more) less wanted (reverse drawn) bytes kind middle kinds' test in
+    let found' : operator_at (length (reverse drawn)) bytes ≡ (Some operator, middle) = rw (length-reverse drawn) found in
+    let named : instruction ≡ operation (is_wide wanted) operator = is ∙ ap (λ (b : Bool). operation b operator) now.width in
+    let turn = turn_operator (23 - length more) less wanted (reverse drawn) bytes operator middle found' in
     record {
       number = now.number;
       width = now.width;
       few = omega arith;
       most = omega arith;
       ends = λ context on.
-          let typed = operator_typed context wanted wide kind on now.width now.number in
-          rw (back, ← two) (ends_operator context wanted less (reverse drawn) operation (rw is typed.0) (rw is typed.1) (rw down (now.ends context on)));
+          let typed = operator_typed context wanted wide operator on now.width now.number in
+          rw (back, ← two) (ends_operator context wanted less (reverse drawn) instruction (rw is typed.0) (rw is typed.1) (rw down (now.ends context on)));
       so_far = rw (back, named, ← up) (sym turn ∙ (rw (fuel, need) at now.so_far));
       left = λ whole h. p whole (now.left whole h);
     }

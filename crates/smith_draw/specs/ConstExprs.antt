@@ -1,7 +1,6 @@
 -- Drawn constant expressions: which one the bytes give.
-use Rattle.std.specs.Prelude.{ℕ, zero, suc, ◌-◌, Bool, false, not, List, [], ◌∷◌, ◌++◌, Option, Some, None, if◌then◌else◌}
+use Rattle.std.specs.Prelude.{ℕ, zero, suc, ◌-◌, Bool, false, not, List, [], ◌∷◌, ◌++◌, Option, Some, None, option_and_then, if◌then◌else◌}
 use Rattle.std.specs.Option.{option_map}
-use Rattle.std.specs.Prelude.{option_and_then}
 use Rattle.std.specs.Int.{cast_signed, w32}
 use Rattle.smith_bytes.specs.Draws.{bool_at, range_at, choose_at}
 use Rattle.smith_types.specs.Expressions.{Context}
@@ -26,6 +25,7 @@ pub record State : Type 0 where
   pub fuel : ℕ
   pub bytes : List ℕ
 
+-- a state of these
 abbrev pub state_of : List ConstInstr → ℕ → List ℕ → State
 state_of made fuel bytes = record { made = made; fuel = fuel; bytes = bytes }
 
@@ -37,12 +37,12 @@ behind instruction s = record s { made = s.made ++ instruction ∷ [] }
 abbrev pub length_at : State → State
 length_at s = let n = range_at 0 s.fuel s.bytes in state_of (s.made ++ instr.I32Const (cast_signed w32 n.0) ∷ []) (s.fuel - n.0) n.1
 
--- an operand, where that draws a value: of a length where lengths are limited no expression
+-- an operand, by the draw of a value: a length is drawn as one, save where lengths are limited
 abbrev pub operand_at : Bool → (ValType → State → Option State) → Operand → State → Option State
 operand_at limited draw (Value value) s = draw value s
 operand_at limited draw Length s = if limited then Some (length_at s) else draw I32 s
 
--- operands in order
+-- operands in order, one behind another
 abbrev pub operands_at : (Operand → State → Option State) → List Operand → State → Option State
 operands_at draw [] s = Some s
 operands_at draw (operand ∷ operands) s = option_and_then (operands_at draw operands) (draw operand s)
@@ -72,7 +72,7 @@ unfoldable pub expression_alone_at : Context → Bool → ℕ → ValType → Li
 expression_alone_at context limited fuel wanted bytes =
     option_map (λ (s : State). (s.made, s.bytes)) (expression_at context limited (suc fuel) wanted (state_of [] fuel bytes))
 
--- the expression of a type that bytes give over spaces: none where there is nothing to choose from
+-- the expression of a type that bytes give over spaces, with the configured fuel
 abbrev pub const_expr_at : Config → Spaces → ValType → Bool → List ℕ → Option (List ConstInstr × List ℕ)
 const_expr_at config spaces wanted allow_defined bytes =
     expression_alone_at (seen_by config spaces allow_defined) config.limit_arrays_in_const_exprs config.const_expr_fuel wanted bytes

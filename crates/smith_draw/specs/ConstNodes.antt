@@ -44,10 +44,12 @@ abbrev pub converted : ValType → AbstractHeapType → ValType
 converted (Ref reference) ty = Ref (record { nullable = reference.nullable; heap_type = Abstract (is_shared_heap reference.heap_type) ty })
 converted value ty = value
 
+-- the choice of an extended constant
 abbrev pub is_extended : Choice → Bool
 is_extended choice.Extended = true
 is_extended _ = false
 
+-- a node of these
 abbrev pub node_of : List Operand → ConstInstr → Node
 node_of operands instruction = record { operands = operands; instruction = instruction }
 

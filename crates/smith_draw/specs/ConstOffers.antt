@@ -35,6 +35,7 @@ is_defaultable _ = true
 abbrev pub are_defaultable : List FieldType → Bool
 are_defaultable fields = list_all (λ (field : FieldType). is_defaultable (unpacked field.element_type)) fields
 
+-- an integer of 32 or 64 bits
 abbrev pub is_integer : ValType → Bool
 is_integer I32 = true
 is_integer I64 = true

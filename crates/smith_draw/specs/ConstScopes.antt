@@ -17,6 +17,7 @@ use Rattle.smith_types.specs.Expressions.{field_values}
 use Rattle.smith_config.specs.Features.{features_of}
 use Rattle.smith_draw.specs.declared.const_expr.scope.Scope.{Scope}
 
+-- the context of what an expression may refer to
 abbrev pub context_of : Scope → Context
 context_of scope = record {
   features = features_of scope.config.now;

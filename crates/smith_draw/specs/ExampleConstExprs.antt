@@ -18,10 +18,11 @@ use Rattle.smith_draw.specs.ConstOffers.{readable_globals}
 abbrev pub context_of_types : List SubType → Context
 context_of_types types = record { features = usual_features; types = types; funcs = []; globals = []; imported_funcs = 0; imported_globals = 0; visible = 0 }
 
--- a struct of one byte, and an array of bytes
+-- a struct of one byte
 abbrev pub packed_struct : SubType
 packed_struct = final_type (struct (constant I8 ∷ []))
 
+-- an array of bytes
 abbrev pub packed_array : SubType
 packed_array = final_type (array (constant I8))
 
@@ -37,6 +38,7 @@ pub record IsNothing (spaces : Spaces) : Type 0 where
   pub globals : spaces.entities.globals.now ≡ []
   pub imported_globals : spaces.entities.imported_globals ≡ 0
 
+-- where nothing stands, nothing is wrong
 abbrev pub NothingIsValid : Type 0
 NothingIsValid = (config : Config) (spaces : Spaces) → IsNothing spaces → AreSpacesValid config spaces
 

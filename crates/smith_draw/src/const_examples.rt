@@ -54,7 +54,7 @@ fn offers_of_references()
     ensures nothing_below_every_reference { offers (context_with usual_features 3) (Ref (not_null (plain heap.None))) 50 ≡ [] }
 {}
 
-#[tactic(auto, unfolding(crate::specs::ConstExprs::expression_alone_at, crate::specs::ConstExprs::expression_at, crate::specs::ConstNodes::node_at, crate::specs::Constants::constant_at, crate::specs::Constants::extended_at, crate::specs::Constants::extended_within, crate::specs::Constants::kind_at, crate::specs::ConstOffers::offers, crate::specs::Offered::ancestors, crate::specs::Below::is_heap_below, smith_bytes::specs::Draws::choose_at, smith_bytes::specs::Draws::range_at, smith_bytes::specs::Draws::whole_at, smith_bytes::specs::Draws::digit_count))]
+#[tactic(auto, unfolding(crate::specs::ConstExprs::expression_alone_at, crate::specs::ConstExprs::expression_at, crate::specs::ConstNodes::node_at, crate::specs::Constants::constant_at, crate::specs::Constants::extended_at, crate::specs::Constants::extended_within, crate::specs::Constants::operator_at, crate::specs::ConstOffers::offers, crate::specs::Offered::ancestors, crate::specs::Below::is_heap_below, smith_bytes::specs::Draws::choose_at, smith_bytes::specs::Draws::range_at, smith_bytes::specs::Draws::whole_at, smith_bytes::specs::Draws::digit_count))]
 fn draws()
     ensures a_sum { expression_alone_at (context_of_types []) false 50 I32 (1 ∷ 1 ∷ 0 ∷ 5 ∷ 0 ∷ 0 ∷ 0 ∷ 0 ∷ 7 ∷ 0 ∷ 0 ∷ 0 ∷ [])
         ≡ Some (instr.I32Const (pos 7) ∷ instr.I32Const (pos 5) ∷ instr.I32Add ∷ [], []) }

@@ -1,4 +1,4 @@
-//! Drawn types and entities, over the type space and the index spaces that stand so far.
+//! Drawn types, entities and constant expressions, over the type space and the index spaces that stand so far.
 #![tactic(auto)]
 
 mod bounds_examples;

@@ -12,10 +12,7 @@ ghost use Rattle.std.specs.Prelude.{
   IfErr,
 };
 ghost use Rattle.smith_types.specs.declared.value_type.HeapType.TheVariants.{Abstract, Concrete, Exact};
-ghost use Rattle.smith_bytes.specs.Source.{KeepsPieces};
-ghost use Rattle.smith_types.specs.declared.value_type.HeapType.{HeapType};
 ghost use Rattle.smith_types.specs.Types.{IsOrderly};
-ghost use Rattle.smith_draw.specs.Choices.{chosen_at};
 ghost use Rattle.smith_types.specs.Kinds.{bottom_of};
 ghost use Rattle.smith_draw.specs.Offered.{
   abstract_subtypes,
@@ -38,7 +35,7 @@ ghost use Rattle.smith_draw.specs.Offered.{
   gc_supertypes,
 };
 
-use smith_bytes::{Error, Unstructured};
+use smith_bytes::Error;
 use smith_config::Config;
 use smith_types::{AbstractHeapType, CompositeInnerType, HeapType, Items, SubType};
 use std::alloc::Global;

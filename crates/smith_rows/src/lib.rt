@@ -6,6 +6,8 @@ mod clones;
 #[cfg(test)]
 mod configuration;
 #[cfg(test)]
+mod configured_shapes;
+#[cfg(test)]
 mod constant_expressions;
 #[cfg(test)]
 mod drawn_types;

@@ -83,6 +83,20 @@ impl TypeSpace {
         }
     }
 
+    /// A space without types and groups, with room for `types` types.
+    pub fn with_capacity(alloc: Global, types: usize) -> Result<TypeSpace, Error>
+        ensures ok { IfOk result (λ space. space ≡ record { types = []; groups = [] }) }
+        ensures memory { IfErr result (λ e. e ≡ Error.Memory) }
+    {
+        let depths = Vec::with_capacity(alloc, types)?;
+        Ok(TypeSpace {
+            types: Vec::with_capacity(alloc, types)?,
+            depths,
+            extensible: Vec::new(alloc),
+            groups: Vec::new(alloc),
+        })
+    }
+
     pub fn types(&self) -> &[SubType]
         ensures value { result.now ≡ self.now.types }
         ensures sound { IsSound self.now }

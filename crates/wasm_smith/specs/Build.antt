@@ -1,4 +1,4 @@
--- What each step of building a module reads from the bytes, and what it leaves. No public contract cites it.
+-- Which module the bytes give, step by step, and what each step leaves. Nobody has to believe it: what a module keeps is said apart.
 use Rattle.std.specs.Prelude.{◌≡◌, ℕ, Bool, true, ◌&&◌, None, List, [], length, replicate, Result, Ok, Err, ◌==◌, if◌then◌else◌}
 use Rattle.std.specs.List.{list_any}
 use Rattle.smith_bytes.specs.declared.error.Error.{Error}
@@ -11,6 +11,8 @@ use Rattle.smith_bytes.specs.Growth.{grow_at}
 use Rattle.smith_types.specs.declared.composite_type.SubType.{SubType}
 use Rattle.smith_types.specs.declared.entity_type.MemoryType.{MemoryType}
 use Rattle.smith_config.specs.declared.config.Config.{Config}
+use Rattle.smith_config.specs.Faults.{Passes}
+use Rattle.smith_config.specs.InUse.{HasNoShapes}
 use Rattle.smith_draw.specs.Choices.{chosen_at}
 use Rattle.smith_draw.specs.RecGroups.{types_at}
 use Rattle.smith_draw.specs.Memories.{memtype_at}
@@ -129,3 +131,8 @@ module_at config bytes = do
     }),
     rest,
   )
+
+-- an answer is the module that a configuration and bytes give, with what they leave, or the minimum that they leave unmet,
+-- unless memory ran out; it is told of a configuration that may be drawn for
+pub record IsGiven (config : Config) (bytes : List ℕ) (answer : Result Parts Error) (left : List ℕ) : Type 0 where
+  pub exact : Passes config → HasNoShapes config → Gives (λ m. (m, left)) answer (module_at config bytes)

@@ -70,6 +70,11 @@ MayComeOut config (errors.Shape for_use LeftOut) = IsLeftOut config for_use
 MayComeOut config errors.Memory = Unit {0}
 MayComeOut config _ = ⊥
 
+-- a configuration that does not pass is refused for its first fault, and not for want of memory
+abbrev pub IsFaulted : Config → Error → Type 0
+IsFaulted config (errors.Config fault) = IsFirstFault config fault
+IsFaulted config _ = ⊥
+
 -- what a configuration allows: a module that is drawn for it, or a refusal that may come
 abbrev pub Allows : Config → Result Parts Error → Type 0
 Allows config (Ok m) = IsDrawn config m

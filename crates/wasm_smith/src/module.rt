@@ -1,4 +1,4 @@
-ghost use Rattle.std.specs.Prelude.{◌≡◌, false, IfOk, OnOk, IfErr, IsErrOf};
+ghost use Rattle.std.specs.Prelude.{◌≡◌, false, IfOk, OnOk, IfErr, IsErrOf, IsErrAnd};
 ghost use Rattle.smith_bytes.specs.Source.{IsPiece};
 ghost use Rattle.smith_config.specs.Faults.{Passes};
 
@@ -82,11 +82,12 @@ impl Model for Module {
 impl Module {
     ghost use Rattle.smith_config.specs.Sanitized.{sanitized};
     ghost use Rattle.smith_config.specs.InUse.{HasNoShapes};
+    ghost use Rattle.wasm_smith.specs.Build.{IsGiven};
     ghost use Rattle.wasm_smith.specs.Module.{IsValid, shown_config};
     ghost use Rattle.wasm_smith.specs.Bounds.{KeepsBounds, MeetsMinimums};
     ghost use Rattle.wasm_smith.specs.Promises.{HasNoFloats, WritesSections};
     ghost use Rattle.wasm_smith.specs.Refusals.{HasNoMinimums};
-    ghost use Rattle.wasm_smith.specs.ToCome.{HasNoMore, IsLeftOut, MayComeOut};
+    ghost use Rattle.wasm_smith.specs.ToCome.{HasNoMore, IsFaulted, IsLeftOut, MayComeOut};
 
     /// Draws a module from the bytes. The configuration is sanitised and checked first.
     ///
@@ -94,6 +95,8 @@ impl Module {
     /// are used, it refuses a configuration with a shape before it draws anything, as one that is left out: the module
     /// shape, else the available imports, else the exports.
     pub fn new(alloc: Global, mut config: Config, u: &mut Unstructured<'_>) -> Result<Module, Error>
+        ensures exact { IsGiven (sanitized config) u.old result u.new }
+        ensures fault { (Passes (sanitized config) → ⊥) → IsErrAnd result (IsFaulted (sanitized config)) }
         ensures config { IfOk result (λ m. m.config ≡ shown_config config) }
         ensures passes { OnOk result (Passes (sanitized config)) }
         ensures no_shapes { OnOk result (HasNoShapes (sanitized config)) }

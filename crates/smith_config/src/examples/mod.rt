@@ -3,6 +3,7 @@
 mod configurations;
 mod defaults;
 mod draws_in_order;
+mod first_shape_faults;
 mod shape_faults;
 mod shapes;
 mod shapes_in_use;

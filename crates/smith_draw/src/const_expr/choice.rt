@@ -7,16 +7,22 @@ pub(super) enum Choice {
     Global(u32),
     /// A constant of the type, of a reference null.
     Constant,
+    /// Constants of an integer type, and operators on them.
     Extended,
     Function(u32),
+    /// A struct, by its fields.
     Struct(u32),
     StructDefault(u32),
+    /// An array, by one element and a length.
     Array(u32),
+    /// An array of a few elements, each by itself.
     FixedArray(u32),
     ArrayDefault(u32),
     I31,
     SharedI31,
+    /// A conversion of a reference from outside.
     FromExtern,
+    /// A conversion of a reference from inside.
     FromAny,
 }
 

@@ -68,6 +68,7 @@ fn operands(
     Ok(())
 }
 
+/// Draws an operand: a value, or a length.
 #[cycle(expression)]
 fn operand(
     alloc: Global,
@@ -95,7 +96,7 @@ fn operand(
     }
 }
 
-/// A length of at most the fuel, which it takes.
+/// Draws a length of at most the fuel, which takes as much of it.
 fn limited_length(
     fuel: &mut u32,
     out: &mut Items<ConstInstr>,

@@ -1,9 +1,9 @@
-ghost use Rattle.std.specs.Prelude.{◌≡◌, ◌≤◌, ◌<◌, ◌⊎◌, ◌++◌, ◌+◌, [], ◌∷◌, IsTrue, IfOk, IfErr, OnOk, length, reverse, List};
+ghost use Rattle.std.specs.Prelude.{None, ◌≡◌, ◌≤◌, ◌<◌, ◌⊎◌, ◌++◌, ◌+◌, [], ◌∷◌, IsTrue, IfOk, IfErr, OnOk, length, reverse, List};
 ghost use Rattle.smith_types.specs.declared.const_instr.ConstInstr.{ConstInstr};
 ghost use Rattle.smith_bytes.specs.Source.{KeepsPieces};
 ghost use Rattle.smith_types.specs.Expressions.{Context};
 ghost use Rattle.smith_types.specs.declared.value_type.ValType.TheVariants.{I32, I64};
-ghost use Rattle.smith_draw.specs.Constants.{is_wide, operator, kind_at, extended_at};
+ghost use Rattle.smith_draw.specs.Constants.{is_wide, operation, operator_of, operator_at, extended_at};
 ghost use Rattle.smith_draw.specs.Putting.{Adds, Puts};
 
 use super::constant::constant;
@@ -11,45 +11,53 @@ use smith_bytes::{Error, Unstructured};
 use smith_types::{ConstInstr, Items, ValType};
 use std::alloc::Global;
 
-/// The instruction of a number of 1 to 3.
-fn operator(wide: bool, kind: u8) -> ConstInstr
-    ensures { result ≡ operator wide kind }
+/// An operator of an extended constant.
+#[derive(Clone, Copy)]
+pub(super) enum Operator {
+    Add,
+    Sub,
+    Mul,
+}
+
+/// The instruction of an operator, on the wider or the narrower integers.
+fn operation(wide: bool, operator: Operator) -> ConstInstr
+    ensures { result ≡ operation wide operator }
 {
-    if kind == 1 {
-        return if wide {
-            ConstInstr::I64Add
-        } else {
-            ConstInstr::I32Add
-        };
-    }
-    if kind == 2 {
-        return if wide {
-            ConstInstr::I64Sub
-        } else {
-            ConstInstr::I32Sub
-        };
-    }
-    if wide {
-        ConstInstr::I64Mul
-    } else {
-        ConstInstr::I32Mul
+    match (operator, wide) {
+        (Operator::Add, false) => ConstInstr::I32Add,
+        (Operator::Add, true) => ConstInstr::I64Add,
+        (Operator::Sub, false) => ConstInstr::I32Sub,
+        (Operator::Sub, true) => ConstInstr::I64Sub,
+        (Operator::Mul, false) => ConstInstr::I32Mul,
+        (Operator::Mul, true) => ConstInstr::I64Mul,
     }
 }
 
-/// What is drawn next behind so many instructions: 0 for a constant, else a number of an operator.
-#[tactic(auto, unfolding(crate::specs::Constants::kind_at))]
-fn extended_kind(count: usize, u: &mut Unstructured<'_>) -> u8
-    ensures exact { kind_at count u.old ≡ (result, u.new) }
-    ensures few { 10 < count → result ≡ 0 }
+fn operator_of(number: u8) -> Option<Operator>
+    ensures { result ≡ operator_of number }
+{
+    match number {
+        0 => None,
+        1 => Some(Operator::Add),
+        2 => Some(Operator::Sub),
+        _ => Some(Operator::Mul),
+    }
+}
+
+/// Draws the operator before `count` instructions, or none where a constant stands there.
+#[tactic(auto, unfolding(crate::specs::Constants::operator_at))]
+fn drawn_operator(count: usize, u: &mut Unstructured<'_>) -> Option<Operator>
+    ensures exact { operator_at count u.old ≡ (result, u.new) }
+    ensures few { 10 < count → result ≡ None }
     ensures left { KeepsPieces u.old u.new }
 {
     if u.is_empty() || count > 10 {
-        return 0;
+        return None;
     }
-    u.int_in_range(0..=3)
+    operator_of(u.int_in_range(0..=3))
 }
 
-/// The instructions of an extended constant, the last one first.
+/// Draws the instructions of an extended constant, the last one first.
 #[tactic(auto, unfolding(crate::specs::Constants::extended_at))]
 fn extended(
     alloc: Global,
@@ -67,20 +75,22 @@ fn extended(
     let mut drawn = Items::new(alloc);
     let mut needed = 1usize;
     while needed > 0 {
-        let kind = extended_kind(drawn.len(), u);
-        if kind == 0 {
-            let constant = constant(wanted, u);
-            drawn.push(constant)?;
-            needed -= 1;
-        } else {
-            drawn.push(operator(wide, kind))?;
-            needed += 1;
+        match drawn_operator(drawn.len(), u) {
+            None => {
+                let constant = constant(wanted, u);
+                drawn.push(constant)?;
+                needed -= 1;
+            }
+            Some(operator) => {
+                drawn.push(operation(wide, operator))?;
+                needed += 1;
+            }
         }
     }
     Ok(drawn)
 }
 
-/// Puts an extended constant behind the instructions that stand.
+/// Draws an extended constant behind the instructions that stand.
 pub(super) fn extended_constant(
     alloc: Global,
     wanted: ValType,

@@ -30,7 +30,7 @@ pub(super) struct Node {
     pub instruction: ConstInstr,
 }
 
-/// The node that a choice makes.
+/// Makes a choice into a node: draws the value of a constant, and of a fixed array its size.
 #[tactic(auto, unfolding(crate::specs::ConstNodes::node_at))]
 pub(super) fn drawn_node(
     alloc: Global,
@@ -49,31 +49,21 @@ pub(super) fn drawn_node(
         Choice::Function(index) => Ok(leaf(alloc, ConstInstr::RefFunc(index))),
         Choice::Struct(index) => of_fields(alloc, types, index, ConstInstr::StructNew(index)),
         Choice::StructDefault(index) => Ok(leaf(alloc, ConstInstr::StructNewDefault(index))),
-        Choice::Array(index) => {
-            let mut node = of_fields(alloc, types, index, ConstInstr::ArrayNew(index))?;
-            node.operands.push(Operand::Length)?;
-            Ok(node)
-        }
-        Choice::FixedArray(index) => fixed(alloc, types, index, u),
+        Choice::Array(index) => array(alloc, types, index),
+        Choice::FixedArray(index) => fixed_array(alloc, types, index, u),
         Choice::ArrayDefault(index) => {
             of_one(alloc, Operand::Length, ConstInstr::ArrayNewDefault(index))
         }
-        Choice::I31 => of_one(alloc, Operand::Value(ValType::I32), ConstInstr::RefI31),
-        Choice::SharedI31 => of_one(
-            alloc,
-            Operand::Value(ValType::I32),
-            ConstInstr::RefI31Shared,
-        ),
-        Choice::FromExtern => of_one(
-            alloc,
-            Operand::Value(converted(wanted, AbstractHeapType::Extern)),
-            ConstInstr::AnyConvertExtern,
-        ),
-        Choice::FromAny => of_one(
-            alloc,
-            Operand::Value(converted(wanted, AbstractHeapType::Any)),
-            ConstInstr::ExternConvertAny,
-        ),
+        Choice::I31 => of_value(alloc, ValType::I32, ConstInstr::RefI31),
+        Choice::SharedI31 => of_value(alloc, ValType::I32, ConstInstr::RefI31Shared),
+        Choice::FromExtern => {
+            let outside = converted(wanted, AbstractHeapType::Extern);
+            of_value(alloc, outside, ConstInstr::AnyConvertExtern)
+        }
+        Choice::FromAny => {
+            let inside = converted(wanted, AbstractHeapType::Any);
+            of_value(alloc, inside, ConstInstr::ExternConvertAny)
+        }
     }
 }
 
@@ -98,6 +88,24 @@ fn of_one(alloc: Global, operand: Operand, instruction: ConstInstr) -> Result<No
     })
 }
 
+fn of_value(alloc: Global, value: ValType, instruction: ConstInstr) -> Result<Node, Error>
+    ensures exact { IfOk result (λ node. node ≡ node_of (Value value ∷ []) instruction) }
+    ensures memory { IfErr result (λ e. e ≡ Error.Memory) }
+{
+    of_one(alloc, Operand::Value(value), instruction)
+}
+
+/// An array of one element and a length, which stands behind the element.
+fn array(alloc: Global, types: &[SubType], index: u32) -> Result<Node, Error>
+    ensures exact { IfOk result (λ node. node ≡ node_of (field_operands types.now index ++ Operand.Length ∷ []) (ConstInstr.ArrayNew index)) }
+    ensures memory { IfErr result (λ e. e ≡ Error.Memory) }
+{
+    let mut node = of_fields(alloc, types, index, ConstInstr::ArrayNew(index))?;
+    node.operands.push(Operand::Length)?;
+    Ok(node)
+}
+
+/// An instruction that takes the fields of a struct, or the element of an array.
 fn of_fields(
     alloc: Global,
     types: &[SubType],
@@ -115,8 +123,9 @@ fn of_fields(
     })
 }
 
+/// An array of a drawn size, with each element by itself.
 #[tactic(auto, unfolding(crate::specs::ConstNodes::node_at))]
-fn fixed(
+fn fixed_array(
     alloc: Global,
     types: &[SubType],
     index: u32,
@@ -138,6 +147,7 @@ fn fixed(
     })
 }
 
+/// Pushes the operands of a type so many times.
 fn push_repeated(
     operands: &mut Items<Operand>,
     types: &[SubType],
@@ -153,7 +163,7 @@ fn push_repeated(
     Ok(())
 }
 
-/// An operand for each field of a struct, or for the element of an array.
+/// Pushes an operand for each field of a struct, or for the element of an array.
 fn push_fields(operands: &mut Items<Operand>, types: &[SubType], index: u32) -> Result<(), Error>
     ensures ok { OnOk result (operands.new ≡ operands.old ++ field_operands types.now index) }
     ensures memory { IfErr result (λ e. e ≡ Error.Memory) }
@@ -182,7 +192,7 @@ fn push_fields_of(operands: &mut Items<Operand>, inner: &CompositeInnerType) -> 
     }
 }
 
-/// The reference that is converted to one of this type.
+/// The reference that is converted to the wanted one: of this type, nullable and shared as that one.
 fn converted(wanted: ValType, ty: AbstractHeapType) -> ValType
     ensures { result ≡ converted wanted ty }
 {

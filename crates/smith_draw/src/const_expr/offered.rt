@@ -24,13 +24,16 @@ ghost use Rattle.smith_draw.specs.ConstOffers.{
   offers,
 };
 
+// Each function goes past what is offered of one kind, to a place that is counted from its first choice: it answers the choice at
+// that place as an `Err`, with which a `?` leaves, or how far the place lies behind its last choice.
+
 use super::choice::Choice;
 use super::defaults::{are_defaultable, is_defaultable, unpacked};
 use super::references::{function_reference, gives, i31, is_below};
 use super::scope::Scope;
 use smith_types::{AbstractHeapType, CompositeInnerType, FieldType, HeapType, RefType, ValType};
 
-/// The choice at a place, or how far the place is behind the last choice.
+/// Goes past all that is offered where a value of a type is drawn.
 #[tactic(auto, unfolding(crate::specs::ConstOffers::past))]
 pub(super) fn past_offers(
     scope: &Scope<'_>,
@@ -281,7 +284,7 @@ fn past_conversions(heap_type: HeapType, place: usize) -> Result<usize, Choice>
     }
 }
 
-/// One choice, if it is offered.
+/// Goes past one choice, if it is offered.
 #[tactic(auto, unfolding(crate::specs::ConstOffers::past))]
 fn past_if(is_offered: bool, choice: Choice, place: usize) -> Result<usize, Choice>
     ensures { result ≡ past (offered_if is_offered choice) place }

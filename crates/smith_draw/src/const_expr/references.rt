@@ -30,7 +30,7 @@ pub(super) fn i31(shared: bool) -> ValType
     })
 }
 
-/// The reference that creation of a type gives.
+/// The reference that creation of a type gives: with custom descriptors an exact one.
 fn created(scope: &Scope<'_>, index: u32) -> ValType
     ensures { result ≡ created (context_of scope.now) index }
 {

@@ -6,6 +6,7 @@ mod exports;
 mod expressions;
 mod features;
 mod flags;
+mod grouped_types;
 mod grown;
 mod imports;
 mod kind_names;

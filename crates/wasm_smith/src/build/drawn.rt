@@ -26,7 +26,7 @@ pub(crate) struct Drawn {
     pub(crate) encodes_imports: bool,
 }
 
-/// Draws the parts, one after the other.
+/// Draws the parts, in the order of the steps.
 #[tactic(auto, unfolding(crate::specs::Build::module_at))]
 pub(crate) fn draw(alloc: Global, config: &Config, u: &mut Unstructured<'_>) -> Result<Drawn, Error>
     requires passes { Passes config.now }

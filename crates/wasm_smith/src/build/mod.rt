@@ -1,4 +1,4 @@
-//! The steps of building a module, in the order in which they draw.
+//! The steps of building a module.
 
 ghost use Rattle.std.specs.Prelude.{◌≡◌, false, IfOk, IfErr};
 ghost use Rattle.smith_bytes.specs.Source.{KeepsPieces};

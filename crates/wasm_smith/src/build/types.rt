@@ -31,7 +31,7 @@ pub(crate) fn types(
     ensures memory { IfErr result (λ e. e ≡ Error.Memory) }
     ensures left { KeepsPieces u.old u.new }
 {
-    let mut types = TypeSpace::new(alloc);
+    let mut types = TypeSpace::with_capacity(alloc, config.min_types)?;
     let entities = Entities {
         tags: &[],
         funcs: &[],

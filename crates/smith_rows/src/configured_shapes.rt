@@ -1,0 +1,184 @@
+use smith_bytes::{ConfigFault, Count, Error, ShapeFault, Unstructured, Which};
+use smith_config::{Config, Shape};
+use smith_types::{EntityType, ExportKind, Import, Imports, Items, MemoryType, Name};
+use std::alloc::{AllocError, Global};
+use std::test::Fail;
+use wasm_smith::Module;
+
+// A memory of one page.
+const PAGE: MemoryType = MemoryType {
+    minimum: 1,
+    maximum: None,
+    memory64: false,
+    shared: false,
+    page_size_log2: None,
+};
+
+fn name(alloc: Global, text: &str) -> Result<Name, AllocError> {
+    Ok(Name::from_string(String::from_str(alloc, text)?))
+}
+
+// The import of a memory.
+fn memory(alloc: Global) -> Result<Imports, AllocError> {
+    Ok(Imports::Single(Import {
+        module: name(alloc, "env")?,
+        name: name(alloc, "memory")?,
+        entity_type: EntityType::Memory(PAGE),
+    }))
+}
+
+// A memory that is imported, and exported by this name.
+fn shape(alloc: Global, text: &str) -> Result<Shape, Error> {
+    let mut imports = Items::new(alloc);
+    imports.push(memory(alloc)?)?;
+    let mut exports = Items::new(alloc);
+    exports.push((name(alloc, text)?, ExportKind::Memory, 0))?;
+    Ok(Shape {
+        groups: Items::new(alloc),
+        imports,
+        funcs: Items::new(alloc),
+        tags: Items::new(alloc),
+        tables: Items::new(alloc),
+        memories: Items::new(alloc),
+        globals: Items::new(alloc),
+        exports,
+    })
+}
+
+// Which shapes are given: available imports, exports, a module shape.
+type Uses = [bool; 3];
+
+fn given(alloc: Global, is_given: bool, text: &str) -> Result<Option<Shape>, Error> {
+    if !is_given {
+        return Ok(None);
+    }
+    Ok(Some(shape(alloc, text)?))
+}
+
+// The defaults with a shape for each of these uses.
+fn with_shapes(alloc: Global, uses: Uses) -> Result<Config, Error> {
+    let available_imports = given(alloc, uses[0], "a")?;
+    let exports = given(alloc, uses[1], "b")?;
+    let module_shape = given(alloc, uses[2], "c")?;
+    Ok(Config {
+        max_types: 7,
+        available_imports,
+        exports,
+        module_shape,
+        ..Config::default()
+    })
+}
+
+fn are_same(one: &Config, other: &Config) -> bool {
+    one.available_imports == other.available_imports
+        && one.exports == other.exports
+        && one.module_shape == other.module_shape
+}
+
+fn is_copied(alloc: Global, config: &Config) -> Result<bool, Error> {
+    let copy = config.clone(alloc)?;
+    Ok(are_same(config, &copy))
+}
+
+fn text_of(alloc: Global, config: &Config) -> Result<String, Error> {
+    Ok(format!(in alloc; "{config:?}")?)
+}
+
+fn text_of_copy(alloc: Global, config: &Config) -> Result<String, Error> {
+    let copy = config.clone(alloc)?;
+    text_of(alloc, &copy)
+}
+
+// Whether a copy has equal shapes, and the texts of both.
+fn copied(alloc: Global, uses: Uses) -> Result<(bool, String, String), Error> {
+    let config = with_shapes(alloc, uses)?;
+    let is_same = is_copied(alloc, &config)?;
+    let copy = text_of_copy(alloc, &config)?;
+    Ok((is_same, copy, text_of(alloc, &config)?))
+}
+
+#[test]
+fn a_copy_holds_the_same(rt: HostRuntime) -> Result<(), Fail> {
+    let cases = [
+        [false, false, false],
+        [true, false, false],
+        [false, true, false],
+        [true, true, true],
+    ];
+    for uses in cases {
+        let (is_same, copy, config) = copied(rt.alloc(), uses)?;
+        assert!(rt; is_same);
+        assert_eq!(rt; copy.as_str(), config.as_str());
+    }
+    Ok(())
+}
+
+// Which shapes are given once the configuration is sanitised.
+fn sanitized(alloc: Global, uses: Uses) -> Result<Uses, Error> {
+    let mut config = with_shapes(alloc, uses)?;
+    config.sanitize();
+    Ok([
+        config.available_imports.is_some(),
+        config.exports.is_some(),
+        config.module_shape.is_some(),
+    ])
+}
+
+#[test]
+fn a_module_shape_takes_the_place_of_others(rt: HostRuntime) -> Result<(), Fail> {
+    let cases = [
+        ([true, true, true], [false, false, true]),
+        ([true, true, false], [true, true, false]),
+        ([false, false, true], [false, false, true]),
+    ];
+    for (uses, want) in cases {
+        assert_eq!(rt; sanitized(rt.alloc(), uses)?, want);
+    }
+    Ok(())
+}
+
+// What the check says where more imports and more exports are asked for than there may be.
+fn checked(alloc: Global, uses: Uses) -> Result<Result<(), ConfigFault>, Error> {
+    let mut config = with_shapes(alloc, uses)?;
+    config.min_imports = 101;
+    config.min_exports = 101;
+    Ok(config.check())
+}
+
+#[test]
+fn minimums_that_shapes_replace(rt: HostRuntime) -> Result<(), Fail> {
+    let imports = Err(ConfigFault::MinAboveMax(Count::Imports));
+    let exports = Err(ConfigFault::MinAboveMax(Count::Exports));
+    let cases = [
+        ([false, false, false], imports),
+        ([true, false, false], exports),
+        ([false, true, false], imports),
+        ([true, true, false], Ok(())),
+        ([false, false, true], Ok(())),
+    ];
+    for (uses, want) in cases {
+        assert_eq!(rt; checked(rt.alloc(), uses)?, want);
+    }
+    Ok(())
+}
+
+fn made(alloc: Global, uses: Uses, u: &mut Unstructured<'_>) -> Result<(), Error> {
+    let config = with_shapes(alloc, uses)?;
+    Module::new(alloc, config, u)?;
+    Ok(())
+}
+
+#[test]
+fn shapes_are_refused_by_name(rt: HostRuntime) {
+    let cases = [
+        ([true, true, true], Which::ModuleShape),
+        ([true, true, false], Which::AvailableImports),
+        ([false, true, false], Which::Exports),
+    ];
+    for (uses, which) in cases {
+        let left_out = Error::Shape(which, ShapeFault::LeftOut);
+        let mut u = Unstructured::new(&[1, 2]);
+        assert_eq!(rt; made(rt.alloc(), uses, &mut u), Err(left_out));
+        assert_eq!(rt; u.len(), 2, "left");
+    }
+}
