@@ -30,6 +30,8 @@ mod matching_types;
 #[cfg(test)]
 mod modules;
 #[cfg(test)]
+mod repeated_modules;
+#[cfg(test)]
 mod section_flags;
 #[cfg(test)]
 mod shape_parts;
