@@ -49,7 +49,7 @@ fn called<'a, F: FnMut(&mut Unstructured<'a>) -> Result<bool, Error>>(
     f(u)
 }
 
-/// What a false answer behind so many calls means.
+/// What a false answer means behind `calls` calls that were answered true.
 fn at_false(min: usize, calls: usize) -> Result<(), Error>
     ensures few { calls < min → result ≡ Err (Error.IncorrectFormat Why.Loop) }
     ensures enough { min ≤ calls → result ≡ Ok tt }

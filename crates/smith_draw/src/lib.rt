@@ -16,6 +16,7 @@ mod matching_composite;
 mod offered;
 mod offered_examples;
 mod offered_list_examples;
+mod offset_examples;
 mod rec_group;
 mod size_examples;
 mod spaces;

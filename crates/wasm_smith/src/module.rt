@@ -127,6 +127,7 @@ impl Module {
         &self.config
     }
 
+    /// The types, in the order of their indices.
     pub fn types(&self) -> &[SubType]
         ensures { result.now ≡ self.now.types }
     {
@@ -168,6 +169,7 @@ impl Module {
         self.funcs.as_slice()
     }
 
+    /// The type of each table.
     pub fn tables(&self) -> &[TableType]
         ensures { result.now ≡ self.now.tables }
     {
@@ -181,12 +183,14 @@ impl Module {
         self.defined_tables.as_slice()
     }
 
+    /// The type of each memory.
     pub fn memories(&self) -> &[MemoryType]
         ensures { result.now ≡ self.now.memories }
     {
         self.memories.as_slice()
     }
 
+    /// The type of each global.
     pub fn globals(&self) -> &[GlobalType]
         ensures { result.now ≡ self.now.globals }
     {
@@ -200,18 +204,21 @@ impl Module {
         self.defined_globals.as_slice()
     }
 
+    /// How many tags are defined, behind the imported ones.
     pub fn num_defined_tags(&self) -> usize
         ensures { result ≡ self.now.num_defined_tags }
     {
         self.num_defined_tags
     }
 
+    /// How many functions are defined, behind the imported ones.
     pub fn num_defined_funcs(&self) -> usize
         ensures { result ≡ self.now.num_defined_funcs }
     {
         self.num_defined_funcs
     }
 
+    /// How many memories are defined, behind the imported ones.
     pub fn num_defined_memories(&self) -> usize
         ensures { result ≡ self.now.num_defined_memories }
     {
@@ -232,12 +239,14 @@ impl Module {
         self.start
     }
 
+    /// The element segments.
     pub fn elems(&self) -> &[ElementSegment]
         ensures { result.now ≡ self.now.elems }
     {
         self.elems.as_slice()
     }
 
+    /// The data segments.
     pub fn data(&self) -> &[DataSegment]
         ensures { result.now ≡ self.now.segments }
     {

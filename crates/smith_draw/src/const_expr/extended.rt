@@ -36,7 +36,7 @@ fn operator(wide: bool, kind: u8) -> ConstInstr
     }
 }
 
-/// What is drawn next behind so many instructions: 0 for a constant, else a number of an operator.
+/// What is drawn next behind `count` instructions: 0 for a constant, else a number of an operator.
 #[tactic(auto, unfolding(crate::specs::Constants::kind_at))]
 fn extended_kind(count: usize, u: &mut Unstructured<'_>) -> u8
     ensures exact { kind_at count u.old ≡ (result, u.new) }
