@@ -8,7 +8,7 @@ use crate::growth::goes_on;
 use crate::unstructured::Unstructured;
 
 /// Calls `f` at least `min` and at most `max` times: behind the first `min` calls as long as a
-/// drawn bool is true, and as long as `f` answers true.
+/// drawn bool is true, and as long as `f` answers true. `min` is at most `max`.
 ///
 /// A false answer among the first `min` calls is refused with `Why::Loop`, and an error of `f` is
 /// handed on at once.

@@ -90,8 +90,8 @@ impl Module {
 
     /// Draws a module from the bytes. The configuration is sanitised and checked first.
     ///
-    /// It refuses a configuration that fails its check, a minimum that can't be met, and want of memory. Until shapes
-    /// are used, it refuses a configuration with a shape before it draws anything, as one that is left out: the module
+    /// A configuration that fails its check is refused, a minimum that can't be met, and want of memory. Until shapes
+    /// are used, a configuration with a shape is refused before anything is drawn, for the shape that is left out: the module
     /// shape, else the available imports, else the exports.
     pub fn new(alloc: Global, mut config: Config, u: &mut Unstructured<'_>) -> Result<Module, Error>
         ensures config { IfOk result (λ m. m.config ≡ shown_config config) }
