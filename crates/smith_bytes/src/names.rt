@@ -31,7 +31,7 @@ pub fn unique_string(
 }
 
 /// A kebab name that is not among the names, and is added to them. It has at most `max_size`
-/// characters, one that lets it end, and what makes it new.
+/// characters, a letter that lets it end, and what makes it new.
 pub fn unique_kebab_string(
     alloc: Global,
     max_size: usize,

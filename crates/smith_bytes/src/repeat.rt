@@ -8,7 +8,7 @@ use crate::growth::goes_on;
 use crate::unstructured::Unstructured;
 
 /// Calls `f` at least `min` and at most `max` times: behind the first `min` calls as long as a
-/// drawn bool is true, and as long as `f` answers true.
+/// drawn bool is true, and as long as `f` answers true. `min` is at most `max`.
 ///
 /// A false answer among the first `min` calls is refused with `Why::Loop`, and an error of `f` is
 /// handed on at once.
@@ -49,7 +49,7 @@ fn called<'a, F: FnMut(&mut Unstructured<'a>) -> Result<bool, Error>>(
     f(u)
 }
 
-/// What a false answer behind so many calls means.
+/// What a false answer means behind `calls` calls that were answered true.
 fn at_false(min: usize, calls: usize) -> Result<(), Error>
     ensures few { calls < min → result ≡ Err (Error.IncorrectFormat Why.Loop) }
     ensures enough { min ≤ calls → result ≡ Ok tt }

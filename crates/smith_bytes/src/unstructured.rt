@@ -29,7 +29,7 @@ impl<'a> Model for Unstructured<'a> {
 }
 
 impl<'a> Unstructured<'a> {
-    /// A source of these bytes.
+    /// A source of the bytes `bytes`.
     pub fn new(bytes: &'a [u8]) -> Self
         ensures { result ≡ bytes.now }
     {
@@ -50,7 +50,7 @@ impl<'a> Unstructured<'a> {
         self.bytes.is_empty()
     }
 
-    /// A value of any type that can be drawn.
+    /// Draws a value of the type `T`, as [`Arbitrary`] says for it.
     pub fn arbitrary<T: Arbitrary>(&mut self) -> T
         ensures exact { T.drawn self.old ≡ (result, self.new) }
         ensures left { KeepsPieces self.old self.new }
@@ -58,7 +58,7 @@ impl<'a> Unstructured<'a> {
         T::arbitrary(self)
     }
 
-    /// A number of the range.
+    /// Draws a number of `range`, whose start is not above its end.
     #[tactic(auto, unfolding(crate::specs::Draws::range_at))]
     pub fn int_in_range<T: Int>(&mut self, range: RangeInclusive<T>) -> T
         requires ordered { T.number (range_inclusive_start range) ≤ T.number (range_inclusive_end range) }
@@ -73,7 +73,7 @@ impl<'a> Unstructured<'a> {
         T::narrow(lowest + self.offset(end.widen() - lowest), end)
     }
 
-    /// True in `n` of `m` cases.
+    /// Draws a bool that is true in `n` of `m` cases. `n` is at least 1 and at most `m`.
     #[tactic(auto, unfolding(crate::specs::Draws::range_at, crate::specs::Draws::ratio_at))]
     pub fn ratio<T: Int>(&mut self, n: T, m: T) -> bool
         requires some { 0 < T.number n }
@@ -84,7 +84,7 @@ impl<'a> Unstructured<'a> {
         1 + self.offset(m.widen() - 1) <= n.widen()
     }
 
-    /// An item of the list, at a drawn place. Only an empty list is refused, by `EmptyChoose`.
+    /// Draws a place in `items` and lends the item there. An empty list alone is refused, by `EmptyChoose`.
     #[tactic(auto, unfolding(crate::specs::Draws::choose_at))]
     pub fn choose<'b, T>(&mut self, items: &'b [T]) -> Result<&'b T, Error>
         ensures exact { IfOk result (λ item. choose_at items.now self.old ≡ (Some item.now, self.new)) }
@@ -99,7 +99,7 @@ impl<'a> Unstructured<'a> {
         Ok(&items[self.int_in_range(0..=items.len() - 1)])
     }
 
-    /// The first `n` bytes. Where fewer are left: `NotEnoughData`.
+    /// Takes the first `n` bytes. Where fewer are left: `NotEnoughData`.
     ///
     /// What is lent lives as long as the input, not as long as this loan of the source.
     pub fn bytes(&mut self, n: usize) -> Result<&'a [u8], Error>
@@ -116,7 +116,7 @@ impl<'a> Unstructured<'a> {
         Ok(self.up_to(n))
     }
 
-    /// The first `n` bytes, which are left in the source. None where fewer are left.
+    /// Lends the first `n` bytes, which are left in the source. None where fewer are left.
     pub fn peek_bytes(&self, n: usize) -> Option<&'a [u8]>
         ensures enough { IsSome result ↔ (n ≤ length self.now) }
         ensures lent { IfSome result (λ piece. piece.now ≡ take n self.now) }
@@ -124,7 +124,7 @@ impl<'a> Unstructured<'a> {
         self.bytes.get(..n)
     }
 
-    /// A length that what is left can hold, told by the bytes at its end.
+    /// Draws a length that the bytes left can hold, told by the bytes at their end.
     #[tactic(auto, using(crate::proofs::Pieces::keeps_take), unfolding(crate::specs::Draws::len_at))]
     pub fn arbitrary_len(&mut self) -> usize
         ensures exact { len_at self.old ≡ (result, self.new) }

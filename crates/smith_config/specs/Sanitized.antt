@@ -32,7 +32,7 @@ pub record IsSanitized (config : Config) : Type 0 where
   pub imports : IsSome config.module_shape → config.available_imports ≡ None
   pub exports : IsSome config.module_shape → config.exports ≡ None
 
--- new is old with these nine fields turned off, lowered, taken away or as they were
+-- new is old with these nine fields turned off, lowered, taken away or as they were: nothing is turned on, raised or added
 pub record IsLowered (old new : Config) : Type 0 where
   pub tables : new.max_tables ≤ old.max_tables
   pub gc : IsTrue new.gc_enabled → IsTrue old.gc_enabled

@@ -5,13 +5,17 @@ use smith_types::{ExportKind, GlobalType, Imports, Items, MemoryType, Name, SubT
 pub struct Shape {
     /// The types in their recursive groups.
     pub groups: Items<Items<SubType>>,
+    /// The imports, in their groups.
     pub imports: Items<Imports>,
     /// The indices of the types of the functions that are defined.
     pub funcs: Items<u32>,
     /// The indices of the types of the tags that are defined.
     pub tags: Items<u32>,
+    /// The tables that are defined.
     pub tables: Items<TableType>,
+    /// The memories that are defined.
     pub memories: Items<MemoryType>,
+    /// The globals that are defined.
     pub globals: Items<GlobalType>,
     /// Names, kinds and indices of what is exported. Indices count what is imported first.
     pub exports: Items<(Name, ExportKind, u32)>,

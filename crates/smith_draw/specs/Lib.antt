@@ -10,6 +10,7 @@ pub mod MatchingComposites
 pub mod SubTypes
 pub mod RecGroups
 pub mod Limits
+pub mod Offsets
 pub mod Bounds
 pub mod Memories
 pub mod Spelling

@@ -30,7 +30,7 @@ use smith_types::{
 };
 use std::alloc::Global;
 
-/// At most so many value types.
+/// Draws at most `most` value types.
 #[tactic(auto, unfolding(crate::specs::CompositeTypes::val_types_at))]
 fn val_types(
     alloc: Global,
@@ -70,7 +70,7 @@ fn func_type(
     Ok(FuncType { params, results })
 }
 
-/// These fields, with more behind them until there are so many.
+/// Draws fields behind those that stand, until there are `end`.
 #[tactic(auto, unfolding(crate::specs::FieldTypes::fields_until_at))]
 pub(crate) fn fields_until(
     config: &Config,
@@ -159,8 +159,10 @@ pub(crate) fn composite_type(
     Ok(CompositeType { inner, shared })
 }
 
-/// A function type of at most 20 parameters and 20 results, or one result where several are not enabled. The standard's
+/// Draws a function type of at most 20 parameters and 20 results, or one result where several are not enabled. The standard's
 /// section Structure, Composite Types.
+///
+/// `config` is sanitised, and `must_share` is set only where types may be shared. The type refers to types below `limit`.
 pub fn arbitrary_func_type(
     alloc: Global,
     config: &Config,
@@ -180,7 +182,9 @@ pub fn arbitrary_func_type(
     func_type(alloc, config, spaces.types.types(), must_share, limit, u)
 }
 
-/// A struct type of at most 20 fields. The standard's section Structure, Composite Types.
+/// Draws a struct type of at most 20 fields. The standard's section Structure, Composite Types.
+///
+/// `config` is sanitised, and `must_share` is set only where types may be shared. The type refers to types below `limit`.
 pub fn arbitrary_struct_type(
     alloc: Global,
     config: &Config,
@@ -201,8 +205,10 @@ pub fn arbitrary_struct_type(
     struct_type(alloc, config, spaces.types.types(), must_share, limit, u)
 }
 
-/// A composite type, shared or not: with garbage collection an array, a function or a struct, else a function. The standard's
-/// section Structure, Composite Types.
+/// Draws a composite type, shared or not: with garbage collection an array, a function or a struct, else a function. The
+/// standard's section Structure, Composite Types.
+///
+/// `config` is sanitised. The type refers to types below `limit`.
 pub fn arbitrary_composite_type(
     alloc: Global,
     config: &Config,

@@ -62,7 +62,7 @@ fn page_size(config: &Config, u: &mut Unstructured<'_>) -> Option<u32>
     stated_page(u)
 }
 
-/// How many pages so many bytes are.
+/// How many whole pages `bytes` bytes are.
 fn pages_in(bytes: u128, page_size: Option<u32>) -> u128
     requires { page_log2 page_size ≤ 16 }
     ensures { result ≡ bytes / 2 ^ page_log2 page_size }
@@ -138,7 +138,9 @@ fn memory_type(config: &Config, u: &mut Unstructured<'_>) -> MemoryType
     }
 }
 
-/// A memory type within the configured bytes, which takes no memory. The standard's section Structure, Memory Types.
+/// Draws a memory type within the configured bytes. The standard's section Structure, Memory Types.
+///
+/// `config` passes its check. Always `Ok`, since no memory is taken: the drawing calls of entities have one form.
 pub fn arbitrary_memtype(config: &Config, u: &mut Unstructured<'_>) -> Result<MemoryType, Error>
     requires { Passes config.now }
     ensures ok { IsOk result }

@@ -50,7 +50,9 @@ pub(crate) fn field_type(
     }
 }
 
-/// A storage type: packed, or a value type. The standard's section Structure, Composite Types.
+/// Draws a storage type: packed, or a value type. The standard's section Structure, Composite Types.
+///
+/// `config` is sanitised, and `must_share` is set only where types may be shared. The type refers to types below `limit`.
 pub fn arbitrary_storage_type(
     _alloc: Global,
     config: &Config,
@@ -70,7 +72,9 @@ pub fn arbitrary_storage_type(
     Ok(storage_type(config, spaces.types.types(), must_share, limit, u))
 }
 
-/// A field type, mutable or not. The standard's section Structure, Composite Types.
+/// Draws a field type, mutable or not. The standard's section Structure, Composite Types.
+///
+/// `config` is sanitised, and `must_share` is set only where types may be shared. The type refers to types below `limit`.
 pub fn arbitrary_field_type(
     _alloc: Global,
     config: &Config,

@@ -44,7 +44,7 @@ fn grow_by(min: u64, inbounds: u64, max: u64, x: u32) -> u64
     }
 }
 
-/// A number of `min` to `max`, mostly one that is not above `inbounds` and near to `min`.
+/// Draws a number of `min` to `max`, mostly a number that is not above `inb` and near to `min`. `inb` lies between them.
 #[tactic(auto, unfolding(crate::specs::Limits::gradually_at))]
 pub fn gradually_grow(min: u64, inb: u64, max: u64, u: &mut Unstructured<'_>) -> u64
     requires low { min ≤ inb }
@@ -60,7 +60,8 @@ pub fn gradually_grow(min: u64, inb: u64, max: u64, u: &mut Unstructured<'_>) ->
     grow_by(min, inb, max, x)
 }
 
-/// A minimum by [`gradually_grow`], and a maximum where it is required or a bool asks for it.
+/// Draws limits: a minimum of `least` to `most` by [`gradually_grow`], mostly at most `inbounds`, and a maximum where it is
+/// `required` or a bool asks for it. `inbounds` lies between `least` and `most`.
 #[tactic(auto, unfolding(crate::specs::Limits::limits64_at))]
 pub fn arbitrary_limits64(
     least: u64,

@@ -175,8 +175,8 @@ pub(crate) fn matching_func_type(
     Ok(FuncType { params, results })
 }
 
-/// A heap type below this one, among those that are offered; without garbage collection itself. The standard's section
-/// Validation, Matching, Heap Types.
+/// Draws a heap type below `ty`, among those that are offered; without garbage collection `ty` itself. The standard's
+/// section Validation, Matching, Heap Types.
 pub fn arbitrary_matching_heap_type(
     alloc: Global,
     config: &Config,
@@ -195,7 +195,7 @@ pub fn arbitrary_matching_heap_type(
     matching_heap_type(alloc, config, spaces.types, ty, u)
 }
 
-/// A reference type below this one, nullable as it is. The standard's section Validation, Matching, Reference Types.
+/// Draws a reference type below `ty`, nullable as `ty` is. The standard's section Validation, Matching, Reference Types.
 pub fn arbitrary_matching_ref_type(
     alloc: Global,
     config: &Config,
@@ -214,7 +214,7 @@ pub fn arbitrary_matching_ref_type(
     matching_ref_type(alloc, config, spaces.types, ty, u)
 }
 
-/// A value type below this one. The standard's section Validation, Matching, Value Types.
+/// Draws a value type below `ty`; a number or a vector is `ty` itself. The standard's section Validation, Matching, Value Types.
 pub fn arbitrary_matching_val_type(
     alloc: Global,
     config: &Config,
@@ -232,7 +232,7 @@ pub fn arbitrary_matching_val_type(
     matching_val_type(alloc, config, spaces.types, ty, u)
 }
 
-/// A storage type that matches this one. The standard's section Validation, Matching, Field Types.
+/// Draws a storage type that matches `ty`; a packed type is `ty` itself. The standard's section Validation, Matching, Field Types.
 pub fn arbitrary_matching_storage_type(
     alloc: Global,
     config: &Config,
@@ -250,7 +250,7 @@ pub fn arbitrary_matching_storage_type(
     matching_storage_type(alloc, config, spaces.types, ty, u)
 }
 
-/// A field type that matches this one. The standard's section Validation, Matching, Field Types.
+/// Draws a field type that matches `field`; a mutable field is `field` itself. The standard's section Validation, Matching, Field Types.
 pub fn arbitrary_matching_field_type(
     alloc: Global,
     config: &Config,
@@ -268,8 +268,8 @@ pub fn arbitrary_matching_field_type(
     matching_field_type(alloc, config, spaces.types, field, u)
 }
 
-/// A function type that matches this one: of supertypes of its parameters and subtypes of its results. The standard's section
-/// Validation, Matching, Composite Types.
+/// Draws a function type that matches `function`: of supertypes of its parameters and subtypes of its results. The
+/// standard's section Validation, Matching, Composite Types.
 pub fn arbitrary_matching_func_type(
     alloc: Global,
     config: &Config,

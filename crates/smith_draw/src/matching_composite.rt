@@ -86,8 +86,11 @@ pub(crate) fn matching_composite_type(
     Ok(CompositeType { inner, shared })
 }
 
-/// A struct type that matches this one: its matched fields, and at most 5 more behind them. The standard's section Validation,
-/// Matching, Composite Types.
+/// Draws a struct type that matches `structure`: its matched fields, and at most 5 more behind them. The standard's section
+/// Validation, Matching, Composite Types.
+///
+/// `config` is sanitised, with garbage collection on, and `must_share` is set only where types may be shared. No type of
+/// `spaces` is past `limit`, each is shared only where that is enabled, and the fields of `structure` are valid below `limit`.
 pub fn arbitrary_matching_struct_type(
     alloc: Global,
     config: &Config,

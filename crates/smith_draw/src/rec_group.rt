@@ -32,7 +32,10 @@ use smith_types::{SubType, TypeSpace};
 use std::alloc::Global;
 use std::ops::Range;
 
-/// Adds a type at the end of the space, and gives its index.
+/// Adds the type `added` at the end of `types`, and gives its index.
+///
+/// The supertype of `added`, if there is one, stands and is of its kind and sharedness, and an index is left:
+/// [`TypeSpace::may_follow`] tells it.
 pub fn add_type(types: &mut TypeSpace, added: SubType) -> Result<u32, Error>
     requires { MayFollow types.old.types added }
     ensures ok { OnOk result (types.new ≡ record types.old { types = types.old.types ++ added ∷ [] }) }
@@ -44,7 +47,7 @@ pub fn add_type(types: &mut TypeSpace, added: SubType) -> Result<u32, Error>
     types.push_type(added)
 }
 
-/// Adds types until there are so many.
+/// Adds types until there are `limit`.
 #[tactic(auto, unfolding(crate::specs::RecGroups::types_until_at))]
 fn types_until(
     alloc: Global,
@@ -250,8 +253,10 @@ fn all_types(
     more_types(alloc, config, types, u)
 }
 
-/// Adds a group again, chosen among those that stand, and gives whether it was added: not where it is empty and may not be, or
-/// has more types than there is room for.
+/// Adds a group again, chosen among those that stand, and gives whether it was added: not where it is empty and `allow_empty`
+/// is off, or has more types than there is room for.
+///
+/// `config` passes its check. `types` are valid, a group stands, and there are fewer types than `config` allows.
 pub fn clone_rec_group(
     alloc: Global,
     config: &Config,
@@ -274,8 +279,10 @@ pub fn clone_rec_group(
     clone_group(alloc, config, types, allow_empty, u)
 }
 
-/// Adds one group, of at least a type where it may not be empty: without garbage collection of one type, with it a clone one
-/// time of 255. Where the clone may not be added and a group may be empty, nothing is added.
+/// Adds a group, of at least a type where `allow_empty` is off: without garbage collection of one type, with it a clone one
+/// time of 255. Where the clone may not be added and `allow_empty` is on, nothing is added.
+///
+/// `config` is sanitised and passes its check. `types` are valid, and there are fewer types than `config` allows.
 pub fn arbitrary_rec_group(
     alloc: Global,
     config: &Config,
@@ -297,7 +304,9 @@ pub fn arbitrary_rec_group(
     rec_group(alloc, config, types, allow_empty, u)
 }
 
-/// Adds groups: at least as many types as are asked for, and at most as many as may be.
+/// Adds groups until at least `min_types` types stand, and then more, up to `max_types` types.
+///
+/// `config` is sanitised and passes its check, and `types` are valid.
 pub fn arbitrary_types(
     alloc: Global,
     config: &Config,

@@ -10,8 +10,11 @@ pub struct Entities<'a> {
     pub tags: &'a [u32],
     /// The type indices of the functions.
     pub funcs: &'a [u32],
+    /// The tables.
     pub tables: &'a [TableType],
+    /// The memories.
     pub memories: &'a [MemoryType],
+    /// The globals.
     pub globals: &'a [GlobalType],
     /// How many of the functions are imported.
     pub imported_funcs: usize,
@@ -42,10 +45,11 @@ impl<'a> Entities<'a> {
     }
 }
 
-/// What is drawn may refer to these.
+/// The types and entities that a drawn value may refer to.
 #[derive(Clone, Copy)]
 pub struct Spaces<'a> {
     pub types: &'a TypeSpace,
+    /// The entities, over these types.
     pub entities: Entities<'a>,
 }
 

@@ -109,7 +109,7 @@ fn sub_type_of(
     sub_type_below(alloc, config, space, limit, index, u)
 }
 
-/// Whether a supertype is asked for, where there are so many.
+/// Whether a supertype is asked for, where `count` types may have subtypes.
 fn supertype_wanted(config: &Config, count: usize, u: &mut Unstructured<'_>) -> bool
     ensures draws { AlwaysDraws (supertype_wanted_at config.now count u.old) result u.old u.new }
     ensures some { IsTrue result → 0 < count }
@@ -138,8 +138,10 @@ pub(crate) fn sub_type(
     root_type(alloc, config, space.types(), limit, u)
 }
 
-/// A subtype: below a type that may have subtypes, or without a supertype; without garbage collection a function type that is
-/// final and has none. The standard's section Structure, Recursive Types.
+/// Draws a subtype: below a type that may have subtypes, or without a supertype; without garbage collection a function type
+/// that is final and has none. The standard's section Structure, Recursive Types.
+///
+/// `config` is sanitised. The types that stand are valid so far, in a group that ends at `limit`.
 pub fn arbitrary_sub_type(
     alloc: Global,
     config: &Config,
@@ -157,7 +159,10 @@ pub fn arbitrary_sub_type(
     sub_type(alloc, config, spaces.types, limit, u)
 }
 
-/// A type below one that may have subtypes. The standard's section Structure, Recursive Types.
+/// Draws a subtype below a type that may have subtypes. The standard's section Structure, Recursive Types.
+///
+/// `config` is sanitised, with garbage collection on. The types that stand are valid so far, in a group that ends at `limit`,
+/// and some type may have subtypes: it is not final, and its depth is below 60.
 pub fn arbitrary_sub_type_of_super_type(
     alloc: Global,
     config: &Config,

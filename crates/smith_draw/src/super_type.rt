@@ -82,7 +82,7 @@ pub(crate) fn super_val_types(
     Ok(supertypes)
 }
 
-/// A heap type above this one, among those that are offered; without garbage collection itself. The standard's section
+/// Draws a heap type above `ty`, among those that are offered; without garbage collection `ty` itself. The standard's section
 /// Validation, Matching, Heap Types.
 pub fn arbitrary_super_type_of_heap_type(
     alloc: Global,
@@ -102,7 +102,7 @@ pub fn arbitrary_super_type_of_heap_type(
     super_heap_type(alloc, config, spaces.types, ty, u)
 }
 
-/// A reference type above this one, nullable. The standard's section Validation, Matching, Reference Types.
+/// Draws a reference type above `ty`, nullable. The standard's section Validation, Matching, Reference Types.
 pub fn arbitrary_super_type_of_ref_type(
     alloc: Global,
     config: &Config,
@@ -121,7 +121,7 @@ pub fn arbitrary_super_type_of_ref_type(
     super_ref_type(alloc, config, spaces.types, ty, u)
 }
 
-/// A value type above this one. The standard's section Validation, Matching, Value Types.
+/// Draws a value type above `ty`; a number or a vector is `ty` itself. The standard's section Validation, Matching, Value Types.
 pub fn arbitrary_super_type_of_val_type(
     alloc: Global,
     config: &Config,

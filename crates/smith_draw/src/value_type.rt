@@ -227,8 +227,10 @@ pub(crate) fn val_type(
     value_of_class(config, types, must_share, limit, class, u)
 }
 
-/// A heap type: one of the types below the limit that stand, or an abstract one that is enabled; a shared one where it must
-/// be. The standard's section Structure, Heap Types.
+/// Draws a heap type: a type below `limit` that stands, or an abstract heap type that is enabled; a shared heap type where
+/// `must_share` is set. The standard's section Structure, Heap Types.
+///
+/// `config` is sanitised, and `must_share` is set only where types may be shared.
 pub fn arbitrary_heap_type(
     _alloc: Global,
     config: &Config,
@@ -248,7 +250,9 @@ pub fn arbitrary_heap_type(
     Ok(heap_type(config, spaces.types.types(), must_share, limit, u))
 }
 
-/// A reference type, nullable. The standard's section Structure, Reference Types.
+/// Draws a reference type, nullable. The standard's section Structure, Reference Types.
+///
+/// `config` is sanitised, and `must_share` is set only where types may be shared. The type refers to types below `limit`.
 pub fn arbitrary_ref_type(
     _alloc: Global,
     config: &Config,
@@ -268,7 +272,9 @@ pub fn arbitrary_ref_type(
     Ok(ref_type(config, spaces.types.types(), must_share, limit, u))
 }
 
-/// A value type among those that are enabled. The standard's section Structure, Value Types.
+/// Draws a value type among those that are enabled. The standard's section Structure, Value Types.
+///
+/// `config` is sanitised, and `must_share` is set only where types may be shared. The type refers to types below `limit`.
 pub fn arbitrary_valtype(
     _alloc: Global,
     config: &Config,

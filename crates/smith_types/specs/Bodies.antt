@@ -1,4 +1,5 @@
--- Bodies of functions: the section Validation, Functions, of the WebAssembly Core Specification 3.0.
+-- Bodies of functions: the section Validation, Functions, of the WebAssembly Core Specification 3.0. Where raw bytes may stand,
+-- how many locals there may be, and what counts fuel are rules of this project.
 use Rattle.std.specs.Prelude.{◌≡◌, ℕ, ◌≤◌, true, false, IsTrue, Bool, List, Some, length, slice_get, All}
 use Rattle.smith_types.specs.Features.{Features}
 use Rattle.smith_types.specs.ValidTypes.{IsValTypeValid}

@@ -13,7 +13,7 @@ pub struct Code {
 /// What a body does.
 #[derive(Debug, Drop)]
 pub enum Instructions {
-    /// It traps at once.
+    /// The body traps at once.
     Unreachable,
     /// Raw bytes, which need not be valid.
     Arbitrary(Items<u8>),

@@ -56,7 +56,7 @@ pub struct CompositeType {
     pub shared: bool,
 }
 
-/// One type of a recursive group. The standard's section Structure, Recursive Types.
+/// A type of a recursive group. The standard's section Structure, Recursive Types.
 #[derive(Debug, Drop, PartialEq)]
 pub struct SubType {
     /// Whether the type has no subtypes.

@@ -67,14 +67,14 @@ impl WasmFeatures {
         WasmFeatures(16777215)
     }
 
-    /// Whether every bit of `features` is in this set.
+    /// Whether every bit of `features` is in the set.
     pub fn contains(self, features: WasmFeatures) -> bool
         ensures { result ≡ has (bits_of self) (bits_of features) }
     {
         Flags::contains(&self, features)
     }
 
-    /// This set, joined with `features` where they are wanted.
+    /// The set, joined with `features` where they are `wanted`.
     #[tactic(auto, unfolding(crate::specs::FeatureBits::joined))]
     pub fn with(self, wanted: bool, features: WasmFeatures) -> WasmFeatures
         ensures { bits_of result ≡ joined (bits_of self) wanted (bits_of features) }

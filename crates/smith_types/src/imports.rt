@@ -1,7 +1,7 @@
 use crate::entity_type::EntityType;
 use crate::list::{Items, Name};
 
-/// One import: the standard's section Structure, Imports.
+/// An import: the standard's section Structure, Imports.
 #[derive(Debug, Drop, PartialEq)]
 pub struct Import {
     /// The name of the module that the import is from.

@@ -39,7 +39,7 @@ impl IndexSpaces {
         }
     }
 
-    /// Adds an entity last in its space.
+    /// Adds the entity `entity` last in the space of its kind.
     pub fn push(&mut self, entity: EntityType) -> Result<(), Error>
         ensures ok { OnOk result (spaces_in self.new ≡ with_entity (spaces_in self.old) entity) }
         ensures memory { IfErr result (λ e. e ≡ Error.Memory) }

@@ -158,7 +158,7 @@ impl Flags for InstructionKinds {
 }
 
 impl InstructionKinds {
-    /// The set of these kinds.
+    /// The set of the kinds `kinds`.
     #[tactic(auto, unfolding(crate::specs::Instructions::with_kind))]
     pub fn new(kinds: &[InstructionKind]) -> InstructionKinds
         ensures { kinds_bits result ≡ union_of kinds.now }
@@ -184,7 +184,7 @@ impl InstructionKinds {
         InstructionKinds(0)
     }
 
-    /// Whether the whole kind is in the set.
+    /// Whether every bit of `kind` is in the set.
     pub fn contains(&self, kind: InstructionKind) -> bool
         ensures { IsTrue result ↔ (bit_and (kinds_bits self.now) (kind_bits kind) ≡ kind_bits kind) }
     {
@@ -198,7 +198,7 @@ impl InstructionKinds {
         InstructionKinds(self.0 & !522)
     }
 
-    /// This set, with the kind where it is wanted.
+    /// The set, with `kind` where it is `wanted`.
     #[tactic(auto, unfolding(crate::specs::Instructions::with_kind))]
     pub fn with(self, wanted: bool, kind: InstructionKind) -> InstructionKinds
         ensures { result ≡ with_kind self wanted kind }

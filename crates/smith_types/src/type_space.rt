@@ -179,7 +179,7 @@ impl TypeSpace {
         }
     }
 
-    /// Makes one group, maybe empty, of the types behind the last group.
+    /// Makes a group, maybe empty, of the types behind the last group.
     pub fn push_group(&mut self) -> Result<(), Error>
         ensures ok { OnOk result (self.new ≡ record self.old {
           groups = self.old.groups ++ next_group self.old.types self.old.groups ∷ [];
@@ -193,7 +193,8 @@ impl TypeSpace {
         Ok(self.groups.push(start..end)?)
     }
 
-    /// Whether one heap type is below another: Validation, Matching, Heap Types.
+    /// Whether the heap type `a` is below `b`: Validation, Matching, Heap Types. That equal groups are different types, and what
+    /// holds of shared and exact types, are rules of this project. The types that `a` and `b` name stand.
     pub fn heap_type_is_sub_type(&self, a: HeapType, b: HeapType) -> bool
         requires lower { IsInRange self.now.types a }
         requires upper { IsInRange self.now.types b }
@@ -202,7 +203,8 @@ impl TypeSpace {
         heap_type_is_below(self.types.as_slice(), a, b)
     }
 
-    /// Whether one reference type is below another: Validation, Matching, Reference Types.
+    /// Whether the reference type `a` is below `b`: Validation, Matching, Reference Types, over heap types as in
+    /// [`TypeSpace::heap_type_is_sub_type`]. The types that `a` and `b` refer to stand.
     pub fn ref_type_is_sub_type(&self, a: RefType, b: RefType) -> bool
         requires lower { IsInRange self.now.types a.heap_type }
         requires upper { IsInRange self.now.types b.heap_type }
@@ -211,7 +213,8 @@ impl TypeSpace {
         ref_type_is_below(self.types.as_slice(), a, b)
     }
 
-    /// Whether one value type is below another: Validation, Matching, Value Types.
+    /// Whether the value type `a` is below `b`: Validation, Matching, Value Types, over heap types as in
+    /// [`TypeSpace::heap_type_is_sub_type`]. The types that `a` and `b` refer to stand.
     pub fn val_type_is_sub_type(&self, a: ValType, b: ValType) -> bool
         requires lower { IsValInRange self.now.types a }
         requires upper { IsValInRange self.now.types b }
@@ -220,7 +223,8 @@ impl TypeSpace {
         val_type_is_below(self.types.as_slice(), a, b)
     }
 
-    /// Whether one composite type matches another: Validation, Matching, Composite Types.
+    /// Whether the composite type `a` matches `b`: Validation, Matching, Composite Types, over heap types as in
+    /// [`TypeSpace::heap_type_is_sub_type`]. The types that `a` and `b` refer to stand.
     pub fn composite_type_matches(&self, a: &CompositeType, b: &CompositeType) -> bool
         requires lower { IsInnerInRange self.now.types a.now.inner }
         requires upper { IsInnerInRange self.now.types b.now.inner }
@@ -229,7 +233,8 @@ impl TypeSpace {
         composite_type_is_match(self.types.as_slice(), a, b)
     }
 
-    /// The size of an entity, which counts towards the type size of a module.
+    /// The size of `entity`, which counts towards the type size of a module. The type of a function stands and is a function
+    /// type, and the size fits 32 bits.
     pub fn size_of(&self, entity: &EntityType) -> u32
         requires typed { IsTyped self.now.types entity.now }
         requires fits { size_in self.now.types entity.now < 2 ^ 32 }

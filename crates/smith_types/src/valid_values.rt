@@ -19,7 +19,9 @@ use crate::value_type::{AbstractHeapType, HeapType, RefType, ValType};
 /// A value type that is valid where the types below the index `end` may be named: Validation, Value Types.
 #[derive(Clone, Copy)]
 pub struct ValidValue {
+    /// The features that are on.
     pub features: WasmFeatures,
+    /// The index below which types may be named.
     pub end: usize,
 }
 

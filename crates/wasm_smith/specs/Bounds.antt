@@ -84,13 +84,13 @@ brought config count =
 abbrev pub added : Config → Count → ℕ
 added config count = where_given (exported_of count) (shapes_of config).exports
 
--- the maximum of a kind is kept: that of exports not where a shape fixes them, or everything is exported
+-- where the maximum of a kind is asked: that of exports not where a shape fixes them, or everything is exported
 abbrev pub HasMost : Config → Count → Type 0
 HasMost config counts.Exports = (FixesExports config → ⊥) × (config.export_everything ≡ false)
 HasMost config count = ⊤
 
--- the minimum of a kind is met: that of imports not where a shape fixes them, that of exports neither where everything is
--- exported; that of elements is each segment's
+-- where the minimum of a kind is asked of the whole module: that of imports not where a shape fixes them, that of exports
+-- neither where everything is exported; that of elements is asked of each segment
 abbrev pub HasLeast : Config → Count → Type 0
 HasLeast config counts.Imports = FixesImports config → ⊥
 HasLeast config counts.Exports = (FixesExports config → ⊥) × (config.export_everything ≡ false)

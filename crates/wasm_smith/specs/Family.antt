@@ -1,5 +1,5 @@
--- The lists of types and functions that some input gives, for a sanitised configuration. A rule of this project; it knows
--- nothing of bytes.
+-- The lists of types and functions that a generator is to reach, for a sanitised configuration. A rule of this project; it
+-- knows nothing of bytes: that each member has bytes which give it is for theorems to say.
 use Rattle.std.specs.Prelude.{◌≡◌, ℕ, ◌<◌, ◌≤◌, false, IsTrue, List, Some, None, length, slice_get, All}
 use Rattle.std.specs.List.{Contains}
 use Rattle.smith_types.specs.Entities.{IsFuncValid}

@@ -8,7 +8,7 @@ use Rattle.smith_types.specs.declared.entity_type.TableType.{TableType}
 use Rattle.smith_types.specs.declared.entity_type.MemoryType.{MemoryType}
 use Rattle.wasm_smith.specs.Module.{Parts}
 
--- a power of two or one less, or as far below zero
+-- a power of two that 64 bits hold, or 2^64 less such a power, which is its negative of 64 bits; or one less than either
 abbrev pub IsNearPower : ℕ → Type 0
 IsNearPower n = (i : ℕ) × (i < 64) × ((n ≡ 2 ^ i) ⊎ ((n + 1 ≡ 2 ^ i) ⊎ ((n + 2 ^ i ≡ 2 ^ 64) ⊎ (n + 2 ^ i + 1 ≡ 2 ^ 64))))
 

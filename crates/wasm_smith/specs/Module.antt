@@ -136,7 +136,8 @@ pub record AreBodiesValid (m : Parts) : Type 0 where
   pub bodies : All (IsBodyValid (module_features m) (length m.types) m.config.allow_invalid_funcs) m.code
   pub fuel : All (IsFuel m.globals (length (module_imports m).globals)) m.fuel_globals
 
--- a valid module, under the features of its configuration (Validation, Modules)
+-- a valid module, under the features of its configuration, raw bodies aside (Validation, Modules); features, shared and exact
+-- types, and that equal groups are different types, are own rules
 pub record IsValid (m : Parts) : Type 0 where
   pub types : AreTypesValid (module_features m) (module_types m)
   pub imports : All (IsImportsValid (module_features m)) m.imports

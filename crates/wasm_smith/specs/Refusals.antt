@@ -43,7 +43,7 @@ MayLackImports config =
     ⊎ ((config.max_tags < config.min_imports)
     ⊎ ((config.max_funcs < config.min_imports) ⊎ ((config.max_globals < config.min_imports) ⊎ ((config.max_memories < config.min_imports) ⊎ (config.max_tables < config.min_imports)))))
 
--- where nothing asks for an item that may be exported
+-- where no table, no memory and no global is asked for, so that there may be nothing to export
 pub record MayHaveNoExports (config : Config) : Type 0 where
   pub tables : config.min_tables ≡ 0
   pub memories : config.min_memories ≡ 0

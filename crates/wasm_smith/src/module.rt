@@ -92,8 +92,8 @@ impl Module {
 
     /// Draws a module from the bytes. The configuration is sanitised and checked first.
     ///
-    /// It refuses a configuration that fails its check, a minimum that can't be met, and want of memory. Until shapes
-    /// are used, it refuses a configuration with a shape before it draws anything, as one that is left out: the module
+    /// A configuration that fails its check is refused, a minimum that can't be met, and want of memory. Until shapes
+    /// are used, a configuration with a shape is refused before anything is drawn, for the shape that is left out: the module
     /// shape, else the available imports, else the exports.
     pub fn new(alloc: Global, mut config: Config, u: &mut Unstructured<'_>) -> Result<Module, Error>
         ensures exact { IsGiven (sanitized config) u.old result u.new }
@@ -131,6 +131,7 @@ impl Module {
         &self.config
     }
 
+    /// The types, in the order of their indices.
     pub fn types(&self) -> &[SubType]
         ensures { result.now ≡ self.now.types }
     {
@@ -172,6 +173,7 @@ impl Module {
         self.funcs.as_slice()
     }
 
+    /// The type of each table.
     pub fn tables(&self) -> &[TableType]
         ensures { result.now ≡ self.now.tables }
     {
@@ -185,12 +187,14 @@ impl Module {
         self.defined_tables.as_slice()
     }
 
+    /// The type of each memory.
     pub fn memories(&self) -> &[MemoryType]
         ensures { result.now ≡ self.now.memories }
     {
         self.memories.as_slice()
     }
 
+    /// The type of each global.
     pub fn globals(&self) -> &[GlobalType]
         ensures { result.now ≡ self.now.globals }
     {
@@ -204,18 +208,21 @@ impl Module {
         self.defined_globals.as_slice()
     }
 
+    /// How many tags are defined, behind the imported ones.
     pub fn num_defined_tags(&self) -> usize
         ensures { result ≡ self.now.num_defined_tags }
     {
         self.num_defined_tags
     }
 
+    /// How many functions are defined, behind the imported ones.
     pub fn num_defined_funcs(&self) -> usize
         ensures { result ≡ self.now.num_defined_funcs }
     {
         self.num_defined_funcs
     }
 
+    /// How many memories are defined, behind the imported ones.
     pub fn num_defined_memories(&self) -> usize
         ensures { result ≡ self.now.num_defined_memories }
     {
@@ -236,12 +243,14 @@ impl Module {
         self.start
     }
 
+    /// The element segments.
     pub fn elems(&self) -> &[ElementSegment]
         ensures { result.now ≡ self.now.elems }
     {
         self.elems.as_slice()
     }
 
+    /// The data segments.
     pub fn data(&self) -> &[DataSegment]
         ensures { result.now ≡ self.now.segments }
     {

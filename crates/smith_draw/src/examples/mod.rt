@@ -5,6 +5,7 @@ mod composite_types;
 mod const_exprs;
 mod offered;
 mod offered_lists;
+mod offsets;
 mod sizes;
 mod spelled_groups;
 mod value_types;

@@ -7,7 +7,7 @@ use smith_bytes::Error;
 use smith_types::{Code, Instructions, Items};
 use std::alloc::Global;
 
-/// A body for each of so many functions, which only traps.
+/// A body for each of `funcs` functions, which only traps.
 pub(crate) fn code(alloc: Global, funcs: usize) -> Result<Items<Code>, Error>
     ensures exact { IfOk result (λ code. code ≡ replicate funcs trap) }
     ensures valid { IfOk result (λ code. (features : Features) (types : ℕ) (raw : Bool) → All (IsBodyValid features types raw) code) }
