@@ -30,6 +30,7 @@ fn limits()
 fn shared_memories()
     ensures first_of_four { shared_memory_at default_config (0 ∷ []) ≡ (true, []) }
     ensures second_of_four { shared_memory_at default_config (1 ∷ []) ≡ (false, []) }
+    ensures third_of_four { shared_memory_at default_config (2 ∷ []) ≡ (false, []) }
     ensures last_of_four { shared_memory_at default_config (3 ∷ []) ≡ (false, []) }
     ensures past_the_four { shared_memory_at default_config (4 ∷ []) ≡ (true, []) }
     ensures without_threads { shared_memory_at (record default_config { threads_enabled = false }) (0 ∷ []) ≡ (false, 0 ∷ []) }

@@ -27,6 +27,8 @@ fn sharedness()
     ensures must { sharedness_at default_config true (1 ∷ []) ≡ (true, 1 ∷ []) }
     ensures never { sharedness_at default_config false (0 ∷ []) ≡ (false, 0 ∷ []) }
     ensures first_of_four { sharedness_at (record default_config { shared_everything_threads_enabled = true }) false (0 ∷ []) ≡ (true, []) }
+    ensures second_of_four { sharedness_at (record default_config { shared_everything_threads_enabled = true }) false (1 ∷ []) ≡ (false, []) }
+    ensures third_of_four { sharedness_at (record default_config { shared_everything_threads_enabled = true }) false (2 ∷ []) ≡ (false, []) }
     ensures last_of_four { sharedness_at (record default_config { shared_everything_threads_enabled = true }) false (3 ∷ []) ≡ (false, []) }
     ensures past_the_four { sharedness_at (record default_config { shared_everything_threads_enabled = true }) false (4 ∷ []) ≡ (true, []) }
 {}
