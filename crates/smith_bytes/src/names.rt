@@ -12,8 +12,8 @@ use std::alloc::Global;
 use std::collections::HashSet;
 use std::fmt::Write;
 
-/// A text that is not among the names, and is added to them. It has at most `max_size` bytes and
-/// what makes it new.
+/// Draws a text that is not among `names`, and adds it to them: at most `max_size` bytes, and
+/// behind them what makes the text new.
 pub fn unique_string(
     alloc: Global,
     max_size: usize,
@@ -30,8 +30,8 @@ pub fn unique_string(
     unique(names, limited_string(alloc, max_size, u)?)
 }
 
-/// A kebab name that is not among the names, and is added to them. It has at most `max_size`
-/// characters, a letter that lets it end, and what makes it new.
+/// Draws a kebab name that is not among `names`, and adds it to them: at most `max_size`
+/// characters, a letter that lets the name end, and what makes it new.
 pub fn unique_kebab_string(
     alloc: Global,
     max_size: usize,
@@ -49,8 +49,8 @@ pub fn unique_kebab_string(
     unique(names, kebab_string(alloc, max_size, u)?)
 }
 
-/// The address of a page of `https://example.com/`, whose path is a kebab name that is not among
-/// the names, and is added to them.
+/// Draws the address of a page of `https://example.com/`. Its path is a kebab name as in
+/// [`unique_kebab_string`], which is not among `names`, and is added to them.
 pub fn unique_url(
     alloc: Global,
     max_size: usize,

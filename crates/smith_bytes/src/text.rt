@@ -20,7 +20,7 @@ pub fn limited_str<'a>(max_size: usize, u: &mut Unstructured<'a>) -> &'a str
     text
 }
 
-/// A text of at most `max_size` bytes, as an owned string.
+/// Draws a text of at most `max_size` bytes, as an owned string.
 pub fn limited_string(
     alloc: Global,
     max_size: usize,

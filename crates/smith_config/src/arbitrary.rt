@@ -10,8 +10,10 @@ use smith_types::{InstructionKind, InstructionKinds};
 
 impl Config {
     /// Draws a configuration, for many modules of different features: the greatest counts, most
-    /// proposals and some rules are drawn, nothing is asked for at least. It is sanitised, passes
-    /// the check, and takes no memory.
+    /// proposals and some rules are drawn, nothing is asked for at least. The configuration is
+    /// sanitised and passes the check.
+    ///
+    /// Always `Ok`, since no memory is taken: the `Result` is the form of the Rust crate's call.
     pub fn arbitrary(u: &mut Unstructured<'_>) -> Result<Config, Error>
         ensures exact { IsOkAnd result (λ config. config_at u.old ≡ (config, u.new)) }
         ensures passes { IfOk result Passes }

@@ -53,6 +53,8 @@ pub(crate) fn field_type(
 /// Draws a storage type: packed, or a value type. The standard's section Structure, Composite Types.
 ///
 /// `config` is sanitised, and `must_share` is set only where types may be shared. The type refers to types below `limit`.
+///
+/// Nothing is refused, since no memory is taken: the `Result` is the form of the drawing calls.
 pub fn arbitrary_storage_type(
     _alloc: Global,
     config: &Config,
@@ -75,6 +77,8 @@ pub fn arbitrary_storage_type(
 /// Draws a field type, mutable or not. The standard's section Structure, Composite Types.
 ///
 /// `config` is sanitised, and `must_share` is set only where types may be shared. The type refers to types below `limit`.
+///
+/// Nothing is refused, since no memory is taken: the `Result` is the form of the drawing calls.
 pub fn arbitrary_field_type(
     _alloc: Global,
     config: &Config,

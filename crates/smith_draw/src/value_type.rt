@@ -231,6 +231,8 @@ pub(crate) fn val_type(
 /// `must_share` is set. The standard's section Structure, Heap Types.
 ///
 /// `config` is sanitised, and `must_share` is set only where types may be shared.
+///
+/// Nothing is refused, since no memory is taken: the `Result` is the form of the drawing calls.
 pub fn arbitrary_heap_type(
     _alloc: Global,
     config: &Config,
@@ -253,6 +255,8 @@ pub fn arbitrary_heap_type(
 /// Draws a reference type, nullable. The standard's section Structure, Reference Types.
 ///
 /// `config` is sanitised, and `must_share` is set only where types may be shared. The type refers to types below `limit`.
+///
+/// Nothing is refused, since no memory is taken: the `Result` is the form of the drawing calls.
 pub fn arbitrary_ref_type(
     _alloc: Global,
     config: &Config,
@@ -275,6 +279,8 @@ pub fn arbitrary_ref_type(
 /// Draws a value type among those that are enabled. The standard's section Structure, Value Types.
 ///
 /// `config` is sanitised, and `must_share` is set only where types may be shared. The type refers to types below `limit`.
+///
+/// Nothing is refused, since no memory is taken: the `Result` is the form of the drawing calls.
 pub fn arbitrary_valtype(
     _alloc: Global,
     config: &Config,

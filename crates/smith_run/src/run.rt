@@ -32,7 +32,7 @@ pub enum RunFault {
 /// Reads the input to its end, makes a module of it, and writes one line that tells the module or
 /// the refusal. With `drawn` the configuration comes from the input too, else it is the default.
 ///
-/// Nothing was written where the answer is `RunFault::Read`. Neither line takes memory.
+/// Neither `r` nor `w` has failed before. Nothing was written where the answer is `RunFault::Read`. Neither line takes memory.
 pub fn run<R: Source, W: Sink>(
     alloc: Global,
     drawn: bool,

@@ -9,8 +9,8 @@ use crate::type_space::TypeSpace;
 use smith_bytes::Error;
 use std::alloc::Global;
 
-/// The type space of groups, or None where a declared supertype doesn't stand before its subtype or isn't like it: Validation,
-/// Recursive Types.
+/// The type space of `groups`, or None where a declared supertype doesn't stand before its subtype or isn't like it: Validation,
+/// Recursive Types. The groups have fewer than 2^32 - 1 types together.
 pub fn type_space_of(alloc: Global, groups: &[Items<SubType>]) -> Result<Option<TypeSpace>, Error>
     requires few { length (space_of groups.now).types + 1 < 2 ^ 32 }
     ensures found { IfOk result (λ found. MatchOption found (¬ AreFollowing (space_of groups.now).types) (λ space. space ≡ space_of groups.now)) }

@@ -148,7 +148,7 @@ impl<'a, T> IntoIterator for &'a Items<T> {
 }
 
 impl<T: Drop> Items<T> {
-    /// Adds an element at the end.
+    /// Adds `item` at the end.
     pub fn push(&mut self, item: T) -> Result<(), Error>
         ensures ok { OnOk result (self.new ≡ self.old ++ item ∷ []) }
         ensures err { OnErr result (self.new ≡ self.old) }

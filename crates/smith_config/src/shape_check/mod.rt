@@ -31,7 +31,7 @@ use std::alloc::Global;
 use types::are_types_sound;
 
 impl Shape {
-    /// Looks for what keeps this shape from being handed in for the use `which`, with a configuration: the first fault in the
+    /// Looks for what keeps the shape from being handed in for the use `which`, with the configuration `config`: the first fault in the
     /// order of [`ShapeFault`]. Takes time linear in the shape, but for names, which go through a set, and for walks over declared
     /// supertypes.
     pub fn check(&self, alloc: Global, which: Which, config: &Config) -> Result<(), Error>
