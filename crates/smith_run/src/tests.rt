@@ -133,7 +133,10 @@ fn is_told(alloc: Global, drawn: bool, input: &[u8], counts: &str) -> bool {
 fn groups_of_types_are_counted(rt: HostRuntime) {
     let cases = [
         ([1].as_slice(), "types 0 groups 1 imports 0 tags 0 funcs 0 "),
-        ([1, 2].as_slice(), "types 2 groups 1 imports 0 tags 0 funcs 0 "),
+        (
+            [1, 2].as_slice(),
+            "types 2 groups 1 imports 0 tags 0 funcs 0 ",
+        ),
         (
             [1, 1, 0, 0, 0, 0, 1].as_slice(),
             "types 2 groups 2 imports 0 tags 0 funcs 0 ",
