@@ -6,6 +6,7 @@ ghost use Rattle.smith_config.specs.Faults.{Passes};
 ghost use Rattle.smith_config.specs.Features.{features_of};
 ghost use Rattle.smith_config.specs.Sanitized.{IsSanitized};
 
+use crate::type_spaces::{spaces_of, types_from};
 use smith_draw::{arbitrary_const_expr, arbitrary_table_init, globals_for_const_expr};
 use smith_types::{
     AbstractHeapType, ConstInstr, GlobalType, HeapType, Items, RefType, TypeSpace, ValType,
@@ -13,18 +14,6 @@ use smith_types::{
 use std::alloc::Global;
 use std::test::Fail;
 use wasm_smith::{Config, Entities, Error, Spaces, Unstructured, arbitrary_types};
-
-fn spaces_of<'a>(types: &'a TypeSpace) -> Spaces<'a>
-    ensures types { result.types.now ≡ types.now }
-    ensures functions { result.entities.funcs.now ≡ [] }
-    ensures globals { result.entities.globals.now ≡ [] }
-    ensures imported { result.entities.imported_globals ≡ 0 }
-{
-    Spaces {
-        types,
-        entities: Entities::none(),
-    }
-}
 
 // The defaults with that much fuel, and with arrays limited by it or not.
 fn settled(fuel: u32, limited: bool) -> Result<Config, Error>
@@ -41,24 +30,6 @@ fn settled(fuel: u32, limited: bool) -> Result<Config, Error>
         return Err(Error::Config(fault));
     }
     Ok(config)
-}
-
-// The types that bytes give.
-#[tactic(auto, using(smith_types::proofs::Validity::no_types))]
-fn types_from(alloc: Global, config: &Config, input: &[u8]) -> Result<TypeSpace, Error>
-    requires passes { Passes config.now }
-    requires sanitized { IsSanitized config.now }
-    ensures valid { IfOk result (AreTypesValid (features_of config.now)) }
-{
-    let mut types = TypeSpace::new(alloc);
-    arbitrary_types(
-        alloc,
-        config,
-        &mut types,
-        &Entities::none(),
-        &mut Unstructured::new(input),
-    )?;
-    Ok(types)
 }
 
 // An expression of a type, over types alone.

@@ -2,6 +2,7 @@ ghost use Rattle.std.specs.Prelude.{◌≡◌, false};
 ghost use Rattle.smith_config.specs.Sanitized.{IsSanitized};
 
 use crate::function_types::{is_function, takes_and_gives};
+use crate::type_spaces::spaces_of;
 use smith_types::{AbstractHeapType, HeapType, RefType, TypeSpace, ValType};
 use std::alloc::Global;
 use std::test::Fail;
@@ -9,14 +10,6 @@ use wasm_smith::{
     Config, Entities, Error, Spaces, Unstructured, arbitrary_func_type, arbitrary_heap_type,
     arbitrary_rec_group, arbitrary_ref_type, arbitrary_valtype,
 };
-
-// The spaces of a module without entities.
-fn spaces_of<'a>(types: &'a TypeSpace) -> Spaces<'a> {
-    Spaces {
-        types,
-        entities: Entities::none(),
-    }
-}
 
 // The defaults without garbage collection, sanitised, and without exceptions, floats and several results where there are
 // to be fewer.

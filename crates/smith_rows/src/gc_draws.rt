@@ -1,5 +1,6 @@
 ghost use Rattle.smith_config.specs.Sanitized.{IsSanitized};
 
+use crate::type_spaces::spaces_of;
 use smith_types::{
     ArrayType, CompositeInnerType, CompositeType, FieldType, StorageType, StructType, TypeSpace,
 };
@@ -8,13 +9,6 @@ use wasm_smith::{
     Config, Entities, Spaces, Unstructured, arbitrary_composite_type, arbitrary_field_type,
     arbitrary_storage_type, arbitrary_struct_type,
 };
-
-fn spaces_of<'a>(types: &'a TypeSpace) -> Spaces<'a> {
-    Spaces {
-        types,
-        entities: Entities::none(),
-    }
-}
 
 // The defaults, sanitised.
 fn defaults() -> Config

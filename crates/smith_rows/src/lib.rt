@@ -42,6 +42,8 @@ mod subtypes;
 #[cfg(test)]
 mod type_space;
 #[cfg(test)]
+mod type_spaces;
+#[cfg(test)]
 mod unmet_minimums;
 #[cfg(test)]
 mod valid_shapes;

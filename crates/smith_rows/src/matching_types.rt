@@ -1,3 +1,4 @@
+use crate::type_spaces::spaces_of;
 use smith_types::{
     AbstractHeapType, CompositeInnerType, CompositeType, FieldType, FuncType, HeapType, Items,
     RefType, StorageType, StructType, SubType, TypeSpace, ValType,
@@ -11,13 +12,6 @@ use wasm_smith::{
     arbitrary_super_type_of_heap_type, arbitrary_super_type_of_ref_type,
     arbitrary_super_type_of_val_type,
 };
-
-fn spaces_of<'a>(types: &'a TypeSpace) -> Spaces<'a> {
-    Spaces {
-        types,
-        entities: Entities::none(),
-    }
-}
 
 // A struct type without fields.
 fn empty_struct(alloc: Global, supertype: Option<u32>) -> SubType {

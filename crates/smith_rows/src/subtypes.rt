@@ -5,6 +5,7 @@ ghost use Rattle.smith_config.specs.Features.{features_of};
 ghost use Rattle.smith_config.specs.Sanitized.{IsSanitized};
 
 use crate::function_types::is_function;
+use crate::type_spaces::{spaces_of, types_from};
 use smith_types::{FieldType, Items, StorageType, StructType, SubType, TypeSpace, ValType};
 use std::alloc::Global;
 use std::test::Fail;
@@ -12,15 +13,6 @@ use wasm_smith::{
     Config, Entities, Error, Spaces, Unstructured, arbitrary_matching_struct_type,
     arbitrary_sub_type, arbitrary_sub_type_of_super_type, arbitrary_types, clone_rec_group,
 };
-
-fn spaces_of<'a>(types: &'a TypeSpace) -> Spaces<'a>
-    ensures types { result.types.now ≡ types.now }
-{
-    Spaces {
-        types,
-        entities: Entities::none(),
-    }
-}
 
 // The defaults, with garbage collection or without.
 fn settled(gc: bool) -> Result<Config, Error>
@@ -35,24 +27,6 @@ fn settled(gc: bool) -> Result<Config, Error>
         return Err(Error::Config(fault));
     }
     Ok(config)
-}
-
-// The types that bytes give.
-#[tactic(auto, using(smith_types::proofs::Validity::no_types))]
-fn types_from(alloc: Global, config: &Config, input: &[u8]) -> Result<TypeSpace, Error>
-    requires passes { Passes config.now }
-    requires sanitized { IsSanitized config.now }
-    ensures valid { IfOk result (AreTypesValid (features_of config.now)) }
-{
-    let mut types = TypeSpace::new(alloc);
-    arbitrary_types(
-        alloc,
-        config,
-        &mut types,
-        &Entities::none(),
-        &mut Unstructured::new(input),
-    )?;
-    Ok(types)
 }
 
 // One more type behind these, in a group that ends with them.
