@@ -11,7 +11,7 @@ use Rattle.smith_bytes.specs.Draws.{bool_at, range_at}
 use Rattle.smith_bytes.specs.Growth.{goes_at, grow_at}
 use Rattle.smith_bytes.proofs.Grown.{cond_both}
 use Rattle.smith_types.specs.Features.{Features}
-use Rattle.smith_types.specs.Space.{Space}
+use Rattle.smith_types.specs.Space.{Space, IsSound}
 use Rattle.smith_types.specs.OpenTypes.{AreTypesOpen}
 use Rattle.smith_types.specs.ValidTypes.{AreTypesValid, IsGroupValid}
 use Rattle.smith_types.specs.declared.composite_type.SubType.{SubType}
@@ -103,6 +103,10 @@ with_clone_valid features space group valid within single =
     let made = copies_open features (length space.types + length more) space space.types more start (omega arith) (members_stand space.types group) in
     AreTypesOpen-close features (space.types ++ more) space.groups (subst (λ (n : ℕ). AreTypesOpen features n (record { types = space.types ++ more; groups = space.groups })) (sym longer) made)
     (λ off. let one = single off in omega (arith, longer, len, one, whole))
+
+-- the groups of every type space are within its types
+pub sound_within : (space : Space) → IsSound space → AreWithin space
+sound_within space sound = record { consecutive = sound.consecutive; within = sound.within }
 
 pub within_of : (features : Features) (space : Space) → AreTypesValid features space → AreWithin space
 within_of features space valid = record { consecutive = valid.covered.consecutive; within = let whole = valid.covered.whole in omega arith }

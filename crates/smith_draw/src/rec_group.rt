@@ -256,7 +256,7 @@ fn all_types(
 /// Adds a group again, chosen among those that stand, and gives whether it was added: not where it is empty and `allow_empty`
 /// is off, or has more types than there is room for.
 ///
-/// `config` passes its check. `types` are valid, a group stands, and there are fewer types than `config` allows.
+/// `config` passes its check, a group stands, and there are fewer types than `config` allows. Valid types stay valid.
 pub fn clone_rec_group(
     alloc: Global,
     config: &Config,
@@ -266,23 +266,23 @@ pub fn clone_rec_group(
     u: &mut Unstructured<'_>,
 ) -> Result<bool, Error>
     requires passes { Passes config.now }
-    requires valid { AreTypesValid (features_of config.now) types.old }
     requires room { length types.old.types < config.now.max_types }
     requires some { 0 < length types.old.groups }
     ensures exact { IfOk result (λ added. clone_rec_group_at config.now allow_empty types.old u.old ≡ (added, (types.new, u.new))) }
-    ensures valid { OnOk result (AreTypesValid (features_of config.now) types.new) }
+    ensures valid { AreTypesValid (features_of config.now) types.old → OnOk result (AreTypesValid (features_of config.now) types.new) }
     ensures most { OnOk result (length types.new.types ≤ config.now.max_types) }
     ensures kept { IfOk result (λ added. added ≡ false → types.new ≡ types.old) }
     ensures memory { IfErr result (λ e. e ≡ Error.Memory) }
     ensures left { KeepsPieces u.old u.new }
 {
+    let _groups = types.types();
     clone_group(alloc, config, types, allow_empty, u)
 }
 
 /// Adds a group, of at least a type where `allow_empty` is off: without garbage collection of one type, with it a clone one
 /// time of 255. Where the clone may not be added and `allow_empty` is on, nothing is added.
 ///
-/// `config` is sanitised and passes its check. `types` are valid, and there are fewer types than `config` allows.
+/// `config` is sanitised and passes its check, and there are fewer types than `config` allows. Valid types stay valid.
 pub fn arbitrary_rec_group(
     alloc: Global,
     config: &Config,
@@ -293,20 +293,20 @@ pub fn arbitrary_rec_group(
 ) -> Result<(), Error>
     requires passes { Passes config.now }
     requires sanitized { IsSanitized config.now }
-    requires valid { AreTypesValid (features_of config.now) types.old }
     requires room { length types.old.types < config.now.max_types }
     ensures draws { DrawsInto (rec_group_at config.now allow_empty types.old u.old) types.new result u.old u.new }
-    ensures valid { OnOk result (AreTypesValid (features_of config.now) types.new) }
+    ensures valid { AreTypesValid (features_of config.now) types.old → OnOk result (AreTypesValid (features_of config.now) types.new) }
     ensures most { OnOk result (length types.new.types ≤ config.now.max_types) }
     ensures some { OnOk result (allow_empty ≡ false → length types.old.types < length types.new.types) }
     ensures reach { allow_empty ≡ true → All IsRoot types.old.types → OnOk result (Takes (SpellsAdded config.now types.old) u.old types.new u.new) }
 {
+    let _groups = types.types();
     rec_group(alloc, config, types, allow_empty, u)
 }
 
 /// Adds groups until at least `min_types` types stand, and then more, up to `max_types` types.
 ///
-/// `config` is sanitised and passes its check, and `types` are valid.
+/// `config` is sanitised and passes its check. Valid types stay valid.
 pub fn arbitrary_types(
     alloc: Global,
     config: &Config,
@@ -316,11 +316,10 @@ pub fn arbitrary_types(
 ) -> Result<(), Error>
     requires passes { Passes config.now }
     requires sanitized { IsSanitized config.now }
-    requires valid { AreTypesValid (features_of config.now) types.old }
     ensures draws { DrawsInto (types_at config.now types.old u.old) types.new result u.old u.new }
-    ensures valid { OnOk result (AreTypesValid (features_of config.now) types.new) }
-    ensures most { OnOk result (length types.old.types ≤ config.now.max_types → length types.new.types ≤ config.now.max_types) }
-    ensures least { OnOk result (config.now.min_types ≤ length types.new.types) }
+    ensures valid { AreTypesValid (features_of config.now) types.old → OnOk result (AreTypesValid (features_of config.now) types.new) }
+    ensures most { AreTypesValid (features_of config.now) types.old → length types.old.types ≤ config.now.max_types → OnOk result (length types.new.types ≤ config.now.max_types) }
+    ensures least { AreTypesValid (features_of config.now) types.old → OnOk result (config.now.min_types ≤ length types.new.types) }
     ensures floats { config.now.allow_floats ≡ false → All HasNoFloat types.old.types → OnOk result (All HasNoFloat types.new.types) }
     ensures reach { config.now.min_types ≡ 0 → types.old ≡ space_of [] → OnOk result (Takes (SpellsSpace config.now) u.old types.new u.new) }
 {

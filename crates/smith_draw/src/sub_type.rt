@@ -23,7 +23,7 @@ ghost use Rattle.smith_draw.specs.Spelling.{IsRoot, SpellsSubType};
 use crate::choice::choose;
 use crate::composite_type::composite_type;
 use crate::matching_composite::matching_composite_type;
-use crate::spaces::Spaces;
+use crate::spaces::{Spaces, orderly};
 use smith_bytes::{Error, Unstructured};
 use smith_config::Config;
 use smith_types::{SubType, TypeSpace};
@@ -141,7 +141,7 @@ pub(crate) fn sub_type(
 /// Draws a subtype: below a type that may have subtypes, or without a supertype; without garbage collection a function type
 /// that is final and has none. The standard's section Structure, Recursive Types.
 ///
-/// `config` is sanitised. The types that stand are valid so far, in a group that ends at `limit`.
+/// `config` is sanitised. Over types that are valid so far, in a group that ends at `limit`, the subtype is valid.
 pub fn arbitrary_sub_type(
     alloc: Global,
     config: &Config,
@@ -150,9 +150,8 @@ pub fn arbitrary_sub_type(
     u: &mut Unstructured<'_>,
 ) -> Result<SubType, Error>
     requires sanitized { IsSanitized config.now }
-    requires valid { AreTypesOpen (features_of config.now) limit spaces.now.types.now }
     ensures draws { Draws (sub_type_at config.now spaces.now.types.now.types limit u.old) result u.old u.new }
-    ensures valid { IfOk result (IsTypeValid (features_of config.now) spaces.now.types.now.types limit) }
+    ensures valid { AreTypesOpen (features_of config.now) limit spaces.now.types.now → IfOk result (IsTypeValid (features_of config.now) spaces.now.types.now.types limit) }
     ensures follows { IfOk result (HasSuperType spaces.now.types.now.types) }
     ensures reach { All IsRoot spaces.now.types.now.types → IfOk result (λ drawn. Takes (SpellsSuch (λ t. IsInnerInRange spaces.now.types.now.types t.composite_type.inner) (SpellsSubType config.now spaces.now.types.now.types limit)) u.old drawn u.new) }
 {
@@ -161,8 +160,8 @@ pub fn arbitrary_sub_type(
 
 /// Draws a subtype below a type that may have subtypes. The standard's section Structure, Recursive Types.
 ///
-/// `config` is sanitised, with garbage collection on. The types that stand are valid so far, in a group that ends at `limit`,
-/// and some type may have subtypes: it is not final, and its depth is below 60.
+/// `config` is sanitised, with garbage collection on, and some type may have subtypes: it is not final, and its depth is
+/// below 60. Over types that are valid so far, in a group that ends at `limit`, the subtype is valid.
 pub fn arbitrary_sub_type_of_super_type(
     alloc: Global,
     config: &Config,
@@ -172,13 +171,13 @@ pub fn arbitrary_sub_type_of_super_type(
 ) -> Result<SubType, Error>
     requires sanitized { IsSanitized config.now }
     requires gc { IsTrue config.now.gc_enabled }
-    requires valid { AreTypesOpen (features_of config.now) limit spaces.now.types.now }
     requires some { SomeMayHaveSubtypes spaces.now.types.now.types }
     ensures draws { Draws (sub_type_of_at config.now spaces.now.types.now.types limit (supertypes spaces.now.types.now.types) u.old) result u.old u.new }
     ensures below { IfOk result (λ drawn. IsSome drawn.supertype) }
-    ensures valid { IfOk result (IsTypeValid (features_of config.now) spaces.now.types.now.types limit) }
+    ensures valid { AreTypesOpen (features_of config.now) limit spaces.now.types.now → IfOk result (IsTypeValid (features_of config.now) spaces.now.types.now.types limit) }
     ensures follows { IfOk result (HasSuperType spaces.now.types.now.types) }
 {
+    orderly(spaces);
     let indices = supertypes(spaces.types);
     sub_type_of(alloc, config, spaces.types, limit, indices, u)
 }

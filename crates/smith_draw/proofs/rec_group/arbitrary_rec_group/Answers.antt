@@ -4,7 +4,7 @@ use Rattle.smith_types.specs.ValidTypes.{AreTypesValid}
 use Rattle.smith_config.specs.Features.{features_of}
 use Rattle.smith_draw.proofs.ValueTypeLaws.{drawn_is}
 use Rattle.smith_draw.proofs.GroupSizes.{HasMore, rec_group_more}
-use Rattle.smith_draw.proofs.RecGroupLaws.{within_of, rec_group_valid}
+use Rattle.smith_draw.proofs.RecGroupLaws.{sound_within, rec_group_valid}
 use Rattle.smith_draw.proofs.Taken.{rec_group_taken}
 use Rattle.smith_draw.proofs.rec_group.arbitrary_rec_group.Goals as goal
 
@@ -12,19 +12,19 @@ pub rec_group-requires-clause-few : goal.rec_group-requires-clause-few
 rec_group-requires-clause-few c = c.requires.passes.few Types
 
 pub returns-clause-valid : goal.returns-clause-valid
-returns-clause-valid c =
+returns-clause-valid c = λ valid.
     on_ok_weaker c.rec_group.result
-    (drawn_is (AreTypesValid (features_of c.args.config.now)) _ (rec_group_valid _ _ _ _ c.requires.sanitized c.requires.valid)) c.rec_group.ensures.exact
+    (drawn_is (AreTypesValid (features_of c.args.config.now)) _ (rec_group_valid _ _ _ _ c.requires.sanitized valid)) c.rec_group.ensures.exact
 
 pub returns-clause-most : goal.returns-clause-most
 returns-clause-most c =
     on_ok_weaker c.rec_group.result
-    (λ drawn. (drawn_is (HasMore c.args.config.now c.args.allow_empty c.args.types.now) _ (rec_group_more _ _ _ _ (within_of _ _ c.requires.valid) c.requires.room) drawn).most) c.rec_group.ensures.exact
+    (λ drawn. (drawn_is (HasMore c.args.config.now c.args.allow_empty c.args.types.now) _ (rec_group_more _ _ _ _ (sound_within _ c.types-groups.ensures.sound) c.requires.room) drawn).most) c.rec_group.ensures.exact
 
 pub returns-clause-some : goal.returns-clause-some
 returns-clause-some c =
     on_ok_weaker c.rec_group.result
-    (λ drawn. (drawn_is (HasMore c.args.config.now c.args.allow_empty c.args.types.now) _ (rec_group_more _ _ _ _ (within_of _ _ c.requires.valid) c.requires.room) drawn).some) c.rec_group.ensures.exact
+    (λ drawn. (drawn_is (HasMore c.args.config.now c.args.allow_empty c.args.types.now) _ (rec_group_more _ _ _ _ (sound_within _ c.types-groups.ensures.sound) c.requires.room) drawn).some) c.rec_group.ensures.exact
 
 pub returns-clause-reach : goal.returns-clause-reach
 returns-clause-reach c = λ may roots. on_ok_weaker c.rec_group.result (rec_group_taken _ _ _ _ _ _ c.requires.sanitized may roots) c.rec_group.ensures.exact

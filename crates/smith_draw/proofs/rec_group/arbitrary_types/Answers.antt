@@ -19,19 +19,19 @@ pub all_types-requires-clause-few : goal.all_types-requires-clause-few
 all_types-requires-clause-few c = c.requires.passes.few Types
 
 pub returns-clause-valid : goal.returns-clause-valid
-returns-clause-valid c =
+returns-clause-valid c = λ valid.
     on_ok_weaker c.all_types.result
-    (drawn_is (AreTypesValid (features_of c.args.config.now)) _ (types_valid _ _ _ c.requires.sanitized c.requires.valid)) c.all_types.ensures.exact
+    (drawn_is (AreTypesValid (features_of c.args.config.now)) _ (types_valid _ _ _ c.requires.sanitized valid)) c.all_types.ensures.exact
 
 pub returns-clause-most : goal.returns-clause-most
-returns-clause-most c =
+returns-clause-most c = λ valid few.
     on_ok_weaker c.all_types.result
-    (λ drawn few. drawn_is (λ (space : Space). length space.types ≤ c.args.config.now.max_types) _ (types_most _ _ _ c.requires.sanitized (c.requires.passes.ordered Types tt) c.requires.valid few) drawn) c.all_types.ensures.exact
+    (drawn_is (λ (space : Space). length space.types ≤ c.args.config.now.max_types) _ (types_most _ _ _ c.requires.sanitized (c.requires.passes.ordered Types tt) valid few)) c.all_types.ensures.exact
 
 pub returns-clause-least : goal.returns-clause-least
-returns-clause-least c =
+returns-clause-least c = λ valid.
     on_ok_weaker c.all_types.result
-    (drawn_is (λ (space : Space). c.args.config.now.min_types ≤ length space.types) _ (types_least _ _ _ c.requires.sanitized (c.requires.passes.ordered Types tt) c.requires.valid)) c.all_types.ensures.exact
+    (drawn_is (λ (space : Space). c.args.config.now.min_types ≤ length space.types) _ (types_least _ _ _ c.requires.sanitized (c.requires.passes.ordered Types tt) valid)) c.all_types.ensures.exact
 
 pub returns-clause-reach : goal.returns-clause-reach
 returns-clause-reach c = λ least empty. on_ok_weaker c.all_types.result (types_taken _ _ _ _ _ c.requires.sanitized least empty) c.all_types.ensures.exact

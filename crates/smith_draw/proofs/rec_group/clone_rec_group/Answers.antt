@@ -6,7 +6,7 @@ use Rattle.smith_types.specs.Space.{Space}
 use Rattle.smith_types.specs.ValidTypes.{AreTypesValid}
 use Rattle.smith_config.specs.Features.{features_of}
 use Rattle.smith_draw.proofs.GroupSizes.{clone_rec_group_most}
-use Rattle.smith_draw.proofs.RecGroupLaws.{within_of, clone_rec_group_valid}
+use Rattle.smith_draw.proofs.RecGroupLaws.{sound_within, clone_rec_group_valid}
 use Rattle.smith_draw.proofs.rec_group.clone_rec_group.Goals as goal
 
 -- what holds of the drawn space holds of the space that stands where there is an answer
@@ -18,9 +18,9 @@ pub clone_group-requires-clause-few : goal.clone_group-requires-clause-few
 clone_group-requires-clause-few c = c.requires.passes.few Types
 
 pub returns-clause-valid : goal.returns-clause-valid
-returns-clause-valid c = drawn_space (AreTypesValid (features_of c.args.config.now)) c.clone_group.result _ _ _ (clone_rec_group_valid _ _ _ _ c.requires.valid c.requires.some) c.clone_group.ensures.exact
+returns-clause-valid c = λ valid. drawn_space (AreTypesValid (features_of c.args.config.now)) c.clone_group.result _ _ _ (clone_rec_group_valid _ _ _ _ valid c.requires.some) c.clone_group.ensures.exact
 
 pub returns-clause-most : goal.returns-clause-most
 returns-clause-most c =
     drawn_space (λ (space : Space). length space.types ≤ c.args.config.now.max_types) c.clone_group.result _ _ _
-    (clone_rec_group_most _ _ _ _ (within_of _ _ c.requires.valid) c.requires.some c.requires.room) c.clone_group.ensures.exact
+    (clone_rec_group_most _ _ _ _ (sound_within _ c.types-groups.ensures.sound) c.requires.some c.requires.room) c.clone_group.ensures.exact

@@ -10,16 +10,16 @@ use Rattle.smith_draw.proofs.SubTypeLaws.{sub_type_of_valid, sub_type_of_follows
 use Rattle.smith_draw.proofs.sub_type.arbitrary_sub_type_of_super_type.Goals as goal
 
 pub sub_type_of-requires : goal.sub_type_of-requires
-sub_type_of-requires c = rw c.supertypes-indices.ensures (some_listed _ c.requires.valid.orderly c.requires.some)
+sub_type_of-requires c = rw c.supertypes-indices.ensures (some_listed _ c.orderly.ensures c.requires.some)
 
 pub returns : goal.returns
 returns c =
     let types = c.args.spaces.now.types.now.types in
-    let some = some_listed types c.requires.valid.orderly c.requires.some in
+    let some = some_listed types c.orderly.ensures c.requires.some in
     let draws = rw c.supertypes-indices.ensures at c.sub_type_of.ensures in
     record {
       draws = draws;
       below = IfOk-weaker c.sub_type_of.result _ _ (λ _ e. drawn_is (λ (t : SubType). IsSome t.supertype) _ (sub_type_of_some _ _ _ _ some) e) draws.exact;
-      valid = IfOk-weaker c.sub_type_of.result _ _ (λ _ e. drawn_is (IsTypeValid (features_of c.args.config.now) types c.args.limit) _ (sub_type_of_valid _ _ _ _ c.requires.sanitized c.requires.gc c.requires.valid some) e) draws.exact;
+      valid = λ valid. IfOk-weaker c.sub_type_of.result _ _ (λ _ e. drawn_is (IsTypeValid (features_of c.args.config.now) types c.args.limit) _ (sub_type_of_valid _ _ _ _ c.requires.sanitized c.requires.gc valid some) e) draws.exact;
       follows = IfOk-weaker c.sub_type_of.result _ _ (λ _ e. drawn_is (HasSuperType types) _ (sub_type_of_follows _ _ _ _ some) e) draws.exact;
     }
