@@ -125,7 +125,7 @@ impl<'a> Unstructured<'a> {
     }
 
     /// Draws a length that the bytes left can hold, told by the bytes at their end.
-    #[tactic(auto, using(crate::proofs::Pieces::keeps_take), unfolding(crate::specs::Draws::len_at))]
+    #[tactic(auto, using(crate::proofs::PieceLemmas::keeps_take), unfolding(crate::specs::Draws::len_at))]
     pub fn arbitrary_len(&mut self) -> usize
         ensures exact { len_at self.old ≡ (result, self.new) }
         ensures within { result ≤ length self.new }
@@ -138,7 +138,7 @@ impl<'a> Unstructured<'a> {
     }
 
     /// The first `n` bytes, or all that are left where there are fewer.
-    #[tactic(auto, using(crate::proofs::Pieces::keeps_drop))]
+    #[tactic(auto, using(crate::proofs::PieceLemmas::keeps_drop))]
     pub(crate) fn up_to(&mut self, n: usize) -> &'a [u8]
         ensures taken { result.now ≡ take n self.old }
         ensures rest { self.new ≡ drop n self.old }
@@ -150,7 +150,7 @@ impl<'a> Unstructured<'a> {
     }
 
     /// A whole number of one byte.
-    #[tactic(auto, using(crate::proofs::Pieces::keeps_drop), unfolding(crate::specs::Draws::whole_at))]
+    #[tactic(auto, using(crate::proofs::PieceLemmas::keeps_drop), unfolding(crate::specs::Draws::whole_at))]
     pub(crate) fn byte(&mut self) -> u8
         ensures exact { whole_at 1 self.old ≡ (result, self.new) }
         ensures left { KeepsPieces self.old self.new }
@@ -165,7 +165,7 @@ impl<'a> Unstructured<'a> {
     }
 
     /// A whole number of `n` bytes.
-    #[tactic(auto, using(crate::proofs::Endian::front_fits), unfolding(crate::specs::Draws::whole_at))]
+    #[tactic(auto, using(crate::proofs::EndianLemmas::front_fits), unfolding(crate::specs::Draws::whole_at))]
     pub(crate) fn whole(&mut self, n: usize) -> u64
         requires { n ≤ 8 }
         ensures exact { whole_at n self.old ≡ (result, self.new) }

@@ -1,10 +1,10 @@
 pub mod FaultLemmas
-pub mod DrawnConfig
-pub mod Chains
+pub mod DrawnConfigLemmas
+pub mod ChainExamples
 pub mod ShapeExamples
-pub mod OneOfEachKind
+pub mod OneOfEachKindExamples
 pub mod ShapeFaultExamples
-pub mod ShapeLaws
-pub mod Depths
-pub mod NamesInSets
-pub mod FirstFaults
+pub mod ShapeLemmas
+pub mod DepthLemmas
+pub mod NamesInSetLemmas
+pub mod FirstFaultLemmas

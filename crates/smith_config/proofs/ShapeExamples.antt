@@ -14,9 +14,9 @@ use Rattle.smith_types.specs.declared.entity_type.EntityType.TheVariants as enti
 use Rattle.smith_types.specs.declared.entity_type.ExportKind.{ExportKind}
 use Rattle.smith_types.specs.declared.entity_type.ExportKind.TheVariants as kind
 use Rattle.smith_types.specs.ExampleTypes.{final_type, plain_func, range}
-use Rattle.smith_types.proofs.Validity.{AreTypesValid-single, no_types}
+use Rattle.smith_types.proofs.ValidityLemmas.{AreTypesValid-single, no_types}
 use Rattle.smith_config.specs.Shapes.{IsShallow}
-use Rattle.smith_config.proofs.Chains.{shallow_if_few}
+use Rattle.smith_config.proofs.ChainExamples.{shallow_if_few}
 
 -- the type of the function that is passed on
 abbrev one_type : List SubType

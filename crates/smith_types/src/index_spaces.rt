@@ -95,7 +95,7 @@ fn push_names(
 }
 
 /// The index spaces that imports begin, one by one and in order: Validation, Modules.
-#[tactic(auto, using(crate::proofs::ImportedSpaces::imported_is_grown))]
+#[tactic(auto, using(crate::proofs::ImportedSpaceLemmas::imported_is_grown))]
 pub fn imported_spaces_of(alloc: Global, imports: &[Imports]) -> Result<IndexSpaces, Error>
     ensures ok { IfOk result (λ spaces. spaces_in spaces ≡ imported_spaces (flattened imports.now)) }
     ensures memory { IfErr result (λ e. e ≡ Error.Memory) }

@@ -7,7 +7,7 @@ use Rattle.wasm_smith.specs.Family.{IsMemberType, IsInFamily}
 use Rattle.wasm_smith.specs.SpellAnswers.{IsSpellable}
 use Rattle.wasm_smith.specs.ExampleModules.{plain_function}
 use Rattle.wasm_smith.specs.ExampleMembers.{final, one_function_type}
-use Rattle.wasm_smith.proofs.Places.{each_place}
+use Rattle.wasm_smith.proofs.PlaceLemmas.{each_place}
 
 function_member : IsMemberType default_config 0 (final plain_function)
 function_member = search rules

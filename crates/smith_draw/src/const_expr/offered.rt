@@ -50,7 +50,7 @@ pub(super) fn past_offers(
     past_references(scope, wanted, fuel, place)
 }
 
-#[tactic(auto, using(crate::proofs::ConstFoundLaws::past_append, crate::proofs::ConstFoundLaws::past_front), unfolding(crate::specs::ConstOffers::past))]
+#[tactic(auto, using(crate::proofs::ConstFoundLemmas::past_append, crate::proofs::ConstFoundLemmas::past_front), unfolding(crate::specs::ConstOffers::past))]
 fn past_globals(scope: &Scope<'_>, wanted: ValType, place: usize) -> Result<usize, Choice>
     requires scope { IsScope (context_of scope.now) }
     requires upper { IsValInRange (context_of scope.now).types wanted }
@@ -67,7 +67,7 @@ fn past_globals(scope: &Scope<'_>, wanted: ValType, place: usize) -> Result<usiz
     Ok(rest)
 }
 
-#[tactic(auto, using(crate::proofs::ConstFoundLaws::past_append, crate::proofs::ConstFoundLaws::past_front), unfolding(crate::specs::ConstOffers::past))]
+#[tactic(auto, using(crate::proofs::ConstFoundLemmas::past_append, crate::proofs::ConstFoundLemmas::past_front), unfolding(crate::specs::ConstOffers::past))]
 fn past_constants(scope: &Scope<'_>, wanted: ValType, place: usize) -> Result<usize, Choice>
     ensures { result ≡ past (constant_offers (context_of scope.now) wanted) place }
 {
@@ -76,7 +76,7 @@ fn past_constants(scope: &Scope<'_>, wanted: ValType, place: usize) -> Result<us
     past_if(extended, Choice::Extended, place)
 }
 
-#[tactic(auto, using(crate::proofs::ConstFoundLaws::past_append, crate::proofs::ConstFoundLaws::past_front), unfolding(crate::specs::ConstOffers::past))]
+#[tactic(auto, using(crate::proofs::ConstFoundLemmas::past_append, crate::proofs::ConstFoundLemmas::past_front), unfolding(crate::specs::ConstOffers::past))]
 fn past_references(
     scope: &Scope<'_>,
     wanted: ValType,
@@ -99,7 +99,7 @@ fn past_references(
     }
 }
 
-#[tactic(auto, using(crate::proofs::ConstFoundLaws::past_append, crate::proofs::ConstFoundLaws::past_front), unfolding(crate::specs::ConstOffers::past))]
+#[tactic(auto, using(crate::proofs::ConstFoundLemmas::past_append, crate::proofs::ConstFoundLemmas::past_front), unfolding(crate::specs::ConstOffers::past))]
 fn past_functions(scope: &Scope<'_>, wanted: ValType, place: usize) -> Result<usize, Choice>
     requires scope { IsScope (context_of scope.now) }
     requires upper { IsValInRange (context_of scope.now).types wanted }
@@ -116,7 +116,7 @@ fn past_functions(scope: &Scope<'_>, wanted: ValType, place: usize) -> Result<us
     Ok(rest)
 }
 
-#[tactic(auto, using(crate::proofs::ConstFoundLaws::past_append, crate::proofs::ConstFoundLaws::past_front), unfolding(crate::specs::ConstOffers::past))]
+#[tactic(auto, using(crate::proofs::ConstFoundLemmas::past_append, crate::proofs::ConstFoundLemmas::past_front), unfolding(crate::specs::ConstOffers::past))]
 fn past_created(
     scope: &Scope<'_>,
     wanted: RefType,
@@ -132,7 +132,7 @@ fn past_created(
     past_others(scope, wanted, fuel, place)
 }
 
-#[tactic(auto, using(crate::proofs::ConstFoundLaws::past_append, crate::proofs::ConstFoundLaws::past_front), unfolding(crate::specs::ConstOffers::past))]
+#[tactic(auto, using(crate::proofs::ConstFoundLemmas::past_append, crate::proofs::ConstFoundLemmas::past_front), unfolding(crate::specs::ConstOffers::past))]
 fn past_structs(
     scope: &Scope<'_>,
     wanted: ValType,
@@ -158,7 +158,7 @@ fn past_structs(
     Ok(rest)
 }
 
-#[tactic(auto, using(crate::proofs::ConstFoundLaws::past_append, crate::proofs::ConstFoundLaws::past_front), unfolding(crate::specs::ConstOffers::past))]
+#[tactic(auto, using(crate::proofs::ConstFoundLemmas::past_append, crate::proofs::ConstFoundLemmas::past_front), unfolding(crate::specs::ConstOffers::past))]
 fn past_struct(
     scope: &Scope<'_>,
     wanted: ValType,
@@ -182,7 +182,7 @@ fn past_struct(
     }
 }
 
-#[tactic(auto, using(crate::proofs::ConstFoundLaws::past_append, crate::proofs::ConstFoundLaws::past_front), unfolding(crate::specs::ConstOffers::past))]
+#[tactic(auto, using(crate::proofs::ConstFoundLemmas::past_append, crate::proofs::ConstFoundLemmas::past_front), unfolding(crate::specs::ConstOffers::past))]
 fn past_struct_ways(
     fuel: u32,
     index: u32,
@@ -195,7 +195,7 @@ fn past_struct_ways(
     past_if(are_defaultable(fields), Choice::StructDefault(index), place)
 }
 
-#[tactic(auto, using(crate::proofs::ConstFoundLaws::past_append, crate::proofs::ConstFoundLaws::past_front), unfolding(crate::specs::ConstOffers::past))]
+#[tactic(auto, using(crate::proofs::ConstFoundLemmas::past_append, crate::proofs::ConstFoundLemmas::past_front), unfolding(crate::specs::ConstOffers::past))]
 fn past_arrays(scope: &Scope<'_>, wanted: ValType, fuel: u32, place: usize) -> Result<usize, Choice>
     requires scope { IsScope (context_of scope.now) }
     requires upper { IsValInRange (context_of scope.now).types wanted }
@@ -216,7 +216,7 @@ fn past_arrays(scope: &Scope<'_>, wanted: ValType, fuel: u32, place: usize) -> R
     Ok(rest)
 }
 
-#[tactic(auto, using(crate::proofs::ConstFoundLaws::past_append, crate::proofs::ConstFoundLaws::past_front), unfolding(crate::specs::ConstOffers::past))]
+#[tactic(auto, using(crate::proofs::ConstFoundLemmas::past_append, crate::proofs::ConstFoundLemmas::past_front), unfolding(crate::specs::ConstOffers::past))]
 fn past_array(
     scope: &Scope<'_>,
     wanted: ValType,
@@ -240,7 +240,7 @@ fn past_array(
     }
 }
 
-#[tactic(auto, using(crate::proofs::ConstFoundLaws::past_append, crate::proofs::ConstFoundLaws::past_front), unfolding(crate::specs::ConstOffers::past))]
+#[tactic(auto, using(crate::proofs::ConstFoundLemmas::past_append, crate::proofs::ConstFoundLemmas::past_front), unfolding(crate::specs::ConstOffers::past))]
 fn past_array_ways(index: u32, element: FieldType, place: usize) -> Result<usize, Choice>
     ensures { result ≡ past (array_ways index element) place }
 {
@@ -253,7 +253,7 @@ fn past_array_ways(index: u32, element: FieldType, place: usize) -> Result<usize
     )
 }
 
-#[tactic(auto, using(crate::proofs::ConstFoundLaws::past_append, crate::proofs::ConstFoundLaws::past_front), unfolding(crate::specs::ConstOffers::past))]
+#[tactic(auto, using(crate::proofs::ConstFoundLemmas::past_append, crate::proofs::ConstFoundLemmas::past_front), unfolding(crate::specs::ConstOffers::past))]
 fn past_others(scope: &Scope<'_>, wanted: RefType, fuel: u32, place: usize) -> Result<usize, Choice>
     requires upper { IsValInRange (context_of scope.now).types (Ref wanted) }
     ensures { result ≡ past (other_offers (context_of scope.now) wanted fuel) place }

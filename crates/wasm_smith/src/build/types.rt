@@ -15,7 +15,7 @@ use smith_types::TypeSpace;
 use std::alloc::Global;
 
 /// The types, drawn from an empty space on.
-#[tactic(auto, using(smith_types::proofs::Validity::no_types))]
+#[tactic(auto, using(smith_types::proofs::ValidityLemmas::no_types))]
 pub(crate) fn types(
     alloc: Global,
     config: &Config,

@@ -1,5 +1,5 @@
 use Rattle.std.proofs.Common.{◌<◌, arith}
-use Rattle.smith_bytes.proofs.Endian.{digit_more, digit_fits, big_endian_more}
+use Rattle.smith_bytes.proofs.EndianLemmas.{digit_more, digit_fits, big_endian_more}
 use Rattle.smith_bytes.proofs.digits.read_big_endian.Goals as goal
 
 pub overflow_mul-number : goal.overflow_mul-number

@@ -1,5 +1,5 @@
 use Rattle.std.proofs.Common.{arith}
-use Rattle.smith_bytes.proofs.Endian.{big_endian_halves}
+use Rattle.smith_bytes.proofs.EndianLemmas.{big_endian_halves}
 use Rattle.smith_bytes.proofs.digits.read_wide_big_endian.Goals as goal
 
 pub returns : goal.returns

@@ -1,4 +1,4 @@
-use Rattle.smith_bytes.proofs.Spelled.{bool_read, number_read, refusal_read}
+use Rattle.smith_bytes.proofs.SpelledLemmas.{bool_read, number_read, refusal_read}
 use Rattle.smith_bytes.proofs.laws.draws_read_what_is_spelled.Goals as goal
 
 pub returns : goal.returns

@@ -1,4 +1,4 @@
-use Rattle.smith_bytes.proofs.Spelled.{listed_read, each_read}
+use Rattle.smith_bytes.proofs.SpelledLemmas.{listed_read, each_read}
 use Rattle.smith_bytes.specs.ReadLaws.{Spelled}
 use Rattle.smith_bytes.proofs.laws.lists_read_what_is_spelled.Goals as goal
 

@@ -1,7 +1,7 @@
 use Rattle.std.proofs.Common.{◌<◌, ◌≤◌, length, string_bytes, arith, length-append, ap, ◌∙◌, sym}
 use Rattle.std.specs.Fmt.{decimal}
 use Rattle.std.proofs.lemmas.Fmt.{decimal_nonempty}
-use Rattle.smith_bytes.proofs.MadeNew.{longest, present_short, making_more}
+use Rattle.smith_bytes.proofs.MadeNewLemmas.{longest, present_short, making_more}
 use Rattle.smith_bytes.proofs.names.made_new.Goals as goal
 
 pub loop-name-smaller : goal.loop-name-smaller

@@ -1,5 +1,5 @@
 use Rattle.std.proofs.Common.{◌+◌, ◌-◌, length, string_bytes}
-use Rattle.smith_bytes.proofs.MadeNew.{IsMaking, longest}
+use Rattle.smith_bytes.proofs.MadeNewLemmas.{IsMaking, longest}
 use Rattle.smith_bytes.proofs.names.made_new.Given as goal
 
 abbrev pub invariant-loop-name : goal.invariant-loop-name

@@ -1,7 +1,7 @@
 use Rattle.std.proofs.Common.{◌≡◌, string_bytes, true, false}
 use Rattle.std.specs.HashSet.{contains_text}
 use Rattle.std.proofs.lemmas.Map.Text.{hash_set_updates_text}
-use Rattle.smith_bytes.proofs.MadeNew.{added_size}
+use Rattle.smith_bytes.proofs.MadeNewLemmas.{added_size}
 use Rattle.smith_bytes.proofs.names.unique.Goals as goal
 
 pub returns-clause-added : goal.returns-clause-added

@@ -1,6 +1,6 @@
 use Rattle.std.proofs.Common.{string_bytes}
 use Rattle.std.proofs.lemmas.Result.{IfOk-weaker}
-use Rattle.smith_bytes.proofs.KebabShape.{kebab_new}
+use Rattle.smith_bytes.proofs.KebabShapeLemmas.{kebab_new}
 use Rattle.smith_bytes.proofs.names.unique_kebab_string.Goals as goal
 
 pub returns-clause-shape : goal.returns-clause-shape

@@ -1,8 +1,8 @@
 use Rattle.std.proofs.Common.{◌≡◌, ◌++◌, ℕ, List, string_bytes, true, ap, ◌∙◌}
 use Rattle.std.proofs.lemmas.Map.Text.{hash_set_updates_text}
 use Rattle.smith_bytes.specs.Names.{url_front, url_path}
-use Rattle.smith_bytes.proofs.KebabShape.{kebab_new}
-use Rattle.smith_bytes.proofs.MadeNew.{added_size}
+use Rattle.smith_bytes.proofs.KebabShapeLemmas.{kebab_new}
+use Rattle.smith_bytes.proofs.MadeNewLemmas.{added_size}
 use Rattle.smith_bytes.proofs.names.unique_url.Goals as goal
 
 path_is : (url shown path : List ℕ) → url ≡ url_front ++ shown → shown ≡ path → url_path url ≡ path

@@ -1,4 +1,4 @@
-use Rattle.smith_config.proofs.FirstFaults.{passed, failed, first_too_long, follows_not}
+use Rattle.smith_config.proofs.FirstFaultLemmas.{passed, failed, first_too_long, follows_not}
 use Rattle.smith_config.proofs.shape_check.first_fault.Goals as goal
 
 pub returns-then-not-is_short-clause-found : goal.returns-then-not-is_short-clause-found

@@ -4,7 +4,7 @@ use Rattle.smith_types.specs.IndexSpaces.{spaces_in}
 use Rattle.smith_config.specs.Features.{features_of}
 use Rattle.smith_config.specs.Shapes.{ArePlain, IsNothingLeftOut}
 use Rattle.smith_config.specs.ShapeFaults.{AreTypesSound, AreIndicesSound, AreLimitsSound, AreFeaturesEnough}
-use Rattle.smith_config.proofs.FirstFaults.{passed, failed, test_moved, first_bad_type, first_index, first_limit, first_feature, first_duplicate, first_not_plain, first_left_out, valid_at_last}
+use Rattle.smith_config.proofs.FirstFaultLemmas.{passed, failed, test_moved, first_bad_type, first_index, first_limit, first_feature, first_duplicate, first_not_plain, first_left_out, valid_at_last}
 use Rattle.smith_config.proofs.shape_check.later_fault.Goals as goal
 
 pub returns-then-not-are_types_sound-clause-found : goal.returns-then-not-are_types_sound-clause-found

@@ -1,9 +1,9 @@
 use Rattle.std.proofs.lemmas.Result.{IfOk-weaker}
 use Rattle.smith_types.specs.declared.composite_type.CompositeType.{CompositeType}
 use Rattle.smith_types.specs.ValidTypes.{values_of}
-use Rattle.smith_draw.proofs.ValueTypeLaws.{drawn_is, values_valid, values_shared}
-use Rattle.smith_draw.proofs.CompositeTypeLaws.{IsCompositeDrawn, composite_type_drawn}
-use Rattle.smith_draw.proofs.Taken.{composite_type_taken}
+use Rattle.smith_draw.proofs.ValueTypeLemmas.{drawn_is, values_valid, values_shared}
+use Rattle.smith_draw.proofs.CompositeTypeLemmas.{IsCompositeDrawn, composite_type_drawn}
+use Rattle.smith_draw.proofs.TakenLemmas.{composite_type_taken}
 use Rattle.smith_draw.proofs.composite_type.arbitrary_composite_type.Goals as goal
 
 pub returns : goal.returns

@@ -2,9 +2,9 @@ use Rattle.std.proofs.lemmas.Result.{IfOk-weaker}
 use Rattle.smith_types.specs.declared.composite_type.CompositeInnerType.TheVariants.{Func}
 use Rattle.smith_types.specs.declared.composite_type.FuncType.{FuncType}
 use Rattle.smith_types.specs.ValidTypes.{values_of}
-use Rattle.smith_draw.proofs.ValueTypeLaws.{drawn_is, values_shared}
-use Rattle.smith_draw.proofs.CompositeTypeLaws.{IsFuncTypeDrawn, func_type_drawn, func_type_valid, func_drawn}
-use Rattle.smith_draw.proofs.Taken.{func_type_taken}
+use Rattle.smith_draw.proofs.ValueTypeLemmas.{drawn_is, values_shared}
+use Rattle.smith_draw.proofs.CompositeTypeLemmas.{IsFuncTypeDrawn, func_type_drawn, func_type_valid, func_drawn}
+use Rattle.smith_draw.proofs.TakenLemmas.{func_type_taken}
 use Rattle.smith_draw.proofs.composite_type.arbitrary_func_type.Goals as goal
 
 pub returns : goal.returns

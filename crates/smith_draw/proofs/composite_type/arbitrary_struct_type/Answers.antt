@@ -4,10 +4,10 @@ use Rattle.smith_types.specs.declared.composite_type.CompositeInnerType.TheVaria
 use Rattle.smith_types.specs.declared.composite_type.StructType.{StructType}
 use Rattle.smith_types.specs.Matching.{IsFieldInRange}
 use Rattle.smith_types.specs.ValidTypes.{values_of}
-use Rattle.smith_draw.proofs.ValueTypeLaws.{drawn_is, values_valid, values_shared}
-use Rattle.smith_draw.proofs.FieldTypeLaws.{IsFieldDrawn}
-use Rattle.smith_draw.proofs.CompositeTypeLaws.{IsStructTypeDrawn, struct_type_drawn, field_values_drawn}
-use Rattle.smith_draw.proofs.Taken.{struct_type_taken}
+use Rattle.smith_draw.proofs.ValueTypeLemmas.{drawn_is, values_valid, values_shared}
+use Rattle.smith_draw.proofs.FieldTypeLemmas.{IsFieldDrawn}
+use Rattle.smith_draw.proofs.CompositeTypeLemmas.{IsStructTypeDrawn, struct_type_drawn, field_values_drawn}
+use Rattle.smith_draw.proofs.TakenLemmas.{struct_type_taken}
 use Rattle.smith_draw.proofs.composite_type.arbitrary_struct_type.Goals as goal
 
 pub returns : goal.returns

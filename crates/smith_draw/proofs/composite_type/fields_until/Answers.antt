@@ -1,6 +1,6 @@
 use Rattle.std.proofs.Common.{rules}
-use Rattle.smith_bytes.proofs.Growing.{grow_full}
-use Rattle.smith_draw.proofs.Until.{until_go}
+use Rattle.smith_bytes.proofs.GrowingLoop.{grow_full}
+use Rattle.smith_draw.proofs.UntilLoop.{until_go}
 use Rattle.smith_draw.proofs.composite_type.fields_until.Goals as goal
 
 pub loop-made-preserved : goal.loop-made-preserved

@@ -1,4 +1,4 @@
-use Rattle.smith_bytes.proofs.Growing.{IsGrowing}
+use Rattle.smith_bytes.proofs.GrowingLoop.{IsGrowing}
 use Rattle.smith_draw.specs.FieldTypes.{field_type_at, fields_until_at}
 use Rattle.smith_draw.proofs.composite_type.fields_until.Given as goal
 

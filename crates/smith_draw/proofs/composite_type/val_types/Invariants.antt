@@ -1,4 +1,4 @@
-use Rattle.smith_bytes.proofs.Growing.{IsGrowing}
+use Rattle.smith_bytes.proofs.GrowingLoop.{IsGrowing}
 use Rattle.smith_draw.specs.ValueTypes.{val_type_at}
 use Rattle.smith_draw.specs.CompositeTypes.{val_types_at}
 use Rattle.smith_draw.proofs.composite_type.val_types.Given as goal

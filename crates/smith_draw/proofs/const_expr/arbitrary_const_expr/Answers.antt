@@ -1,8 +1,8 @@
 use Rattle.std.proofs.Common.{refl}
 use Rattle.std.proofs.lemmas.Result.{IfOk-weaker}
 use Rattle.smith_draw.specs.ConstScopes.{seen_by}
-use Rattle.smith_draw.proofs.SpelledConstExprs.{constant_taken}
-use Rattle.smith_draw.proofs.ConstScopeLaws.{scope_of}
+use Rattle.smith_draw.proofs.SpelledConstExprLemmas.{constant_taken}
+use Rattle.smith_draw.proofs.ConstScopeLemmas.{scope_of}
 use Rattle.smith_draw.proofs.const_expr.arbitrary_const_expr.Goals as goal
 
 pub whole_expression-requires-clause-scope : goal.whole_expression-requires-clause-scope

@@ -1,5 +1,5 @@
 use Rattle.smith_draw.specs.ConstScopes.{seen_by}
-use Rattle.smith_draw.proofs.ReadableLaws.{listed_readable}
+use Rattle.smith_draw.proofs.ReadableLemmas.{listed_readable}
 use Rattle.smith_draw.proofs.const_expr.globals_for_const_expr.Goals as goal
 
 pub returns-clause-readable : goal.returns-clause-readable

@@ -1,5 +1,5 @@
 use Rattle.std.proofs.Common.{◌∙◌}
-use Rattle.smith_draw.proofs.MemoryLaws.{drawn_pages_fit, drawn_pages_kept, limits_fit, limits_kept, either_left, either_right}
+use Rattle.smith_draw.proofs.MemoryLemmas.{drawn_pages_fit, drawn_pages_kept, limits_fit, limits_kept, either_left, either_right}
 use Rattle.smith_draw.proofs.entity_type.memory_type.Goals as goal
 
 pub returns-clause-valid : goal.returns-clause-valid

@@ -1,8 +1,8 @@
 use Rattle.smith_types.specs.ValidTypes.{values_of_storage}
 use Rattle.smith_types.specs.declared.composite_type.FieldType.{FieldType}
-use Rattle.smith_draw.proofs.ValueTypeLaws.{drawn_is, values_valid, values_shared}
-use Rattle.smith_draw.proofs.FieldTypeLaws.{IsFieldDrawn, field_type_drawn}
-use Rattle.smith_draw.proofs.Taken.{field_type_taken}
+use Rattle.smith_draw.proofs.ValueTypeLemmas.{drawn_is, values_valid, values_shared}
+use Rattle.smith_draw.proofs.FieldTypeLemmas.{IsFieldDrawn, field_type_drawn}
+use Rattle.smith_draw.proofs.TakenLemmas.{field_type_taken}
 use Rattle.smith_draw.proofs.field_type.arbitrary_field_type.Goals as goal
 
 pub returns : goal.returns

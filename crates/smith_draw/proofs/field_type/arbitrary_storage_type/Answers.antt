@@ -1,8 +1,8 @@
 use Rattle.smith_types.specs.ValidTypes.{values_of_storage}
 use Rattle.smith_types.specs.declared.composite_type.StorageType.{StorageType}
-use Rattle.smith_draw.proofs.ValueTypeLaws.{drawn_is, values_valid, values_shared}
-use Rattle.smith_draw.proofs.FieldTypeLaws.{IsStorageDrawn, storage_type_drawn}
-use Rattle.smith_draw.proofs.Taken.{storage_type_taken}
+use Rattle.smith_draw.proofs.ValueTypeLemmas.{drawn_is, values_valid, values_shared}
+use Rattle.smith_draw.proofs.FieldTypeLemmas.{IsStorageDrawn, storage_type_drawn}
+use Rattle.smith_draw.proofs.TakenLemmas.{storage_type_taken}
 use Rattle.smith_draw.proofs.field_type.arbitrary_storage_type.Goals as goal
 
 pub returns : goal.returns

@@ -4,11 +4,11 @@ use Rattle.smith_types.specs.declared.composite_type.FieldType.{FieldType}
 use Rattle.smith_types.specs.Matching.{IsFieldMatch}
 use Rattle.smith_config.specs.Features.{features_of}
 use Rattle.smith_draw.specs.Kept.{StaysValid, IsFieldValid, IsStorageShareable}
-use Rattle.smith_draw.proofs.SharedLaws.{storage_shareable}
-use Rattle.smith_draw.proofs.MatchingLaws.{matching_field_match, matching_field_valid}
-use Rattle.smith_draw.proofs.StandingLaws.{storage_stands}
+use Rattle.smith_draw.proofs.SharedLemmas.{storage_shareable}
+use Rattle.smith_draw.proofs.MatchingLemmas.{matching_field_match, matching_field_valid}
+use Rattle.smith_draw.proofs.StandingLemmas.{storage_stands}
 use Rattle.smith_types.specs.Matching.{IsFieldInRange}
-use Rattle.smith_draw.proofs.ValueTypeLaws.{drawn_is}
+use Rattle.smith_draw.proofs.ValueTypeLemmas.{drawn_is}
 use Rattle.smith_draw.proofs.matching.arbitrary_matching_field_type.Goals as goal
 
 pub returns-clause-below : goal.returns-clause-below

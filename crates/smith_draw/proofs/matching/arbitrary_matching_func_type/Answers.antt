@@ -5,11 +5,11 @@ use Rattle.smith_types.specs.Matching.{IsFuncMatch}
 use Rattle.smith_types.specs.ValidTypes.{IsFuncTypeValid}
 use Rattle.smith_config.specs.Features.{features_of}
 use Rattle.smith_draw.specs.Kept.{StaysValid, IsFuncShareable}
-use Rattle.smith_draw.proofs.SharedLaws.{func_shareable}
-use Rattle.smith_draw.proofs.MatchingLaws.{matching_func_match, matching_func_valid}
-use Rattle.smith_draw.proofs.StandingLaws.{func_stands}
+use Rattle.smith_draw.proofs.SharedLemmas.{func_shareable}
+use Rattle.smith_draw.proofs.MatchingLemmas.{matching_func_match, matching_func_valid}
+use Rattle.smith_draw.proofs.StandingLemmas.{func_stands}
 use Rattle.smith_types.specs.Matching.{IsFuncInRange}
-use Rattle.smith_draw.proofs.ValueTypeLaws.{drawn_is}
+use Rattle.smith_draw.proofs.ValueTypeLemmas.{drawn_is}
 use Rattle.smith_draw.proofs.matching.arbitrary_matching_func_type.Goals as goal
 
 pub returns-clause-below : goal.returns-clause-below

@@ -5,12 +5,12 @@ use Rattle.smith_types.specs.Subtyping.{IsBelow}
 use Rattle.smith_types.specs.ValidTypes.{IsHeapTypeValid, IsHeapTypeShared}
 use Rattle.smith_config.specs.Features.{features_of}
 use Rattle.smith_draw.specs.Kept.{StaysValid}
-use Rattle.smith_draw.proofs.SharedLaws.{below_shared}
-use Rattle.smith_draw.proofs.HeapTypeLaws.{matching_heap_below, matching_heap_valid}
-use Rattle.smith_draw.proofs.Chosen.{matching_item}
-use Rattle.smith_draw.proofs.StandingLaws.{below_stands}
+use Rattle.smith_draw.proofs.SharedLemmas.{below_shared}
+use Rattle.smith_draw.proofs.HeapTypeLemmas.{matching_heap_below, matching_heap_valid}
+use Rattle.smith_draw.proofs.ChosenLemmas.{matching_item}
+use Rattle.smith_draw.proofs.StandingLemmas.{below_stands}
 use Rattle.smith_types.specs.Subtyping.{IsInRange}
-use Rattle.smith_draw.proofs.ValueTypeLaws.{drawn_is}
+use Rattle.smith_draw.proofs.ValueTypeLemmas.{drawn_is}
 use Rattle.smith_draw.proofs.matching.arbitrary_matching_heap_type.Goals as goal
 
 pub returns-clause-below : goal.returns-clause-below

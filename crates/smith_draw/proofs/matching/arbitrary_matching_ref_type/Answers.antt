@@ -5,11 +5,11 @@ use Rattle.smith_types.specs.Subtyping.{IsRefBelow}
 use Rattle.smith_types.specs.ValidTypes.{IsRefTypeValid, IsHeapTypeShared}
 use Rattle.smith_config.specs.Features.{features_of}
 use Rattle.smith_draw.specs.Kept.{StaysValid}
-use Rattle.smith_draw.proofs.SharedLaws.{below_shared}
-use Rattle.smith_draw.proofs.MatchingLaws.{matching_ref_nullable, matching_ref_below, matching_ref_valid}
-use Rattle.smith_draw.proofs.StandingLaws.{below_stands}
+use Rattle.smith_draw.proofs.SharedLemmas.{below_shared}
+use Rattle.smith_draw.proofs.MatchingLemmas.{matching_ref_nullable, matching_ref_below, matching_ref_valid}
+use Rattle.smith_draw.proofs.StandingLemmas.{below_stands}
 use Rattle.smith_types.specs.Subtyping.{IsInRange}
-use Rattle.smith_draw.proofs.ValueTypeLaws.{drawn_is}
+use Rattle.smith_draw.proofs.ValueTypeLemmas.{drawn_is}
 use Rattle.smith_draw.proofs.matching.arbitrary_matching_ref_type.Goals as goal
 
 pub returns-clause-below : goal.returns-clause-below

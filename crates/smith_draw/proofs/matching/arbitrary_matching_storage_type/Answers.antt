@@ -4,11 +4,11 @@ use Rattle.smith_types.specs.declared.composite_type.StorageType.{StorageType}
 use Rattle.smith_types.specs.Matching.{IsStorageMatch}
 use Rattle.smith_config.specs.Features.{features_of}
 use Rattle.smith_draw.specs.Kept.{StaysValid, IsStorageValid, IsStorageShareable}
-use Rattle.smith_draw.proofs.SharedLaws.{storage_shareable}
-use Rattle.smith_draw.proofs.MatchingLaws.{matching_storage_match, matching_storage_valid}
-use Rattle.smith_draw.proofs.StandingLaws.{storage_stands}
+use Rattle.smith_draw.proofs.SharedLemmas.{storage_shareable}
+use Rattle.smith_draw.proofs.MatchingLemmas.{matching_storage_match, matching_storage_valid}
+use Rattle.smith_draw.proofs.StandingLemmas.{storage_stands}
 use Rattle.smith_types.specs.Matching.{IsStorageInRange}
-use Rattle.smith_draw.proofs.ValueTypeLaws.{drawn_is}
+use Rattle.smith_draw.proofs.ValueTypeLemmas.{drawn_is}
 use Rattle.smith_draw.proofs.matching.arbitrary_matching_storage_type.Goals as goal
 
 pub returns-clause-below : goal.returns-clause-below

@@ -5,11 +5,11 @@ use Rattle.smith_types.specs.Subtyping.{IsValBelow}
 use Rattle.smith_types.specs.ValidTypes.{IsValTypeValid, IsShareable}
 use Rattle.smith_config.specs.Features.{features_of}
 use Rattle.smith_draw.specs.Kept.{StaysValid}
-use Rattle.smith_draw.proofs.SharedLaws.{val_shareable}
-use Rattle.smith_draw.proofs.MatchingLaws.{matching_val_below, matching_val_valid}
-use Rattle.smith_draw.proofs.StandingLaws.{val_stands}
+use Rattle.smith_draw.proofs.SharedLemmas.{val_shareable}
+use Rattle.smith_draw.proofs.MatchingLemmas.{matching_val_below, matching_val_valid}
+use Rattle.smith_draw.proofs.StandingLemmas.{val_stands}
 use Rattle.smith_types.specs.Subtyping.{IsValInRange}
-use Rattle.smith_draw.proofs.ValueTypeLaws.{drawn_is}
+use Rattle.smith_draw.proofs.ValueTypeLemmas.{drawn_is}
 use Rattle.smith_draw.proofs.matching.arbitrary_matching_val_type.Goals as goal
 
 pub returns-clause-below : goal.returns-clause-below

@@ -1,6 +1,6 @@
 use Rattle.std.proofs.Common.{rules}
 use Rattle.smith_draw.specs.MatchingTypes.{matched_fields_at}
-use Rattle.smith_draw.proofs.Each.{each_more, each_all}
+use Rattle.smith_draw.proofs.EachLoop.{each_more, each_all}
 use Rattle.smith_draw.proofs.matching.matched_fields.Goals as goal
 
 pub loop-field-preserved : goal.loop-field-preserved

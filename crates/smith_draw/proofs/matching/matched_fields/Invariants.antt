@@ -1,5 +1,5 @@
 use Rattle.smith_draw.specs.MatchingTypes.{matching_field_type_at}
-use Rattle.smith_draw.proofs.Each.{IsDrawing}
+use Rattle.smith_draw.proofs.EachLoop.{IsDrawing}
 use Rattle.smith_draw.proofs.matching.matched_fields.Given as goal
 
 abbrev pub invariant-loop-field : goal.invariant-loop-field

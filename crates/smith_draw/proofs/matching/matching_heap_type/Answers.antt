@@ -1,5 +1,5 @@
 use Rattle.std.proofs.Common.{◌∙◌, rules}
-use Rattle.smith_draw.proofs.Chosen.{matching_without_gc, matching_with_gc}
+use Rattle.smith_draw.proofs.ChosenLemmas.{matching_without_gc, matching_with_gc}
 use Rattle.smith_draw.proofs.matching.matching_heap_type.Goals as goal
 
 pub returns-then-not-config : goal.returns-then-not-config

@@ -1,8 +1,8 @@
 use Rattle.std.proofs.lemmas.Result.{IfOk-weaker}
 use Rattle.smith_types.specs.declared.composite_type.StructType.{StructType}
 use Rattle.smith_types.specs.declared.composite_type.CompositeInnerType.TheVariants.{Struct}
-use Rattle.smith_draw.proofs.ValueTypeLaws.{drawn_is}
-use Rattle.smith_draw.proofs.MatchingCompositeLaws.{IsInnerMatching, matching_struct}
+use Rattle.smith_draw.proofs.ValueTypeLemmas.{drawn_is}
+use Rattle.smith_draw.proofs.MatchingCompositeLemmas.{IsInnerMatching, matching_struct}
 use Rattle.smith_draw.proofs.matching_composite.arbitrary_matching_struct_type.Goals as goal
 
 pub returns : goal.returns

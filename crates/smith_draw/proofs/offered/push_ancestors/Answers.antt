@@ -1,5 +1,5 @@
 use Rattle.std.proofs.Common.{sym, ◌∙◌}
-use Rattle.smith_draw.proofs.Ancestors.{supertype_before, walk_up, walk_end}
+use Rattle.smith_draw.proofs.AncestorLemmas.{supertype_before, walk_up, walk_end}
 use Rattle.smith_draw.proofs.offered.push_ancestors.Goals as goal
 
 pub loop-supertype-preserved : goal.loop-supertype-preserved

@@ -2,7 +2,7 @@ use Rattle.std.proofs.Common.{◌≡◌, ◌-◌, get_or, length, take, drop, sy
 use Rattle.std.proofs.lemmas.List.{length-take}
 use Rattle.smith_types.specs.Space.{Space}
 use Rattle.smith_types.specs.declared.composite_type.SubType.{SubType}
-use Rattle.smith_draw.proofs.Copies.{copied, copy_follows}
+use Rattle.smith_draw.proofs.CopiesLoop.{copied, copy_follows}
 use Rattle.smith_draw.proofs.rec_group.add_copies.Goals as goal
 
 pub add_type-requires : goal.add_type-requires

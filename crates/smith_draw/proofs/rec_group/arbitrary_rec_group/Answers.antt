@@ -2,10 +2,10 @@ use Rattle.std.proofs.lemmas.Result.{on_ok_weaker}
 use Rattle.smith_bytes.specs.declared.error.Count.TheVariants.{Types}
 use Rattle.smith_types.specs.ValidTypes.{AreTypesValid}
 use Rattle.smith_config.specs.Features.{features_of}
-use Rattle.smith_draw.proofs.ValueTypeLaws.{drawn_is}
-use Rattle.smith_draw.proofs.GroupSizes.{HasMore, rec_group_more}
-use Rattle.smith_draw.proofs.RecGroupLaws.{sound_within, rec_group_valid}
-use Rattle.smith_draw.proofs.Taken.{rec_group_taken}
+use Rattle.smith_draw.proofs.ValueTypeLemmas.{drawn_is}
+use Rattle.smith_draw.proofs.GroupSizeLemmas.{HasMore, rec_group_more}
+use Rattle.smith_draw.proofs.RecGroupLemmas.{sound_within, rec_group_valid}
+use Rattle.smith_draw.proofs.TakenLemmas.{rec_group_taken}
 use Rattle.smith_draw.proofs.rec_group.arbitrary_rec_group.Goals as goal
 
 pub rec_group-requires-clause-few : goal.rec_group-requires-clause-few

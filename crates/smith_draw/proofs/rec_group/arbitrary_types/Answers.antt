@@ -6,10 +6,10 @@ use Rattle.smith_types.specs.Floats.{HasNoFloat}
 use Rattle.smith_types.specs.Space.{Space}
 use Rattle.smith_types.specs.ValidTypes.{AreTypesValid}
 use Rattle.smith_config.specs.Features.{features_of}
-use Rattle.smith_draw.proofs.ValueTypeLaws.{drawn_is}
-use Rattle.smith_draw.proofs.RecGroupLaws.{types_valid, types_most, types_least}
-use Rattle.smith_draw.proofs.FloatLaws.{types_no_float}
-use Rattle.smith_draw.proofs.Taken.{types_taken}
+use Rattle.smith_draw.proofs.ValueTypeLemmas.{drawn_is}
+use Rattle.smith_draw.proofs.RecGroupLemmas.{types_valid, types_most, types_least}
+use Rattle.smith_draw.proofs.FloatLemmas.{types_no_float}
+use Rattle.smith_draw.proofs.TakenLemmas.{types_taken}
 use Rattle.smith_draw.proofs.rec_group.arbitrary_types.Goals as goal
 
 pub all_types-requires-clause-ordered : goal.all_types-requires-clause-ordered

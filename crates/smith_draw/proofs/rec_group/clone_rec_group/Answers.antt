@@ -5,8 +5,8 @@ use Rattle.smith_bytes.specs.declared.error.Count.TheVariants.{Types}
 use Rattle.smith_types.specs.Space.{Space}
 use Rattle.smith_types.specs.ValidTypes.{AreTypesValid}
 use Rattle.smith_config.specs.Features.{features_of}
-use Rattle.smith_draw.proofs.GroupSizes.{clone_rec_group_most}
-use Rattle.smith_draw.proofs.RecGroupLaws.{sound_within, clone_rec_group_valid}
+use Rattle.smith_draw.proofs.GroupSizeLemmas.{clone_rec_group_most}
+use Rattle.smith_draw.proofs.RecGroupLemmas.{sound_within, clone_rec_group_valid}
 use Rattle.smith_draw.proofs.rec_group.clone_rec_group.Goals as goal
 
 -- what holds of the drawn space holds of the space that stands where there is an answer

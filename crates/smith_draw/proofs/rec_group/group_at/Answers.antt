@@ -1,4 +1,4 @@
-use Rattle.smith_draw.proofs.Copies.{group_within}
+use Rattle.smith_draw.proofs.CopiesLoop.{group_within}
 use Rattle.smith_draw.proofs.rec_group.group_at.Goals as goal
 
 pub returns-clause-ordered : goal.returns-clause-ordered

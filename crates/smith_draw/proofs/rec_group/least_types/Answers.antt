@@ -1,5 +1,5 @@
 use Rattle.std.proofs.Common.{◌<◌, length, refl, arith, rules}
-use Rattle.smith_draw.proofs.Groups.{group_adds, least_go, least_full}
+use Rattle.smith_draw.proofs.GroupsLoop.{group_adds, least_go, least_full}
 use Rattle.smith_draw.proofs.rec_group.least_types.Goals as goal
 
 pub loop-types-init : goal.loop-types-init

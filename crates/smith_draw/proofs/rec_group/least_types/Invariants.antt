@@ -1,6 +1,6 @@
 use Rattle.std.proofs.Common.{◌-◌, length}
 use Rattle.smith_draw.specs.RecGroups.{least_types_at}
-use Rattle.smith_draw.proofs.Groups.{IsReaching}
+use Rattle.smith_draw.proofs.GroupsLoop.{IsReaching}
 use Rattle.smith_draw.proofs.rec_group.least_types.Given as goal
 
 abbrev pub invariant-loop-types : goal.invariant-loop-types

@@ -1,5 +1,5 @@
 use Rattle.std.proofs.Common.{◌+◌, Bool, length, refl, ap, ◌∙◌, arith, rules}
-use Rattle.smith_draw.proofs.Groups.{bool_takes, piece_short, more_go, more_stop, more_full}
+use Rattle.smith_draw.proofs.GroupsLoop.{bool_takes, piece_short, more_go, more_stop, more_full}
 use Rattle.smith_draw.proofs.rec_group.more_types.Goals as goal
 
 pub loop-types-init : goal.loop-types-init

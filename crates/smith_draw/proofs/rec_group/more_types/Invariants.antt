@@ -1,6 +1,6 @@
 use Rattle.std.proofs.Common.{◌+◌, length}
 use Rattle.smith_draw.specs.RecGroups.{more_types_at}
-use Rattle.smith_draw.proofs.Groups.{IsAdding}
+use Rattle.smith_draw.proofs.GroupsLoop.{IsAdding}
 use Rattle.smith_draw.proofs.rec_group.more_types.Given as goal
 
 abbrev pub invariant-loop-types : goal.invariant-loop-types

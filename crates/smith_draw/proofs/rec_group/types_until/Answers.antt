@@ -1,10 +1,10 @@
 use Rattle.std.proofs.Common.{ap, ◌∙◌, arith, rules}
-use Rattle.smith_bytes.proofs.Growing.{grow_full}
+use Rattle.smith_bytes.proofs.GrowingLoop.{grow_full}
 use Rattle.smith_types.specs.Space.{Space}
 use Rattle.smith_draw.specs.SubTypes.{HasSuperType}
-use Rattle.smith_draw.proofs.Until.{until_go}
-use Rattle.smith_draw.proofs.ValueTypeLaws.{drawn_is}
-use Rattle.smith_draw.proofs.SubTypeLaws.{sub_type_follows}
+use Rattle.smith_draw.proofs.UntilLoop.{until_go}
+use Rattle.smith_draw.proofs.ValueTypeLemmas.{drawn_is}
+use Rattle.smith_draw.proofs.SubTypeLemmas.{sub_type_follows}
 use Rattle.smith_draw.proofs.rec_group.types_until.Goals as goal
 
 pub add_type-requires : goal.add_type-requires

@@ -1,5 +1,5 @@
 use Rattle.std.proofs.Common.{◌≡◌}
-use Rattle.smith_bytes.proofs.Growing.{IsGrowing}
+use Rattle.smith_bytes.proofs.GrowingLoop.{IsGrowing}
 use Rattle.smith_draw.specs.SubTypes.{sub_type_at}
 use Rattle.smith_draw.specs.RecGroups.{types_until_at}
 use Rattle.smith_draw.proofs.rec_group.types_until.Given as goal

@@ -2,9 +2,9 @@ use Rattle.std.proofs.lemmas.Result.{IfOk-weaker}
 use Rattle.smith_types.specs.ValidTypes.{IsTypeValid}
 use Rattle.smith_config.specs.Features.{features_of}
 use Rattle.smith_draw.specs.SubTypes.{HasSuperType}
-use Rattle.smith_draw.proofs.ValueTypeLaws.{drawn_is}
-use Rattle.smith_draw.proofs.SubTypeLaws.{sub_type_valid, sub_type_follows}
-use Rattle.smith_draw.proofs.Taken.{sub_type_taken}
+use Rattle.smith_draw.proofs.ValueTypeLemmas.{drawn_is}
+use Rattle.smith_draw.proofs.SubTypeLemmas.{sub_type_valid, sub_type_follows}
+use Rattle.smith_draw.proofs.TakenLemmas.{sub_type_taken}
 use Rattle.smith_draw.proofs.sub_type.arbitrary_sub_type.Goals as goal
 
 pub returns-clause-valid : goal.returns-clause-valid

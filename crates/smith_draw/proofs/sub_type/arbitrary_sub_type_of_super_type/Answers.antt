@@ -4,9 +4,9 @@ use Rattle.smith_types.specs.ValidTypes.{IsTypeValid}
 use Rattle.smith_types.specs.declared.composite_type.SubType.{SubType}
 use Rattle.smith_config.specs.Features.{features_of}
 use Rattle.smith_draw.specs.SubTypes.{HasSuperType}
-use Rattle.smith_draw.proofs.ValueTypeLaws.{drawn_is}
-use Rattle.smith_draw.proofs.Supertypes.{some_listed}
-use Rattle.smith_draw.proofs.SubTypeLaws.{sub_type_of_valid, sub_type_of_follows, sub_type_of_some}
+use Rattle.smith_draw.proofs.ValueTypeLemmas.{drawn_is}
+use Rattle.smith_draw.proofs.SupertypeLemmas.{some_listed}
+use Rattle.smith_draw.proofs.SubTypeLemmas.{sub_type_of_valid, sub_type_of_follows, sub_type_of_some}
 use Rattle.smith_draw.proofs.sub_type.arbitrary_sub_type_of_super_type.Goals as goal
 
 pub sub_type_of-requires : goal.sub_type_of-requires

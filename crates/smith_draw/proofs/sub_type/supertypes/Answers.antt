@@ -1,4 +1,4 @@
-use Rattle.smith_draw.proofs.Supertypes.{extensible_are}
+use Rattle.smith_draw.proofs.SupertypeLemmas.{extensible_are}
 use Rattle.smith_draw.proofs.sub_type.supertypes.Goals as goal
 
 pub returns : goal.returns

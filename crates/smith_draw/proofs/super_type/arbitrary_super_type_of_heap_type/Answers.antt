@@ -5,12 +5,12 @@ use Rattle.smith_types.specs.Subtyping.{IsBelow}
 use Rattle.smith_types.specs.ValidTypes.{IsHeapTypeValid, IsHeapTypeShared}
 use Rattle.smith_config.specs.Features.{features_of}
 use Rattle.smith_draw.specs.Kept.{StaysValid}
-use Rattle.smith_draw.proofs.SharedLaws.{above_shared}
-use Rattle.smith_draw.proofs.HeapTypeLaws.{super_heap_above, super_heap_valid}
-use Rattle.smith_draw.proofs.Chosen.{super_item}
-use Rattle.smith_draw.proofs.StandingLaws.{above_stands}
+use Rattle.smith_draw.proofs.SharedLemmas.{above_shared}
+use Rattle.smith_draw.proofs.HeapTypeLemmas.{super_heap_above, super_heap_valid}
+use Rattle.smith_draw.proofs.ChosenLemmas.{super_item}
+use Rattle.smith_draw.proofs.StandingLemmas.{above_stands}
 use Rattle.smith_types.specs.Subtyping.{IsInRange}
-use Rattle.smith_draw.proofs.ValueTypeLaws.{drawn_is}
+use Rattle.smith_draw.proofs.ValueTypeLemmas.{drawn_is}
 use Rattle.smith_draw.proofs.super_type.arbitrary_super_type_of_heap_type.Goals as goal
 
 pub returns-clause-above : goal.returns-clause-above

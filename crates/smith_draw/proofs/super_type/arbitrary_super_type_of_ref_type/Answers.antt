@@ -5,11 +5,11 @@ use Rattle.smith_types.specs.Subtyping.{IsRefBelow}
 use Rattle.smith_types.specs.ValidTypes.{IsRefTypeValid, IsHeapTypeShared}
 use Rattle.smith_config.specs.Features.{features_of}
 use Rattle.smith_draw.specs.Kept.{StaysValid}
-use Rattle.smith_draw.proofs.SharedLaws.{above_shared}
-use Rattle.smith_draw.proofs.MatchingLaws.{super_ref_nullable, super_ref_above, super_ref_valid}
-use Rattle.smith_draw.proofs.StandingLaws.{above_stands}
+use Rattle.smith_draw.proofs.SharedLemmas.{above_shared}
+use Rattle.smith_draw.proofs.MatchingLemmas.{super_ref_nullable, super_ref_above, super_ref_valid}
+use Rattle.smith_draw.proofs.StandingLemmas.{above_stands}
 use Rattle.smith_types.specs.Subtyping.{IsInRange}
-use Rattle.smith_draw.proofs.ValueTypeLaws.{drawn_is}
+use Rattle.smith_draw.proofs.ValueTypeLemmas.{drawn_is}
 use Rattle.smith_draw.proofs.super_type.arbitrary_super_type_of_ref_type.Goals as goal
 
 pub returns-clause-above : goal.returns-clause-above

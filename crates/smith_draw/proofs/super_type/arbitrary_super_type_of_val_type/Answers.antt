@@ -5,11 +5,11 @@ use Rattle.smith_types.specs.Subtyping.{IsValBelow}
 use Rattle.smith_types.specs.ValidTypes.{IsValTypeValid, IsShareable}
 use Rattle.smith_config.specs.Features.{features_of}
 use Rattle.smith_draw.specs.Kept.{StaysValid}
-use Rattle.smith_draw.proofs.SharedLaws.{val_shareable_above}
-use Rattle.smith_draw.proofs.MatchingLaws.{super_val_above, super_val_valid}
-use Rattle.smith_draw.proofs.StandingLaws.{val_above_stands}
+use Rattle.smith_draw.proofs.SharedLemmas.{val_shareable_above}
+use Rattle.smith_draw.proofs.MatchingLemmas.{super_val_above, super_val_valid}
+use Rattle.smith_draw.proofs.StandingLemmas.{val_above_stands}
 use Rattle.smith_types.specs.Subtyping.{IsValInRange}
-use Rattle.smith_draw.proofs.ValueTypeLaws.{drawn_is}
+use Rattle.smith_draw.proofs.ValueTypeLemmas.{drawn_is}
 use Rattle.smith_draw.proofs.super_type.arbitrary_super_type_of_val_type.Goals as goal
 
 pub returns-clause-above : goal.returns-clause-above

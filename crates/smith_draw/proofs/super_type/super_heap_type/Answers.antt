@@ -1,5 +1,5 @@
 use Rattle.std.proofs.Common.{◌∙◌, rules}
-use Rattle.smith_draw.proofs.Chosen.{super_without_gc, super_with_gc}
+use Rattle.smith_draw.proofs.ChosenLemmas.{super_without_gc, super_with_gc}
 use Rattle.smith_draw.proofs.super_type.super_heap_type.Goals as goal
 
 pub returns-then-not-config : goal.returns-then-not-config

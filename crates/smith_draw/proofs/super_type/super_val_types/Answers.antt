@@ -1,5 +1,5 @@
 use Rattle.std.proofs.Common.{rules}
-use Rattle.smith_draw.proofs.Each.{each_more, each_all}
+use Rattle.smith_draw.proofs.EachLoop.{each_more, each_all}
 use Rattle.smith_draw.proofs.super_type.super_val_types.Goals as goal
 
 pub loop-ty-preserved : goal.loop-ty-preserved

@@ -1,5 +1,5 @@
 use Rattle.smith_draw.specs.MatchingTypes.{super_val_type_at}
-use Rattle.smith_draw.proofs.Each.{IsDrawing}
+use Rattle.smith_draw.proofs.EachLoop.{IsDrawing}
 use Rattle.smith_draw.proofs.super_type.super_val_types.Given as goal
 
 abbrev pub invariant-loop-ty : goal.invariant-loop-ty

@@ -1,6 +1,6 @@
 use Rattle.smith_types.specs.declared.value_type.RefType.{RefType}
-use Rattle.smith_draw.proofs.ValueTypeLaws.{drawn_is, IsRefTypeDrawn, ref_type_drawn}
-use Rattle.smith_draw.proofs.Taken.{ref_type_taken}
+use Rattle.smith_draw.proofs.ValueTypeLemmas.{drawn_is, IsRefTypeDrawn, ref_type_drawn}
+use Rattle.smith_draw.proofs.TakenLemmas.{ref_type_taken}
 use Rattle.smith_draw.proofs.value_type.arbitrary_ref_type.Goals as goal
 
 pub returns : goal.returns

@@ -1,6 +1,6 @@
 use Rattle.smith_types.specs.declared.value_type.ValType.{ValType}
-use Rattle.smith_draw.proofs.ValueTypeLaws.{drawn_is, IsValTypeDrawn, val_type_drawn}
-use Rattle.smith_draw.proofs.Taken.{val_type_taken}
+use Rattle.smith_draw.proofs.ValueTypeLemmas.{drawn_is, IsValTypeDrawn, val_type_drawn}
+use Rattle.smith_draw.proofs.TakenLemmas.{val_type_taken}
 use Rattle.smith_draw.proofs.value_type.arbitrary_valtype.Goals as goal
 
 pub returns : goal.returns

@@ -1,5 +1,5 @@
 use Rattle.std.proofs.Common.{ap, rules}
-use Rattle.smith_types.proofs.GroupsAdded.{not_following}
+use Rattle.smith_types.proofs.GroupsAddedLemmas.{not_following}
 use Rattle.smith_types.proofs.grouped_types.push_members.Goals as goal
 
 pub returns-then-not-may_follow-clause-added : goal.returns-then-not-may_follow-clause-added

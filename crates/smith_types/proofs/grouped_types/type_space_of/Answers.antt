@@ -1,5 +1,5 @@
 use Rattle.std.proofs.Common.{◌∙◌}
-use Rattle.smith_types.proofs.GroupsAdded.{groups_room, groups_refused, groups_turn}
+use Rattle.smith_types.proofs.GroupsAddedLemmas.{groups_room, groups_refused, groups_turn}
 use Rattle.smith_types.proofs.grouped_types.type_space_of.Goals as goal
 
 pub push_members-requires : goal.push_members-requires

@@ -1,4 +1,4 @@
-use Rattle.smith_types.proofs.HeldValues.{values_from_held, held_from_values}
+use Rattle.smith_types.proofs.HeldValueLemmas.{values_from_held, held_from_values}
 use Rattle.smith_types.proofs.held_values.all_values_hold.Goals as goal
 
 pub returns : goal.returns

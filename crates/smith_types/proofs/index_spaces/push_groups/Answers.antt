@@ -1,4 +1,4 @@
-use Rattle.smith_types.proofs.ImportedSpaces.{groups_turn}
+use Rattle.smith_types.proofs.ImportedSpaceLemmas.{groups_turn}
 use Rattle.smith_types.proofs.index_spaces.push_groups.Goals as goal
 
 pub loop-group-preserved : goal.loop-group-preserved

@@ -1,4 +1,4 @@
-use Rattle.smith_types.proofs.Growth.{IsBelow-trans, IsRefBelow-trans, IsValBelow-trans}
+use Rattle.smith_types.proofs.GrowthLemmas.{IsBelow-trans, IsRefBelow-trans, IsValBelow-trans}
 use Rattle.smith_types.proofs.laws.subtyping_is_transitive.Goals as goal
 
 pub returns : goal.returns

@@ -1,4 +1,4 @@
-use Rattle.smith_types.proofs.Growth.{IsBelow-grown, IsRefBelow-grown, IsValBelow-grown}
+use Rattle.smith_types.proofs.GrowthLemmas.{IsBelow-grown, IsRefBelow-grown, IsValBelow-grown}
 use Rattle.smith_types.proofs.laws.subtyping_survives_growth.Goals as goal
 
 pub returns : goal.returns

@@ -1,4 +1,4 @@
-use Rattle.smith_types.proofs.EntityGrowth.{IsTableValid-grown, IsGlobalValid-grown, IsTagValid-grown, IsFuncValid-grown, AreEntitiesValid-grown}
+use Rattle.smith_types.proofs.EntityGrowthLemmas.{IsTableValid-grown, IsGlobalValid-grown, IsTagValid-grown, IsFuncValid-grown, AreEntitiesValid-grown}
 use Rattle.smith_types.proofs.laws.valid_entities_survive_growth.Goals as goal
 
 pub returns : goal.returns

@@ -1,4 +1,4 @@
-use Rattle.smith_types.proofs.ExportGrowth.{IsEntityAt-grown, AreExportsValid-grown, IsStartValid-grown}
+use Rattle.smith_types.proofs.ExportGrowthLemmas.{IsEntityAt-grown, AreExportsValid-grown, IsStartValid-grown}
 use Rattle.smith_types.proofs.laws.valid_exports_survive_growth.Goals as goal
 
 pub returns : goal.returns

@@ -1,4 +1,4 @@
-use Rattle.smith_types.proofs.ExpressionGrowth.{HasType-grown, IsStackStep-grown, AreStackSteps-grown, IsConstExpr-grown}
+use Rattle.smith_types.proofs.ExpressionGrowthLemmas.{HasType-grown, IsStackStep-grown, AreStackSteps-grown, IsConstExpr-grown}
 use Rattle.smith_types.proofs.laws.valid_expressions_survive_growth.Goals as goal
 
 pub returns : goal.returns

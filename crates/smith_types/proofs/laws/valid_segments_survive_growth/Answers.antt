@@ -1,4 +1,4 @@
-use Rattle.smith_types.proofs.SegmentGrowth.{IsElementValid-grown, IsDataValid-grown}
+use Rattle.smith_types.proofs.SegmentGrowthLemmas.{IsElementValid-grown, IsDataValid-grown}
 use Rattle.smith_types.proofs.laws.valid_segments_survive_growth.Goals as goal
 
 pub returns : goal.returns

@@ -1,4 +1,4 @@
-use Rattle.smith_types.proofs.TypeGrowth.{AreTypesValid-more}
+use Rattle.smith_types.proofs.TypeGrowthLemmas.{AreTypesValid-more}
 use Rattle.smith_types.proofs.laws.valid_types_survive_growth.Goals as goal
 
 pub returns : goal.returns

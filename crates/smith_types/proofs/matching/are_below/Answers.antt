@@ -1,4 +1,4 @@
-use Rattle.smith_types.proofs.Lengths.{AreBelow-length}
+use Rattle.smith_types.proofs.LengthLemmas.{AreBelow-length}
 use Rattle.smith_types.proofs.matching.are_below.Goals as goal
 
 pub returns-then-a-b : goal.returns-then-a-b

@@ -1,5 +1,5 @@
 use Rattle.std.proofs.Common.{arith}
-use Rattle.smith_types.proofs.Lengths.{AreFieldsMatched-length}
+use Rattle.smith_types.proofs.LengthLemmas.{AreFieldsMatched-length}
 use Rattle.smith_types.proofs.matching.fields_are_matched.Goals as goal
 
 pub returns-then-a-b : goal.returns-then-a-b

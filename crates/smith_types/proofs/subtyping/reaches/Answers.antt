@@ -1,7 +1,7 @@
 use Rattle.std.proofs.Common.{arith, subst, refl}
 use Rattle.smith_types.specs.declared.value_type.HeapType.TheVariants.{Concrete}
 use Rattle.smith_types.specs.Subtyping.{IsBelow, itself}
-use Rattle.smith_types.proofs.Walk.{below_above, below_alone}
+use Rattle.smith_types.proofs.WalkLemmas.{below_above, below_alone}
 use Rattle.smith_types.proofs.subtyping.reaches.Goals as goal
 
 pub loop-at-preserved : goal.loop-at-preserved

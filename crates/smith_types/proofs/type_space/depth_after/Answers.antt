@@ -1,5 +1,5 @@
 use Rattle.std.proofs.Common.{arith}
-use Rattle.smith_types.proofs.Spaces.{depth_room, depth_below, depth_alone}
+use Rattle.smith_types.proofs.SpaceLemmas.{depth_room, depth_below, depth_alone}
 use Rattle.smith_types.proofs.type_space.depth_after.Goals as goal
 
 pub overflow_add-result : goal.overflow_add-result

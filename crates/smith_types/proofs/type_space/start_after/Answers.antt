@@ -1,4 +1,4 @@
-use Rattle.smith_types.proofs.Spaces.{end_from-last}
+use Rattle.smith_types.proofs.SpaceLemmas.{end_from-last}
 use Rattle.smith_types.proofs.type_space.start_after.Goals as goal
 
 pub returns-in-len1-up : goal.returns-in-len1-up

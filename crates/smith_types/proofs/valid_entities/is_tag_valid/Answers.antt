@@ -1,4 +1,4 @@
-use Rattle.smith_types.proofs.StandingEntities.{tag_at}
+use Rattle.smith_types.proofs.StandingEntityLemmas.{tag_at}
 use Rattle.smith_types.proofs.valid_entities.is_tag_valid.Goals as goal
 
 pub returns : goal.returns

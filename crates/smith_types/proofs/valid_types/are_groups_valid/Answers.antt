@@ -3,7 +3,7 @@ use Rattle.std.specs.Prelude.{All}
 use Rattle.std.proofs.lemmas.List.Elements.{All-more}
 use Rattle.smith_types.specs.FeatureBits.{features_in}
 use Rattle.smith_types.specs.ValidTypes.{IsGroupValid}
-use Rattle.smith_types.proofs.GroupTests.{all_within}
+use Rattle.smith_types.proofs.GroupTestLemmas.{all_within}
 use Rattle.smith_types.proofs.valid_types.are_groups_valid.Goals as goal
 
 pub is_group_valid-requires-clause-ordered : goal.is_group_valid-requires-clause-ordered

@@ -1,6 +1,6 @@
 use Rattle.std.proofs.Common.{rules}
 use Rattle.smith_types.specs.FeatureBits.{features_in}
-use Rattle.smith_types.proofs.ReferredTypes.{all_in_range, valid_in_range}
+use Rattle.smith_types.proofs.ReferredTypeLemmas.{all_in_range, valid_in_range}
 use Rattle.smith_types.proofs.valid_types.are_listed_valid.Goals as goal
 
 pub are_groups_valid-requires-clause-in_range : goal.are_groups_valid-requires-clause-in_range

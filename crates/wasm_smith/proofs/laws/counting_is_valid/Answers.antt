@@ -1,6 +1,6 @@
 use Rattle.std.proofs.Common.{sym, subst}
 use Rattle.wasm_smith.specs.Module.{IsValid}
-use Rattle.wasm_smith.proofs.Counting.{counted, counted_valid}
+use Rattle.wasm_smith.proofs.CountingLemmas.{counted, counted_valid}
 use Rattle.wasm_smith.proofs.laws.counting_is_valid.Goals as goal
 
 pub returns : goal.returns

@@ -1,5 +1,5 @@
-use Rattle.smith_draw.proofs.SpelledGroups.{types_read}
-use Rattle.wasm_smith.proofs.FamilyFits.{family_fits}
+use Rattle.smith_draw.proofs.SpelledGroupLemmas.{types_read}
+use Rattle.wasm_smith.proofs.FamilyFitLemmas.{family_fits}
 use Rattle.wasm_smith.proofs.laws.groups_are_read.Goals as goal
 
 pub returns : goal.returns

@@ -5,7 +5,7 @@ use Rattle.std.specs.declared.string.String.{String}
 use Rattle.std.specs.declared.alloc.Global.{Global}
 use Rattle.smith_bytes.specs.Names.{IsMadeNew}
 use Rattle.smith_bytes.specs.ExampleBytes.{HasNames}
-use Rattle.smith_bytes.proofs.MadeNew.{making_start, making_more, making_done, new_alone}
+use Rattle.smith_bytes.proofs.MadeNewLemmas.{making_start, making_more, making_done, new_alone}
 use Rattle.smith_bytes.proofs.examples.names.made_new.Goals as goal
 
 one_copy : {S : Type 0} (names : HashSet (String Global) S) → HasNames names (codes "a" ∷ []) → IsMadeNew names (codes "a") (codes "a1")

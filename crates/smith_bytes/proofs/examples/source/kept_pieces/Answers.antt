@@ -1,6 +1,6 @@
 use Rattle.std.proofs.Common.{[], ◌∷◌, refl}
-use Rattle.smith_bytes.proofs.Pieces.{piece_same, keeps_drop, keeps_take}
-use Rattle.smith_bytes.proofs.PieceTest.{piece_has}
+use Rattle.smith_bytes.proofs.PieceLemmas.{piece_same, keeps_drop, keeps_take}
+use Rattle.smith_bytes.proofs.PieceTestLemmas.{piece_has}
 use Rattle.smith_bytes.proofs.examples.source.kept_pieces.Goals as goal
 
 pub returns-clause-taken_from_the_front : goal.returns-clause-taken_from_the_front

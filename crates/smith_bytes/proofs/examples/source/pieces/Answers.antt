@@ -1,5 +1,5 @@
 use Rattle.std.proofs.Common.{[], ◌∷◌, refl}
-use Rattle.smith_bytes.proofs.PieceTest.{piece_has}
+use Rattle.smith_bytes.proofs.PieceTestLemmas.{piece_has}
 use Rattle.smith_bytes.proofs.examples.source.pieces.Goals as goal
 
 pub returns-clause-front : goal.returns-clause-front

@@ -3,7 +3,7 @@ use Rattle.smith_bytes.specs.Draws.{digit_count, range_at}
 use Rattle.smith_bytes.specs.Growth.{grow_at}
 use Rattle.smith_bytes.specs.Spelling.{Each}
 use Rattle.smith_bytes.specs.ExampleBytes.{SpellsByte}
-use Rattle.smith_bytes.proofs.Spelled.{number_read, each_read}
+use Rattle.smith_bytes.proofs.SpelledLemmas.{number_read, each_read}
 use Rattle.smith_bytes.proofs.examples.spelling.items.Goals as goal
 
 pub returns-clause-two : goal.returns-clause-two

@@ -1,6 +1,6 @@
 use Rattle.std.proofs.Common.{◌∙◌, ◌≤◌, ◌-◌, length, drop, ap, arith, length-drop}
 use Rattle.std.proofs.lemmas.List.{take_all}
-use Rattle.smith_bytes.proofs.Pieces.{keeps_drop}
+use Rattle.smith_bytes.proofs.PieceLemmas.{keeps_drop}
 use Rattle.smith_bytes.proofs.unstructured.Unstructured.byte.Goals as goal
 
 pub returns-in-len1-up-clause-left : goal.returns-in-len1-up-clause-left

@@ -10,7 +10,7 @@ use Rattle.smith_config.specs.Config.{default_config}
 use Rattle.smith_config.specs.Shapes.{IsShort}
 use Rattle.smith_config.specs.ShapeFaults.{HasShapeFault, AreTypesRight, shape_faults}
 use Rattle.smith_config.specs.ExampleShapes.{empty_shape, of_types}
-use Rattle.smith_config.proofs.FirstFaults.{first_too_long, first_bad_type}
+use Rattle.smith_config.proofs.FirstFaultLemmas.{first_too_long, first_bad_type}
 use Rattle.smith_config.proofs.ShapeFaultExamples as wrong
 use Rattle.smith_config.proofs.examples.first_shape_faults.first_faults.Goals as goal
 

@@ -5,7 +5,7 @@ use Rattle.smith_types.specs.ExampleTypes.{open_type, empty_struct}
 use Rattle.smith_config.specs.Config.{default_config}
 use Rattle.smith_config.specs.Shapes.{IsShort}
 use Rattle.smith_config.specs.ExampleShapes.{of_types}
-use Rattle.smith_config.proofs.FirstFaults.{first_bad_type}
+use Rattle.smith_config.proofs.FirstFaultLemmas.{first_bad_type}
 use Rattle.smith_config.proofs.ShapeFaultExamples as wrong
 use Rattle.smith_config.proofs.examples.first_shape_faults.refusals.Goals as goal
 

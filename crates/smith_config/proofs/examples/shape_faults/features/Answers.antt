@@ -6,7 +6,7 @@ use Rattle.smith_types.specs.ExampleEntities.{memory, constant_global}
 use Rattle.smith_types.specs.declared.entity_type.GlobalType.{GlobalType}
 use Rattle.smith_types.specs.declared.entity_type.MemoryType.{MemoryType}
 use Rattle.smith_types.specs.declared.value_type.ValType.TheVariants.{I32, V128}
-use Rattle.smith_types.proofs.Validity.{AreTypesValid-single, no_types}
+use Rattle.smith_types.proofs.ValidityLemmas.{AreTypesValid-single, no_types}
 use Rattle.smith_config.specs.Config.{default_config}
 use Rattle.smith_config.specs.Features.{features_of}
 use Rattle.smith_types.specs.Features.{every_feature}

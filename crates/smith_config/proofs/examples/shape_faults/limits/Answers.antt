@@ -3,7 +3,7 @@ use Rattle.smith_types.specs.Entities.{AreLimitsValid, IsMemoryValid}
 use Rattle.smith_types.specs.Flags.{funcref}
 use Rattle.smith_types.specs.ExampleEntities.{memory, table}
 use Rattle.smith_types.specs.Features.{every_feature}
-use Rattle.smith_config.proofs.Chains.{chain_deep, chain_shallow}
+use Rattle.smith_config.proofs.ChainExamples.{chain_deep, chain_shallow}
 use Rattle.smith_config.proofs.examples.shape_faults.limits.Goals as goal
 
 pub returns-clause-a_page_too_many : goal.returns-clause-a_page_too_many

@@ -9,7 +9,7 @@ use Rattle.smith_types.specs.ExampleEntities.{table}
 use Rattle.smith_types.specs.declared.entity_type.ExportKind.TheVariants as kind
 use Rattle.smith_config.specs.Config.{default_config}
 use Rattle.smith_config.specs.Features.{features_of}
-use Rattle.smith_config.proofs.Chains.{chain_deep}
+use Rattle.smith_config.proofs.ChainExamples.{chain_deep}
 use Rattle.smith_config.proofs.ShapeFaultExamples as wrong
 use Rattle.smith_config.proofs.examples.shapes.consistent.Goals as goal
 

@@ -1,5 +1,5 @@
 use Rattle.std.proofs.Common.{◌≤◌, arith}
-use Rattle.smith_config.proofs.Chains.{chain_deep, chain_shallow}
+use Rattle.smith_config.proofs.ChainExamples.{chain_deep, chain_shallow}
 use Rattle.smith_config.proofs.examples.shapes.depths.Goals as goal
 
 pub returns-clause-of_63_types : goal.returns-clause-of_63_types

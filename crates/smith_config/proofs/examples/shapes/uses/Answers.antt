@@ -17,9 +17,9 @@ use Rattle.smith_config.specs.Config.{default_config}
 use Rattle.smith_config.specs.Features.{features_of}
 use Rattle.smith_config.specs.Shapes.{IsShort, IsInnerShort, HasNothingLeftOut, IsValTypeIncluded, IsConsistent, IsPlain, shape_spaces}
 use Rattle.smith_config.specs.ExampleShapes.{passed_on, memory_passed_on, exported_table}
-use Rattle.smith_types.proofs.Validity.{AreTypesValid-single, no_types}
-use Rattle.smith_config.proofs.Chains.{shallow_if_few, chain_all, chain_valid, chain_shallow}
-use Rattle.smith_config.proofs.OneOfEachKind.{consistent as one_of_each_kind_consistent}
+use Rattle.smith_types.proofs.ValidityLemmas.{AreTypesValid-single, no_types}
+use Rattle.smith_config.proofs.ChainExamples.{shallow_if_few, chain_all, chain_valid, chain_shallow}
+use Rattle.smith_config.proofs.OneOfEachKindExamples.{consistent as one_of_each_kind_consistent}
 use Rattle.smith_config.proofs.ShapeExamples.{stand_alone, types_valid, shallow, entities_valid, exports_valid}
 use Rattle.smith_config.proofs.examples.shapes.uses.Goals as goal
 

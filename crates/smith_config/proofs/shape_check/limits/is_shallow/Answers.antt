@@ -1,5 +1,5 @@
 use Rattle.std.proofs.Common.{arith, ◌≡◌, ◌<◌, length, refl, below_more}
-use Rattle.smith_config.proofs.Depths.{depth_alone, depth_stands}
+use Rattle.smith_config.proofs.DepthLemmas.{depth_alone, depth_stands}
 use Rattle.smith_config.proofs.shape_check.limits.is_shallow.Goals as goal
 
 pub loop-index-preserved : goal.loop-index-preserved

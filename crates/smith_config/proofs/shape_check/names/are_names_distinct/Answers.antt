@@ -1,5 +1,5 @@
 use Rattle.std.proofs.Common.{◌≡◌, ◌∙◌, sym, true, false, take}
-use Rattle.smith_config.proofs.NamesInSets.{has, names_of, known_turn, distinct_turn, twice, not_false, not_true}
+use Rattle.smith_config.proofs.NamesInSetLemmas.{has, names_of, known_turn, distinct_turn, twice, not_false, not_true}
 use Rattle.smith_config.proofs.shape_check.names.are_names_distinct.Goals as goal
 
 pub returns-then-not-is_new-clause-decided : goal.returns-then-not-is_new-clause-decided

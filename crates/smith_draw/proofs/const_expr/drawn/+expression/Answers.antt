@@ -2,8 +2,8 @@ use Rattle.std.proofs.Common.{arith, ◌-◌, refl, sym, ◌∙◌}
 use Rattle.std.proofs.lemmas.Result.{on_ok_weaker}
 use Rattle.smith_draw.specs.ConstScopes.{context_of}
 use Rattle.smith_draw.specs.ConstExprs.{state_of}
-use Rattle.smith_draw.proofs.ConstStepLaws.{drawn_by, drawn_extended, ok_both, drawn_turn, passed_on, operand_refuses, node_refuses, node_made}
-use Rattle.smith_draw.proofs.ConstExprLaws.{reading_more, none_chosen, extended_read, node_refused, node_read, reading_refused, reading_all}
+use Rattle.smith_draw.proofs.ConstStepLemmas.{drawn_by, drawn_extended, ok_both, drawn_turn, passed_on, operand_refuses, node_refuses, node_made}
+use Rattle.smith_draw.proofs.ConstExprLemmas.{reading_more, none_chosen, extended_read, node_refused, node_read, reading_refused, reading_all}
 use Rattle.smith_draw.proofs.const_expr.drawn.+expression.Goals as goal
 
 pub expression-returns-in_err-operands-clause-refusal : goal.expression-returns-in_err-operands-clause-refusal

@@ -3,7 +3,7 @@ use Rattle.smith_bytes.specs.Source.{KeepsPieces}
 use Rattle.smith_draw.specs.ConstScopes.{context_of}
 use Rattle.smith_draw.specs.ConstExprs.{state_of}
 use Rattle.smith_draw.specs.ConstSteps.{operand_type, IsDrawn}
-use Rattle.smith_draw.proofs.ConstExprLaws.{IsReading}
+use Rattle.smith_draw.proofs.ConstExprLemmas.{IsReading}
 use Rattle.smith_draw.proofs.const_expr.drawn.+expression.Given as goal
 
 abbrev pub decreases-expression : goal.decreases-expression

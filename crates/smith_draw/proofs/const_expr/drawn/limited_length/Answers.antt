@@ -1,6 +1,6 @@
 use Rattle.std.proofs.Common.{arith}
 use Rattle.std.proofs.lemmas.Result.{on_ok_weaker}
-use Rattle.smith_draw.proofs.ConstStepLaws.{drawn_length}
+use Rattle.smith_draw.proofs.ConstStepLemmas.{drawn_length}
 use Rattle.smith_draw.proofs.const_expr.drawn.limited_length.Goals as goal
 
 pub returns-clause-drawn : goal.returns-clause-drawn

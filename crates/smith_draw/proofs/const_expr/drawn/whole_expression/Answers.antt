@@ -1,7 +1,7 @@
 use Rattle.smith_draw.specs.ConstScopes.{context_of}
-use Rattle.smith_draw.proofs.ConstStepLaws.{passed_on}
-use Rattle.smith_draw.proofs.ConstScopeLaws.{whole_typed, whole_short, whole_refusal}
-use Rattle.smith_draw.proofs.ConstExprLaws.{whole_read, whole_refused}
+use Rattle.smith_draw.proofs.ConstStepLemmas.{passed_on}
+use Rattle.smith_draw.proofs.ConstScopeLemmas.{whole_typed, whole_short, whole_refusal}
+use Rattle.smith_draw.proofs.ConstExprLemmas.{whole_read, whole_refused}
 use Rattle.smith_draw.proofs.const_expr.drawn.whole_expression.Goals as goal
 
 pub returns-clause-typed : goal.returns-clause-typed

@@ -1,5 +1,5 @@
 use Rattle.std.proofs.Common.{arith}
-use Rattle.smith_draw.proofs.ExtendedLaws.{extending_constant, extending_operator, extending_done, extending_adds}
+use Rattle.smith_draw.proofs.ExtendedLemmas.{extending_constant, extending_operator, extending_done, extending_adds}
 use Rattle.smith_draw.proofs.const_expr.extended.extended.Goals as goal
 
 pub loop-needed-preserved-in-None : goal.loop-needed-preserved-in-None

@@ -1,5 +1,5 @@
 use Rattle.std.proofs.Common.{◌-◌, length}
-use Rattle.smith_draw.proofs.ExtendedLaws.{IsExtending}
+use Rattle.smith_draw.proofs.ExtendedLemmas.{IsExtending}
 use Rattle.smith_draw.proofs.const_expr.extended.extended.Given as goal
 
 abbrev pub invariant-loop-needed : goal.invariant-loop-needed

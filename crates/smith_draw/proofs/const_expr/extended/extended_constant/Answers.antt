@@ -1,5 +1,5 @@
 use Rattle.std.proofs.lemmas.Result.{on_ok_weaker}
-use Rattle.smith_draw.proofs.PuttingLaws.{puts_adds}
+use Rattle.smith_draw.proofs.PuttingLemmas.{puts_adds}
 use Rattle.smith_draw.proofs.const_expr.extended.extended_constant.Goals as goal
 
 pub returns-clause-puts : goal.returns-clause-puts

@@ -1,8 +1,8 @@
 use Rattle.std.proofs.Common.{arith, refl, sym, ◌∙◌}
 use Rattle.smith_draw.specs.ConstScopes.{context_of}
-use Rattle.smith_draw.proofs.ConstFoundLaws.{past_inside, found_chosen}
-use Rattle.smith_draw.proofs.ConstOfferLaws.{nothing_offered, chosen_fits}
-use Rattle.smith_draw.proofs.ConstExprLaws.{none_at}
+use Rattle.smith_draw.proofs.ConstFoundLemmas.{past_inside, found_chosen}
+use Rattle.smith_draw.proofs.ConstOfferLemmas.{nothing_offered, chosen_fits}
+use Rattle.smith_draw.proofs.ConstExprLemmas.{none_at}
 use Rattle.smith_draw.proofs.const_expr.found.chosen.Goals as goal
 
 pub returns-then-count-eq0-clause-none : goal.returns-then-count-eq0-clause-none

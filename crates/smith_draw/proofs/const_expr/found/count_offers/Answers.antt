@@ -1,6 +1,6 @@
 use Rattle.std.proofs.Common.{arith, sym, ◌∙◌}
 use Rattle.smith_draw.specs.ConstScopes.{context_of}
-use Rattle.smith_draw.proofs.ConstFoundLaws.{counted, not_found, offers_few}
+use Rattle.smith_draw.proofs.ConstFoundLemmas.{counted, not_found, offers_few}
 use Rattle.smith_draw.proofs.const_expr.found.count_offers.Goals as goal
 
 pub returns-in-Ok : goal.returns-in-Ok

@@ -1,4 +1,4 @@
-use Rattle.smith_draw.proofs.ConstNodeLaws.{repeated_more}
+use Rattle.smith_draw.proofs.ConstNodeLemmas.{repeated_more}
 use Rattle.smith_draw.proofs.const_expr.node.push_repeated.Goals as goal
 
 pub loop-preserved : goal.loop-preserved

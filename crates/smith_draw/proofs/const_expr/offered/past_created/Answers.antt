@@ -1,4 +1,4 @@
-use Rattle.smith_draw.proofs.ConstFoundLaws.{found_first, found_next}
+use Rattle.smith_draw.proofs.ConstFoundLemmas.{found_first, found_next}
 use Rattle.smith_draw.proofs.const_expr.offered.past_created.Goals as goal
 
 pub returns-in_err-place-2 : goal.returns-in_err-place-2

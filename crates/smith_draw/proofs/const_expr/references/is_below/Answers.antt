@@ -1,4 +1,4 @@
-use Rattle.smith_draw.proofs.BelowLaws.{val_tested}
+use Rattle.smith_draw.proofs.BelowLemmas.{val_tested}
 use Rattle.smith_draw.proofs.const_expr.references.is_below.Goals as goal
 
 pub returns : goal.returns

@@ -1,5 +1,5 @@
 use Rattle.std.proofs.Common.{arith, refl}
-use Rattle.smith_draw.proofs.SpelledConstExprs.{mutable_not_read}
+use Rattle.smith_draw.proofs.SpelledConstExprLemmas.{mutable_not_read}
 use Rattle.smith_draw.proofs.examples.const_exprs.globals.Goals as goal
 
 pub returns-clause-mutable_ones_are_not_read : goal.returns-clause-mutable_ones_are_not_read

@@ -1,4 +1,4 @@
-use Rattle.smith_draw.proofs.OneFunction.{one_function_spelled, more_asked}
+use Rattle.smith_draw.proofs.OneFunctionExamples.{one_function_spelled, more_asked}
 use Rattle.smith_draw.proofs.examples.spelled_groups.spelled_groups.Goals as goal
 
 pub returns : goal.returns

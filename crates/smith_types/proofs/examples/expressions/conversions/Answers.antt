@@ -5,9 +5,9 @@ use Rattle.smith_types.specs.declared.const_instr.ConstInstr.TheVariants.{I32Con
 use Rattle.smith_types.specs.ExampleFeatures.{usual_features}
 use Rattle.smith_types.specs.ExampleTypes.{plain, nullable, not_null, anyref}
 use Rattle.smith_types.specs.ExampleContexts.{context_types, context_with}
-use Rattle.smith_types.proofs.Growth.{IsRefBelow-refl}
-use Rattle.smith_types.proofs.Paths.{below_abstract}
-use Rattle.smith_types.proofs.ConstSteps.{one_step, after_one}
+use Rattle.smith_types.proofs.GrowthLemmas.{IsRefBelow-refl}
+use Rattle.smith_types.proofs.PathLemmas.{below_abstract}
+use Rattle.smith_types.proofs.ConstStepLemmas.{one_step, after_one}
 use Rattle.smith_types.proofs.examples.expressions.conversions.Goals as goal
 
 pub returns-clause-null_given_out : goal.returns-clause-null_given_out

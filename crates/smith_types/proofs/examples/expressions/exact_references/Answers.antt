@@ -6,8 +6,8 @@ use Rattle.smith_types.specs.declared.const_instr.ConstInstr.TheVariants.{I32Con
 use Rattle.smith_types.specs.Features.{every_feature}
 use Rattle.smith_types.specs.ExampleTypes.{final_type, struct, constant, not_null}
 use Rattle.smith_types.specs.ExampleContexts.{context_types, context_with}
-use Rattle.smith_types.proofs.Growth.{IsRefBelow-refl}
-use Rattle.smith_types.proofs.ConstSteps.{alone, after_one}
+use Rattle.smith_types.proofs.GrowthLemmas.{IsRefBelow-refl}
+use Rattle.smith_types.proofs.ConstStepLemmas.{alone, after_one}
 use Rattle.smith_types.proofs.examples.expressions.exact_references.Goals as goal
 
 pub returns-clause-of_a_struct : goal.returns-clause-of_a_struct

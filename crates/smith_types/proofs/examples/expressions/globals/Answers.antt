@@ -5,7 +5,7 @@ use Rattle.smith_types.specs.Expressions.{seeing}
 use Rattle.smith_types.specs.ExampleFeatures.{usual_features, without_gc}
 use Rattle.smith_types.specs.ExampleEntities.{constant_global}
 use Rattle.smith_types.specs.ExampleContexts.{context_with}
-use Rattle.smith_types.proofs.ConstSteps.{alone}
+use Rattle.smith_types.proofs.ConstStepLemmas.{alone}
 use Rattle.smith_types.proofs.examples.expressions.globals.Goals as goal
 
 pub returns-clause-read : goal.returns-clause-read

@@ -7,9 +7,9 @@ use Rattle.smith_types.specs.Flags.{funcref}
 use Rattle.smith_types.specs.ExampleFeatures.{usual_features}
 use Rattle.smith_types.specs.ExampleTypes.{plain, not_null, anyref}
 use Rattle.smith_types.specs.ExampleContexts.{context_types, context_with}
-use Rattle.smith_types.proofs.Growth.{IsRefBelow-refl}
-use Rattle.smith_types.proofs.Paths.{below_abstract}
-use Rattle.smith_types.proofs.ConstSteps.{alone, after_one}
+use Rattle.smith_types.proofs.GrowthLemmas.{IsRefBelow-refl}
+use Rattle.smith_types.proofs.PathLemmas.{below_abstract}
+use Rattle.smith_types.proofs.ConstStepLemmas.{alone, after_one}
 use Rattle.smith_types.proofs.examples.expressions.references.Goals as goal
 
 pub returns-clause-null_function : goal.returns-clause-null_function

@@ -10,8 +10,8 @@ use Rattle.smith_types.specs.Subtyping.{IsValBelow}
 use Rattle.smith_types.specs.ExampleFeatures.{usual_features}
 use Rattle.smith_types.specs.ExampleTypes.{plain, not_null}
 use Rattle.smith_types.specs.ExampleContexts.{context_types, context_with}
-use Rattle.smith_types.proofs.Paths.{below_abstract}
-use Rattle.smith_types.proofs.ConstSteps.{one_step}
+use Rattle.smith_types.proofs.PathLemmas.{below_abstract}
+use Rattle.smith_types.proofs.ConstStepLemmas.{one_step}
 use Rattle.smith_types.proofs.examples.expressions.steps.Goals as goal
 
 pub returns-clause-above_others : goal.returns-clause-above_others

@@ -7,8 +7,8 @@ use Rattle.smith_types.specs.Expressions.{IsStructAt}
 use Rattle.smith_types.specs.ExampleFeatures.{usual_features}
 use Rattle.smith_types.specs.ExampleTypes.{final_type, struct, constant, variable, not_null}
 use Rattle.smith_types.specs.ExampleContexts.{context_types, context_with}
-use Rattle.smith_types.proofs.Growth.{IsRefBelow-refl}
-use Rattle.smith_types.proofs.ConstSteps.{alone, after_one}
+use Rattle.smith_types.proofs.GrowthLemmas.{IsRefBelow-refl}
+use Rattle.smith_types.proofs.ConstStepLemmas.{alone, after_one}
 use Rattle.smith_types.proofs.examples.expressions.structs.Goals as goal
 
 struct_at : IsStructAt context_types 1 (constant I8 ∷ [])

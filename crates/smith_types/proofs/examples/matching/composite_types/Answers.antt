@@ -1,5 +1,5 @@
 use Rattle.std.proofs.Common.{[], refl}
-use Rattle.smith_types.proofs.ExampleLemmas.{eq_below_any}
+use Rattle.smith_types.proofs.TypeExamples.{eq_below_any}
 use Rattle.smith_types.proofs.examples.matching.composite_types.Goals as goal
 
 pub returns-clause-arrays : goal.returns-clause-arrays

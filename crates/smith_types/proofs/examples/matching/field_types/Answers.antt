@@ -1,7 +1,7 @@
 use Rattle.std.proofs.Common.{[], refl}
 use Rattle.smith_types.specs.ExampleTypes.{eqref}
-use Rattle.smith_types.proofs.Growth.{IsValBelow-refl}
-use Rattle.smith_types.proofs.ExampleLemmas.{eq_below_any}
+use Rattle.smith_types.proofs.GrowthLemmas.{IsValBelow-refl}
+use Rattle.smith_types.proofs.TypeExamples.{eq_below_any}
 use Rattle.smith_types.proofs.examples.matching.field_types.Goals as goal
 
 pub returns-clause-constant_one : goal.returns-clause-constant_one

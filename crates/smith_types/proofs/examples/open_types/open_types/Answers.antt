@@ -3,7 +3,7 @@ use Rattle.std.proofs.lemmas.List.Elements.{All-head}
 use Rattle.smith_types.specs.ValidTypes.{IsGroupValid}
 use Rattle.smith_types.specs.ExampleFeatures.{usual_features}
 use Rattle.smith_types.specs.ExampleTypes.{final_type, empty_struct, referring, referring_type, range}
-use Rattle.smith_types.proofs.ExampleLemmas.{itself_not_before, referring_behind, referring_alone}
+use Rattle.smith_types.proofs.TypeExamples.{itself_not_before, referring_behind, referring_alone}
 use Rattle.smith_types.proofs.examples.open_types.open_types.Goals as goal
 
 pub returns-clause-referring_past_the_end : goal.returns-clause-referring_past_the_end

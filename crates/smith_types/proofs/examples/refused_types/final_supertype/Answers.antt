@@ -3,7 +3,7 @@ use Rattle.std.proofs.lemmas.List.Elements.{All-nil}
 use Rattle.smith_types.specs.ValidTypes.{IsValTypeValid}
 use Rattle.smith_types.specs.ExampleFeatures.{usual_features}
 use Rattle.smith_types.specs.ExampleTypes.{open_type, final_type, empty_struct}
-use Rattle.smith_types.proofs.ExampleLemmas.{two_valid, below_first, first_above, struct_orderly}
+use Rattle.smith_types.proofs.TypeExamples.{two_valid, below_first, first_above, struct_orderly}
 use Rattle.smith_types.proofs.examples.refused_types.final_supertype.Goals as goal
 
 pub returns-clause-refused : goal.returns-clause-refused

@@ -3,7 +3,7 @@ use Rattle.std.proofs.lemmas.List.Elements.{All-head}
 use Rattle.smith_types.specs.ValidTypes.{IsGroupValid}
 use Rattle.smith_types.specs.ExampleFeatures.{usual_features}
 use Rattle.smith_types.specs.ExampleTypes.{range, referring}
-use Rattle.smith_types.proofs.ExampleLemmas.{referring_behind}
+use Rattle.smith_types.proofs.TypeExamples.{referring_behind}
 use Rattle.smith_types.proofs.examples.refused_types.reference_past_its_group.Goals as goal
 
 pub returns-clause-refused : goal.returns-clause-refused

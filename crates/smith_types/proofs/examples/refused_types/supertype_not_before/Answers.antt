@@ -5,7 +5,7 @@ use Rattle.std.proofs.lemmas.Option.{same_Some}
 use Rattle.smith_types.specs.ValidTypes.{IsValTypeValid, IsTypeValid}
 use Rattle.smith_types.specs.ExampleFeatures.{usual_features}
 use Rattle.smith_types.specs.ExampleTypes.{open_type, empty_struct, below_itself}
-use Rattle.smith_types.proofs.ExampleLemmas.{itself_not_before}
+use Rattle.smith_types.proofs.TypeExamples.{itself_not_before}
 use Rattle.smith_types.proofs.examples.refused_types.supertype_not_before.Goals as goal
 
 own_valid : IsTypeValid usual_features below_itself 1 (open_type (Some 0) empty_struct)

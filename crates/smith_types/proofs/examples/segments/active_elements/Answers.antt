@@ -3,7 +3,7 @@ use Rattle.smith_types.specs.Flags.{funcref}
 use Rattle.smith_types.specs.Subtyping.{itself}
 use Rattle.smith_types.specs.ExampleEntities.{table}
 use Rattle.smith_types.specs.ExampleContexts.{context_types}
-use Rattle.smith_types.proofs.Growth.{IsRefBelow-refl}
+use Rattle.smith_types.proofs.GrowthLemmas.{IsRefBelow-refl}
 use Rattle.smith_types.proofs.examples.segments.active_elements.Goals as goal
 
 pub returns-clause-into_a_table : goal.returns-clause-into_a_table

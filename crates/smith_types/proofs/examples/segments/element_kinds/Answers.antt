@@ -2,7 +2,7 @@ use Rattle.std.proofs.Common.{None, refl}
 use Rattle.smith_types.specs.Flags.{funcref}
 use Rattle.smith_types.specs.ExampleEntities.{table}
 use Rattle.smith_types.specs.ExampleContexts.{context_types}
-use Rattle.smith_types.proofs.Growth.{IsRefBelow-refl}
+use Rattle.smith_types.proofs.GrowthLemmas.{IsRefBelow-refl}
 use Rattle.smith_types.proofs.examples.segments.element_kinds.Goals as goal
 
 pub returns-clause-into_the_first_table : goal.returns-clause-into_the_first_table

@@ -11,9 +11,9 @@ use Rattle.smith_types.specs.Expressions.{IsConstExpr}
 use Rattle.smith_types.specs.ExampleFeatures.{usual_features}
 use Rattle.smith_types.specs.ExampleTypes.{final_type, shared_type, plain_func, plain, not_null}
 use Rattle.smith_types.specs.ExampleContexts.{context_types, context_with}
-use Rattle.smith_types.proofs.Growth.{IsRefBelow-refl}
-use Rattle.smith_types.proofs.Paths.{below_kind}
-use Rattle.smith_types.proofs.ConstSteps.{alone}
+use Rattle.smith_types.proofs.GrowthLemmas.{IsRefBelow-refl}
+use Rattle.smith_types.proofs.PathLemmas.{below_kind}
+use Rattle.smith_types.proofs.ConstStepLemmas.{alone}
 use Rattle.smith_types.proofs.examples.segments.items.Goals as goal
 
 below : IsRefBelow context_types (not_null (Concrete 0)) funcref

@@ -1,7 +1,7 @@
 use Rattle.std.proofs.Common.{true, [], refl}
 use Rattle.smith_types.specs.declared.value_type.AbstractHeapType.TheVariants as heap
-use Rattle.smith_types.proofs.Paths.{below_abstract}
-use Rattle.smith_types.proofs.ExampleLemmas.{abstract_below, abstract_apart}
+use Rattle.smith_types.proofs.PathLemmas.{below_abstract}
+use Rattle.smith_types.proofs.TypeExamples.{abstract_below, abstract_apart}
 use Rattle.smith_types.proofs.examples.subtyping.abstract_types.Goals as goal
 
 pub returns-clause-comparable : goal.returns-clause-comparable

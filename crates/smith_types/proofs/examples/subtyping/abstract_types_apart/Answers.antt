@@ -4,7 +4,7 @@ use Rattle.smith_types.specs.declared.value_type.AbstractHeapType.{AbstractHeapT
 use Rattle.smith_types.specs.declared.value_type.AbstractHeapType.TheVariants as heap
 use Rattle.smith_types.specs.Subtyping.{is_abstract_below, IsBelow}
 use Rattle.smith_types.specs.ExampleTypes.{plain, tops, kinds_of_values}
-use Rattle.smith_types.proofs.ExampleLemmas.{abstract_apart}
+use Rattle.smith_types.proofs.TypeExamples.{abstract_apart}
 use Rattle.smith_types.proofs.examples.subtyping.abstract_types_apart.Goals as goal
 
 -- one is below the other only if they are one

@@ -6,10 +6,10 @@ use Rattle.smith_types.specs.declared.composite_type.StorageType.TheVariants.{I8
 use Rattle.smith_types.specs.Kinds.{kind, shared, bottom}
 use Rattle.smith_types.specs.Subtyping.{is_abstract_below, itself}
 use Rattle.smith_types.specs.ExampleTypes.{open_type, final_type, shared_type, array, empty_struct, plain_func, struct_and_below, plain, variable}
-use Rattle.smith_types.proofs.Growth.{IsBelow-trans}
-use Rattle.smith_types.proofs.Paths.{below_declared, below_kind, below_abstract, above_bottom}
-use Rattle.smith_types.proofs.Walk.{by_cases_from_below, below_alone}
-use Rattle.smith_types.proofs.ExampleLemmas.{struct_orderly, upper_not_below}
+use Rattle.smith_types.proofs.GrowthLemmas.{IsBelow-trans}
+use Rattle.smith_types.proofs.PathLemmas.{below_declared, below_kind, below_abstract, above_bottom}
+use Rattle.smith_types.proofs.WalkLemmas.{by_cases_from_below, below_alone}
+use Rattle.smith_types.proofs.TypeExamples.{struct_orderly, upper_not_below}
 use Rattle.smith_types.proofs.examples.subtyping.concrete_types.Goals as goal
 
 pub returns-clause-declared : goal.returns-clause-declared

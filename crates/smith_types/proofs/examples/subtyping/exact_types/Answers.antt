@@ -5,10 +5,10 @@ use Rattle.smith_types.specs.declared.value_type.HeapType.TheVariants.{Abstract,
 use Rattle.smith_types.specs.Kinds.{bottom, shared}
 use Rattle.smith_types.specs.Subtyping.{itself}
 use Rattle.smith_types.specs.ExampleTypes.{open_type, empty_struct, struct_and_below, plain}
-use Rattle.smith_types.proofs.Growth.{IsBelow-trans}
-use Rattle.smith_types.proofs.Paths.{below_declared, below_kind, exact_below, exact_above_bottom}
-use Rattle.smith_types.proofs.Walk.{by_cases_from_below, below_from_by_cases}
-use Rattle.smith_types.proofs.ExampleLemmas.{struct_orderly, upper_not_below}
+use Rattle.smith_types.proofs.GrowthLemmas.{IsBelow-trans}
+use Rattle.smith_types.proofs.PathLemmas.{below_declared, below_kind, exact_below, exact_above_bottom}
+use Rattle.smith_types.proofs.WalkLemmas.{by_cases_from_below, below_from_by_cases}
+use Rattle.smith_types.proofs.TypeExamples.{struct_orderly, upper_not_below}
 use Rattle.smith_types.proofs.examples.subtyping.exact_types.Goals as goal
 
 pub returns-clause-its_type_and_above : goal.returns-clause-its_type_and_above

@@ -1,8 +1,8 @@
 use Rattle.std.proofs.Common.{Some, refl}
 use Rattle.smith_types.specs.declared.value_type.AbstractHeapType.TheVariants as heap
 use Rattle.smith_types.specs.ExampleTypes.{open_type, empty_struct, struct_and_below}
-use Rattle.smith_types.proofs.Paths.{below_declared}
-use Rattle.smith_types.proofs.ExampleLemmas.{abstract_below}
+use Rattle.smith_types.proofs.PathLemmas.{below_declared}
+use Rattle.smith_types.proofs.TypeExamples.{abstract_below}
 use Rattle.smith_types.proofs.examples.subtyping.references.Goals as goal
 
 pub returns-clause-null_added : goal.returns-clause-null_added

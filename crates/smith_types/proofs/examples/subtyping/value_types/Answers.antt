@@ -1,5 +1,5 @@
 use Rattle.std.proofs.Common.{[]}
-use Rattle.smith_types.proofs.ExampleLemmas.{eq_below_any}
+use Rattle.smith_types.proofs.TypeExamples.{eq_below_any}
 use Rattle.smith_types.proofs.examples.subtyping.value_types.Goals as goal
 
 pub returns-clause-reference : goal.returns-clause-reference

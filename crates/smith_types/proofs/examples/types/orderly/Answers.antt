@@ -1,7 +1,7 @@
 use Rattle.std.proofs.Common.{arith, Some, None, refl}
 use Rattle.smith_types.specs.Types.{IsAlike}
 use Rattle.smith_types.specs.ExampleTypes.{open_type, shared_type, empty_struct, plain_func}
-use Rattle.smith_types.proofs.ExampleLemmas.{itself_not_before}
+use Rattle.smith_types.proofs.TypeExamples.{itself_not_before}
 use Rattle.smith_types.proofs.examples.types.orderly.Goals as goal
 
 pub returns-clause-supertype_behind : goal.returns-clause-supertype_behind

@@ -1,4 +1,4 @@
-use Rattle.smith_types.proofs.ExampleLemmas.{itself_not_before}
+use Rattle.smith_types.proofs.TypeExamples.{itself_not_before}
 use Rattle.smith_types.proofs.examples.types.sound.Goals as goal
 
 pub returns-clause-its_own_supertype : goal.returns-clause-its_own_supertype

@@ -5,7 +5,7 @@ use Rattle.smith_types.specs.declared.value_type.ValType.TheVariants.{Ref}
 use Rattle.smith_types.specs.ValidTypes.{IsValTypeValid}
 use Rattle.smith_types.specs.ExampleFeatures.{usual_features}
 use Rattle.smith_types.specs.ExampleTypes.{final_type, struct, nullable, refers_to}
-use Rattle.smith_types.proofs.ExampleLemmas.{referring_behind}
+use Rattle.smith_types.proofs.TypeExamples.{referring_behind}
 use Rattle.smith_types.proofs.examples.valid_types.groups.Goals as goal
 
 pub returns-clause-referring_behind : goal.returns-clause-referring_behind

@@ -1,5 +1,5 @@
 use Rattle.std.proofs.Common.{[], refl}
-use Rattle.smith_types.proofs.ExampleLemmas.{eq_below_any}
+use Rattle.smith_types.proofs.TypeExamples.{eq_below_any}
 use Rattle.smith_types.proofs.examples.valid_types.supertypes.Goals as goal
 
 pub returns-clause-widened_parameter : goal.returns-clause-widened_parameter

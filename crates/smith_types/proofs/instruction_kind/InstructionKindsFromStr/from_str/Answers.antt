@@ -7,7 +7,7 @@ use Rattle.smith_types.specs.Instructions.{IsNamed, kinds_bits}
 use Rattle.smith_types.specs.Parts.{parts_of}
 use Rattle.std.specs.List.{AllZip}
 use Rattle.smith_types.proofs.KindLemmas.{union_of-push}
-use Rattle.smith_types.proofs.Parts.{AllZip-next}
+use Rattle.smith_types.proofs.PartLemmas.{AllZip-next}
 use Rattle.smith_types.proofs.instruction_kind.InstructionKindsFromStr.from_str.Goals as goal
 
 pub returns-in-Err : goal.returns-in-Err

@@ -1,4 +1,4 @@
-use Rattle.smith_types.proofs.Spaces.{IsSound-group, AreCovered-group}
+use Rattle.smith_types.proofs.SpaceLemmas.{IsSound-group, AreCovered-group}
 use Rattle.smith_types.proofs.type_space.TypeSpace.push_group.Goals as goal
 
 pub invariant_of-self-2 : goal.invariant_of-self-2

@@ -1,8 +1,8 @@
 use Rattle.std.proofs.Common.{◌≡◌, ◌∙◌, sym, false, Result, Ok, Err, ap, arith, ◌++◌, ◌∷◌, [], length}
 use Rattle.std.specs.Prelude.{is_err, OnOk}
 use Rattle.smith_types.specs.Space.{MayFollow, HasDepth, extensible_from}
-use Rattle.smith_types.proofs.Lists.{slice_get-last}
-use Rattle.smith_types.proofs.Spaces.{IsSound-type, AreDepths-push, extensible-push}
+use Rattle.smith_types.proofs.ListLemmas.{slice_get-last}
+use Rattle.smith_types.proofs.SpaceLemmas.{IsSound-type, AreDepths-push, extensible-push}
 use Rattle.smith_types.proofs.type_space.TypeSpace.push_type.Goals as goal
 use Rattle.smith_types.proofs.type_space.TypeSpace.push_type.Goals.{in-Ok, in-Err}
 

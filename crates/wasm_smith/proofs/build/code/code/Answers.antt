@@ -1,6 +1,6 @@
 use Rattle.std.proofs.lemmas.List.Elements.{All-replicate}
 use Rattle.smith_types.specs.Bodies.{IsBodyValid}
-use Rattle.wasm_smith.proofs.Bodies.{trap_valid}
+use Rattle.wasm_smith.proofs.BodyLemmas.{trap_valid}
 use Rattle.wasm_smith.proofs.build.code.code.Goals as goal
 
 pub returns-clause-valid : goal.returns-clause-valid

@@ -1,6 +1,6 @@
 use Rattle.std.proofs.Common.{rules}
-use Rattle.wasm_smith.proofs.Alone.{valid_alone}
-use Rattle.wasm_smith.proofs.NoFloats.{no_floats_alone}
+use Rattle.wasm_smith.proofs.AloneLemmas.{valid_alone}
+use Rattle.wasm_smith.proofs.NoFloatLemmas.{no_floats_alone}
 use Rattle.wasm_smith.proofs.build.drawn.draw.Goals as goal
 
 pub returns-clause-valid : goal.returns-clause-valid

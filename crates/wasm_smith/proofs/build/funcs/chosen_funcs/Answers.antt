@@ -1,5 +1,5 @@
 use Rattle.std.proofs.Common.{rules}
-use Rattle.smith_bytes.proofs.Growing.{grow_go, grow_stop, grow_full}
+use Rattle.smith_bytes.proofs.GrowingLoop.{grow_go, grow_stop, grow_full}
 use Rattle.wasm_smith.proofs.build.funcs.chosen_funcs.Goals as goal
 
 pub returns-then-not-goes_on : goal.returns-then-not-goes_on

@@ -1,6 +1,6 @@
 use Rattle.std.proofs.Common.{[]}
 use Rattle.smith_bytes.specs.Growth.{grow_at}
-use Rattle.smith_bytes.proofs.Growing.{IsGrowing}
+use Rattle.smith_bytes.proofs.GrowingLoop.{IsGrowing}
 use Rattle.smith_draw.specs.Choices.{chosen_at}
 use Rattle.wasm_smith.proofs.build.funcs.chosen_funcs.Given as goal
 

@@ -1,6 +1,6 @@
 use Rattle.std.proofs.lemmas.Result.{IfOk-weaker}
 use Rattle.smith_bytes.specs.declared.error.Count.TheVariants.{Funcs}
-use Rattle.wasm_smith.proofs.FuncLaws.{AreFuncs, given_funcs_are, funcs_refuse}
+use Rattle.wasm_smith.proofs.FuncLemmas.{AreFuncs, given_funcs_are, funcs_refuse}
 use Rattle.wasm_smith.proofs.build.funcs.funcs.Goals as goal
 
 pub returns-clause-valid : goal.returns-clause-valid

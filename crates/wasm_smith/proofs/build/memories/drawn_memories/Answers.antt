@@ -3,7 +3,7 @@ use Rattle.smith_types.specs.Entities.{IsMemoryValid}
 use Rattle.smith_config.specs.Features.{features_of}
 use Rattle.smith_draw.specs.Bounds.{IsMemoryWithin}
 use Rattle.std.proofs.lemmas.List.Elements.{All-push}
-use Rattle.smith_bytes.proofs.Growing.{grow_go, grow_stop, grow_full}
+use Rattle.smith_bytes.proofs.GrowingLoop.{grow_go, grow_stop, grow_full}
 use Rattle.wasm_smith.proofs.build.memories.drawn_memories.Goals as goal
 
 pub returns-then-not-goes_on-clause-draws : goal.returns-then-not-goes_on-clause-draws

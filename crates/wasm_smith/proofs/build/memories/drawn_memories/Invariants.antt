@@ -1,5 +1,5 @@
 use Rattle.std.specs.List.{All}
-use Rattle.smith_bytes.proofs.Growing.{IsGrowing}
+use Rattle.smith_bytes.proofs.GrowingLoop.{IsGrowing}
 use Rattle.smith_types.specs.Entities.{IsMemoryValid}
 use Rattle.smith_config.specs.Features.{features_of}
 use Rattle.smith_draw.specs.Bounds.{IsMemoryWithin}

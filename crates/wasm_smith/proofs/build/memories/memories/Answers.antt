@@ -2,8 +2,8 @@ use Rattle.std.proofs.Common.{◌≡◌, ◌≤◌, ◌<◌, true, nat_lt, List,
 use Rattle.std.proofs.lemmas.Result.{IfOk-weaker}
 use Rattle.smith_bytes.specs.declared.error.Count.TheVariants.{Memories}
 use Rattle.smith_types.specs.declared.entity_type.MemoryType.{MemoryType}
-use Rattle.smith_draw.proofs.ValueTypeLaws.{drawn_is}
-use Rattle.wasm_smith.proofs.MemoryCounts.{memories_most, memories_least, memories_several}
+use Rattle.smith_draw.proofs.ValueTypeLemmas.{drawn_is}
+use Rattle.wasm_smith.proofs.MemoryCountLemmas.{memories_most, memories_least, memories_several}
 use Rattle.wasm_smith.proofs.build.memories.memories.Goals as goal
 
 pub returns-clause-most : goal.returns-clause-most

@@ -1,6 +1,6 @@
 use Rattle.std.proofs.Common.{arith, ◌≤◌}
 use Rattle.smith_bytes.specs.declared.error.Count.TheVariants as counts
-use Rattle.wasm_smith.proofs.ExampleShapes.{no_imports_fixed}
+use Rattle.wasm_smith.proofs.ShapeExamples.{no_imports_fixed}
 use Rattle.wasm_smith.proofs.examples.bounds.given_modules.Goals as goal
 
 pub returns-clause-a_type_is_missing : goal.returns-clause-a_type_is_missing

@@ -6,7 +6,7 @@ use Rattle.smith_config.specs.Config.{default_config}
 use Rattle.wasm_smith.specs.Bounds.{HasEnough}
 use Rattle.wasm_smith.specs.ExampleParts.{no_function, passive_elements}
 use Rattle.wasm_smith.specs.ExampleModules.{elements_asked_for}
-use Rattle.wasm_smith.proofs.ExampleShapes.{no_exports_fixed}
+use Rattle.wasm_smith.proofs.ShapeExamples.{no_exports_fixed}
 use Rattle.wasm_smith.proofs.examples.bounds.least.Goals as goal
 
 pub returns-clause-no_function : goal.returns-clause-no_function

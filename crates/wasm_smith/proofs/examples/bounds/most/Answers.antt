@@ -1,6 +1,6 @@
 use Rattle.std.proofs.Common.{arith, ◌≤◌, refl}
 use Rattle.smith_bytes.specs.declared.error.Count.TheVariants as counts
-use Rattle.wasm_smith.proofs.ExampleShapes.{no_exports_fixed}
+use Rattle.wasm_smith.proofs.ShapeExamples.{no_exports_fixed}
 use Rattle.wasm_smith.proofs.examples.bounds.most.Goals as goal
 
 pub returns-clause-a_type_too_many : goal.returns-clause-a_type_too_many

@@ -7,7 +7,7 @@ use Rattle.smith_config.specs.Config.{default_config}
 use Rattle.smith_draw.specs.Spelling.{SpellsUnshared}
 use Rattle.smith_draw.specs.SpelledConstants.{SpellsI32}
 use Rattle.wasm_smith.specs.Spelling.{SpellsRest, SpellsNone, SpellsGlobal, SpellsBytes, SpellsNoStart, SpellsSegments}
-use Rattle.wasm_smith.proofs.Spelled.{one_odd, bool_first, any_first, digit_first, this_first, word_first, without_nothing, global_parts, opened}
+use Rattle.wasm_smith.proofs.SpelledExamples.{one_odd, bool_first, any_first, digit_first, this_first, word_first, without_nothing, global_parts, opened}
 use Rattle.wasm_smith.proofs.examples.changed_bytes.rests.Goals as goal
 
 -- what stands behind the globals, from the exports on

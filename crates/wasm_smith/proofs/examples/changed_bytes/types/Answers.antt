@@ -17,8 +17,8 @@ use Rattle.smith_types.specs.Space.{Space}
 use Rattle.wasm_smith.specs.FuncTypes.{is_tag_type, is_unshared_function}
 use Rattle.wasm_smith.specs.Spelling.{SpellsMember}
 use Rattle.wasm_smith.specs.ExampleMembers.{alone, one_function_type, array_and_struct, taking_a_number, one_of_each_without_gc}
-use Rattle.wasm_smith.proofs.Spelled.{joined, any_byte, one_odd, bool_first, any_first, place_alone, without_nothing}
-use Rattle.wasm_smith.proofs.SpelledMembers.{SpellsBehindGroups, member_read, other_number}
+use Rattle.wasm_smith.proofs.SpelledExamples.{joined, any_byte, one_odd, bool_first, any_first, place_alone, without_nothing}
+use Rattle.wasm_smith.proofs.SpelledMemberLemmas.{SpellsBehindGroups, member_read, other_number}
 use Rattle.wasm_smith.proofs.examples.changed_bytes.types.Goals as goal
 
 defaults_agree : IsSanitized default_config

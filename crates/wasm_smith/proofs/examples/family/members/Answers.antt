@@ -5,7 +5,7 @@ use Rattle.smith_types.specs.Entities.{IsFuncValid}
 use Rattle.smith_config.specs.Config.{default_config}
 use Rattle.wasm_smith.specs.Family.{IsMemberType, IsMemberField}
 use Rattle.wasm_smith.specs.ExampleMembers.{final, field_of, struct_of, taking_a_number, one_of_each_without_gc}
-use Rattle.wasm_smith.proofs.Places.{each_place}
+use Rattle.wasm_smith.proofs.PlaceLemmas.{each_place}
 use Rattle.wasm_smith.proofs.SpellExamples.{function_in_family}
 use Rattle.wasm_smith.proofs.examples.family.members.Goals as goal
 

@@ -3,7 +3,7 @@ use Rattle.smith_types.specs.declared.value_type.ValType.TheVariants.{I32}
 use Rattle.wasm_smith.specs.Module.{module_features, global_context}
 use Rattle.wasm_smith.specs.ExampleParts.{global}
 use Rattle.wasm_smith.specs.ExampleGiven.{without_gc, raw_body, counting_once, counting_fuel, counting_behind}
-use Rattle.wasm_smith.proofs.ExampleParts.{taking_types, taking_functions, number_given, globals_defined}
+use Rattle.wasm_smith.proofs.PartExamples.{taking_types, taking_functions, number_given, globals_defined}
 use Rattle.wasm_smith.proofs.examples.given_modules.bodies.Goals as goal
 
 pub returns-clause-a_function_without_gc : goal.returns-clause-a_function_without_gc

@@ -7,7 +7,7 @@ use Rattle.smith_types.specs.declared.value_type.ValType.TheVariants.{Ref}
 use Rattle.wasm_smith.specs.Module.{IsValid, segment_context}
 use Rattle.wasm_smith.specs.ExampleParts.{no_function}
 use Rattle.wasm_smith.specs.ExampleGiven.{sixty_elements}
-use Rattle.wasm_smith.proofs.ExampleParts.{no_function_given}
+use Rattle.wasm_smith.proofs.PartExamples.{no_function_given}
 use Rattle.wasm_smith.proofs.examples.given_modules.elements.Goals as goal
 
 sixty_valid : IsValid sixty_elements

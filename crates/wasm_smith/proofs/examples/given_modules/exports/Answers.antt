@@ -8,7 +8,7 @@ use Rattle.smith_types.specs.declared.entity_type.EntityType.TheVariants as enti
 use Rattle.smith_types.specs.declared.entity_type.ExportKind.{ExportKind}
 use Rattle.wasm_smith.specs.Module.{IsValid, module_features, module_spaces}
 use Rattle.wasm_smith.specs.ExampleModules.{two_exports}
-use Rattle.wasm_smith.proofs.ExampleParts.{function_types, function_at}
+use Rattle.wasm_smith.proofs.PartExamples.{function_types, function_at}
 use Rattle.wasm_smith.proofs.examples.given_modules.exports.Goals as goal
 
 two_names : AreDistinct {A = List ℕ} ([] ∷ codes "1" ∷ [])

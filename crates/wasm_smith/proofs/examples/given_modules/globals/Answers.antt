@@ -9,8 +9,8 @@ use Rattle.smith_types.specs.declared.const_instr.ConstInstr.TheVariants.{I32Con
 use Rattle.wasm_smith.specs.Module.{module_spaces, global_context}
 use Rattle.wasm_smith.specs.ExampleParts.{global, number}
 use Rattle.wasm_smith.specs.ExampleGiven.{exported_number, three_numbers}
-use Rattle.wasm_smith.proofs.Places.{distinct_alone}
-use Rattle.wasm_smith.proofs.ExampleParts.{number_given, first_read, globals_defined}
+use Rattle.wasm_smith.proofs.PlaceLemmas.{distinct_alone}
+use Rattle.wasm_smith.proofs.PartExamples.{number_given, first_read, globals_defined}
 use Rattle.wasm_smith.proofs.examples.given_modules.globals.Goals as goal
 
 pub returns-clause-an_exported_number : goal.returns-clause-an_exported_number

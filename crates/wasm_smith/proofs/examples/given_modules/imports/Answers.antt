@@ -1,7 +1,7 @@
 use Rattle.std.proofs.Common.{rules}
 use Rattle.wasm_smith.specs.Module.{module_features}
 use Rattle.wasm_smith.specs.ExampleShapes.{with_environment, with_ping}
-use Rattle.wasm_smith.proofs.ExampleParts.{taking_types, taking_functions}
+use Rattle.wasm_smith.proofs.PartExamples.{taking_types, taking_functions}
 use Rattle.wasm_smith.proofs.examples.given_modules.imports.Goals as goal
 
 pub returns-clause-a_function_and_a_memory : goal.returns-clause-a_function_and_a_memory

@@ -5,7 +5,7 @@ use Rattle.smith_types.specs.Segments.{IsDataValid}
 use Rattle.wasm_smith.specs.Module.{IsTableDefined, segment_context}
 use Rattle.wasm_smith.specs.ExampleParts.{memory, table}
 use Rattle.wasm_smith.specs.ExampleGiven.{null_table, last_byte}
-use Rattle.wasm_smith.proofs.Places.{each_place}
+use Rattle.wasm_smith.proofs.PlaceLemmas.{each_place}
 use Rattle.wasm_smith.proofs.examples.given_modules.tables_and_memories.Goals as goal
 
 pub returns-clause-many_references : goal.returns-clause-many_references

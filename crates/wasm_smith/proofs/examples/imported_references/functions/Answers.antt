@@ -9,12 +9,12 @@ use Rattle.smith_types.specs.declared.value_type.HeapType.TheVariants.{Concrete,
 use Rattle.smith_types.specs.declared.value_type.ValType.TheVariants.{Ref}
 use Rattle.smith_types.specs.declared.entity_type.GlobalType.{GlobalType}
 use Rattle.smith_types.specs.declared.const_instr.ConstInstr.TheVariants.{RefFunc}
-use Rattle.smith_types.proofs.Walk.{concrete_not_below_exact}
+use Rattle.smith_types.proofs.WalkLemmas.{concrete_not_below_exact}
 use Rattle.wasm_smith.specs.Module.{module_features, global_context}
 use Rattle.wasm_smith.specs.ExampleModules.{one_function}
 use Rattle.wasm_smith.specs.ExampleParts.{global}
 use Rattle.wasm_smith.specs.ExampleReferences.{refers_to_function}
-use Rattle.wasm_smith.proofs.ExampleParts.{alone, pushed_alone, function_types, function_at, functions_valid, globals_defined}
+use Rattle.wasm_smith.proofs.PartExamples.{alone, pushed_alone, function_types, function_at, functions_valid, globals_defined}
 use Rattle.wasm_smith.proofs.examples.imported_references.functions.Goals as goal
 
 both_valid : All (IsFuncValid one_function.types) (0 ∷ 0 ∷ [])

@@ -2,7 +2,7 @@ use Rattle.std.proofs.Common.{rules, arith, ◌≤◌, refl}
 use Rattle.wasm_smith.specs.Module.{global_context}
 use Rattle.wasm_smith.specs.ExampleParts.{number}
 use Rattle.wasm_smith.specs.ExampleReferences.{imported_read}
-use Rattle.wasm_smith.proofs.ExampleParts.{first_read, globals_defined}
+use Rattle.wasm_smith.proofs.PartExamples.{first_read, globals_defined}
 use Rattle.wasm_smith.proofs.examples.imported_references.numbers.Goals as goal
 
 pub returns : goal.returns

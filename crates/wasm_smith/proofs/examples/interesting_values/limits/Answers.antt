@@ -5,7 +5,7 @@ use Rattle.std.proofs.lemmas.List.Elements.{All-nil, All-cons}
 use Rattle.smith_types.specs.Flags.{funcref}
 use Rattle.wasm_smith.specs.ExampleParts.{memory, table}
 use Rattle.wasm_smith.specs.InterestingValues.{IsNearTable, IsNearMemory, bytes_of}
-use Rattle.wasm_smith.proofs.NearNumbers.{none_of, not_in, not_interesting}
+use Rattle.wasm_smith.proofs.NearNumberLemmas.{none_of, not_in, not_interesting}
 use Rattle.wasm_smith.proofs.examples.interesting_values.limits.Goals as goal
 
 not_near_ten : IsNearTable 9 (table funcref 10 None) → ⊥

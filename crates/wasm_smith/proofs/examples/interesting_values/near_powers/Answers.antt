@@ -1,5 +1,5 @@
 use Rattle.std.proofs.Common.{arith, inl, inr, refl}
-use Rattle.wasm_smith.proofs.NearNumbers.{not_near_power}
+use Rattle.wasm_smith.proofs.NearNumberLemmas.{not_near_power}
 use Rattle.wasm_smith.proofs.examples.interesting_values.near_powers.Goals as goal
 
 pub returns-clause-most_of_32_bits : goal.returns-clause-most_of_32_bits

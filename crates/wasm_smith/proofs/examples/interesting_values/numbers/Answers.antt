@@ -1,7 +1,7 @@
 use Rattle.std.proofs.Common.{[], arith, inl, inr, refl}
 use Rattle.std.proofs.lemmas.List.Elements.{All-nil}
 use Rattle.wasm_smith.specs.InterestingValues.{IsNearTable, IsNearMemory}
-use Rattle.wasm_smith.proofs.NearNumbers.{not_interesting}
+use Rattle.wasm_smith.proofs.NearNumberLemmas.{not_interesting}
 use Rattle.wasm_smith.proofs.examples.interesting_values.numbers.Goals as goal
 
 pub returns-clause-five : goal.returns-clause-five

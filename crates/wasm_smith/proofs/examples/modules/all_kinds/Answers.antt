@@ -12,12 +12,12 @@ use Rattle.smith_types.specs.declared.entity_type.EntityType.TheVariants as enti
 use Rattle.smith_types.specs.declared.entity_type.ExportKind.{ExportKind}
 use Rattle.smith_types.specs.declared.const_instr.ConstInstr.{ConstInstr}
 use Rattle.smith_types.specs.declared.const_instr.ConstInstr.TheVariants.{F32Const, RefNull}
-use Rattle.smith_types.proofs.Growth.{IsRefBelow-refl}
+use Rattle.smith_types.proofs.GrowthLemmas.{IsRefBelow-refl}
 use Rattle.wasm_smith.specs.Module.{IsValid, IsTableDefined, IsGlobalDefined, module_features, module_types, module_spaces, table_context, global_context}
 use Rattle.wasm_smith.specs.ExampleParts.{memory, table, global}
 use Rattle.wasm_smith.specs.ExampleModules.{foo_type, quux_type, one_of_each, group_of}
-use Rattle.wasm_smith.proofs.Places.{each_place}
-use Rattle.wasm_smith.proofs.ExampleParts.{alone, group_valid}
+use Rattle.wasm_smith.proofs.PlaceLemmas.{each_place}
+use Rattle.wasm_smith.proofs.PartExamples.{alone, group_valid}
 use Rattle.wasm_smith.proofs.examples.modules.all_kinds.Goals as goal
 
 foo_valid : (end : ℕ) → IsTypeValid (module_features one_of_each) one_of_each.types end foo_type

@@ -6,8 +6,8 @@ use Rattle.smith_types.specs.declared.const_instr.ConstInstr.TheVariants.{I32Con
 use Rattle.wasm_smith.specs.Module.{AreDefinitionsValid, IsTableDefined, IsGlobalDefined, table_context, global_context}
 use Rattle.wasm_smith.specs.ExampleParts.{table, global}
 use Rattle.wasm_smith.specs.ExampleModules.{one_table, one_number}
-use Rattle.wasm_smith.proofs.Places.{each_place}
-use Rattle.wasm_smith.proofs.ExampleParts.{alone, no_function_given}
+use Rattle.wasm_smith.proofs.PlaceLemmas.{each_place}
+use Rattle.wasm_smith.proofs.PartExamples.{alone, no_function_given}
 use Rattle.wasm_smith.proofs.examples.modules.entities.Goals as goal
 
 pub returns-clause-a_table : goal.returns-clause-a_table

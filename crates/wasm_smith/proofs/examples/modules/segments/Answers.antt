@@ -12,8 +12,8 @@ use Rattle.smith_types.specs.declared.value_type.ValType.TheVariants.{Ref}
 use Rattle.wasm_smith.specs.Module.{module_features, module_spaces, segment_context}
 use Rattle.wasm_smith.specs.ExampleParts.{no_function, shared_memory}
 use Rattle.wasm_smith.specs.ExampleModules.{two_elements, one_data_segment, one_tag}
-use Rattle.wasm_smith.proofs.Places.{distinct_alone}
-use Rattle.wasm_smith.proofs.ExampleParts.{no_function_given, function_types, functions_valid, function_at}
+use Rattle.wasm_smith.proofs.PlaceLemmas.{distinct_alone}
+use Rattle.wasm_smith.proofs.PartExamples.{no_function_given, function_types, functions_valid, function_at}
 use Rattle.wasm_smith.proofs.examples.modules.segments.Goals as goal
 
 pub returns-clause-elements : goal.returns-clause-elements

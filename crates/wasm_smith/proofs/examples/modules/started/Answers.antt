@@ -6,14 +6,14 @@ use Rattle.smith_types.specs.Segments.{IsItem, IsElementValid}
 use Rattle.smith_types.specs.ExampleTypes.{not_null}
 use Rattle.smith_types.specs.declared.value_type.HeapType.TheVariants.{Concrete}
 use Rattle.smith_types.specs.declared.segments.Offset.TheVariants.{Const32}
-use Rattle.smith_types.proofs.Growth.{IsRefBelow-refl}
-use Rattle.smith_types.proofs.Paths.{below_kind}
+use Rattle.smith_types.proofs.GrowthLemmas.{IsRefBelow-refl}
+use Rattle.smith_types.proofs.PathLemmas.{below_kind}
 use Rattle.wasm_smith.specs.Module.{IsTableDefined, module_features, global_context, segment_context}
 use Rattle.wasm_smith.specs.ExampleParts.{table, number}
 use Rattle.wasm_smith.specs.ExampleMembers.{final}
 use Rattle.wasm_smith.specs.ExampleModules.{one_function, plain_function, filled_table, table_from_a_number}
-use Rattle.wasm_smith.proofs.Places.{each_place}
-use Rattle.wasm_smith.proofs.ExampleParts.{function_types, functions_valid, function_at, number_given, globals_defined}
+use Rattle.wasm_smith.proofs.PlaceLemmas.{each_place}
+use Rattle.wasm_smith.proofs.PartExamples.{function_types, functions_valid, function_at, number_given, globals_defined}
 use Rattle.wasm_smith.proofs.examples.modules.started.Goals as goal
 
 function_below : IsRefBelow one_function.types (not_null (Concrete 0)) funcref

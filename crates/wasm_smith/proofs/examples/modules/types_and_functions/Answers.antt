@@ -3,7 +3,7 @@ use Rattle.std.proofs.lemmas.List.Elements.{All-from_recursion}
 use Rattle.smith_types.specs.ValidTypes.{IsGroupValid, AreTypesValid}
 use Rattle.wasm_smith.specs.Module.{module_features, module_types}
 use Rattle.wasm_smith.specs.ExampleModules.{group_of, arrays, three_arrays, one_function}
-use Rattle.wasm_smith.proofs.ExampleParts.{function_types, functions_valid, array_valid, array_below, group_valid}
+use Rattle.wasm_smith.proofs.PartExamples.{function_types, functions_valid, array_valid, array_below, group_valid}
 use Rattle.wasm_smith.proofs.examples.modules.types_and_functions.Goals as goal
 
 two_types : AreTypesValid (module_features arrays) (module_types arrays)

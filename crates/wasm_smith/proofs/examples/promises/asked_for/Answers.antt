@@ -2,8 +2,8 @@ use Rattle.std.proofs.Common.{rules, refl}
 use Rattle.smith_config.specs.Config.{default_config}
 use Rattle.smith_config.specs.InUse.{FixesImports}
 use Rattle.wasm_smith.specs.ExampleShapes.{for_exports, exporting}
-use Rattle.wasm_smith.proofs.ExamplePromises.{not_distinct, past_the_table}
-use Rattle.wasm_smith.proofs.ExampleShapes.{no_imports_fixed}
+use Rattle.wasm_smith.proofs.PromiseExamples.{not_distinct, past_the_table}
+use Rattle.wasm_smith.proofs.ShapeExamples.{no_imports_fixed}
 use Rattle.wasm_smith.proofs.examples.promises.asked_for.Goals as goal
 
 exports_fix_none : FixesImports (for_exports exporting default_config) → ⊥

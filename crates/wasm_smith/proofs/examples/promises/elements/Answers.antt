@@ -4,7 +4,7 @@ use Rattle.smith_types.specs.Flags.{funcref}
 use Rattle.smith_types.specs.Segments.{IsElementInside}
 use Rattle.smith_types.specs.declared.segments.Offset.TheVariants.{Const32, Global}
 use Rattle.wasm_smith.specs.ExampleParts.{table, into_a_table}
-use Rattle.wasm_smith.proofs.ExamplePromises.{past_the_table}
+use Rattle.wasm_smith.proofs.PromiseExamples.{past_the_table}
 use Rattle.wasm_smith.proofs.examples.promises.elements.Goals as goal
 
 pub returns-clause-up_to_the_end : goal.returns-clause-up_to_the_end

@@ -2,7 +2,7 @@ use Rattle.std.proofs.Common.{arith, ◌≡◌, ◌≤◌, refl}
 use Rattle.std.specs.Prelude.{codes}
 use Rattle.smith_bytes.specs.declared.error.Count.TheVariants as counts
 use Rattle.smith_bytes.specs.declared.error.Which.TheVariants.{ModuleShape}
-use Rattle.wasm_smith.proofs.ExampleShapes.{no_imports_fixed}
+use Rattle.wasm_smith.proofs.ShapeExamples.{no_imports_fixed}
 use Rattle.wasm_smith.proofs.examples.refusals.given.Goals as goal
 
 pub returns-clause-too_many_imports_asked_for : goal.returns-clause-too_many_imports_asked_for

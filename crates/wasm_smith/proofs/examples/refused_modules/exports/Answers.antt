@@ -8,7 +8,7 @@ use Rattle.smith_types.specs.declared.entity_type.ExportKind.{ExportKind}
 use Rattle.smith_types.specs.declared.entity_type.ExportKind.TheVariants as kind
 use Rattle.wasm_smith.specs.Module.{module_spaces}
 use Rattle.wasm_smith.specs.ExampleModules.{exported_twice, one_number}
-use Rattle.wasm_smith.proofs.ExampleRefused.{name_refused}
+use Rattle.wasm_smith.proofs.RefusedExamples.{name_refused}
 use Rattle.wasm_smith.proofs.examples.refused_modules.exports.Goals as goal
 
 two : AreDistinct {A = List ℕ} (codes "a" ∷ codes "b" ∷ [])

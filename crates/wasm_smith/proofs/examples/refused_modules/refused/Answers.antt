@@ -4,7 +4,7 @@ use Rattle.smith_types.specs.Entities.{IsMemoryValid}
 use Rattle.wasm_smith.specs.Module.{module_features}
 use Rattle.wasm_smith.specs.ExampleParts.{memory}
 use Rattle.wasm_smith.specs.ExampleModules.{one_memory}
-use Rattle.wasm_smith.proofs.ExampleRefused.{null_refused, name_refused, elements_refused, bytes_refused}
+use Rattle.wasm_smith.proofs.RefusedExamples.{null_refused, name_refused, elements_refused, bytes_refused}
 use Rattle.wasm_smith.proofs.examples.refused_modules.refused.Goals as goal
 
 pub returns-clause-by_its_entities : goal.returns-clause-by_its_entities

@@ -6,7 +6,7 @@ use Rattle.wasm_smith.specs.Module.{segment_context}
 use Rattle.wasm_smith.specs.ExampleParts.{into_a_table, active_data}
 use Rattle.wasm_smith.specs.ExampleModules.{one_function, table_from_a_number}
 use Rattle.wasm_smith.specs.ExampleGiven.{last_byte}
-use Rattle.wasm_smith.proofs.ExampleRefused.{elements_refused, bytes_refused}
+use Rattle.wasm_smith.proofs.RefusedExamples.{elements_refused, bytes_refused}
 use Rattle.wasm_smith.proofs.examples.refused_modules.segments.Goals as goal
 
 pub returns-clause-elements_without_bulk_memory : goal.returns-clause-elements_without_bulk_memory

@@ -8,14 +8,14 @@ use Rattle.smith_types.specs.declared.value_type.AbstractHeapType.TheVariants as
 use Rattle.smith_types.specs.declared.entity_type.TableType.{TableType}
 use Rattle.smith_types.specs.declared.value_type.ValType.TheVariants.{Ref}
 use Rattle.smith_types.specs.declared.const_instr.ConstInstr.TheVariants.{I32Const, GlobalGet, RefNull}
-use Rattle.smith_types.proofs.Growth.{IsRefBelow-refl}
-use Rattle.smith_types.proofs.Walk.{by_cases_from_below}
+use Rattle.smith_types.proofs.GrowthLemmas.{IsRefBelow-refl}
+use Rattle.smith_types.proofs.WalkLemmas.{by_cases_from_below}
 use Rattle.wasm_smith.specs.Module.{IsTableDefined, table_context}
 use Rattle.wasm_smith.specs.ExampleParts.{table, global, no_function}
 use Rattle.wasm_smith.specs.ExampleModules.{table_from_import, table_behind, one_table}
-use Rattle.wasm_smith.proofs.Places.{each_place}
-use Rattle.wasm_smith.proofs.ExampleParts.{alone, pushed_alone, no_function_given}
-use Rattle.wasm_smith.proofs.ExampleRefused.{null_refused}
+use Rattle.wasm_smith.proofs.PlaceLemmas.{each_place}
+use Rattle.wasm_smith.proofs.PartExamples.{alone, pushed_alone, no_function_given}
+use Rattle.wasm_smith.proofs.RefusedExamples.{null_refused}
 use Rattle.wasm_smith.proofs.examples.refused_modules.tables.Goals as goal
 
 number_is_no_reference : IsConstExpr (table_context one_table) (Ref funcref) (I32Const (pos 0) ∷ []) → ⊥

@@ -7,7 +7,7 @@ use Rattle.smith_types.specs.declared.value_type.ValType.TheVariants.{Ref}
 use Rattle.smith_types.specs.declared.composite_type.SubType.{SubType}
 use Rattle.smith_types.specs.ExampleTypes.{plain, nullable, anyref, eqref}
 use Rattle.smith_types.specs.ValidTypes.{IsValTypeValid, IsGroupValid, IsSupertypeValid}
-use Rattle.smith_types.proofs.Walk.{by_cases_from_below}
+use Rattle.smith_types.proofs.WalkLemmas.{by_cases_from_below}
 use Rattle.wasm_smith.specs.Module.{module_features}
 use Rattle.wasm_smith.specs.ExampleModules.{a_type, bytes_array, taking, referring_to, types_together, group_of}
 use Rattle.wasm_smith.proofs.examples.refused_modules.types.Goals as goal

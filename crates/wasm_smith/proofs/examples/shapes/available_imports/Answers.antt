@@ -1,6 +1,6 @@
 use Rattle.std.proofs.Common.{[], refl}
 use Rattle.wasm_smith.specs.ShapesKept.{is_fitting}
-use Rattle.wasm_smith.proofs.ExampleShapes.{both_kept}
+use Rattle.wasm_smith.proofs.ShapeExamples.{both_kept}
 use Rattle.wasm_smith.proofs.examples.shapes.available_imports.Goals as goal
 
 pub returns-clause-both : goal.returns-clause-both

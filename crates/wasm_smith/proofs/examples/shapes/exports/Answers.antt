@@ -6,7 +6,7 @@ use Rattle.smith_types.specs.declared.entity_type.ExportKind.TheVariants as kind
 use Rattle.wasm_smith.specs.ExampleParts.{memory, global}
 use Rattle.wasm_smith.specs.ExampleModules.{foo_type}
 use Rattle.wasm_smith.specs.ExampleShapes.{exporting, exported, equal_types, of_equal_types}
-use Rattle.wasm_smith.proofs.ExampleShapes.{export_kept, same_function, five_kept}
+use Rattle.wasm_smith.proofs.ShapeExamples.{export_kept, same_function, five_kept}
 use Rattle.wasm_smith.proofs.examples.shapes.exports.Goals as goal
 
 pub returns-clause-kept : goal.returns-clause-kept

@@ -1,5 +1,5 @@
 use Rattle.std.proofs.Common.{rules}
-use Rattle.wasm_smith.proofs.ExampleShapes.{five_kept, both_kept}
+use Rattle.wasm_smith.proofs.ShapeExamples.{five_kept, both_kept}
 use Rattle.wasm_smith.proofs.examples.shapes.shapes.Goals as goal
 
 pub returns-clause-of_exports : goal.returns-clause-of_exports

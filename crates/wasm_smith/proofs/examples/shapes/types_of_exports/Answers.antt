@@ -1,6 +1,6 @@
 use Rattle.std.proofs.Common.{refl}
 use Rattle.wasm_smith.specs.ExampleModules.{foo_type, quux_type}
-use Rattle.wasm_smith.proofs.ExampleShapes.{same_function}
+use Rattle.wasm_smith.proofs.ShapeExamples.{same_function}
 use Rattle.wasm_smith.proofs.examples.shapes.types_of_exports.Goals as goal
 
 pub returns-clause-the_same_function_type : goal.returns-clause-the_same_function_type

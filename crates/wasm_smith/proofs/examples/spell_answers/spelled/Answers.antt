@@ -3,7 +3,7 @@ use Rattle.smith_bytes.specs.Spelling.{Listed}
 use Rattle.smith_bytes.specs.Draws.{digit_count}
 use Rattle.smith_draw.specs.Spelling.{SpellsGroups}
 use Rattle.wasm_smith.specs.Spelling.{SpellsMember}
-use Rattle.wasm_smith.proofs.Spelled.{joined, stop, any_byte, one_function_spelled}
+use Rattle.wasm_smith.proofs.SpelledExamples.{joined, stop, any_byte, one_function_spelled}
 use Rattle.wasm_smith.proofs.SpellExamples.{nothing_spellable, function_spellable}
 use Rattle.wasm_smith.proofs.examples.spell_answers.spelled.Goals as goal
 

@@ -11,7 +11,7 @@ use Rattle.smith_config.specs.Shapes.{space_of}
 use Rattle.smith_draw.specs.Spelling.{ReferBack, GroupsFit, SpellsGroup, SpellsGroups, SpellsSubTypes, SpellsFuncType}
 use Rattle.wasm_smith.specs.ExampleModules.{plain_function}
 use Rattle.wasm_smith.specs.ExampleMembers.{final, alone, one_function_type, struct_of, field_of}
-use Rattle.wasm_smith.proofs.Spelled.{joined, go, stop, bool_first, digit_first, without_nothing, opened}
+use Rattle.wasm_smith.proofs.SpelledExamples.{joined, go, stop, bool_first, digit_first, without_nothing, opened}
 use Rattle.wasm_smith.proofs.examples.spelled_types.spaces.Goals as goal
 
 refers_to_itself : ReferBack [] (alone (struct_of 0)) → ⊥

@@ -2,7 +2,7 @@ use Rattle.std.proofs.Common.{arith, ◌<◌, [], ◌∷◌, refl}
 use Rattle.smith_bytes.specs.Draws.{digit_count}
 use Rattle.smith_bytes.specs.Spelling.{SpellsNothing, SpellsNumber}
 use Rattle.smith_draw.specs.Spelling.{SpellsField, SpellsGroup, SpellsSubTypes}
-use Rattle.wasm_smith.proofs.Spelled.{joined, go, stop, no_supertype, not_shared, digit_first, refused_first, without_nothing, opened}
+use Rattle.wasm_smith.proofs.SpelledExamples.{joined, go, stop, no_supertype, not_shared, digit_first, refused_first, without_nothing, opened}
 use Rattle.wasm_smith.proofs.examples.spelled_types.types.Goals as goal
 
 pub returns-clause-an_array : goal.returns-clause-an_array

@@ -6,7 +6,7 @@ use Rattle.smith_types.specs.declared.value_type.ValType.TheVariants.{I32}
 use Rattle.smith_draw.specs.Choices.{enabled}
 use Rattle.smith_draw.specs.ValueTypes.{value_classes}
 use Rattle.wasm_smith.specs.ExampleMembers.{single_results}
-use Rattle.wasm_smith.proofs.Spelled.{joined, go, stop, one_odd, bool_first, digit_first, place_first, without_nothing, opened}
+use Rattle.wasm_smith.proofs.SpelledExamples.{joined, go, stop, one_odd, bool_first, digit_first, place_first, without_nothing, opened}
 use Rattle.wasm_smith.proofs.examples.spelled_types.values.Goals as goal
 
 pub returns-clause-a_reference : goal.returns-clause-a_reference

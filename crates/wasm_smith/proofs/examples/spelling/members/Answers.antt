@@ -4,7 +4,7 @@ use Rattle.smith_bytes.specs.Draws.{digit_count}
 use Rattle.smith_draw.specs.Spelling.{SpellsGroups, SpellsGroup, SpellsSubTypes, SpellsFuncType, SpellsValType, SpellsField, SpellsStructType}
 use Rattle.wasm_smith.specs.FuncTypes.{is_tag_type, is_unshared_function}
 use Rattle.wasm_smith.specs.Spelling.{SpellsMember}
-use Rattle.wasm_smith.proofs.Spelled.{joined, go, stop, any_byte, no_clone, one_function_spelled}
+use Rattle.wasm_smith.proofs.SpelledExamples.{joined, go, stop, any_byte, no_clone, one_function_spelled}
 use Rattle.wasm_smith.proofs.examples.spelling.members.Goals as goal
 
 pub returns-clause-a_function : goal.returns-clause-a_function

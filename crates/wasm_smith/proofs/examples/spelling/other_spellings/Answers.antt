@@ -1,6 +1,6 @@
 use Rattle.std.proofs.Common.{◌≡◌, ◌%◌, refl, ap, ◌∙◌}
 use Rattle.smith_draw.specs.Spelling.{SpellsGroups}
-use Rattle.wasm_smith.proofs.Spelled.{stop}
+use Rattle.wasm_smith.proofs.SpelledExamples.{stop}
 use Rattle.wasm_smith.proofs.examples.spelling.other_spellings.Goals as goal
 
 pub returns-clause-no_group_but_a_bool : goal.returns-clause-no_group_but_a_bool

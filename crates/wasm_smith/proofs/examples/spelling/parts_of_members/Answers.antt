@@ -2,7 +2,7 @@ use Rattle.std.proofs.Common.{[], ◌∷◌, refl}
 use Rattle.smith_bytes.specs.Spelling.{Listed}
 use Rattle.smith_bytes.specs.Draws.{digit_count}
 use Rattle.wasm_smith.specs.FuncTypes.{is_tag_type, is_unshared_function}
-use Rattle.wasm_smith.proofs.Spelled.{joined, go, stop, one_odd, bool_first, place_first}
+use Rattle.wasm_smith.proofs.SpelledExamples.{joined, go, stop, one_odd, bool_first, place_first}
 use Rattle.wasm_smith.proofs.examples.spelling.parts_of_members.Goals as goal
 
 pub returns-clause-a_turn : goal.returns-clause-a_turn

@@ -4,7 +4,7 @@ use Rattle.smith_bytes.specs.Draws.{digit_count}
 use Rattle.smith_bytes.specs.Spelling.{Listed}
 use Rattle.smith_config.specs.Config.{default_config}
 use Rattle.wasm_smith.specs.Spelling.{SpellsGlobal, SpellsBytes}
-use Rattle.wasm_smith.proofs.Spelled.{joined, go, stop, one_odd, bool_first, digit_first, this_first, without_nothing, not_shared, global_parts}
+use Rattle.wasm_smith.proofs.SpelledExamples.{joined, go, stop, one_odd, bool_first, digit_first, this_first, without_nothing, not_shared, global_parts}
 use Rattle.wasm_smith.proofs.examples.spelling.parts_of_rests.Goals as goal
 
 pub returns-clause-a_number : goal.returns-clause-a_number

@@ -2,7 +2,7 @@ use Rattle.std.proofs.Common.{[], ◌∷◌, refl}
 use Rattle.smith_bytes.specs.Spelling.{Listed}
 use Rattle.smith_bytes.specs.Draws.{digit_count}
 use Rattle.wasm_smith.specs.Spelling.{SpellsRest, SpellsGlobal, SpellsBytes}
-use Rattle.wasm_smith.proofs.Spelled.{joined, go, stop, any_byte}
+use Rattle.wasm_smith.proofs.SpelledExamples.{joined, go, stop, any_byte}
 use Rattle.wasm_smith.proofs.examples.spelling.rests.Goals as goal
 
 pub returns-clause-a_number : goal.returns-clause-a_number

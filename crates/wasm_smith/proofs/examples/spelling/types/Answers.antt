@@ -1,6 +1,6 @@
 use Rattle.std.proofs.Common.{arith, ◌<◌, [], ◌∷◌, refl}
 use Rattle.smith_bytes.specs.Draws.{digit_count}
-use Rattle.wasm_smith.proofs.Spelled.{joined, refused_first, no_clone, not_shared}
+use Rattle.wasm_smith.proofs.SpelledExamples.{joined, refused_first, no_clone, not_shared}
 use Rattle.wasm_smith.proofs.examples.spelling.types.Goals as goal
 
 pub returns-clause-byte_field : goal.returns-clause-byte_field

@@ -4,8 +4,8 @@ use Rattle.smith_config.specs.Config.{default_config}
 use Rattle.wasm_smith.specs.Module.{module_features}
 use Rattle.wasm_smith.specs.ToCome.{IsDrawn}
 use Rattle.wasm_smith.specs.ExampleModules.{one_function}
-use Rattle.wasm_smith.proofs.Alone.{valid_alone}
-use Rattle.wasm_smith.proofs.ExampleParts.{function_types, functions_valid}
+use Rattle.wasm_smith.proofs.AloneLemmas.{valid_alone}
+use Rattle.wasm_smith.proofs.PartExamples.{function_types, functions_valid}
 use Rattle.wasm_smith.proofs.examples.to_come.drawn.Goals as goal
 
 function_drawn : IsDrawn default_config one_function

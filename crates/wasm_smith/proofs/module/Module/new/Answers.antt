@@ -3,11 +3,11 @@ use Rattle.std.proofs.Common.{Err, ap, sym, subst}
 use Rattle.std.proofs.lemmas.Option.{same_Some}
 use Rattle.smith_bytes.specs.declared.error.Error.TheVariants.{Shape}
 use Rattle.smith_bytes.specs.declared.error.ShapeFault.TheVariants.{LeftOut}
-use Rattle.smith_bytes.proofs.Pieces.{piece_same}
+use Rattle.smith_bytes.proofs.PieceLemmas.{piece_same}
 use Rattle.smith_config.specs.Sanitized.{sanitized}
 use Rattle.wasm_smith.specs.ToCome.{IsLeftOut, MayComeOut}
-use Rattle.wasm_smith.proofs.NoShapes.{shown_sanitized}
-use Rattle.wasm_smith.proofs.Needless.{memory_alone}
+use Rattle.wasm_smith.proofs.NoShapeLemmas.{shown_sanitized}
+use Rattle.wasm_smith.proofs.NeedlessLemmas.{memory_alone}
 use Rattle.wasm_smith.proofs.module.Module.new.Goals as goal
 
 pub returns-in-Err-clause-source : goal.returns-in-Err-clause-source

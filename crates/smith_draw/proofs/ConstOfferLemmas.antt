@@ -1,0 +1,463 @@
+-- Each choice that is offered makes a node that fits.
+use Rattle.std.proofs.Common.{◌≡◌, ◌⊎◌, inl, inr, ℕ, zero, suc, ◌+◌, ◌-◌, ◌<◌, ◌≤◌, Bool, true, false, cond, List, [], ◌∷◌, ◌++◌, Option, Some, length, take, map, refl, sym, subst, ap, ◌∙◌, arith}
+use Rattle.std.specs.Prelude.{slice_get, IsTrue, ◌&&◌, ◌||◌, ◌==◌, not, nat_lt, replicate}
+use Rattle.std.specs.List.{AllByRecursion as Each}
+use Rattle.std.proofs.lemmas.Bool.Decides.{nat_tests}
+use Rattle.std.proofs.lemmas.List.Elements.{All-nil, All-from_recursion, recursion_from_All}
+use Rattle.std.proofs.lemmas.Option.{same_Some}
+use Rattle.smith_bytes.specs.Draws.{range_at, choose_at}
+use Rattle.smith_bytes.specs.declared.error.Error.{Error}
+use Rattle.smith_bytes.specs.declared.error.Error.TheVariants.{EmptyChoose}
+use Rattle.smith_bytes.proofs.DrawnLemmas.{range_within}
+use Rattle.smith_types.specs.Expressions.{Context, HasType, IsDefaultable, created, reference_to, function_reference, unpacked, field_values}
+use Rattle.smith_types.specs.Flags.{IsInstrEnabled}
+use Rattle.smith_types.specs.Subtyping.{IsValBelow}
+use Rattle.smith_types.specs.ValidTypes.{IsValTypeValid}
+use Rattle.smith_types.specs.declared.value_type.AbstractHeapType.TheVariants as heap
+use Rattle.smith_types.specs.declared.value_type.HeapType.{HeapType}
+use Rattle.smith_types.specs.declared.value_type.HeapType.TheVariants.{Abstract}
+use Rattle.smith_types.specs.declared.value_type.RefType.{RefType}
+use Rattle.smith_types.specs.declared.value_type.ValType.{ValType}
+use Rattle.smith_types.specs.declared.value_type.ValType.TheVariants.{I32, I64, F32, F64, V128, Ref}
+use Rattle.smith_types.specs.declared.composite_type.CompositeInnerType.{CompositeInnerType}
+use Rattle.smith_types.specs.declared.composite_type.CompositeInnerType.TheVariants as inner
+use Rattle.smith_types.specs.declared.composite_type.FieldType.{FieldType}
+use Rattle.smith_types.specs.declared.composite_type.SubType.{SubType}
+use Rattle.smith_types.specs.declared.entity_type.GlobalType.{GlobalType}
+use Rattle.smith_types.specs.declared.const_instr.ConstInstr.{ConstInstr}
+use Rattle.smith_types.specs.declared.const_instr.ConstInstr.TheVariants as instr
+use Rattle.smith_draw.specs.Constants.{constant_at}
+use Rattle.smith_draw.specs.Below.{is_val_below}
+use Rattle.smith_draw.specs.ConstScopes.{IsScope, fields_of}
+use Rattle.smith_draw.specs.ConstOffers.{each_from, offered_if, is_defaultable, are_defaultable, is_integer, global_offers, function_offers, struct_ways, array_ways, struct_offers, array_offers, conversions, other_offers, created_offers, reference_offers, constant_offers, offers}
+use Rattle.smith_draw.specs.ConstNodes.{field_operands, repeated, is_shared_heap, node_of, node_at}
+use Rattle.smith_draw.specs.ConstBounds.{widest, field_count, IsNonNullable, MayLack}
+use Rattle.smith_draw.specs.ConstSteps.{operand_type, MayRefuseValues, IsNode, IsFit}
+use Rattle.smith_draw.specs.declared.const_expr.choice.Choice.{Choice}
+use Rattle.smith_draw.specs.declared.const_expr.choice.Choice.TheVariants as choice
+use Rattle.smith_draw.specs.declared.const_expr.node.Operand.{Operand}
+use Rattle.smith_draw.specs.declared.const_expr.node.Operand.TheVariants.{Value, Length}
+use Rattle.smith_draw.proofs.PuttingLemmas.{below_itself}
+use Rattle.smith_draw.proofs.BelowLemmas.{val_decides}
+use Rattle.smith_draw.proofs.ConstStepLemmas.{length_map, lack_alone}
+use Rattle.std.specs.List.{Any}
+use Rattle.std.proofs.lemmas.Option.{slice_get_within, get_or_from_slice_get}
+
+-- what stands in a list and has a property is one that has it
+any_at : {A : Type 0} (P : A → Type 0) (xs : List A) (k : ℕ) (x : A) → slice_get xs k ≡ Some x → P x → Any P xs
+any_at P xs k x at p = (k, x, slice_get_within xs k x at, get_or_from_slice_get xs k x x at, p)
+
+both : (a b : Bool) → (a && b) ≡ true → (a ≡ true) × (b ≡ true)
+both true b e = (refl, e)
+both false b e = cc
+
+off : (a : Bool) → not a ≡ true → a ≡ false
+off true e = cc
+off false e = refl
+
+-- lists of choices, each of which is fit
+each_join : {A : Type 0} (P : A → Type 0) (xs ys : List A) → Each P xs → Each P ys → Each P (xs ++ ys)
+each_join P [] ys h k = k
+each_join P (x ∷ xs) ys (p, h) k = (p, each_join P xs ys h k)
+
+each_if : {A : Type 0} (P : A → Type 0) (b : Bool) (x : A) → (b ≡ true → P x) → Each P (offered_if b x)
+each_if P true x h = (h refl, tt)
+each_if P false x h = tt
+
+each_cond : {A : Type 0} (P : A → Type 0) (b : Bool) (xs : List A) → (b ≡ true → Each P xs) → Each P (cond b xs [])
+each_cond P true xs h = h refl
+each_cond P false xs h = tt
+
+each_of : {A B : Type 0} (P : B → Type 0) (offer : ℕ → A → List B) (whole : List A) (start : ℕ) (rest : List A) → ((i : ℕ) (x : A) → slice_get whole i ≡ Some x → Each P (offer i x)) → ((j : ℕ) (x : A) → slice_get rest j ≡ Some x → slice_get whole (start + j) ≡ Some x)
+    → Each P (each_from offer start rest)
+each_of P offer whole start [] each stands = tt
+each_of {A = A} P offer whole start (x ∷ rest) each stands =
+    let first : start + 0 ≡ start = omega arith in
+    each_join P (offer start x) (each_from offer (start + 1) rest) (each start x (subst (λ (n : ℕ). slice_get whole n ≡ Some x) first (stands 0 x refl)))
+    (each_of P offer whole (start + 1) rest each (λ j y at.
+    let later : start + suc j ≡ start + 1 + j = omega arith in
+    subst (λ (n : ℕ). slice_get whole n ≡ Some y) later (stands (suc j) y at)))
+
+each_all : {A B : Type 0} (P : B → Type 0) (offer : ℕ → A → List B) (whole : List A) → ((i : ℕ) (x : A) → slice_get whole i ≡ Some x → Each P (offer i x)) → Each P (each_from offer 0 whole)
+each_all {A = A} P offer whole each = each_of P offer whole 0 whole each (λ j x at. let same : j ≡ 0 + j = omega arith in subst (λ (n : ℕ). slice_get whole n ≡ Some x) same at)
+
+taken : {A : Type 0} (n : ℕ) (xs : List A) (i : ℕ) (x : A) → slice_get (take n xs) i ≡ Some x → (slice_get xs i ≡ Some x) × (i < n)
+taken zero xs i x at = cc
+taken (suc n) [] i x at = cc
+taken (suc n) (y ∷ xs) zero x at = (at, omega arith)
+taken (suc n) (y ∷ xs) (suc i) x at = let (there, less) = taken n xs i x at in (there, omega arith)
+
+-- how wide the widest node is
+pub widest_three : (types : List SubType) → 3 ≤ widest types
+unfolding widest
+widest_three [] = omega arith
+widest_three (t ∷ types) = let more = widest_three types in omega arith
+
+widest_at : (types : List SubType) (i : ℕ) (t : SubType) → slice_get types i ≡ Some t → field_count t.composite_type.inner ≤ widest types
+unfolding widest
+widest_at [] i t at = cc
+widest_at (u ∷ types) zero t at = let same : u ≡ t = same_Some u t at in let e = ap (λ (v : SubType). field_count v.composite_type.inner) same in omega arith
+widest_at (u ∷ types) (suc i) t at = let more = widest_at types i t at in omega arith
+
+types_of : (values : List ValType) → map operand_type (map Value values) ≡ values
+types_of [] = refl
+types_of (value ∷ values) = ap (λ (vs : List ValType). value ∷ vs) (types_of values)
+
+default_for : (value : ValType) → is_defaultable value ≡ true → IsDefaultable value
+default_for (Ref reference) e = e
+default_for I32 e = tt
+default_for I64 e = tt
+default_for F32 e = tt
+default_for F64 e = tt
+default_for V128 e = tt
+
+defaults_each : (fields : List FieldType) → are_defaultable fields ≡ true → Each IsDefaultable (field_values fields)
+defaults_each [] e = tt
+defaults_each (field ∷ fields) e =
+    let (p, q) = both (is_defaultable (unpacked field.element_type)) (are_defaultable fields) e in
+    (default_for (unpacked field.element_type) p, defaults_each fields q)
+
+module _ (context : Context) (wanted : ValType) (fuel : ℕ) (scope : IsScope context) (valid : IsValTypeValid context.features (length context.types) wanted) where
+  below : (value : ValType) → is_val_below context.types value wanted ≡ true → IsValBelow context.types value wanted
+  below value e = (val_decides context.types scope.orderly value wanted).0 e
+
+  -- a node without operands
+  leaf : (instruction : ConstInstr) (result : ValType) → HasType context instruction [] result → IsValBelow context.types result wanted → IsInstrEnabled context.features context.imported_globals instruction → IsNode context wanted fuel (node_of [] instruction)
+  leaf instruction result typed lower enabled = record {
+    result = result;
+    typed = typed;
+    below = lower;
+    enabled = enabled;
+    paid = λ some. absurd (omega arith);
+    few = omega arith;
+    valid = All-nil (λ (operand : Operand). IsValTypeValid context.features (length context.types) (operand_type operand));
+    lacks = λ operand place at lacks. cc;
+  }
+
+  -- an operand is valid, and where nothing may be offered for it, so it is for the node
+  Calm : Operand → Type 0
+  Calm operand = IsValTypeValid context.features (length context.types) (operand_type operand) × (MayLack context.types (operand_type operand) → MayLack context.types wanted)
+
+  calm_valid : (operands : List Operand) → Each Calm operands → Each (λ (operand : Operand). IsValTypeValid context.features (length context.types) (operand_type operand)) operands
+  unfolding Calm
+  calm_valid [] h = tt
+  calm_valid (operand ∷ operands) (p, h) = (p.0, calm_valid operands h)
+
+  calm_lacks : (operands : List Operand) → Each Calm operands → (operand : Operand) (place : ℕ) → slice_get operands place ≡ Some operand → MayLack context.types (operand_type operand) → MayLack context.types wanted
+  unfolding Calm
+  calm_lacks [] h operand place at lacks = cc
+  calm_lacks (first ∷ operands) (p, h) operand zero at lacks = p.1 (subst (λ (o : Operand). MayLack context.types (operand_type o)) (sym (same_Some first operand at)) lacks)
+  calm_lacks (first ∷ operands) (p, h) operand (suc place) at lacks = calm_lacks operands h operand place at lacks
+
+  node_by : (instruction : ConstInstr) (operands : List Operand) (result : ValType) → HasType context instruction (map operand_type operands) result → IsValBelow context.types result wanted → IsInstrEnabled context.features context.imported_globals instruction
+      → (0 < length operands → 0 < fuel) → length operands ≤ widest context.types → Each Calm operands → IsNode context wanted fuel (node_of operands instruction)
+  node_by instruction operands result typed lower enabled paid few calm = record {
+    result = result;
+    typed = typed;
+    below = lower;
+    enabled = enabled;
+    paid = paid;
+    few = few;
+    valid = All-from_recursion (λ (operand : Operand). IsValTypeValid context.features (length context.types) (operand_type operand)) operands (calm_valid operands calm);
+    lacks = calm_lacks operands calm;
+  }
+
+  calm_number : Calm (Value I32)
+  unfolding Calm
+  calm_number = (tt, λ h. elim h [ inl never ↦ absurd never | inr holds ↦ inr holds ])
+
+  calm_length : Calm Length
+  unfolding Calm
+  calm_length = (tt, λ h. elim h [ inl never ↦ absurd never | inr holds ↦ inr holds ])
+
+  calm_fields : (index : ℕ) (t : SubType) → slice_get context.types index ≡ Some t → (start : ℕ) (rest : List ValType) → ((j : ℕ) (v : ValType) → slice_get rest j ≡ Some v → slice_get (field_values (fields_of t.composite_type.inner)) (start + j) ≡ Some v)
+      → Each (IsValTypeValid context.features (length context.types)) rest → Each Calm (map Value rest)
+  unfolding Calm
+  calm_fields index t at start [] stands h = tt
+  calm_fields index t at start (v ∷ rest) stands (p, h) =
+      let first : start + 0 ≡ start = omega arith in
+      let held : slice_get (field_values (fields_of t.composite_type.inner)) start ≡ Some v = subst (λ (n : ℕ). slice_get (field_values (fields_of t.composite_type.inner)) n ≡ Some v) first (stands 0 v refl) in (
+        (
+          p,
+          λ lacks. elim lacks [
+            | inl not_null ↦ inr (any_at (λ (ty : SubType). Any IsNonNullable (field_values (fields_of ty.composite_type.inner))) context.types index t at (any_at IsNonNullable (field_values (fields_of t.composite_type.inner)) start v held not_null))
+            | inr holds ↦ inr holds
+          ],
+        ),
+        calm_fields index t at (start + 1) rest (λ j w there.
+            let later : start + suc j ≡ start + 1 + j = omega arith in
+            subst (λ (n : ℕ). slice_get (field_values (fields_of t.composite_type.inner)) n ≡ Some w) later (stands (suc j) w there)) h,
+      )
+
+  calm_type : (index : ℕ) (t : SubType) → slice_get context.types index ≡ Some t → Each Calm (map Value (field_values (fields_of t.composite_type.inner)))
+  calm_type index t at =
+      calm_fields index t at 0 (field_values (fields_of t.composite_type.inner)) (λ j v there. let same : j ≡ 0 + j = omega arith in subst (λ (n : ℕ). slice_get (field_values (fields_of t.composite_type.inner)) n ≡ Some v) same there)
+      (recursion_from_All (IsValTypeValid context.features (length context.types)) (field_values (fields_of t.composite_type.inner)) (scope.fields index t at))
+
+  on_beyond : (b : Bool) → (b ≡ false → context.visible ≤ context.imported_globals) → (i : ℕ) → i < context.visible → context.imported_globals ≤ i → b ≡ true
+  on_beyond true seen i less over = refl
+  on_beyond false seen i less over = let within = seen refl in absurd (omega arith)
+
+  -- a visible global
+  global_fits : (i : ℕ) (g : GlobalType) → slice_get context.globals i ≡ Some g → i < context.visible → g.mutable ≡ false → IsValBelow context.types g.val_type wanted → IsFit context wanted fuel (choice.Global i)
+  unfolding node_at
+  global_fits i g there seen constant lower = record {
+    node = λ bytes. leaf (instr.GlobalGet i) g.val_type (refl, (g, there, seen, constant, refl)) lower (on_beyond context.features.gc scope.imported_seen i seen);
+    extended = λ e. cc;
+  }
+
+  globals_fit : Each (IsFit context wanted fuel) (each_from (global_offers context wanted) 0 (take context.visible context.globals))
+  globals_fit = each_all (IsFit context wanted fuel) (global_offers context wanted) (take context.visible context.globals) (λ i g at.
+      let (there, seen) = taken context.visible context.globals i g at in
+      each_if (IsFit context wanted fuel) (not g.mutable && is_val_below context.types g.val_type wanted) (choice.Global i) (λ yes.
+      let (constant, lower) = both (not g.mutable) (is_val_below context.types g.val_type wanted) yes in
+      global_fits i g there seen (off g.mutable constant) (below g.val_type lower)))
+
+  constant_typed : (value : ValType) → IsValTypeValid context.features (length context.types) value → is_defaultable value ≡ true → (bytes : List ℕ) → HasType context (constant_at value bytes).0 [] value × IsInstrEnabled context.features context.imported_globals (constant_at value bytes).0
+  unfolding constant_at
+  constant_typed I32 ok default bytes = ((refl, refl), tt)
+  constant_typed I64 ok default bytes = ((refl, refl), tt)
+  constant_typed F32 ok default bytes = ((refl, refl), tt)
+  constant_typed F64 ok default bytes = ((refl, refl), tt)
+  constant_typed V128 ok default bytes = ((refl, refl), ok)
+  constant_typed (Ref r) ok default bytes = ((ok.1.heap_type, refl, ap (λ (b : Bool). Ref (record { nullable = b; heap_type = r.heap_type })) default), ok.0)
+
+  constant_node : is_defaultable wanted ≡ true → (bytes : List ℕ) → IsNode context wanted fuel (node_of [] (constant_at wanted bytes).0)
+  constant_node default bytes = let typed = constant_typed wanted valid default bytes in leaf (constant_at wanted bytes).0 wanted typed.0 (below_itself context wanted) typed.1
+
+  integer : (value : ValType) → is_integer value ≡ true → ((value ≡ I32) ⊎ (value ≡ I64)) × (is_defaultable value ≡ true)
+  integer I32 e = (inl refl, refl)
+  integer I64 e = (inr refl, refl)
+  integer F32 e = cc
+  integer F64 e = cc
+  integer V128 e = cc
+  integer (Ref r) e = cc
+
+  constants_fit : Each (IsFit context wanted fuel) (constant_offers context wanted)
+  unfolding node_at
+  constants_fit = each_join (IsFit context wanted fuel) (offered_if (is_defaultable wanted) choice.Constant) (offered_if (is_integer wanted && context.features.extended_const) choice.Extended)
+      (each_if (IsFit context wanted fuel) (is_defaultable wanted) choice.Constant (λ default. record { node = constant_node default; extended = λ e. cc }))
+      (each_if (IsFit context wanted fuel) (is_integer wanted && context.features.extended_const) choice.Extended (λ yes.
+      let (number, on) = both (is_integer wanted) context.features.extended_const yes in
+      let (kind, default) = integer wanted number in
+      record { node = constant_node default; extended = λ e. (kind, on) }))
+
+  -- functions
+  functions_fit : IsTrue context.features.reference_types → Each (IsFit context wanted fuel) (each_from (function_offers context wanted) 0 context.funcs)
+  unfolding node_at
+  functions_fit on = each_all (IsFit context wanted fuel) (function_offers context wanted) context.funcs (λ i index at.
+      each_if (IsFit context wanted fuel) (is_val_below context.types (function_reference context i index) wanted) (choice.Function i) (λ lower. record {
+        node = λ bytes. leaf (instr.RefFunc i) (function_reference context i index) (index, at, refl, refl) (below (function_reference context i index) lower) on;
+        extended = λ e. cc;
+      }))
+
+  paid_by : (f n : ℕ) → (nat_lt 0 f || (n == 0)) ≡ true → 0 < n → 0 < f
+  paid_by f n e some = grind (arith, nat_tests)
+
+  -- structs
+  struct_fits : IsTrue context.features.gc → (index : ℕ) (t : SubType) → slice_get context.types index ≡ Some t → (i : CompositeInnerType) → t.composite_type.inner ≡ i → Each (IsFit context wanted fuel) (struct_offers context wanted fuel index i)
+  unfolding node_at
+  struct_fits on index t at (inner.Array array) is = tt
+  struct_fits on index t at (inner.Func function) is = tt
+  struct_fits on index t at (inner.Struct structure) is =
+      let fields = structure.fields in
+      let there : field_operands context.types index ≡ map Value (field_values fields) = rw (at, is) refl in
+      let calm : Each Calm (map Value (field_values fields)) = rw is at (calm_type index t at) in
+      let count : length (map Value (field_values fields)) ≡ length fields = length_map Value (field_values fields) ∙ length_map (λ (field : FieldType). unpacked field.element_type) fields in
+      let wide : length fields ≤ widest context.types = rw is at (widest_at context.types index t at) in
+      each_cond (IsFit context wanted fuel) (is_val_below context.types (created context index) wanted) (struct_ways fuel index fields) (λ lower.
+      each_join (IsFit context wanted fuel) (offered_if (nat_lt 0 fuel || (length fields == 0)) (choice.Struct index)) (offered_if (are_defaultable fields) (choice.StructDefault index))
+      (each_if (IsFit context wanted fuel) (nat_lt 0 fuel || (length fields == 0)) (choice.Struct index) (λ paid. record {
+        node = λ bytes. rw there
+            (node_by (instr.StructNew index) (map Value (field_values fields)) (created context index) (fields, (t, at, is), types_of (field_values fields), refl) (below (created context index) lower) on
+            (λ some. paid_by fuel (length fields) paid (rw count at some)) (rw count wide) calm);
+        extended = λ e. cc;
+      }))
+      (each_if (IsFit context wanted fuel) (are_defaultable fields) (choice.StructDefault index) (λ defaults. record {
+        node = λ bytes. leaf (instr.StructNewDefault index) (created context index) (fields, (t, at, is), All-from_recursion IsDefaultable (field_values fields) (defaults_each fields defaults), refl, refl) (below (created context index) lower) on;
+        extended = λ e. cc;
+      })))
+
+  repeat_types : (n : ℕ) (value : ValType) → map operand_type (repeated n (Value value ∷ [])) ≡ replicate n value
+  repeat_types zero value = refl
+  repeat_types (suc n) value = ap (λ (vs : List ValType). value ∷ vs) (repeat_types n value)
+
+  repeat_length : (n : ℕ) (operand : Operand) → length (repeated n (operand ∷ [])) ≡ n
+  repeat_length zero operand = refl
+  repeat_length (suc n) operand = ap suc (repeat_length n operand)
+
+  repeat_calm : (n : ℕ) (operand : Operand) → Calm operand → Each Calm (repeated n (operand ∷ []))
+  repeat_calm zero operand h = tt
+  repeat_calm (suc n) operand h = (h, repeat_calm n operand h)
+
+  some_fuel : (f : ℕ) → nat_lt 0 f ≡ true → 0 < f
+  some_fuel zero e = cc
+  some_fuel (suc f) e = omega arith
+
+  -- arrays
+  array_fits : IsTrue context.features.gc → (index : ℕ) (t : SubType) → slice_get context.types index ≡ Some t → (i : CompositeInnerType) → t.composite_type.inner ≡ i → Each (IsFit context wanted fuel) (array_offers context wanted fuel index i)
+  unfolding node_at
+  array_fits on index t at (inner.Struct structure) is = tt
+  array_fits on index t at (inner.Func function) is = tt
+  array_fits on index t at (inner.Array array) is =
+      let element = array.0 in
+      let value = unpacked element.element_type in
+      let there : field_operands context.types index ≡ Value value ∷ [] = rw (at, is) refl in
+      let calm : Each Calm (Value value ∷ []) = rw is at (calm_type index t at) in
+      let three = widest_three context.types in
+      each_cond (IsFit context wanted fuel) (nat_lt 0 fuel && is_val_below context.types (created context index) wanted) (array_ways index element) (λ yes.
+      let (enough, lower) = both (nat_lt 0 fuel) (is_val_below context.types (created context index) wanted) yes in
+      let paid : 0 < fuel = some_fuel fuel enough in (
+        record {
+          node = λ bytes. rw there
+              (node_by (instr.ArrayNew index) (Value value ∷ Length ∷ []) (created context index) (element, (t, at, is), refl, refl) (below (created context index) lower) on
+              (λ some. paid) (omega arith) (calm.0, (calm_length, tt)));
+          extended = λ e. cc;
+        },
+        (
+          record {
+            node = λ bytes.
+                let n = (range_at 0 3 bytes).0 in
+                let within : n ≤ 3 = range_within 0 3 bytes (omega arith) in
+                let count = repeat_length n (Value value) in
+                rw there (node_by (instr.ArrayNewFixed index n) (repeated n (Value value ∷ [])) (created context index) (element, (t, at, is), repeat_types n value, refl) (below (created context index) lower) on
+                (λ some. paid) (omega arith) (repeat_calm n (Value value) calm.0));
+            extended = λ e. cc;
+          },
+          each_if (IsFit context wanted fuel) (is_defaultable value) (choice.ArrayDefault index) (λ default. record {
+            node = λ bytes. node_by (instr.ArrayNewDefault index) (Length ∷ []) (created context index) (element, (t, at, is), default_for value default, refl, refl) (below (created context index) lower) on
+                (λ some. paid) (omega arith) (calm_length, tt);
+            extended = λ e. cc;
+          }),
+        ),
+      ))
+
+  structs_fit : IsTrue context.features.gc → Each (IsFit context wanted fuel) (each_from (λ index (t : SubType). struct_offers context wanted fuel index t.composite_type.inner) 0 context.types)
+  structs_fit on = each_all (IsFit context wanted fuel) (λ index (t : SubType). struct_offers context wanted fuel index t.composite_type.inner) context.types (λ index t at. struct_fits on index t at t.composite_type.inner refl)
+
+  arrays_fit : IsTrue context.features.gc → Each (IsFit context wanted fuel) (each_from (λ index (t : SubType). array_offers context wanted fuel index t.composite_type.inner) 0 context.types)
+  arrays_fit on = each_all (IsFit context wanted fuel) (λ index (t : SubType). array_offers context wanted fuel index t.composite_type.inner) context.types (λ index t at. array_fits on index t at t.composite_type.inner refl)
+
+  -- i31 references
+  i31_fits : IsTrue context.features.gc → 0 < fuel → is_val_below context.types (reference_to (Abstract false heap.I31)) wanted ≡ true → IsFit context wanted fuel choice.I31
+  unfolding node_at
+  i31_fits on paid lower =
+      let three = widest_three context.types in
+      record {
+        node = λ bytes. node_by instr.RefI31 (Value I32 ∷ []) (reference_to (Abstract false heap.I31)) (refl, refl) (below (reference_to (Abstract false heap.I31)) lower) on (λ some. paid) (omega arith) (calm_number, tt);
+        extended = λ e. cc;
+      }
+
+  shared_i31_fits : IsTrue context.features.gc → IsTrue context.features.shared_everything_threads → 0 < fuel → is_val_below context.types (reference_to (Abstract true heap.I31)) wanted ≡ true → IsFit context wanted fuel choice.SharedI31
+  unfolding node_at
+  shared_i31_fits on shared paid lower =
+      let three = widest_three context.types in
+      record {
+        node = λ bytes. node_by instr.RefI31Shared (Value I32 ∷ []) (reference_to (Abstract true heap.I31)) (refl, refl) (below (reference_to (Abstract true heap.I31)) lower) (on, shared) (λ some. paid) (omega arith) (calm_number, tt);
+        extended = λ e. cc;
+      }
+
+-- what is offered of a reference
+module _ (context : Context) (r : RefType) (fuel : ℕ) (scope : IsScope context) (valid : IsValTypeValid context.features (length context.types) (Ref r)) where
+  conversions_fit : IsTrue context.features.gc → 0 < fuel → (h : HeapType) → r.heap_type ≡ h → Each (IsFit context (Ref r) fuel) (conversions h)
+  unfolding node_at Calm
+  conversions_fit on paid (Abstract shared heap.Any) is =
+      let three = widest_three context.types in
+      let same : is_shared_heap r.heap_type ≡ shared = rw is refl in
+      let enabled = rw is at valid.1.heap_type in (
+        record {
+          node = λ bytes. rw same
+              (node_by context (Ref r) fuel scope valid instr.AnyConvertExtern (Value (Ref (record { nullable = r.nullable; heap_type = Abstract shared heap.Extern })) ∷ []) (Ref r)
+              (record { shared = shared; nullable = r.nullable; taken = refl; given = ap (λ (h : HeapType). Ref (record { nullable = r.nullable; heap_type = h })) is }) (below_itself context (Ref r)) on (λ some. paid) (omega arith)
+              (((valid.0, record { heap_type = (tt, enabled.1); nullable = valid.1.nullable }), λ lacks. lacks), tt));
+          extended = λ e. cc;
+        },
+        tt,
+      )
+  conversions_fit on paid (Abstract shared heap.Extern) is =
+      let three = widest_three context.types in
+      let same : is_shared_heap r.heap_type ≡ shared = rw is refl in
+      let enabled = rw is at valid.1.heap_type in (
+        record {
+          node = λ bytes. rw same
+              (node_by context (Ref r) fuel scope valid instr.ExternConvertAny (Value (Ref (record { nullable = r.nullable; heap_type = Abstract shared heap.Any })) ∷ []) (Ref r)
+              (record { shared = shared; nullable = r.nullable; taken = refl; given = ap (λ (h : HeapType). Ref (record { nullable = r.nullable; heap_type = h })) is }) (below_itself context (Ref r)) on (λ some. paid) (omega arith)
+              (((valid.0, record { heap_type = (on, enabled.1); nullable = valid.1.nullable }), λ lacks. lacks), tt));
+          extended = λ e. cc;
+        },
+        tt,
+      )
+  conversions_fit on paid h is = tt
+
+  others_fit : IsTrue context.features.gc → Each (IsFit context (Ref r) fuel) (other_offers context r fuel)
+  others_fit on =
+      let first = is_val_below context.types (reference_to (Abstract false heap.I31)) (Ref r) in
+      let second = is_val_below context.types (reference_to (Abstract true heap.I31)) (Ref r) in
+      let shared = context.features.shared_everything_threads in
+      each_cond (IsFit context (Ref r) fuel) (nat_lt 0 fuel) (offered_if first choice.I31 ++ (offered_if (shared && second) choice.SharedI31 ++ conversions r.heap_type)) (λ enough.
+      let paid : 0 < fuel = some_fuel context (Ref r) fuel scope valid fuel enough in
+      each_join (IsFit context (Ref r) fuel) (offered_if first choice.I31) (offered_if (shared && second) choice.SharedI31 ++ conversions r.heap_type)
+      (each_if (IsFit context (Ref r) fuel) first choice.I31 (λ lower. i31_fits context (Ref r) fuel scope valid on paid lower))
+      (each_join (IsFit context (Ref r) fuel) (offered_if (shared && second) choice.SharedI31) (conversions r.heap_type)
+      (each_if (IsFit context (Ref r) fuel) (shared && second) choice.SharedI31 (λ yes. let (may, lower) = both shared second yes in shared_i31_fits context (Ref r) fuel scope valid on may paid lower))
+      (conversions_fit on paid r.heap_type refl)))
+
+  created_fit : IsTrue context.features.gc → Each (IsFit context (Ref r) fuel) (created_offers context r fuel)
+  created_fit on =
+      let structs = each_from (λ index (t : SubType). struct_offers context (Ref r) fuel index t.composite_type.inner) 0 context.types in
+      let arrays = each_from (λ index (t : SubType). array_offers context (Ref r) fuel index t.composite_type.inner) 0 context.types in
+      each_join (IsFit context (Ref r) fuel) structs (arrays ++ other_offers context r fuel) (structs_fit context (Ref r) fuel scope valid on)
+      (each_join (IsFit context (Ref r) fuel) arrays (other_offers context r fuel) (arrays_fit context (Ref r) fuel scope valid on) (others_fit on))
+
+references_fit : (context : Context) (wanted : ValType) (fuel : ℕ) → IsScope context → IsValTypeValid context.features (length context.types) wanted → Each (IsFit context wanted fuel) (reference_offers context wanted fuel)
+references_fit context (Ref r) fuel scope valid =
+    each_join (IsFit context (Ref r) fuel) (each_from (function_offers context (Ref r)) 0 context.funcs) (cond context.features.gc (created_offers context r fuel) [])
+    (functions_fit context (Ref r) fuel scope valid valid.0)
+    (each_cond (IsFit context (Ref r) fuel) context.features.gc (created_offers context r fuel) (λ on. created_fit context r fuel scope valid on))
+references_fit context I32 fuel scope valid = tt
+references_fit context I64 fuel scope valid = tt
+references_fit context F32 fuel scope valid = tt
+references_fit context F64 fuel scope valid = tt
+references_fit context V128 fuel scope valid = tt
+
+-- whatever is offered fits
+pub offers_fit : (context : Context) (wanted : ValType) (fuel : ℕ) → IsScope context → IsValTypeValid context.features (length context.types) wanted → Each (IsFit context wanted fuel) (offers context wanted fuel)
+unfolding offers
+offers_fit context wanted fuel scope valid =
+    each_join (IsFit context wanted fuel) (each_from (global_offers context wanted) 0 (take context.visible context.globals)) (constant_offers context wanted ++ reference_offers context wanted fuel)
+    (globals_fit context wanted fuel scope valid)
+    (each_join (IsFit context wanted fuel) (constant_offers context wanted) (reference_offers context wanted fuel) (constants_fit context wanted fuel scope valid) (references_fit context wanted fuel scope valid))
+
+-- a chosen item is one of the list
+pub chosen_each : {A : Type 0} (P : A → Type 0) (items : List A) (n : ℕ) (x : A) → Each P items → slice_get items n ≡ Some x → P x
+chosen_each P [] n x h at = cc
+chosen_each P (y ∷ items) zero x (p, h) at = subst P (same_Some y x at) p
+chosen_each P (y ∷ items) (suc n) x (p, h) at = chosen_each P items n x h at
+
+-- the choice among what is offered fits
+pub chosen_fits : (context : Context) (wanted : ValType) (fuel : ℕ) → IsScope context → IsValTypeValid context.features (length context.types) wanted → (items : List Choice) → items ≡ offers context wanted fuel → (bytes after : List ℕ) (x : Choice) → choose_at items bytes ≡ (Some x, after) → IsFit context wanted fuel x
+unfolding choose_at
+chosen_fits context wanted fuel scope valid items is bytes after x chosen =
+    chosen_each (IsFit context wanted fuel) items (range_at 0 (length items - 1) bytes).0 x (subst (Each (IsFit context wanted fuel)) (sym is) (offers_fit context wanted fuel scope valid)) (ap (λ (d : Option Choice × List ℕ). d.0) chosen)
+
+constants_some : (context : Context) (value : ValType) (before behind : List Choice) → is_defaultable value ≡ true → 0 < length (before ++ (constant_offers context value ++ behind))
+constants_some context value [] behind default = rw default (omega arith)
+constants_some context value (x ∷ before) behind default = omega arith
+
+lacking : (context : Context) (value : ValType) (before behind : List Choice) → length (before ++ (constant_offers context value ++ behind)) ≡ 0 → IsNonNullable value
+lacking context I32 before behind none = let some = constants_some context I32 before behind refl in absurd (omega arith)
+lacking context I64 before behind none = let some = constants_some context I64 before behind refl in absurd (omega arith)
+lacking context F32 before behind none = let some = constants_some context F32 before behind refl in absurd (omega arith)
+lacking context F64 before behind none = let some = constants_some context F64 before behind refl in absurd (omega arith)
+lacking context V128 before behind none = let some = constants_some context V128 before behind refl in absurd (omega arith)
+lacking context (Ref r) before behind none = not_true r.nullable (λ default. let some = constants_some context (Ref r) before behind default in absurd (omega arith))
+  where
+    not_true : (b : Bool) → (b ≡ true → ⊥) → b ≡ false
+    not_true true h = absurd (h refl)
+    not_true false h = refl
+
+-- nothing is offered only for a reference that may not be null
+pub nothing_offered : (context : Context) (wanted : ValType) (fuel : ℕ) (items : List Choice) (e : Error) → items ≡ offers context wanted fuel → length items ≡ 0 → e ≡ EmptyChoose → MayRefuseValues context.types (wanted ∷ []) e
+unfolding offers
+nothing_offered context wanted fuel items e is none empty =
+    inr (empty, lack_alone context.types wanted (inl (lacking context wanted (each_from (global_offers context wanted) 0 (take context.visible context.globals)) (reference_offers context wanted fuel) (rw is at none))))

@@ -1,0 +1,152 @@
+-- Drawn composite types match, and are valid, over every list of types.
+use Rattle.std.proofs.Common.{◌≡◌, ℕ, zero, suc, ◌+◌, ◌-◌, ◌≤◌, Bool, List, [], ◌∷◌, ◌++◌, length, refl, nat_lt}
+use Rattle.std.specs.Prelude.{IsTrue, All}
+use Rattle.std.specs.List.{flat_map, AllByRecursion as Each}
+use Rattle.std.proofs.lemmas.List.Elements.{All-append, All-from_recursion, recursion_from_All}
+use Rattle.smith_bytes.specs.Draws.{range_at}
+use Rattle.smith_bytes.specs.Growth.{goes_at, grow_at}
+use Rattle.smith_bytes.proofs.GrownLemmas.{cond_both}
+use Rattle.smith_types.specs.Flags.{IsInnerEnabled}
+use Rattle.smith_types.specs.Kinds.{kind_of}
+use Rattle.smith_types.specs.Types.{IsOrderly}
+use Rattle.smith_types.specs.Matching.{IsInnerMatch, AreFieldsMatched}
+use Rattle.smith_types.specs.ValidTypes.{IsValTypeValid, IsFuncTypeValid, IsShareable, values_of, values_of_storage}
+use Rattle.smith_types.specs.declared.value_type.ValType.{ValType}
+use Rattle.smith_types.specs.declared.composite_type.FieldType.{FieldType}
+use Rattle.smith_types.specs.declared.composite_type.FuncType.{FuncType}
+use Rattle.smith_types.specs.declared.composite_type.StructType.{StructType}
+use Rattle.smith_types.specs.declared.composite_type.CompositeInnerType.{CompositeInnerType}
+use Rattle.smith_types.specs.declared.composite_type.CompositeInnerType.TheVariants.{Array, Func, Struct}
+use Rattle.smith_types.specs.declared.composite_type.SubType.{SubType}
+use Rattle.smith_types.proofs.GrowthLemmas.{AreFieldsMatched-longer}
+use Rattle.smith_config.specs.declared.config.Config.{Config}
+use Rattle.smith_config.specs.Features.{features_of}
+use Rattle.smith_config.specs.Sanitized.{IsSanitized}
+use Rattle.smith_draw.specs.Kept.{IsSharingEnabled, IsFieldValid, IsStorageShareable}
+use Rattle.smith_draw.specs.FieldTypes.{field_type_at, fields_until_at}
+use Rattle.smith_draw.specs.MatchingTypes.{matching_field_type_at, matched_fields_at, matching_func_type_at}
+use Rattle.smith_draw.specs.MatchingComposites.{matching_struct_type_at, matching_inner_at}
+use Rattle.smith_draw.proofs.ValueTypeLemmas.{MayShare, values_valid, values_shared}
+use Rattle.smith_draw.proofs.FieldTypeLemmas.{IsFieldDrawn, field_type_drawn, values_of_fields}
+use Rattle.smith_draw.proofs.SharedLemmas.{storage_shareable, func_shareable, each_join}
+use Rattle.smith_draw.proofs.MatchingLemmas.{all_stay, matching_field_match, matching_field_valid, matched_fields_match, matched_fields_valid, matching_func_match, matching_func_valid}
+
+-- what holds of a list, and of it with each drawn item behind, holds of the list that was made longer
+pub grow_keeps : {A : Type 0} (P : List A → Type 0) (draw : List A → List ℕ → A × List ℕ) → ((made : List A) (bytes : List ℕ) → P made → P (made ++ (draw made bytes).0 ∷ [])) → (least most : ℕ) (made : List A) (bytes : List ℕ) → P made → P (grow_at draw least most made bytes).0
+unfolding grow_at
+grow_keeps P draw keeps least zero made bytes h = h
+grow_keeps {A = A} P draw keeps least (suc most) made bytes h =
+    let go = goes_at (nat_lt (length made) least) bytes in
+    let x = draw made go.1 in
+    cond_both (λ (r : List A × List ℕ). P r.0) go.0 (grow_at draw least most (made ++ x.0 ∷ []) x.1) (made, go.1)
+    (grow_keeps P draw keeps least most (made ++ x.0 ∷ []) x.1 (keeps made go.1 h)) h
+
+each_join_fields : (P : FieldType → Type 0) (xs ys : List FieldType) → Each P xs → Each P ys → Each P (xs ++ ys)
+each_join_fields P [] ys p q = q
+each_join_fields P (x ∷ xs) ys p q = (p.0, each_join_fields P xs ys p.1 q)
+
+-- fields match what those matched that they were made of
+fields_until_match : (config : Config) (types : List SubType) (must_share : Bool) (limit end : ℕ) (fields upper : List FieldType) (bytes : List ℕ) → AreFieldsMatched types fields upper → AreFieldsMatched types (fields_until_at config types must_share limit end fields bytes).0 upper
+unfolding fields_until_at
+fields_until_match config types must_share limit end fields upper bytes =
+    grow_keeps (λ (made : List FieldType). AreFieldsMatched types made upper) (λ _. field_type_at config types must_share limit)
+    (λ made after. AreFieldsMatched-longer types made upper ((field_type_at config types must_share limit after).0 ∷ [])) end (end - length fields) fields bytes
+
+-- what holds of each field that is drawn, and of those that were there, holds of all
+fields_until_keep : (P : FieldType → Type 0) (config : Config) (types : List SubType) (must_share : Bool) (limit end : ℕ) (fields : List FieldType) (bytes : List ℕ) → ((field : FieldType) → IsFieldDrawn config types must_share limit field → P field) → IsSanitized config → MayShare config must_share
+    → Each P fields → Each P (fields_until_at config types must_share limit end fields bytes).0
+unfolding fields_until_at
+fields_until_keep P config types must_share limit end fields bytes holds sanitized may =
+    grow_keeps (λ (made : List FieldType). Each P made) (λ _. field_type_at config types must_share limit)
+    (λ made after h. (each_join_fields P made ((field_type_at config types must_share limit after).0 ∷ [])) h (holds (field_type_at config types must_share limit after).0 (field_type_drawn config types must_share limit after sanitized may), tt))
+    end (end - length fields) fields bytes
+
+-- what holds of the values of a struct holds of those of each field
+pub fields_of_values : (P : ValType → Type 0) (fields : List FieldType) → Each P (flat_map (λ (field : FieldType). values_of_storage field.element_type) fields) → Each (λ (field : FieldType). All P (values_of_storage field.element_type)) fields
+fields_of_values P [] h = tt
+fields_of_values P (field ∷ fields) h =
+    let apart = (each_join P (values_of_storage field.element_type) (flat_map (λ (field : FieldType). values_of_storage field.element_type) fields)).0 h in
+    (All-from_recursion P (values_of_storage field.element_type) apart.0, fields_of_values P fields apart.1)
+
+-- what a matching composite type keeps, without its sharedness
+pub record IsInnerMatching (config : Config) (types : List SubType) (must_share : Bool) (limit : ℕ) (old new : CompositeInnerType) : Type 0 where
+  pub enabled : IsInnerEnabled (features_of config) new
+  pub values : All (IsValTypeValid (features_of config) limit) (values_of new)
+  pub matched : IsInnerMatch types new old
+  pub shareable : IsTrue must_share → All (IsShareable types) (values_of old) → All (IsShareable types) (values_of new)
+
+-- what is asked for of the types that stand, and of the type that is matched
+pub record MayBeMatched (config : Config) (types : List SubType) (must_share : Bool) (limit : ℕ) (old : CompositeInnerType) : Type 0 where
+  pub sanitized : IsSanitized config
+  pub gc : IsTrue config.gc_enabled
+  pub may : MayShare config must_share
+  pub orderly : IsOrderly types
+  pub room : length types ≤ limit
+  pub sharing : All (IsSharingEnabled (features_of config)) types
+  pub enabled : IsInnerEnabled (features_of config) old
+  pub values : All (IsValTypeValid (features_of config) limit) (values_of old)
+
+pub matching_struct : (config : Config) (types : List SubType) (must_share : Bool) (limit : ℕ) (structure : StructType) (bytes : List ℕ) → MayBeMatched config types must_share limit (Struct structure)
+    → IsInnerMatching config types must_share limit (Struct structure) (Struct (matching_struct_type_at config types must_share limit structure bytes).0)
+unfolding matching_struct_type_at matched_fields_at
+matching_struct config types must_share limit structure bytes h =
+    let extra = range_at 0 5 bytes in
+    let matched = matched_fields_at config types structure.fields extra.1 in
+    let end = length matched.0 + extra.0 in
+    let fields = fields_until_at config types must_share limit end matched.0 matched.1 in
+    let Valid = λ (field : FieldType). IsFieldValid (features_of config) limit field in
+    let Shared = λ (field : FieldType). IsStorageShareable types field.element_type in
+    let old_values = fields_of_values (IsValTypeValid (features_of config) limit) structure.fields (recursion_from_All (IsValTypeValid (features_of config) limit) (values_of (Struct structure)) h.values) in
+    let kept = recursion_from_All Valid matched.0 ((matched_fields_valid config types structure.fields extra.1).against limit h.room h.sharing (All-from_recursion Valid structure.fields old_values)) in
+    record {
+      enabled = h.gc;
+      values = values_of_fields (IsValTypeValid (features_of config) limit) fields.0
+          (fields_until_keep Valid config types must_share limit end matched.0 matched.1 (λ field drawn. values_valid config types must_share limit (values_of_storage field.element_type) drawn.values) h.sanitized h.may kept);
+      matched = fields_until_match config types must_share limit end matched.0 structure.fields matched.1 (matched_fields_match config types structure.fields extra.1);
+      shareable = λ must old.
+          let before = fields_of_values (IsShareable types) structure.fields (recursion_from_All (IsShareable types) (values_of (Struct structure)) old) in
+          let stay = all_stay Shared (matching_field_type_at config types)
+          (λ x rest s. (storage_shareable types h.orderly (matching_field_type_at config types x rest).0.element_type x.element_type (matching_field_match config types x rest).below).1 s) structure.fields extra.1 (All-from_recursion Shared structure.fields before) in
+          values_of_fields (IsShareable types) fields.0
+          (fields_until_keep Shared config types must_share limit end matched.0 matched.1 (λ field drawn. values_shared config types must_share limit (values_of_storage field.element_type) must drawn.values) h.sanitized h.may (recursion_from_All Shared matched.0 stay));
+    }
+
+matching_func : (config : Config) (types : List SubType) (must_share : Bool) (limit : ℕ) (function : FuncType) (bytes : List ℕ) → MayBeMatched config types must_share limit (Func function)
+    → IsInnerMatching config types must_share limit (Func function) (Func (matching_func_type_at config types function bytes).0)
+matching_func config types must_share limit function bytes h =
+    let drawn = (matching_func_type_at config types function bytes).0 in
+    let P = λ (v : ValType). IsValTypeValid (features_of config) limit v in
+    let apart = (each_join P function.params function.results).0 (recursion_from_All P (values_of (Func function)) h.values) in
+    let old : IsFuncTypeValid (features_of config) limit function = record {
+      results = h.enabled;
+      params_valid = All-from_recursion P function.params apart.0;
+      results_valid = All-from_recursion P function.results apart.1;
+    } in
+    let new = (matching_func_valid config types h.orderly function bytes).against limit h.room h.sharing old in
+    let matched = matching_func_match config types function bytes in
+    record {
+      enabled = new.results;
+      values = All-append P drawn.params drawn.results new.params_valid new.results_valid;
+      matched = matched;
+      shareable = λ must. (func_shareable types h.orderly drawn function matched).1;
+    }
+
+pub matching_inner : (config : Config) (types : List SubType) (must_share : Bool) (limit : ℕ) (inner : CompositeInnerType) (bytes : List ℕ) → MayBeMatched config types must_share limit inner
+    → IsInnerMatching config types must_share limit inner (matching_inner_at config types must_share limit inner bytes).0
+matching_inner config types must_share limit (Array array) bytes h =
+    let drawn = (matching_field_type_at config types array.0 bytes).0 in
+    let matched = matching_field_match config types array.0 bytes in
+    record {
+      enabled = h.gc;
+      values = (matching_field_valid config types array.0 bytes).against limit h.room h.sharing h.values;
+      matched = matched;
+      shareable = λ must. (storage_shareable types h.orderly drawn.element_type array.0.element_type matched.below).1;
+    }
+matching_inner config types must_share limit (Func function) bytes h = matching_func config types must_share limit function bytes h
+matching_inner config types must_share limit (Struct structure) bytes h = matching_struct config types must_share limit structure bytes h
+
+-- a matching composite type is of the same kind
+pub matching_kind : (config : Config) (types : List SubType) (must_share : Bool) (limit : ℕ) (inner : CompositeInnerType) (bytes : List ℕ) → kind_of (matching_inner_at config types must_share limit inner bytes).0 ≡ kind_of inner
+matching_kind config types must_share limit (Array array) bytes = refl
+matching_kind config types must_share limit (Func function) bytes = refl
+matching_kind config types must_share limit (Struct structure) bytes = refl

@@ -1,0 +1,141 @@
+-- A source that begins with a piece that spells a heap or value type gives it, and leaves what follows.
+use Rattle.std.proofs.Common.{◌≡◌, ℕ, zero, suc, [], ◌∷◌, subst, ◌<◌, ◌-◌, ◌&&◌, Bool, true, false, cond, Some, List, ◌++◌, length, refl, nat_lt, arith}
+use Rattle.std.specs.Prelude.{IsTrue, slice_get}
+use Rattle.std.specs.List.{AllByRecursion as ByRecursion}
+use Rattle.std.proofs.lemmas.Bool.{lt-ltb, ltb-true}
+use Rattle.std.proofs.lemmas.Option.{get_or_from_slice_get, slice_get_within}
+use Rattle.std.proofs.lemmas.List.Elements.{All-from_recursion}
+use Rattle.smith_bytes.specs.Draws.{bool_at, ratio_at}
+use Rattle.smith_bytes.specs.Spelling.{SpellsBool, SpellsRefusal, Where}
+use Rattle.smith_bytes.proofs.SpelledLemmas.{joined_parts, bool_read, number_read, refusal_read}
+use Rattle.smith_types.specs.Subtyping.{IsInRange, IsValInRange}
+use Rattle.smith_types.specs.declared.value_type.AbstractHeapType.{AbstractHeapType}
+use Rattle.smith_types.specs.declared.value_type.AbstractHeapType.TheVariants.{Func}
+use Rattle.smith_types.specs.declared.value_type.HeapType.{HeapType}
+use Rattle.smith_types.specs.declared.value_type.HeapType.TheVariants.{Abstract, Concrete, Exact}
+use Rattle.smith_types.specs.declared.value_type.RefType.{RefType}
+use Rattle.smith_types.specs.declared.value_type.ValType.{ValType}
+use Rattle.smith_types.specs.declared.value_type.ValType.TheVariants as vals
+use Rattle.smith_types.specs.declared.composite_type.SubType.{SubType}
+use Rattle.smith_config.specs.declared.config.Config.{Config}
+use Rattle.smith_draw.specs.declared.value_type.ValueClass.{ValueClass}
+use Rattle.smith_draw.specs.declared.value_type.ValueClass.TheVariants.{I32, Reference}
+use Rattle.smith_draw.specs.Choices.{enabled, chosen_at}
+use Rattle.smith_draw.specs.ValueTypes.{value_classes, abstract_heap_types, sharedness_at, abstract_heap_type_at, index_wanted_at, type_index_at, heap_type_at, ref_type_at, value_of_class_at, val_type_at}
+use Rattle.smith_draw.specs.Spelling.{SpellsPlace, SpellsUnshared, SpellsConcrete, SpellsHeapType, SpellsRefType, SpellsBehindClass, SpellsValType, class_of}
+use Rattle.smith_draw.proofs.EnabledLemmas.{enabled_all}
+
+chosen_read : {A : Type 0} (other : A) (items : List A) (item : A) (piece after : List ℕ) → SpellsPlace items item piece → chosen_at other items (piece ++ after) ≡ (item, after)
+unfolding chosen_at
+chosen_read other items item piece after h = rw (number_read h.place 0 (length items - 1) piece after h.number, get_or_from_slice_get items h.place item other h.stands) refl
+
+-- a refusal, where one is asked for
+pub refused_where : (on : Bool) (chances : ℕ) (piece after : List ℕ) → Where on (SpellsRefusal chances) piece → cond on (ratio_at 1 chances (piece ++ after)) (false, piece ++ after) ≡ (false, after)
+refused_where true chances piece after h = refusal_read chances piece after h
+refused_where false chances piece after h = rw h refl
+
+pub unshared_read : (config : Config) (piece after : List ℕ) → SpellsUnshared config piece → sharedness_at config false (piece ++ after) ≡ (false, after)
+unfolding sharedness_at
+unshared_read config piece after h = refused_where config.shared_everything_threads_enabled 4 piece after h
+
+wanted_where : (on wanted : Bool) (piece after : List ℕ) → (IsTrue wanted → IsTrue on) → Where on (SpellsBool wanted) piece → cond on (bool_at (piece ++ after)) (false, piece ++ after) ≡ (wanted, after)
+wanted_where true wanted piece after may h = bool_read wanted piece after h
+wanted_where false true piece after may h = let on : false ≡ true = may refl in cc
+wanted_where false false piece after may h = rw h refl
+
+wanted_read : (config : Config) (limit : ℕ) (wanted : Bool) (piece after : List ℕ) → (IsTrue wanted → IsTrue (config.gc_enabled && nat_lt 0 limit)) → SpellsConcrete config limit wanted piece → index_wanted_at config limit (piece ++ after) ≡ (wanted, after)
+wanted_read config limit wanted piece after may h = wanted_where (config.gc_enabled && nat_lt 0 limit) wanted piece after may h
+
+-- an index below the limit is one where some index is
+some_below : (gc : Bool) (index limit : ℕ) → IsTrue (gc && nat_lt index limit) → IsTrue (gc && nat_lt 0 limit)
+some_below true index limit h =
+    let below : index < limit = ltb-true index limit h in
+    lt-ltb 0 limit (omega arith)
+some_below false index limit h = h
+
+abstract_read : (config : Config) (types : List SubType) (limit : ℕ) (shared : Bool) (ty : AbstractHeapType) (piece after : List ℕ) → SpellsHeapType config limit (Abstract shared ty) piece
+    → heap_type_at config types false limit (piece ++ after) ≡ (Abstract shared ty, after)
+unfolding heap_type_at type_index_at abstract_heap_type_at
+abstract_read config types limit shared ty piece after h =
+    let unshared = h.0 in
+    let parts = h.1 in
+    let rest = parts.is_second in
+    let behind = rest.first ++ (rest.second ++ after) in
+    rw (
+      joined_parts parts after,
+      joined_parts rest after,
+      wanted_read config limit false parts.first behind (λ no. cc) parts.is_first,
+      unshared_read config rest.first (rest.second ++ after) rest.is_first,
+      chosen_read Func (enabled (abstract_heap_types config)) ty rest.second after rest.is_second,
+      unshared,
+    ) refl
+
+concrete_read : (config : Config) (types : List SubType) (limit index : ℕ) (piece after : List ℕ) (t : SubType) → slice_get types index ≡ Some t → SpellsHeapType config limit (Concrete index) piece
+    → heap_type_at config types false limit (piece ++ after) ≡ (Concrete index, after)
+unfolding heap_type_at type_index_at
+concrete_read config types limit index piece after t stands h =
+    let below = h.0 in
+    let parts = h.1 in
+    rw (
+      joined_parts parts after,
+      wanted_read config limit true parts.first (parts.second ++ after) (λ yes. some_below config.gc_enabled index limit below) parts.is_first,
+      number_read index 0 (limit - 1) parts.second after parts.is_second,
+      stands,
+    ) refl
+
+standing : (types : List SubType) (index : ℕ) → index < length types → (t : SubType) × (slice_get types index ≡ Some t)
+standing [] index below = absurd (omega arith)
+standing (t ∷ types) zero below = (t, refl)
+standing (t ∷ types) (suc index) below = standing types index (omega arith)
+
+pub heap_type_read : (config : Config) (types : List SubType) (limit : ℕ) (ty : HeapType) (piece after : List ℕ) → IsInRange types ty → SpellsHeapType config limit ty piece
+    → heap_type_at config types false limit (piece ++ after) ≡ (ty, after)
+heap_type_read config types limit (Abstract shared ty) piece after stands h = abstract_read config types limit shared ty piece after h
+heap_type_read config types limit (Concrete index) piece after stands h =
+    let (t, at) = standing types index stands in
+    concrete_read config types limit index piece after t at h
+heap_type_read config types limit (Exact index) piece after stands h = absurd h
+
+-- an enabled class of references comes with reference types
+ReferenceTypes : Config → ValueClass → Type 0
+ReferenceTypes config Reference = IsTrue config.reference_types_enabled
+ReferenceTypes config _ = Unit {0}
+
+class_needs : (config : Config) (class : ValueClass) (piece : List ℕ) → SpellsPlace (enabled (value_classes config)) class piece → ReferenceTypes config class
+unfolding ReferenceTypes
+class_needs config class piece h =
+    let P = λ (class : ValueClass). ReferenceTypes config class in
+    let items = enabled (value_classes config) in
+    let rows : ByRecursion (λ (row : ValueClass × Bool). IsTrue row.1 → P row.0) (value_classes config) = ((λ _. tt), ((λ _. tt), ((λ _. tt), ((λ _. tt), ((λ _. tt), ((λ on. on), tt)))))) in
+    let all = enabled_all P (value_classes config) (All-from_recursion (λ (row : ValueClass × Bool). IsTrue row.1 → P row.0) (value_classes config) rows) in
+    subst P (get_or_from_slice_get items h.place class class h.stands) (all h.place class (slice_get_within items h.place class h.stands))
+
+nullable_by : (on : Bool) (drawn : HeapType × List ℕ) (other : RefType × List ℕ) (reference : RefType) (after : List ℕ) → IsTrue on → drawn ≡ (reference.heap_type, after) → IsTrue reference.nullable
+    → cond {A = RefType × List ℕ} on (record { nullable = true; heap_type = drawn.0 }, drawn.1) other ≡ (reference, after)
+nullable_by true drawn other reference after on read nullable = rw (read, ← nullable) refl
+nullable_by false drawn other reference after on read nullable = cc
+
+pub ref_type_read : (config : Config) (types : List SubType) (limit : ℕ) (reference : RefType) (piece after : List ℕ) → IsInRange types reference.heap_type → SpellsRefType config limit reference piece
+    → ref_type_at config types false limit (piece ++ after) ≡ (reference, after)
+unfolding ref_type_at
+ref_type_read config types limit reference piece after stands h =
+    let read = heap_type_read config types limit reference.heap_type piece after stands h.heap_type in
+    nullable_by config.reference_types_enabled (heap_type_at config types false limit (piece ++ after)) (record { nullable = true; heap_type = Abstract false Func }, piece ++ after) reference after h.enabled read h.nullable
+
+rest_read : (config : Config) (types : List SubType) (limit : ℕ) (value : ValType) (piece after : List ℕ) → ReferenceTypes config (class_of value) → IsValInRange types value → SpellsBehindClass config limit value piece
+    → value_of_class_at config types false limit (class_of value) (piece ++ after) ≡ (value, after)
+unfolding ReferenceTypes
+rest_read config types limit vals.I32 piece after on stands h = rw h refl
+rest_read config types limit vals.I64 piece after on stands h = rw h refl
+rest_read config types limit vals.F32 piece after on stands h = rw h refl
+rest_read config types limit vals.F64 piece after on stands h = rw h refl
+rest_read config types limit vals.V128 piece after on stands h = rw h refl
+rest_read config types limit (vals.Ref reference) piece after on stands h =
+    rw (ref_type_read config types limit reference piece after stands (record { enabled = on; nullable = h.0; heap_type = h.1 })) refl
+
+pub val_type_read : (config : Config) (types : List SubType) (limit : ℕ) (value : ValType) (piece after : List ℕ) → IsValInRange types value → SpellsValType config limit value piece
+    → val_type_at config types false limit (piece ++ after) ≡ (value, after)
+unfolding val_type_at SpellsValType
+val_type_read config types limit value piece after stands h =
+    rw (joined_parts h after, chosen_read I32 (enabled (value_classes config)) (class_of value) h.first (h.second ++ after) h.is_first)
+    (rest_read config types limit value h.second after (class_needs config (class_of value) h.first h.is_first) stands h.is_second)

@@ -1,0 +1,147 @@
+-- What holds of a type space holds with one more type or group.
+use Rattle.std.proofs.Common.{◌≡◌, ◌⊎◌, ℕ, suc, zero, ◌+◌, ◌-◌, ◌^◌, ◌<◌, ◌≤◌, List, [], ◌∷◌, ◌++◌, Some, None, get_or, length, refl, sym, ◌∙◌, subst, inl, inr, arith, ap, add-one}
+use Rattle.std.specs.Prelude.{Bool, true, false, not, ◌&&◌, nat_lt, if◌then◌else◌, slice_get, slice_index}
+use Rattle.std.specs.declared.ops.Range.{Range}
+use Rattle.std.proofs.lemmas.Option.{slice_get_within, same_Some}
+use Rattle.std.proofs.lemmas.List.{length-append, get_or_append_left}
+use Rattle.std.proofs.Math.Seq.{get_or-append_seam}
+use Rattle.smith_types.specs.declared.composite_type.SubType.{SubType}
+use Rattle.smith_types.specs.Types.{IsAlike, IsOrderly, end_from, next_start, next_group, AreConsecutive, AreCovered}
+use Rattle.smith_types.specs.Space.{IsSound, MayFollow, HasDepth, root, deeper, AreDepths, extensible_from}
+use Rattle.smith_types.proofs.ListLemmas.{slice_get-grown, slice_get-last, slice_get-push}
+
+-- what stands below the end of a list stood there before one more was added
+slice_get-shrunk : {A : Type 0} (xs : List A) (y : A) (i : ℕ) (x : A) → i < length xs → slice_get (xs ++ y ∷ []) i ≡ Some x → slice_get xs i ≡ Some x
+slice_get-shrunk xs y i x inside at = elim (slice_get-push xs y i x at) [ inl old ↦ old | inr (is, same) ↦ absurd (omega arith) ]
+
+pub IsOrderly-push : (types : List SubType) (t : SubType) → IsOrderly types → ((s : ℕ) → t.supertype ≡ Some s → (u : SubType) × (slice_get types s ≡ Some u) × IsAlike t u) → IsOrderly (types ++ t ∷ [])
+IsOrderly-push types t orderly below = record {
+  under = λ i s u at sup. elim (slice_get-push types t i u at) [
+    | inl old ↦
+        let (before, alike) = orderly.under i s u old sup in
+        let inside : i < length types = slice_get_within types i u old in
+        (before, λ v stands. alike v (slice_get-shrunk types t s v (omega arith) stands))
+    | inr (is, same) ↦
+        let (w, stands_at, alike) = below s (ap (λ x. x.supertype) same ∙ sup) in
+        let inside : s < length types = slice_get_within types s w stands_at in (
+          omega arith,
+          λ v stands.
+              subst (λ x. IsAlike x v) same
+              (subst (λ x. IsAlike t x) (same_Some w v (sym (slice_get-grown types (t ∷ []) s w stands_at) ∙ stands)) alike),
+        )
+  ];
+}
+
+-- a depth stays as the list grows
+pub HasDepth-grown : (types more : List SubType) {i d : ℕ} → HasDepth types i d → HasDepth (types ++ more) i d
+HasDepth-grown types more (root {i = i} {t = t} at none) = root (slice_get-grown types more i t at) none
+HasDepth-grown types more (deeper {i = i} {t = t} at up above) = deeper (slice_get-grown types more i t at) up (HasDepth-grown types more above)
+
+-- a type's depth is at most the number of types up to it
+pub HasDepth-le : (types : List SubType) → IsOrderly types → {i d : ℕ} → HasDepth types i d → d ≤ i + 1
+HasDepth-le types orderly (root at none) = omega arith
+HasDepth-le types orderly (deeper {i = i} {s = s} {t = t} at up above) =
+    let below : s < i = (orderly.under i s t at up).0 in
+    let deep = HasDepth-le types orderly above in
+    omega (arith, below, deep)
+
+less_or_same : (i n : ℕ) → i < n + 1 → (i < n) ⊎ (i ≡ n)
+less_or_same i zero h = inr (omega arith)
+less_or_same zero (suc n) h = inl (omega arith)
+less_or_same (suc i) (suc n) h = elim (less_or_same i n (omega arith)) [ inl less ↦ inl (omega arith) | inr same ↦ inr (ap suc same) ]
+
+pub AreDepths-push : (types : List SubType) (t : SubType) (depths : List ℕ) (d : ℕ) → AreDepths types depths → HasDepth (types ++ t ∷ []) (length types) d → AreDepths (types ++ t ∷ []) (depths ++ d ∷ [])
+AreDepths-push types t depths d before last = record {
+  long = simp length-append (ap (λ n. n + 1) before.long);
+  each = λ i inside.
+      let most : i < length types + 1 = simp length-append at inside in
+      elim (less_or_same i (length types) most) [
+        | inl below ↦
+            subst (λ n. HasDepth (types ++ t ∷ []) i n) (sym (get_or_append_left depths (d ∷ []) 0 i (omega (arith, before.long))))
+            (HasDepth-grown types (t ∷ []) (before.each i below))
+        | inr same ↦
+            let end : i ≡ length depths = same ∙ sym before.long in
+            subst (λ n. HasDepth (types ++ t ∷ []) n (slice_index (depths ++ d ∷ []) n)) (sym end)
+            (subst (λ n. HasDepth (types ++ t ∷ []) (length depths) n) (sym (get_or-append_seam depths d [] 0))
+            (subst (λ n. HasDepth (types ++ t ∷ []) n d) (sym before.long) last))
+      ];
+}
+
+end_from-push : (start : ℕ) (groups : List (Range ℕ)) (group : Range ℕ) → end_from start (groups ++ group ∷ []) ≡ group.end
+end_from-push start [] group = refl
+end_from-push start (g ∷ groups) group = end_from-push g.end groups group
+
+pub AreConsecutive-push : (start : ℕ) (groups : List (Range ℕ)) (group : Range ℕ) → AreConsecutive start groups → group.start ≡ end_from start groups → group.start ≤ group.end → AreConsecutive start (groups ++ group ∷ [])
+AreConsecutive-push start [] group c begins ends = (begins, omega arith, tt)
+AreConsecutive-push start (g ∷ groups) group (p, q, r) begins ends = (p, q, AreConsecutive-push g.end groups group r begins ends)
+
+-- where the next group begins after one more
+pub next_start-push : (types : List SubType) (groups : List (Range ℕ)) → next_start (groups ++ next_group types groups ∷ []) ≡ length types
+next_start-push types groups = end_from-push 0 groups (next_group types groups)
+
+pub IsSound-type : (types : List SubType) (groups : List (Range ℕ)) (t : SubType) → IsSound (record { types = types; groups = groups }) → MayFollow types t → IsSound (record { types = types ++ t ∷ []; groups = groups })
+IsSound-type types groups t sound follows = record {
+  orderly = IsOrderly-push types t sound.orderly follows.below;
+  consecutive = sound.consecutive;
+  within = simp length-append (let w : next_start groups ≤ length types = sound.within in omega arith);
+  few = simp length-append (let r : length types + 1 < 2 ^ 32 = follows.room in omega arith);
+}
+
+-- with one more group that ends where the types end, the groups cover them
+pub AreCovered-group : (types : List SubType) (groups : List (Range ℕ)) → IsSound (record { types = types; groups = groups }) → AreCovered types (groups ++ next_group types groups ∷ [])
+AreCovered-group types groups sound = record {
+  consecutive = AreConsecutive-push 0 groups (next_group types groups) sound.consecutive refl sound.within;
+  whole = next_start-push types groups;
+}
+
+pub IsSound-group : (types : List SubType) (groups : List (Range ℕ)) → IsSound (record { types = types; groups = groups }) → IsSound (record { types = types; groups = groups ++ next_group types groups ∷ [] })
+IsSound-group types groups sound = record {
+  orderly = sound.orderly;
+  consecutive = (AreCovered-group types groups sound).consecutive;
+  within = omega (arith, next_start-push types groups);
+  few = sound.few;
+}
+
+-- the end of the last group, read as code reads it
+pub end_from-last : (start : ℕ) (groups : List (Range ℕ)) → 1 ≤ length groups → (get_or groups (length groups - 1) (record { start = 0; end = 0 })).end ≡ end_from start groups
+end_from-last start [] some = absurd (omega arith)
+end_from-last start (g ∷ []) some = refl
+end_from-last start (g ∷ h ∷ groups) some =
+    let fewer : length (g ∷ h ∷ groups) - 1 ≡ suc (length (h ∷ groups) - 1) = omega arith in
+    rw fewer (end_from-last g.end (h ∷ groups) (omega arith))
+
+-- the supertype of a type that follows has a depth
+supertype_depth : (types : List SubType) (depths : List ℕ) (t : SubType) (s : ℕ) → AreDepths types depths → MayFollow types t → t.supertype ≡ Some s → (s < length types) × HasDepth types s (slice_index depths s)
+supertype_depth types depths t s known follows up =
+    let (u, at, alike) = follows.below s up in
+    let inside : s < length types = slice_get_within types s u at in
+    (inside, known.each s inside)
+
+-- one more than the depth of a type is below the number of types that a space holds
+pub depth_room : (types : List SubType) (depths : List ℕ) (t : SubType) (s : ℕ) → IsOrderly types → AreDepths types depths → MayFollow types t → t.supertype ≡ Some s → slice_index depths s + 1 < 2 ^ 32
+depth_room types depths t s orderly known follows up =
+    let (inside, deep) = supertype_depth types depths t s known follows up in
+    let few : length types + 1 < 2 ^ 32 = follows.room in
+    let least : slice_index depths s ≤ s + 1 = HasDepth-le types orderly deep in
+    omega (arith, inside, few, least)
+
+pub depth_below : (types : List SubType) (depths : List ℕ) (t : SubType) (s : ℕ) → AreDepths types depths → MayFollow types t → t.supertype ≡ Some s → HasDepth (types ++ t ∷ []) (length types) (slice_index depths s + 1)
+depth_below types depths t s known follows up =
+    let (inside, deep) = supertype_depth types depths t s known follows up in
+    rw add-one (deeper {t = t} (slice_get-last types t) up (HasDepth-grown types (t ∷ []) deep))
+
+pub depth_alone : (types : List SubType) (t : SubType) → t.supertype ≡ None → HasDepth (types ++ t ∷ []) (length types) 1
+depth_alone types t none = root {t = t} (slice_get-last types t) none
+
+added_behind : (b : Bool) (i : ℕ) (xs ys more : List ℕ) → ys ≡ xs ++ more → (if b then i ∷ ys else ys) ≡ (if b then i ∷ xs else xs) ++ more
+added_behind true i xs ys more e = ap (λ (l : List ℕ). i ∷ l) e
+added_behind false i xs ys more e = e
+
+-- the indices of the types that may have subtypes, with one type more
+pub extensible-push : (first last : ℕ) (types : List SubType) (t : SubType) (depths : List ℕ) (d : ℕ) → length depths ≡ length types → last ≡ first + length types
+    → extensible_from first (types ++ t ∷ []) (depths ++ d ∷ []) ≡ extensible_from first types depths ++ (if not t.is_final && nat_lt d 60 then last ∷ [] else [])
+extensible-push first last [] t [] d long is = let same : last ≡ first = omega arith in rw same refl
+extensible-push first last [] t (e ∷ depths) d long is = absurd (omega arith)
+extensible-push first last (u ∷ types) t [] d long is = absurd (omega arith)
+extensible-push first last (u ∷ types) t (e ∷ depths) d long is =
+    added_behind (not u.is_final && nat_lt e 60) first _ _ _ (extensible-push (first + 1) last types t depths d (omega arith) (omega arith))

@@ -1,0 +1,75 @@
+-- Facts that several examples come to.
+use Rattle.std.proofs.Common.{rules, false, List, [], Some, None, IsTrue, ◌≡◌, ◌∙◌, ◌∷◌, ℕ, zero, suc, lit<, refl, sym, subst, arith}
+use Rattle.std.specs.Prelude.{slice_get}
+use Rattle.std.proofs.lemmas.List.Elements.{All-nil, All-cons, All-head}
+use Rattle.std.proofs.lemmas.Option.{same_Some}
+use Rattle.smith_types.specs.declared.value_type.AbstractHeapType.{AbstractHeapType}
+use Rattle.smith_types.specs.declared.value_type.AbstractHeapType.TheVariants as heap
+use Rattle.smith_types.specs.declared.value_type.HeapType.TheVariants.{Concrete}
+use Rattle.smith_types.specs.declared.value_type.ValType.TheVariants.{Ref}
+use Rattle.smith_types.specs.declared.composite_type.SubType.{SubType}
+use Rattle.smith_types.specs.Features.{Features}
+use Rattle.smith_types.specs.Types.{IsOrderly}
+use Rattle.smith_types.specs.Subtyping.{is_abstract_below, IsBelow, IsValBelow}
+use Rattle.smith_types.specs.ValidTypes.{IsValTypeValid, IsSupertypeValid, IsTypeValid, IsGroupValid, AreTypesValid}
+use Rattle.smith_types.specs.ExampleFeatures.{usual_features}
+use Rattle.smith_types.specs.ExampleTypes.{open_type, empty_struct, struct_and_below, below_itself, anyref, eqref, plain, nullable, range, referring, referring_type, in_one_group}
+use Rattle.smith_types.proofs.PathLemmas.{below_abstract}
+use Rattle.smith_types.proofs.WalkLemmas.{by_cases_from_below, below_alone}
+
+-- abstract types, by the table
+pub abstract_below : (a b : AbstractHeapType) → IsTrue (is_abstract_below a b) → IsBelow [] (plain a) (plain b)
+abstract_below a b below = below_abstract [] false a b below
+
+pub abstract_apart : (a b : AbstractHeapType) → ¬ IsTrue (is_abstract_below a b) → ¬ IsBelow [] (plain a) (plain b)
+abstract_apart a b apart below = let (shares, never) = by_cases_from_below [] (search rules) (plain a) (plain b) below in apart never
+
+pub struct_orderly : IsOrderly struct_and_below
+struct_orderly = search rules
+
+-- a type does not stand before itself
+pub itself_not_before : ¬ IsOrderly below_itself
+itself_not_before orderly = let (before, alike) = orderly.under 0 0 (open_type (Some 0) empty_struct) refl refl in omega (arith, before)
+
+pub upper_not_below : ¬ IsBelow struct_and_below (Concrete 0) (Concrete 1)
+upper_not_below below = below_alone struct_and_below struct_orderly 0 1 (open_type None empty_struct) (lit< tt) refl (λ (same : 0 ≡ 1). omega (arith, same)) below
+
+pub eq_below_any : (types : List SubType) → IsValBelow types eqref anyref
+eq_below_any types = record { heap = below_abstract types false heap.Eq heap.Any refl; nullable = λ _. refl }
+
+-- a type that refers behind its group
+pub referring_alone : (features : Features) (types : List SubType) → ¬ IsTypeValid features types 1 referring_type
+referring_alone features types first =
+    let (on, held) = All-head (IsValTypeValid features 1) (Ref (nullable (Concrete 1))) [] first.values in
+    let (enabled, inside) = held.heap_type in
+    omega (arith, inside)
+
+pub referring_behind : (features : Features) → ¬ IsGroupValid features referring (range 0 1)
+referring_behind features valid = referring_alone features referring (valid.members 0 referring_type (omega arith) (omega arith) refl)
+
+-- what holds of two types holds of each of them
+of_both : (P : SubType → Type 0) (t u v : SubType) (i : ℕ) → P t → P u → slice_get (t ∷ u ∷ []) i ≡ Some v → P v
+of_both P t u v zero p q at = subst P (same_Some t v at) p
+of_both P t u v (suc zero) p q at = subst P (same_Some u v at) q
+of_both P t u v (suc (suc i)) p q at = search rules
+
+-- two valid types in one group
+pub two_valid : (t u : SubType) → IsOrderly (t ∷ u ∷ []) → IsTypeValid usual_features (t ∷ u ∷ []) 2 t → IsTypeValid usual_features (t ∷ u ∷ []) 2 u → AreTypesValid usual_features (in_one_group (t ∷ u ∷ []))
+two_valid t u orderly first second =
+    let valid = IsTypeValid usual_features (t ∷ u ∷ []) 2 in
+    let group : IsGroupValid usual_features (t ∷ u ∷ []) (range 0 2) = record { members = λ i v low high at. of_both valid t u v i first second at; single = λ never. cc never } in
+    record {
+      covered = search rules;
+      orderly = orderly;
+      groups = All-cons (IsGroupValid usual_features (t ∷ u ∷ [])) (range 0 2) [] group (All-nil (IsGroupValid usual_features (t ∷ u ∷ [])));
+    }
+
+-- the second of two types is declared below the first, where it may be
+pub below_first : (t u : SubType) → u.supertype ≡ Some 0 → IsSupertypeValid (t ∷ u ∷ []) u t → (s : ℕ) → u.supertype ≡ Some s → (v : SubType) × (slice_get (t ∷ u ∷ []) s ≡ Some v) × IsSupertypeValid (t ∷ u ∷ []) u v
+below_first t u up valid s up' = (t, subst (λ n. slice_get (t ∷ u ∷ []) n ≡ Some t) (same_Some 0 s (sym up ∙ up')) refl, valid)
+
+pub first_above : (t u : SubType) → u.supertype ≡ Some 0 → AreTypesValid usual_features (in_one_group (t ∷ u ∷ [])) → IsSupertypeValid (t ∷ u ∷ []) u t
+first_above t u up valid =
+    let group = All-head (IsGroupValid usual_features (t ∷ u ∷ [])) (range 0 2) [] valid.groups in
+    let (v, at, above) = (group.members 1 u (omega arith) (omega arith) refl).declared 0 up in
+    subst (IsSupertypeValid (t ∷ u ∷ []) u) (sym (same_Some t v at)) above
