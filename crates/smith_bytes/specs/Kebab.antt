@@ -29,7 +29,7 @@ character name n =
 unfoldable pub character_at : List ℕ → List ℕ → ℕ × List ℕ
 character_at name bytes = let n = range_at 0 36 bytes in (character name n.0, n.1)
 
--- a name with so many characters more
+-- a name with a number of characters more
 unfoldable pub characters_at : ℕ → List ℕ → List ℕ → List ℕ × List ℕ
 characters_at zero name bytes = (name, bytes)
 characters_at (suc n) name bytes = let c = character_at name bytes in characters_at n (name ++ c.0 ∷ []) c.1

@@ -13,19 +13,19 @@ abbrev pub CallsKeepPieces : {F : Type 0} → Mut F (MutBor (List ℕ) × Unit {
 CallsKeepPieces {F} g = (f : F) (bytes : List ℕ) (answer : Result Bool Error) (f' : F) (bytes' : List ℕ) → CalledAtMut g f bytes answer f' bytes' → KeepsPieces bytes bytes'
 
 module _ {F : Type 0} (g : Mut F (MutBor (List ℕ) × Unit {0}) (Result Bool Error × (MutBor (List ℕ) × Unit {0}))) (min max : ℕ) where
-  -- one call more behind so many: the loop goes on, and f is called on what that leaves
+  -- one call more behind those before it: the loop goes on, and f is called on what that leaves
   pub record Turn (calls : ℕ) (f : F) (bytes : List ℕ) (answer : Result Bool Error) (f' : F) (bytes' : List ℕ) : Type 0 where
     pub more : calls < max
     pub mid : List ℕ
     pub goes : goes_at (nat_lt calls min) bytes ≡ (true, mid)
     pub called : CalledAtMut g f mid answer f' bytes'
 
-  -- so many calls, each answered true
+  -- a number of calls, each answered true
   abbrev pub HasRun : F → List ℕ → ℕ → F → List ℕ → Type 0
   HasRun f bytes zero f' bytes' = (f ≡ f') × (bytes ≡ bytes')
   HasRun f bytes (suc calls) f' bytes' = (last : F) × (left : List ℕ) × HasRun f bytes calls last left × Turn calls last left (Ok true) f' bytes'
 
-  -- how the loop ends after so many calls that were answered true
+  -- how the loop ends after a number of calls that were answered true
   pub data EndsAt (calls : ℕ) (f : F) (bytes : List ℕ) : Result (Unit {0}) Error → List ℕ → Type 0 where
     at_most : calls ≡ max → EndsAt calls f bytes (Ok tt) bytes
     at_bool : (bytes' : List ℕ) → calls < max → goes_at (nat_lt calls min) bytes ≡ (false, bytes') → EndsAt calls f bytes (Ok tt) bytes'

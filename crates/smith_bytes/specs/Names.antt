@@ -15,7 +15,7 @@ text_at max_size bytes =
     let n = utf8_valid_len (take (min size.0 max_size) size.1) in
     (take n size.1, drop n size.1)
 
--- a text with so many copies of these digits behind it
+-- a text with a number of copies of these digits behind it
 abbrev pub with_copies : List ℕ → List ℕ → ℕ → List ℕ
 with_copies text digits zero = text
 with_copies text digits (suc n) = with_copies text digits n ++ digits
@@ -28,7 +28,7 @@ module _ {S : Type 0} where
     pub fresh : contains_text names name ≡ false
     pub needed : (n : ℕ) → n < copies → contains_text names (with_copies text (decimal (hash_set_len names)) n) ≡ true
 
-  -- new has the names of old and this one, and is larger by one
+  -- new has the names of old and the added name, and is larger by one
   pub record AddsName (old new : HashSet (String Global) S) (name : List ℕ) : Type 0 where
     pub has : (other : List ℕ) → contains_text new other ≡ (if bytes_eq name other then true else contains_text old other)
     pub size : hash_set_len new ≡ hash_set_len old + 1

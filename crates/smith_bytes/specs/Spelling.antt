@@ -14,7 +14,7 @@ pub record SpellsNumber (value lo hi : ℕ) (piece : List ℕ) : Type 0 where
   pub digits : length piece ≡ digit_count (hi - lo)
   pub read : value ≡ lo + big_endian piece % (hi - lo + 1)
 
--- anything but the first of so many chances
+-- anything but the first of a number of chances
 pub record SpellsRefusal (chances : ℕ) (piece : List ℕ) : Type 0 where
   pub drawn : ℕ
   pub later : 1 < drawn

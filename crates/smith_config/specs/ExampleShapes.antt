@@ -77,7 +77,7 @@ abbrev pub before : ℕ → Option ℕ
 before zero = None
 before (suc index) = Some index
 
--- so many struct types, each below the one before it
+-- a number of struct types, each below the type before it
 abbrev pub chain : ℕ → List SubType
 chain zero = []
 chain (suc count) = chain count ++ open_type (before count) empty_struct ∷ []

@@ -9,7 +9,7 @@ use Rattle.smith_config.specs.declared.config.Config.{Config}
 abbrev pub memory_bytes : Config → Bool → ℕ
 memory_bytes config memory64 = if memory64 then config.max_memory64_bytes else config.max_memory32_bytes
 
--- so many pages take no more than the configured bytes, or are one page at most where nothing may trap
+-- a number of pages takes no more than the configured bytes, or is one page at most where nothing may trap
 abbrev pub ArePagesWithin : Config → MemoryType → ℕ → Type 0
 ArePagesWithin config memory pages =
     (pages * 2 ^ page_log2 memory.page_size_log2 ≤ memory_bytes config memory.memory64)
@@ -21,7 +21,7 @@ pub record IsMemoryWithin (config : Config) (memory : MemoryType) : Type 0 where
   pub maximum : IfSome memory.maximum (ArePagesWithin config memory)
   pub required : IsTrue config.memory_max_size_required → IsSome memory.maximum
 
--- so many elements are no more than the configured ones, or one at most where nothing may trap
+-- a number of elements is no more than the configured one, or one at most where nothing may trap
 abbrev pub AreElementsWithin : Config → ℕ → Type 0
 AreElementsWithin config elements = (elements ≤ config.max_table_elements) ⊎ (IsTrue config.disallow_traps × (elements ≤ 1))
 

@@ -29,7 +29,7 @@ fields_there (Some t) = fields_of t.composite_type.inner
 abbrev pub field_operands : List SubType → ℕ → List Operand
 field_operands types index = map Value (field_values (fields_there (slice_get types index)))
 
--- a list so many times
+-- a list behind itself, a number of times
 abbrev pub repeated : {A : Type 0} → ℕ → List A → List A
 repeated zero xs = []
 repeated (suc n) xs = xs ++ repeated n xs

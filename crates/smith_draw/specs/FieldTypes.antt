@@ -29,7 +29,7 @@ field_type_at config types must_share limit bytes =
     let mutable = bool_at element_type.1 in
     (record { element_type = element_type.0; mutable = mutable.0 }, mutable.1)
 
--- fields with more behind them, until there are so many (own rule)
+-- fields with more behind them, until their number is `end` (own rule)
 unfoldable pub fields_until_at : Config → List SubType → Bool → ℕ → ℕ → List FieldType → List ℕ → List FieldType × List ℕ
 fields_until_at config types must_share limit end fields bytes =
     grow_at (λ _. field_type_at config types must_share limit) end (end - length fields) fields bytes

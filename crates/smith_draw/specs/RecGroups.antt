@@ -18,7 +18,7 @@ types_left config space = config.max_types - length space.types
 abbrev pub with_group : List SubType → List (Range ℕ) → Space
 with_group types groups = record { types = types; groups = groups ++ next_group types groups ∷ [] }
 
--- types with more behind them until there are so many, each drawn over those before it (own rule)
+-- types with more behind them until their number is `limit`, each drawn over those before it (own rule)
 unfoldable pub types_until_at : Config → ℕ → List SubType → List ℕ → List SubType × List ℕ
 types_until_at config limit types bytes =
     grow_at (λ made. sub_type_at config made limit) limit (limit - length types) types bytes

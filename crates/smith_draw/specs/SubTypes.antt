@@ -69,7 +69,7 @@ sub_type_of_at config types limit indices bytes =
     let index = chosen_at 0 indices bytes in
     sub_type_below_at config types limit index.0 (slice_get types index.0) index.1
 
--- whether a supertype is asked for, where there are so many: with garbage collection one time of 32 (own rule)
+-- whether a supertype is asked for, by how many there are: with garbage collection, where there is one, one time of 32 (own rule)
 abbrev pub supertype_wanted_at : Config → ℕ → List ℕ → Bool × List ℕ
 supertype_wanted_at config count bytes =
     if config.gc_enabled && nat_lt 0 count then ratio_at 1 32 bytes else (false, bytes)

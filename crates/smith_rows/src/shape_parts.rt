@@ -67,7 +67,7 @@ pub(crate) fn function(
     })
 }
 
-/// Struct types, so many, each below the one before.
+/// Struct types, `count` of them, each below the type before.
 pub(crate) fn chain(alloc: Global, count: u32) -> Result<Items<SubType>, Error> {
     let mut types = Items::new(alloc);
     for index in 0..count {

@@ -20,7 +20,7 @@ const PAGE: MemoryType = MemoryType {
     page_size_log2: None,
 };
 
-// A group of imports of different types: so many memories.
+// A group of imports of different types: a number of memories.
 fn of_items(alloc: Global, count: u32) -> Result<Imports, Error> {
     let mut items = Items::new(alloc);
     for _ in 0..count {

@@ -14,13 +14,13 @@ abbrev pub AreInstructionsValid : Bool → Instructions → Type 0
 AreInstructionsValid raw Unreachable = Unit {0}
 AreInstructionsValid raw (Arbitrary bytes) = IsTrue raw
 
--- a body over so many types: locals of valid types (Validation, Functions), at most a hundred of them (own rule)
+-- a body over a number of types: locals of valid types (Validation, Functions), at most a hundred of them (own rule)
 pub record IsBodyValid (features : Features) (types : ℕ) (raw : Bool) (body : Code) : Type 0 where
   pub few : length body.locals ≤ 100
   pub locals : All (IsValTypeValid features types) body.locals
   pub instructions : AreInstructionsValid raw body.instructions
 
--- a global that counts fuel: a mutable i32 that is not shared (own rule), defined behind so many imported ones
+-- a global that counts fuel: a mutable i32 that is not shared (own rule), defined behind the imported ones
 pub record IsFuel (globals : List GlobalType) (imported index : ℕ) : Type 0 where
   pub defined : imported ≤ index
   pub stands : slice_get globals index ≡ Some (record { val_type = I32; mutable = true; shared = false })

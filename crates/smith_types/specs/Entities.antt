@@ -42,7 +42,7 @@ pub record IsMemoryValid (features : Features) (memory : MemoryType) : Type 0 wh
 abbrev pub most_elements : Bool → ℕ
 most_elements table64 = if table64 then 2 ^ 64 - 1 else 2 ^ 32 - 1
 
--- a table type over so many types (Validation, Table Types); a shared one holds shared references (own rule)
+-- a table type over a number of types (Validation, Table Types); a shared one holds shared references (own rule)
 pub record IsTableValid (features : Features) (types : List SubType) (table : TableType) : Type 0 where
   pub limits : AreLimitsValid (most_elements table.table64) table.minimum table.maximum
   pub element : IsRefTypeValid features (length types) table.element_type
@@ -50,7 +50,7 @@ pub record IsTableValid (features : Features) (types : List SubType) (table : Ta
   pub table64 : IsTrue table.table64 → IsTrue features.memory64
   pub shared : IsTrue table.shared → IsTrue features.shared_everything_threads × IsShareable types (Ref table.element_type)
 
--- a global type over so many types (Validation, Global Types); a shared one holds what may be shared (own rule)
+-- a global type over a number of types (Validation, Global Types); a shared one holds what may be shared (own rule)
 pub record IsGlobalValid (features : Features) (types : List SubType) (global : GlobalType) : Type 0 where
   pub value : IsValTypeValid features (length types) global.val_type
   pub shared : IsTrue global.shared → IsTrue features.shared_everything_threads × IsShareable types global.val_type

@@ -13,7 +13,7 @@ use Rattle.smith_types.specs.declared.imports.ImportItem.{ImportItem}
 use Rattle.smith_types.specs.Flags.{funcref}
 use Rattle.smith_types.specs.Imports.{IndexSpaces, import_of}
 
--- a memory with 32-bit addresses, not shared, of so many pages of 64 KiB
+-- a memory with 32-bit addresses, not shared, of a number of pages of 64 KiB
 abbrev pub memory : ℕ → Option ℕ → MemoryType
 memory minimum maximum = record { minimum = minimum; maximum = maximum; memory64 = false; shared = false; page_size_log2 = None }
 
@@ -21,7 +21,7 @@ memory minimum maximum = record { minimum = minimum; maximum = maximum; memory64
 abbrev pub all_addresses : MemoryType
 all_addresses = record (memory (2 ^ 48) None) { memory64 = true }
 
--- a table with 32-bit addresses, not shared, of so many of these references
+-- a table with 32-bit addresses, not shared, of a number of these references
 abbrev pub table : RefType → ℕ → Option ℕ → TableType
 table element minimum maximum = record { element_type = element; minimum = minimum; maximum = maximum; table64 = false; shared = false }
 

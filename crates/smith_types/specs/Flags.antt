@@ -56,7 +56,7 @@ IsImportsEnabled features (Single imported) = Unit {0}
 IsImportsEnabled features (Compact1 imported_module items) = IsTrue features.compact_imports
 IsImportsEnabled features (Compact2 imported_module entity_type names) = IsTrue features.compact_imports
 
--- an instruction of a constant expression, where so many globals are imported (own rule)
+-- an instruction of a constant expression, by how many globals are imported (own rule)
 abbrev pub IsInstrEnabled : Features → ℕ → ConstInstr → Type 0
 IsInstrEnabled features imported (instr.I32Const value) = Unit {0}
 IsInstrEnabled features imported (instr.I64Const value) = Unit {0}

@@ -71,7 +71,7 @@ imported_spaces imports = record {
   globals = imported global_of imports;
 }
 
--- an index space: what is imported, and behind it so many items that are defined (Structure, Indices)
+-- an index space: what is imported, and behind it a number of items that are defined (Structure, Indices)
 pub record Defines {A : Type 0} (imports : List A) (count : ℕ) (space : List A) : Type 0 where
   pub defined : List A
   pub count_is : length defined ≡ count

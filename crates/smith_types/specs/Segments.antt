@@ -85,20 +85,20 @@ abbrev pub item_count : Elements → ℕ
 item_count (Functions functions) = length functions
 item_count (Expressions expressions) = length expressions
 
--- a constant offset, read without sign, from which so many items end within so many (Execution, Instantiation)
+-- a constant offset, read without sign, from which a number of items ends within another (Execution, Instantiation)
 abbrev pub IsOffsetInside : Offset → ℕ → ℕ → Type 0
 IsOffsetInside (Const32 value) count most = cast_unsigned w32 value + count ≤ most
 IsOffsetInside (Const64 value) count most = cast_unsigned w64 value + count ≤ most
 IsOffsetInside (Global index) count most = ⊥
 
--- so many items that are copied end within the least elements of their table
+-- the items that are copied, counted by their number, end within the least elements of their table
 abbrev pub AreElementsInside : List TableType → ElementKind → ℕ → Type 0
 AreElementsInside tables element.Passive count = Unit {0}
 AreElementsInside tables element.Declared count = Unit {0}
 AreElementsInside tables (element.Active index offset) count =
     (table : TableType) × (slice_get tables (table_index index) ≡ Some table) × IsOffsetInside offset count table.minimum
 
--- so many bytes that are copied end within the least bytes of their memory
+-- the bytes that are copied, counted by their number, end within the least bytes of their memory
 abbrev pub AreBytesInside : List MemoryType → DataSegmentKind → ℕ → Type 0
 AreBytesInside memories data_kind.Passive count = Unit {0}
 AreBytesInside memories (data_kind.Active index offset) count =

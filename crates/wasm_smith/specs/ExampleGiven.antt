@@ -100,7 +100,7 @@ memories_one_by_one =
       encodes_imports = true;
     }
 
--- a table of so many references without an initialiser
+-- a table of a number of references without an initialiser
 abbrev pub null_table : ℕ → Parts
 null_table elements = record (empty_module (record default_config { min_tables = 1 })) { tables = table funcref elements None ∷ []; defined_tables = None ∷ [] }
 

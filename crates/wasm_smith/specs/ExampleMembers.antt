@@ -49,7 +49,7 @@ struct_of index = Struct (record { fields = field_of index ∷ [] })
 abbrev pub array_and_struct : List (List SubType)
 array_and_struct = alone bytes_array ∷ alone (struct_of 0) ∷ []
 
--- a struct of so many bytes
+-- a struct of a number of bytes
 abbrev pub struct_of_bytes : ℕ → CompositeInnerType
 struct_of_bytes count = Struct (record { fields = replicate count (constant I8) })
 
@@ -57,7 +57,7 @@ struct_of_bytes count = Struct (record { fields = replicate count (constant I8) 
 abbrev pub one_of_each_without_gc : Config
 one_of_each_without_gc = record default_config { gc_enabled = false; max_types = 1; max_funcs = 1 }
 
--- a function type of so many parameters, and one of so many results
+-- a function type of a number of parameters, and one of a number of results
 abbrev pub taking_numbers : ℕ → CompositeInnerType
 taking_numbers count = Func (record { params = replicate count I32; results = [] })
 

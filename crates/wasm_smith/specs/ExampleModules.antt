@@ -232,7 +232,7 @@ taking param = Func (record { params = param ∷ []; results = [] })
 abbrev pub referring_to : ℕ → CompositeInnerType
 referring_to index = Struct (record { fields = constant (Val (Ref (nullable (Concrete index)))) ∷ [] })
 
--- two memories where there may be so many
+-- two memories where there may be two
 abbrev pub two_memories : ℕ → Parts
 two_memories most = record (empty_module (record default_config { max_memories = most })) { memories = memory 1 None ∷ memory 1 None ∷ []; num_defined_memories = 2 }
 
@@ -266,11 +266,11 @@ two_exports = record one_function {
 abbrev pub named_imports : List ℕ → List ℕ → Parts
 named_imports one other = record two_imports { imports = Compact2 [] (entity.Global number) (one ∷ other ∷ []) ∷ [] }
 
--- a memory of so many pages, and bytes that are copied to its last address
+-- a memory of a number of pages, and bytes that are copied to its last address
 abbrev pub last_bytes : ℕ → List ℕ → Parts
 last_bytes pages bytes = record (empty_module default_config) { memories = memory pages None ∷ []; num_defined_memories = 1; segments = active_data (negsuc 0) bytes ∷ [] }
 
--- a segment of these references, where so many are asked for, beside a function
+-- a segment of these references, where a number of them is asked for, beside a function
 abbrev pub elements_asked_for : ℕ → Elements → Parts
 elements_asked_for least items = record one_function { config = record default_config { min_elements = least }; elems = passive_elements items ∷ [] }
 

@@ -23,7 +23,7 @@ use Rattle.smith_types.specs.declared.segments.Offset.TheVariants.{Const32}
 use Rattle.smith_types.specs.declared.code.Code.{Code}
 use Rattle.smith_types.specs.declared.code.Instructions.TheVariants.{Unreachable}
 
--- a shared memory of exactly so many pages
+-- a shared memory of exactly this number of pages
 abbrev pub shared_memory : ℕ → MemoryType
 shared_memory pages = record { minimum = pages; maximum = Some pages; memory64 = false; shared = true; page_size_log2 = None }
 

@@ -16,7 +16,7 @@ IsNearPower n = (i : ℕ) × (i < 64) × ((n ≡ 2 ^ i) ⊎ ((n + 1 ≡ 2 ^ i) �
 abbrev pub IsPattern : ℕ → Type 0
 IsPattern n = Any (λ byte. n ≡ byte * 72340172838076673) (1 ∷ 254 ∷ 17 ∷ 238 ∷ 85 ∷ 170 ∷ [])
 
--- the bits of a floating-point number of so many bits of exponent and fraction (Structure, Values, Floating-Point)
+-- the bits of a floating-point number, by its bits of exponent and fraction (Structure, Values, Floating-Point)
 abbrev pub float_bits : ℕ → ℕ → Bool → ℕ → ℕ → ℕ
 float_bits exponent_bits fraction_bits negative exponent fraction =
     (if negative then 2 ^ (exponent_bits + fraction_bits) else 0) + exponent * 2 ^ fraction_bits + fraction
@@ -44,7 +44,7 @@ limits_of minimum maximum = minimum ∷ option_to_list maximum
 abbrev pub IsNearTable : ℕ → TableType → Type 0
 IsNearTable n table = Any (λ limit. (n ≡ limit) ⊎ (n ≡ limit + 1)) (limits_of table.minimum table.maximum)
 
--- the bytes of so many pages, at most as many as 64 bits say
+-- the bytes of a number of pages, at most as many as 64 bits say
 abbrev pub bytes_of : MemoryType → ℕ → ℕ
 bytes_of memory pages = min (pages * 2 ^ page_log2 memory.page_size_log2) (2 ^ 64 - 1)
 

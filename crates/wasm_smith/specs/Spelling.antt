@@ -65,7 +65,7 @@ SpellsSegments config passive =
     let most = λ (count : ℕ). if config.bulk_memory_enabled then count else 0 in
     Joined (SpellsNone (most config.max_element_segments)) (Listed SpellsBytes (most config.max_data_segments) passive)
 
--- what may stand behind a member: so many numbers, and byte lists only with bulk memory
+-- what may stand behind a member: no more numbers than globals, and byte lists only with bulk memory
 pub record IsRest (config : Config) (numbers : List ℤ) (passive : List (List ℕ)) : Type 0 where
   pub few_globals : length numbers ≤ config.max_globals
   pub few_segments : length passive ≤ config.max_data_segments

@@ -143,7 +143,7 @@ fn fixed_array(
     })
 }
 
-/// Pushes the operands of a type so many times.
+/// Pushes the operands of a type `times` times.
 fn push_repeated(
     operands: &mut Items<Operand>,
     types: &[SubType],
