@@ -90,11 +90,14 @@ fn text_of_copy(alloc: Global, config: &Config) -> Result<String, Error> {
 }
 
 // Whether a copy has equal shapes, and the texts of both.
-fn copied(alloc: Global, uses: Uses) -> Result<(bool, String, String), Error> {
-    let config = with_shapes(alloc, uses)?;
-    let is_same = is_copied(alloc, &config)?;
-    let copy = text_of_copy(alloc, &config)?;
-    Ok((is_same, copy, text_of(alloc, &config)?))
+fn copied(alloc: Global, config: &Config) -> Result<(bool, String, String), Error> {
+    let is_same = is_copied(alloc, config)?;
+    let copy = text_of_copy(alloc, config)?;
+    Ok((is_same, copy, text_of(alloc, config)?))
+}
+
+fn copied_with(alloc: Global, uses: Uses) -> Result<(bool, String, String), Error> {
+    copied(alloc, &with_shapes(alloc, uses)?)
 }
 
 #[test]
@@ -106,7 +109,7 @@ fn a_copy_holds_the_same(rt: HostRuntime) -> Result<(), Fail> {
         [true, true, true],
     ];
     for uses in cases {
-        let (is_same, copy, config) = copied(rt.alloc(), uses)?;
+        let (is_same, copy, config) = copied_with(rt.alloc(), uses)?;
         assert!(rt; is_same);
         assert_eq!(rt; copy.as_str(), config.as_str());
     }
@@ -114,14 +117,17 @@ fn a_copy_holds_the_same(rt: HostRuntime) -> Result<(), Fail> {
 }
 
 // Which shapes are given once the configuration is sanitised.
-fn sanitized(alloc: Global, uses: Uses) -> Result<Uses, Error> {
-    let mut config = with_shapes(alloc, uses)?;
+fn uses_of(mut config: Config) -> Uses {
     config.sanitize();
-    Ok([
+    [
         config.available_imports.is_some(),
         config.exports.is_some(),
         config.module_shape.is_some(),
-    ])
+    ]
+}
+
+fn sanitized(alloc: Global, uses: Uses) -> Result<Uses, Error> {
+    Ok(uses_of(with_shapes(alloc, uses)?))
 }
 
 #[test]
@@ -138,11 +144,14 @@ fn a_module_shape_takes_the_place_of_others(rt: HostRuntime) -> Result<(), Fail>
 }
 
 // What the check says where more imports and more exports are asked for than there may be.
-fn checked(alloc: Global, uses: Uses) -> Result<Result<(), ConfigFault>, Error> {
-    let mut config = with_shapes(alloc, uses)?;
+fn fault_of(mut config: Config) -> Result<(), ConfigFault> {
     config.min_imports = 101;
     config.min_exports = 101;
-    Ok(config.check())
+    config.check()
+}
+
+fn checked(alloc: Global, uses: Uses) -> Result<Result<(), ConfigFault>, Error> {
+    Ok(fault_of(with_shapes(alloc, uses)?))
 }
 
 #[test]
@@ -163,8 +172,7 @@ fn minimums_that_shapes_replace(rt: HostRuntime) -> Result<(), Fail> {
 }
 
 fn made(alloc: Global, uses: Uses, u: &mut Unstructured<'_>) -> Result<(), Error> {
-    let config = with_shapes(alloc, uses)?;
-    Module::new(alloc, config, u)?;
+    Module::new(alloc, with_shapes(alloc, uses)?, u)?;
     Ok(())
 }
 

@@ -60,13 +60,22 @@ fn heap_types(rt: HostRuntime) -> Result<(), Fail> {
     Ok(())
 }
 
+// The same with reference types, or without them.
+fn with_references(enabled: bool) -> Config
+    ensures sanitized { IsSanitized result }
+    ensures without_gc { result.gc_enabled ≡ false }
+{
+    let mut config = without_gc(false);
+    config.reference_types_enabled = enabled;
+    config.sanitize();
+    config
+}
+
 // A reference type, and how many bytes it leaves.
 fn ref_type(alloc: Global, enabled: bool, input: &[u8]) -> Result<(RefType, usize), Error> {
     let types = TypeSpace::new(alloc);
     let mut u = Unstructured::new(input);
-    let mut config = without_gc(false);
-    config.reference_types_enabled = enabled;
-    config.sanitize();
+    let config = with_references(enabled);
     let drawn = arbitrary_ref_type(alloc, &config, &spaces_of(&types), false, 0, &mut u)?;
     Ok((drawn, u.len()))
 }

@@ -80,47 +80,61 @@ fn above(alloc: Global, ty: HeapType, input: &[u8]) -> Result<HeapType, Error> {
     arbitrary_super_type_of_heap_type(alloc, &config, &spaces_of(&types), ty, &mut u)
 }
 
+// The same with the defaults, and with exact references.
+fn below_by_default(alloc: Global, ty: HeapType, input: &[u8]) -> Result<(HeapType, usize), Error> {
+    below(alloc, &Config::default(), ty, input)
+}
+
+fn below_with_descriptors(
+    alloc: Global,
+    ty: HeapType,
+    input: &[u8],
+) -> Result<(HeapType, usize), Error> {
+    below(alloc, &with_descriptors(), ty, input)
+}
+
+fn below_without_gc(alloc: Global, ty: HeapType, input: &[u8]) -> Result<(HeapType, usize), Error> {
+    below(alloc, &without_gc(), ty, input)
+}
+
 #[test]
 fn heap_types_below_any(rt: HostRuntime) -> Result<(), Fail> {
-    let config = Config::default();
     let any = plain(AbstractHeapType::Any);
     let none = plain(AbstractHeapType::None);
     assert_eq!(rt;
-        below(rt.alloc(), &config, any, &[7])?,
+        below_by_default(rt.alloc(), any, &[7])?,
         (HeapType::Concrete(1), 0)
     );
-    assert_eq!(rt; below(rt.alloc(), &config, any, &[5])?, (none, 0));
+    assert_eq!(rt; below_by_default(rt.alloc(), any, &[5])?, (none, 0));
     Ok(())
 }
 
 #[test]
 fn heap_types_below_a_struct(rt: HostRuntime) -> Result<(), Fail> {
-    let config = Config::default();
     let first = HeapType::Concrete(0);
     let none = plain(AbstractHeapType::None);
     assert_eq!(rt;
-        below(rt.alloc(), &config, first, &[1])?,
+        below_by_default(rt.alloc(), first, &[1])?,
         (HeapType::Concrete(1), 0)
     );
-    assert_eq!(rt; below(rt.alloc(), &config, first, &[2])?, (none, 0));
+    assert_eq!(rt; below_by_default(rt.alloc(), first, &[2])?, (none, 0));
     Ok(())
 }
 
 #[test]
 fn heap_types_below_with_descriptors(rt: HostRuntime) -> Result<(), Fail> {
-    let config = with_descriptors();
     let first = HeapType::Concrete(0);
     let unknown = HeapType::Concrete(9);
     assert_eq!(rt;
-        below(rt.alloc(), &config, first, &[2])?,
+        below_with_descriptors(rt.alloc(), first, &[2])?,
         (HeapType::Exact(0), 0)
     );
     assert_eq!(rt;
-        below(rt.alloc(), &config, first, &[3])?,
+        below_with_descriptors(rt.alloc(), first, &[3])?,
         (HeapType::Concrete(1), 0)
     );
     assert_eq!(rt;
-        below(rt.alloc(), &config, unknown, &[1])?,
+        below_with_descriptors(rt.alloc(), unknown, &[1])?,
         (HeapType::Exact(9), 0)
     );
     Ok(())
@@ -129,7 +143,7 @@ fn heap_types_below_with_descriptors(rt: HostRuntime) -> Result<(), Fail> {
 #[test]
 fn heap_types_stay_without_gc(rt: HostRuntime) -> Result<(), Fail> {
     let func = plain(AbstractHeapType::Func);
-    assert_eq!(rt; below(rt.alloc(), &without_gc(), func, &[5])?, (func, 1));
+    assert_eq!(rt; below_without_gc(rt.alloc(), func, &[5])?, (func, 1));
     Ok(())
 }
 
@@ -166,20 +180,17 @@ fn from_second_to_first(alloc: Global) -> Result<FuncType, Error> {
     Ok(FuncType { params, results })
 }
 
-#[test]
-fn function_types(rt: HostRuntime) -> Result<(), Fail> {
-    let alloc = rt.alloc();
+// A function type that matches it.
+fn function_below(alloc: Global, config: &Config) -> Result<FuncType, Error> {
     let types = two_structs(alloc)?;
     let function = from_second_to_first(alloc)?;
     let mut u = Unstructured::new(&[4, 1]);
-    let config = Config::default();
-    let drawn = arbitrary_matching_func_type(
-        alloc,
-        &config,
-        &spaces_of(&types),
-        &function,
-        &mut u,
-    )?;
+    arbitrary_matching_func_type(alloc, config, &spaces_of(&types), &function, &mut u)
+}
+
+#[test]
+fn function_types(rt: HostRuntime) -> Result<(), Fail> {
+    let drawn = function_below(rt.alloc(), &Config::default())?;
     let first = ValType::Ref(RefType {
         nullable: true,
         heap_type: HeapType::Concrete(0),
@@ -211,31 +222,39 @@ fn field_types(rt: HostRuntime) -> Result<(), Fail> {
     Ok(())
 }
 
-#[test]
-fn values_below(rt: HostRuntime) -> Result<(), Fail> {
-    let alloc = rt.alloc();
+// Below a byte, a float and a reference to the first struct.
+fn three_below(alloc: Global, config: &Config) -> Result<(StorageType, ValType, RefType), Error> {
     let types = two_structs(alloc)?;
-    let config = Config::default();
     let spaces = spaces_of(&types);
     let mut u = Unstructured::new(&[0]);
-    let packed = arbitrary_matching_storage_type(alloc, &config, &spaces, StorageType::I8, &mut u)?;
-    let float = arbitrary_matching_val_type(alloc, &config, &spaces, ValType::F64, &mut u)?;
-    let same = arbitrary_matching_ref_type(alloc, &config, &spaces, reference(0), &mut u)?;
+    let packed = arbitrary_matching_storage_type(alloc, config, &spaces, StorageType::I8, &mut u)?;
+    let float = arbitrary_matching_val_type(alloc, config, &spaces, ValType::F64, &mut u)?;
+    let same = arbitrary_matching_ref_type(alloc, config, &spaces, reference(0), &mut u)?;
+    Ok((packed, float, same))
+}
+
+#[test]
+fn values_below(rt: HostRuntime) -> Result<(), Fail> {
+    let (packed, float, same) = three_below(rt.alloc(), &Config::default())?;
     assert_eq!(rt; packed, StorageType::I8);
     assert_eq!(rt; float, ValType::F64);
     assert_eq!(rt; same, reference(0));
     Ok(())
 }
 
-#[test]
-fn values_above(rt: HostRuntime) -> Result<(), Fail> {
-    let alloc = rt.alloc();
+// Above a vector and a reference to the first struct.
+fn two_above(alloc: Global, config: &Config) -> Result<(ValType, RefType), Error> {
     let types = two_structs(alloc)?;
-    let config = Config::default();
     let spaces = spaces_of(&types);
     let mut u = Unstructured::new(&[1]);
-    let vector = arbitrary_super_type_of_val_type(alloc, &config, &spaces, ValType::V128, &mut u)?;
-    let any = arbitrary_super_type_of_ref_type(alloc, &config, &spaces, reference(0), &mut u)?;
+    let vector = arbitrary_super_type_of_val_type(alloc, config, &spaces, ValType::V128, &mut u)?;
+    let any = arbitrary_super_type_of_ref_type(alloc, config, &spaces, reference(0), &mut u)?;
+    Ok((vector, any))
+}
+
+#[test]
+fn values_above(rt: HostRuntime) -> Result<(), Fail> {
+    let (vector, any) = two_above(rt.alloc(), &Config::default())?;
     assert_eq!(rt; vector, ValType::V128);
     assert_eq!(rt; any.nullable, true);
     assert_eq!(rt; any.heap_type, plain(AbstractHeapType::Any));

@@ -44,12 +44,20 @@ fn one_more(
     arbitrary_sub_type(alloc, config, &spaces_of(types), limit, &mut u)
 }
 
+// Whether the one type that these bytes draw takes a float.
+fn takes_a_float(alloc: Global, config: &Config) -> Result<bool, Error>
+    requires passes { Passes config.now }
+    requires sanitized { IsSanitized config.now }
+{
+    let types = types_from(alloc, config, &[])?;
+    let drawn = one_more(alloc, config, &types, &[1, 3])?;
+    Ok(is_function(&drawn, &[ValType::F64], &[]))
+}
+
 #[test]
 fn a_subtype_without_gc(rt: HostRuntime) -> Result<(), Fail> {
     let config = settled(false)?;
-    let types = types_from(rt.alloc(), &config, &[])?;
-    let drawn = one_more(rt.alloc(), &config, &types, &[1, 3])?;
-    assert!(rt; is_function(&drawn, &[ValType::F64], &[]));
+    assert!(rt; takes_a_float(rt.alloc(), &config)?);
     Ok(())
 }
 
@@ -78,12 +86,21 @@ fn is_last_below(ty: &SubType, index: u32) -> bool {
     ty.is_final && ty.supertype == Some(index)
 }
 
+// Whether a type that is drawn below the first of two is below the second.
+fn is_below_the_second(alloc: Global, config: &Config) -> Result<bool, Error>
+    requires passes { Passes config.now }
+    requires sanitized { IsSanitized config.now }
+    requires gc { IsTrue config.now.gc_enabled }
+{
+    let types = types_from(alloc, config, &[1, 2])?;
+    let drawn = one_below(alloc, config, &types, &[1, 1])?;
+    Ok(drawn.as_ref().is_some_and(|ty| is_last_below(ty, 1)))
+}
+
 #[test]
 fn a_subtype_of_a_chosen_type(rt: HostRuntime) -> Result<(), Fail> {
     let config = settled(true)?;
-    let types = types_from(rt.alloc(), &config, &[1, 2])?;
-    let drawn = one_below(rt.alloc(), &config, &types, &[1, 1])?;
-    assert!(rt; drawn.as_ref().is_some_and(|ty| is_last_below(ty, 1)));
+    assert!(rt; is_below_the_second(rt.alloc(), &config)?);
     Ok(())
 }
 
@@ -106,14 +123,19 @@ fn counts_with_clone(
     Ok(Some((types.types().len(), types.rec_groups().len())))
 }
 
+// The same for the group of two types that these bytes draw.
+fn counts_of_two(alloc: Global, config: &Config) -> Result<Option<(usize, usize)>, Error>
+    requires passes { Passes config.now }
+    requires sanitized { IsSanitized config.now }
+{
+    let types = types_from(alloc, config, &[1, 2])?;
+    counts_with_clone(alloc, config, types)
+}
+
 #[test]
 fn a_group_is_added_again(rt: HostRuntime) -> Result<(), Fail> {
     let config = settled(true)?;
-    let types = types_from(rt.alloc(), &config, &[1, 2])?;
-    assert_eq!(rt;
-        counts_with_clone(rt.alloc(), &config, types)?,
-        Some((4, 2))
-    );
+    assert_eq!(rt; counts_of_two(rt.alloc(), &config)?, Some((4, 2)));
     Ok(())
 }
 
@@ -138,14 +160,22 @@ fn extended(alloc: Global, config: &Config, input: &[u8]) -> Result<StructType, 
     )
 }
 
-#[test]
-fn a_struct_with_an_extra_field(rt: HostRuntime) -> Result<(), Fail> {
-    let config = settled(true)?;
-    let StructType { fields } = extended(rt.alloc(), &config, &[1, 0, 1])?;
+// Whether the one field that these bytes draw for it is a mutable byte.
+fn has_a_byte(alloc: Global, config: &Config) -> Result<bool, Error>
+    requires sanitized { IsSanitized config.now }
+    requires gc { IsTrue config.now.gc_enabled }
+{
+    let StructType { fields } = extended(alloc, config, &[1, 0, 1])?;
     let expected = [FieldType {
         element_type: StorageType::I8,
         mutable: true,
     }];
-    assert!(rt; fields.as_slice() == expected.as_slice());
+    Ok(fields.as_slice() == expected.as_slice())
+}
+
+#[test]
+fn a_struct_with_an_extra_field(rt: HostRuntime) -> Result<(), Fail> {
+    let config = settled(true)?;
+    assert!(rt; has_a_byte(rt.alloc(), &config)?);
     Ok(())
 }
