@@ -150,18 +150,29 @@ fn are_two_groups(types: &TypeSpace) -> bool {
     are_functions && types.rec_groups() == [0..1, 1..2].as_slice()
 }
 
+// Whether two groups are added of a type each, and how many bytes they leave.
+fn two_groups(alloc: Global, config: &Config, input: &[u8]) -> Result<(bool, usize), Error>
+    requires sanitized { IsSanitized config.now }
+{
+    let mut types = TypeSpace::new(alloc);
+    let mut u = Unstructured::new(input);
+    if config.check().is_err() || types.types().len() >= config.max_types {
+        return Ok((false, u.len()));
+    }
+    arbitrary_rec_group(alloc, config, &mut types, &Entities::none(), false, &mut u)?;
+    if types.types().len() >= config.max_types {
+        return Ok((false, u.len()));
+    }
+    arbitrary_rec_group(alloc, config, &mut types, &Entities::none(), true, &mut u)?;
+    Ok((are_two_groups(&types), u.len()))
+}
+
 #[test]
 fn a_group_is_one_type(rt: HostRuntime) -> Result<(), Fail> {
-    let alloc = rt.alloc();
-    let config = without_gc(false);
-    let mut types = TypeSpace::new(alloc);
-    let mut u = Unstructured::new(&[0, 1, 1, 0, 0, 0, 7]);
-    assert!(rt; config.check().is_ok());
-    assert!(rt; types.types().len() < config.max_types);
-    arbitrary_rec_group(alloc, &config, &mut types, &Entities::none(), false, &mut u)?;
-    assert!(rt; types.types().len() < config.max_types);
-    arbitrary_rec_group(alloc, &config, &mut types, &Entities::none(), true, &mut u)?;
-    assert!(rt; are_two_groups(&types));
-    assert_eq!(rt; u.len(), 1);
+    let input = [0, 1, 1, 0, 0, 0, 7];
+    assert_eq!(rt;
+        two_groups(rt.alloc(), &without_gc(false), &input)?,
+        (true, 1)
+    );
     Ok(())
 }
