@@ -1,4 +1,5 @@
--- Which module the bytes give, step by step, and what each step leaves. Nobody has to believe it: what a module keeps is said apart.
+-- Which module the bytes give, step by step, and what each step leaves: what `exact` of `Module::new` speaks of. What a module
+-- keeps is said apart, and can be believed without it.
 use Rattle.std.specs.Prelude.{◌≡◌, ℕ, Bool, true, ◌&&◌, None, List, [], length, replicate, Result, Ok, Err, ◌==◌, if◌then◌else◌}
 use Rattle.std.specs.List.{list_any}
 use Rattle.smith_bytes.specs.declared.error.Error.{Error}
