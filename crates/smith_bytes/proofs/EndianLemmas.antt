@@ -6,7 +6,7 @@ use Rattle.std.proofs.lemmas.List.Sums.{fold-append}
 use Rattle.std.proofs.lemmas.List.{take-append-drop}
 use Rattle.smith_bytes.specs.Draws.{big_endian, little_endian}
 
--- with one digit more
+-- a number with one digit more
 pub digit_more : (k number digit : ℕ) → number < 256 ^ k → digit < 256 → 256 * number + digit < 256 ^ (k + 1)
 digit_more k number digit fits small = rw (add-one, pow-succ') (omega arith)
 
@@ -44,7 +44,7 @@ read_behind number (digit ∷ digits) =
     omega (arith, read_behind (256 * number + digit) digits, read_behind (256 * 0 + digit) digits) in
     rw size all
 
--- the digits before the last eight, and those
+-- the digits before the last eight, and the last eight digits
 pub big_endian_halves : (digits : List ℕ) (k : ℕ) → k ≡ length digits - 8 → big_endian digits ≡ big_endian (take k digits) * 2 ^ 64 + big_endian (drop k digits)
 big_endian_halves digits zero is = omega arith
 big_endian_halves digits (suc k) is =

@@ -9,7 +9,7 @@ pub record IsGrowing {A : Type 0} (draw : List A → List ℕ → A × List ℕ)
   pub so_far : grow_at draw least (most - n) made bytes ≡ total
   pub left : KeepsPieces start bytes
 
--- one more was drawn
+-- one more item was drawn
 pub grow_go : {A : Type 0} {draw : List A → List ℕ → A × List ℕ} {least most n : ℕ} {made more : List A} {start bytes mid : List ℕ} {b : Bool} {x : A} {after : List ℕ} {total : List A × List ℕ}
     → IsGrowing draw least most n made start bytes total → n < most → goes_at (nat_lt n least) bytes ≡ (b, mid) → b ≡ true → draw made mid ≡ (x, after) → more ≡ made ++ x ∷ [] → KeepsPieces bytes mid → KeepsPieces mid after
     → IsGrowing draw least most (n + 1) more start after total
@@ -20,7 +20,7 @@ grow_go {draw = draw} {least = least} {most = most} {n = n} {made = made} {bytes
     let one : grow_at draw least (most - n) made bytes ≡ grow_at draw least (most - (n + 1)) (made ++ x ∷ []) after = rw (k, len, go, odd, drawn) refl in
     rw longer (record { len = simp length-append (omega arith); so_far = sym one ∙ now.so_far; left = λ whole h. q whole (p whole (now.left whole h)) })
 
--- no more was drawn
+-- no item was drawn
 pub grow_stop : {A : Type 0} {draw : List A → List ℕ → A × List ℕ} {least most n : ℕ} {made : List A} {start bytes : List ℕ} {b : Bool} {after : List ℕ} {total : List A × List ℕ}
     → IsGrowing draw least most n made start bytes total → n < most → goes_at (nat_lt n least) bytes ≡ (b, after) → b ≡ false
     → total ≡ (made, after)
@@ -31,7 +31,7 @@ grow_stop {draw = draw} {least = least} {most = most} {n = n} {made = made} {byt
     let one : grow_at draw least (most - n) made bytes ≡ (made, after) = rw (k, len, go, even) refl in
     sym now.so_far ∙ one
 
--- no more may be drawn
+-- no more items may be drawn
 pub grow_full : {A : Type 0} {draw : List A → List ℕ → A × List ℕ} {least most n : ℕ} {made : List A} {start bytes : List ℕ} {total : List A × List ℕ}
     → IsGrowing draw least most n made start bytes total → most ≤ n
     → total ≡ (made, bytes)

@@ -10,7 +10,7 @@ begins bytes [] = true
 begins [] (p ∷ piece) = false
 begins (b ∷ bytes) (p ∷ piece) = nat_eq b p && begins bytes piece
 
--- whether the bytes from some place on do
+-- whether the bytes from some place on begin with the piece
 abbrev pub has : List ℕ → List ℕ → Bool
 has [] piece = begins [] piece
 has (b ∷ bytes) piece = begins (b ∷ bytes) piece || has bytes piece

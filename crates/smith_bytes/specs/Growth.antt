@@ -2,12 +2,12 @@
 use Rattle.std.specs.Prelude.{ℕ, zero, suc, Bool, true, false, List, [], ◌∷◌, ◌++◌, length, nat_lt, if◌then◌else◌}
 use Rattle.smith_bytes.specs.Draws.{bool_at}
 
--- whether one more is drawn: without asking while there are too few
+-- whether one more item is drawn: without asking while there are too few items
 abbrev pub goes_at : Bool → List ℕ → Bool × List ℕ
 goes_at true bytes = (true, bytes)
 goes_at false bytes = bool_at bytes
 
--- a list to which at most that many are added, each drawn after the ones before it
+-- a list to which at most `most` items are added, each drawn after the items before it
 unfoldable pub grow_at : {A : Type 0} → (List A → List ℕ → A × List ℕ) → ℕ → ℕ → List A → List ℕ → List A × List ℕ
 grow_at draw least zero made bytes = (made, bytes)
 grow_at draw least (suc most) made bytes =

@@ -25,7 +25,7 @@ character name n =
     else if nat_lt n 36 then (if length name == 0 then letter (n - 26) else digit (n - 26))
     else (if is_open name then letter 0 else dash)
 
--- one character more
+-- one character more of a name
 unfoldable pub character_at : List ℕ → List ℕ → ℕ × List ℕ
 character_at name bytes = let n = range_at 0 36 bytes in (character name n.0, n.1)
 

@@ -13,7 +13,7 @@ abbrev pub CallsKeepPieces : {F : Type 0} → Mut F (MutBor (List ℕ) × Unit {
 CallsKeepPieces {F} g = (f : F) (bytes : List ℕ) (answer : Result Bool Error) (f' : F) (bytes' : List ℕ) → CalledAtMut g f bytes answer f' bytes' → KeepsPieces bytes bytes'
 
 module _ {F : Type 0} (g : Mut F (MutBor (List ℕ) × Unit {0}) (Result Bool Error × (MutBor (List ℕ) × Unit {0}))) (min max : ℕ) where
-  -- one call more behind those before it: the loop goes on, and f is called on what that leaves
+  -- one call more behind `calls` calls: the loop goes on, and f is called on what that leaves
   pub record Turn (calls : ℕ) (f : F) (bytes : List ℕ) (answer : Result Bool Error) (f' : F) (bytes' : List ℕ) : Type 0 where
     pub more : calls < max
     pub mid : List ℕ

@@ -7,13 +7,7 @@ pub(crate) fn count_digits(number: u128) -> usize
     ensures within { result ≤ 16 }
     ensures few { number < 2 ^ 64 → result ≤ 8 }
 {
-    let mut count = 0;
-    let mut rest = number;
-    while rest > 0 {
-        rest /= 256;
-        count += 1;
-    }
-    count
+    16 - number.leading_zeros() as usize / 8
 }
 
 /// The number whose base-256 digits these are, the lowest first.
