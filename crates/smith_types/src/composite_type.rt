@@ -1,5 +1,8 @@
+ghost use Rattle.std.specs.Prelude.{◌≡◌};
+ghost use Rattle.smith_types.specs.Kinds.{kind_of, bottom_of};
+
 use crate::list::Items;
-use crate::value_type::ValType;
+use crate::value_type::{AbstractHeapType, ValType};
 
 /// What a field stores: a packed integer or a value. The standard's section Structure, Composite Types.
 #[derive(Clone, Copy, Debug, PartialEq)]
@@ -44,6 +47,29 @@ pub enum CompositeInnerType {
     Array(ArrayType),
     Func(FuncType),
     Struct(StructType),
+}
+
+impl CompositeInnerType {
+    /// The abstract heap type above every type of this kind: Validation, Matching, Heap Types.
+    pub fn kind(&self) -> AbstractHeapType
+        ensures { result ≡ kind_of self.now }
+    {
+        match self {
+            CompositeInnerType::Array(_) => AbstractHeapType::Array,
+            CompositeInnerType::Func(_) => AbstractHeapType::Func,
+            CompositeInnerType::Struct(_) => AbstractHeapType::Struct,
+        }
+    }
+
+    /// The abstract heap type below every type of this kind: Validation, Matching, Heap Types.
+    pub fn bottom(&self) -> AbstractHeapType
+        ensures { result ≡ bottom_of self.now }
+    {
+        match self {
+            CompositeInnerType::Func(_) => AbstractHeapType::NoFunc,
+            _ => AbstractHeapType::None,
+        }
+    }
 }
 
 /// A composite type. The standard's section Structure, Composite Types; sharedness is that of the

@@ -1,6 +1,6 @@
 ghost use Rattle.std.specs.Prelude.{◌≡◌, ◌<◌, length, IsTrue, ◌↔◌};
 ghost use Rattle.smith_types.specs.declared.value_type.HeapType.TheVariants.{Abstract, Concrete};
-ghost use Rattle.smith_types.specs.Kinds.{kind, kind_of, bottom, bottom_of, shared};
+ghost use Rattle.smith_types.specs.Kinds.{kind, bottom, shared};
 ghost use Rattle.smith_types.specs.Types.{IsOrderly};
 ghost use Rattle.smith_types.specs.Subtyping.{
   is_abstract_below,
@@ -11,7 +11,7 @@ ghost use Rattle.smith_types.specs.Subtyping.{
   IsValInRange,
 };
 
-use crate::composite_type::{CompositeInnerType, SubType};
+use crate::composite_type::SubType;
 use crate::value_type::{AbstractHeapType, HeapType, RefType, ValType};
 
 // Whether one value type is below another.
@@ -94,33 +94,14 @@ fn is_under(ty: &SubType, is_shared: bool, upper: AbstractHeapType) -> bool
     ensures { IsTrue result ↔ ((shared ty.now ≡ is_shared) × IsTrue (is_abstract_below (kind ty.now) upper)) }
 {
     ty.composite_type.shared == is_shared
-        && abstract_type_is_below(kind_of_inner(&ty.composite_type.inner), upper)
+        && abstract_type_is_below(ty.composite_type.inner.kind(), upper)
 }
 
-// Whether an abstract type of this sharedness is the one that is below all of the type's kind.
+// Whether an abstract type of this sharedness is the bottom of a type's kind.
 fn is_bottom_of(ty: &SubType, is_shared: bool, lower: AbstractHeapType) -> bool
     ensures { IsTrue result ↔ ((is_shared ≡ shared ty.now) × (lower ≡ bottom ty.now)) }
 {
-    is_shared == ty.composite_type.shared && lower == bottom_of_inner(&ty.composite_type.inner)
-}
-
-fn kind_of_inner(inner: &CompositeInnerType) -> AbstractHeapType
-    ensures { result ≡ kind_of inner.now }
-{
-    match inner {
-        CompositeInnerType::Array(_) => AbstractHeapType::Array,
-        CompositeInnerType::Func(_) => AbstractHeapType::Func,
-        CompositeInnerType::Struct(_) => AbstractHeapType::Struct,
-    }
-}
-
-fn bottom_of_inner(inner: &CompositeInnerType) -> AbstractHeapType
-    ensures { result ≡ bottom_of inner.now }
-{
-    match inner {
-        CompositeInnerType::Func(_) => AbstractHeapType::NoFunc,
-        _ => AbstractHeapType::None,
-    }
+    is_shared == ty.composite_type.shared && lower == ty.composite_type.inner.bottom()
 }
 
 // Whether one abstract type is below another of the same sharedness.

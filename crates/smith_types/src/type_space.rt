@@ -23,7 +23,6 @@ ghost use Rattle.std.specs.Prelude.{
   if◌then◌else◌,
 };
 ghost use Rattle.std.specs.declared.ops.Range.{Range};
-ghost use Rattle.smith_types.specs.Kinds.{kind_of};
 ghost use Rattle.smith_types.specs.Types.{IsAlike, IsOrderly, next_start, next_group};
 ghost use Rattle.smith_types.specs.Space.{AreDepths, AreExtensible, HasDepth, MayFollow};
 ghost use Rattle.smith_types.specs.Sizes.{value_count};
@@ -318,15 +317,5 @@ fn is_alike(a: &SubType, b: &SubType) -> bool
     ensures { IsTrue result ↔ IsAlike a.now b.now }
 {
     a.composite_type.shared == b.composite_type.shared
-        && is_same_kind(&a.composite_type.inner, &b.composite_type.inner)
-}
-
-fn is_same_kind(a: &CompositeInnerType, b: &CompositeInnerType) -> bool
-    ensures { IsTrue result ↔ (kind_of a.now ≡ kind_of b.now) }
-{
-    match a {
-        CompositeInnerType::Array(_) => matches!(b, CompositeInnerType::Array(_)),
-        CompositeInnerType::Func(_) => matches!(b, CompositeInnerType::Func(_)),
-        CompositeInnerType::Struct(_) => matches!(b, CompositeInnerType::Struct(_)),
-    }
+        && a.composite_type.inner.kind() == b.composite_type.inner.kind()
 }
