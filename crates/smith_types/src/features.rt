@@ -61,10 +61,11 @@ impl Flags for WasmFeatures {
 
 impl WasmFeatures {
     /// Every feature there is.
+    #[tactic(auto, unfolding(bitflags::proofs::OnLiterals::bitflags_on_literals))]
     pub fn every() -> WasmFeatures
         ensures { features_in result ≡ every_feature }
     {
-        WasmFeatures(16777215)
+        Flags::all()
     }
 
     /// Whether every bit of `features` is in the set.

@@ -48,6 +48,9 @@ pub struct UnknownKind {
 #[derive(Clone, Copy, Debug, PartialEq, Eq)]
 pub struct InstructionKinds(u16);
 
+// What a kind with floats has and the kind without doesn't.
+const FLOATS: InstructionKinds = InstructionKinds(2 + 8 + 512);
+
 const KINDS: [InstructionKind; 12] = [
     InstructionKind::NumericInt,
     InstructionKind::Numeric,
@@ -64,22 +67,23 @@ const KINDS: [InstructionKind; 12] = [
 ];
 
 impl InstructionKind {
-    fn bits(self) -> u16
-        ensures { result ≡ kind_bits self }
+    // The set of this kind alone.
+    fn set(self) -> InstructionKinds
+        ensures { kinds_bits result ≡ kind_bits self }
     {
         match self {
-            InstructionKind::NumericInt => 1,
-            InstructionKind::Numeric => 3,
-            InstructionKind::VectorInt => 4,
-            InstructionKind::Vector => 12,
-            InstructionKind::Reference => 16,
-            InstructionKind::Parametric => 32,
-            InstructionKind::Variable => 64,
-            InstructionKind::Table => 128,
-            InstructionKind::MemoryInt => 256,
-            InstructionKind::Memory => 768,
-            InstructionKind::Control => 1024,
-            InstructionKind::Aggregate => 2048,
+            InstructionKind::NumericInt => InstructionKinds::NUMERIC_INT,
+            InstructionKind::Numeric => InstructionKinds::NUMERIC,
+            InstructionKind::VectorInt => InstructionKinds::VECTOR_INT,
+            InstructionKind::Vector => InstructionKinds::VECTOR,
+            InstructionKind::Reference => InstructionKinds::REFERENCE,
+            InstructionKind::Parametric => InstructionKinds::PARAMETRIC,
+            InstructionKind::Variable => InstructionKinds::VARIABLE,
+            InstructionKind::Table => InstructionKinds::TABLE,
+            InstructionKind::MemoryInt => InstructionKinds::MEMORY_INT,
+            InstructionKind::Memory => InstructionKinds::MEMORY,
+            InstructionKind::Control => InstructionKinds::CONTROL,
+            InstructionKind::Aggregate => InstructionKinds::AGGREGATE,
         }
     }
 
@@ -171,31 +175,32 @@ impl InstructionKinds {
     }
 
     /// The set of every kind.
+    #[tactic(auto, unfolding(bitflags::proofs::OnLiterals::bitflags_on_literals))]
     pub fn all() -> InstructionKinds
         ensures { result ≡ every_kind }
     {
-        InstructionKinds(4095)
+        Flags::all()
     }
 
     /// The empty set.
     pub fn none() -> InstructionKinds
         ensures { result ≡ no_kind }
     {
-        InstructionKinds(0)
+        Flags::empty()
     }
 
     /// Whether every bit of `kind` is in the set.
     pub fn contains(&self, kind: InstructionKind) -> bool
         ensures { IsTrue result ↔ (bit_and (kinds_bits self.now) (kind_bits kind) ≡ kind_bits kind) }
     {
-        Flags::contains(self, InstructionKinds(kind.bits()))
+        Flags::contains(self, kind.set())
     }
 
     /// The set without what concerns floats.
     pub fn without_floats(&self) -> InstructionKinds
         ensures { kinds_bits result ≡ without 16 (kinds_bits self.now) float_bits }
     {
-        InstructionKinds(self.0 & !522)
+        self.difference(FLOATS)
     }
 
     /// The set, with `kind` where it is `wanted`.
@@ -203,11 +208,7 @@ impl InstructionKinds {
     pub fn with(self, wanted: bool, kind: InstructionKind) -> InstructionKinds
         ensures { result ≡ with_kind self wanted kind }
     {
-        if wanted {
-            InstructionKinds(self.0 | kind.bits())
-        } else {
-            self
-        }
+        if wanted { self.union(kind.set()) } else { self }
     }
 }
 
