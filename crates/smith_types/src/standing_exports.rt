@@ -1,4 +1,4 @@
-ghost use Rattle.std.specs.Prelude.{◌≡◌, ◌↔◌, ◌<◌, IsTrue};
+ghost use Rattle.std.specs.Prelude.{◌≡◌, ◌↔◌, IsTrue};
 ghost use Rattle.smith_types.specs.IndexSpaces.{spaces_in};
 ghost use Rattle.smith_types.specs.Exports.{IsEntityAt};
 ghost use Rattle.smith_types.specs.Decided.{count_at, AreExportsFound};
@@ -31,12 +31,6 @@ impl<'a> Predicate<(Name, ExportKind, u32)> for StandingExport<'a> {
 
 fn is_entity_at(spaces: &IndexSpaces, kind: ExportKind, index: u32) -> bool
     ensures { IsTrue result ↔ ((ty : EntityType) × IsEntityAt (spaces_in spaces.now) kind index ty) }
-{
-    is_below_count(spaces, kind, index)
-}
-
-fn is_below_count(spaces: &IndexSpaces, kind: ExportKind, index: u32) -> bool
-    ensures { IsTrue result ↔ (index < count_at (spaces_in spaces.now) kind) }
 {
     (index as usize) < count_of(spaces, kind)
 }

@@ -63,8 +63,8 @@ impl<'a> Predicate<ValType> for StandingValue<'a> {
         match item {
             ValType::Ref(reference) => match reference.heap_type {
                 HeapType::Abstract { shared: _, ty: _ } => true,
-                HeapType::Concrete(index) => (index as usize) < self.types.len(),
-                HeapType::Exact(index) => (index as usize) < self.types.len(),
+                HeapType::Concrete(index) | HeapType::Exact(index) => (index as usize)
+                    < self.types.len(),
             },
             _ => true,
         }
@@ -126,8 +126,7 @@ fn is_heap_type_shared(types: &[SubType], heap_type: HeapType) -> bool
 {
     match heap_type {
         HeapType::Abstract { shared, ty: _ } => shared,
-        HeapType::Concrete(index) => is_shared_at(types, index),
-        HeapType::Exact(index) => is_shared_at(types, index),
+        HeapType::Concrete(index) | HeapType::Exact(index) => is_shared_at(types, index),
     }
 }
 

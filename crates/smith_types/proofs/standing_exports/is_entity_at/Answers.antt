@@ -1,3 +1,4 @@
+use Rattle.std.proofs.Common.{rules}
 use Rattle.smith_types.specs.IndexSpaces.{spaces_in}
 use Rattle.smith_types.proofs.StandingEntityLemmas.{entity_there, entity_within}
 use Rattle.smith_types.proofs.standing_exports.is_entity_at.Goals as goal
@@ -5,6 +6,6 @@ use Rattle.smith_types.proofs.standing_exports.is_entity_at.Goals as goal
 pub returns : goal.returns
 returns c =
     let spaces = spaces_in c.args.spaces.now in (
-      λ yes. entity_there spaces c.args.kind c.args.index (c.is_below_count.ensures.0 yes),
-      λ (ty, there). c.is_below_count.ensures.1 (entity_within spaces c.args.kind c.args.index ty there),
+      λ yes. entity_there spaces c.args.kind c.args.index (search rules),
+      λ (ty, there). let below = entity_within spaces c.args.kind c.args.index ty there in search rules,
     )
