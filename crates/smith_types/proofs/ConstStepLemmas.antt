@@ -19,7 +19,7 @@ pub alone : (context : Context) (instruction : ConstInstr) (value wanted : ValTy
 alone context instruction value wanted typed below enabled =
     record { value = value; steps = (value ∷ [], one_step context instruction [] value [] [] typed tt, refl); below = below; enabled = enabled }
 
--- an instruction without operands, and one that takes its value
+-- an instruction without operands, and an instruction that takes its value
 pub after_one : (context : Context) (first second : ConstInstr) (taken operand value wanted : ValType) → HasType context first [] taken → HasType context second (operand ∷ []) value → IsValBelow context.types taken operand → IsValBelow context.types value wanted
     → All (IsInstrEnabled context.features context.imported_globals) (first ∷ second ∷ []) → IsConstExpr context wanted (first ∷ second ∷ [])
 after_one context first second taken operand value wanted typed typed' accepted below enabled = record {

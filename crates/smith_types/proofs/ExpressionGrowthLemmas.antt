@@ -25,7 +25,7 @@ grown context types funcs globals visible = record {
   visible = visible;
 }
 
--- each grown context is one of that form
+-- each grown context is a context with more at the ends of its lists
 pub grown_is : (old new : Context) (h : IsContextGrown old new) → grown old h.types.more h.funcs.more h.globals.more new.visible ≡ new
 grown_is old new h = sym (λ i. record {
   features = h.features i;

@@ -96,7 +96,7 @@ AreTypesOpen-push features end types groups t now lt below h =
       ];
     }
 
--- the group that they make
+-- where the types behind the groups are valid so far, they make a group that is valid
 pub AreTypesOpen-close : (features : Features) (types : List SubType) (groups : List (Range ℕ)) → AreTypesOpen features (length types) (record { types = types; groups = groups }) → (features.gc ≡ false → length types ≡ next_start groups + 1)
     → AreTypesValid features (record { types = types; groups = groups ++ next_group types groups ∷ [] })
 AreTypesOpen-close features types groups now single =

@@ -21,7 +21,7 @@ less_or_last (suc j) zero h = absurd (omega arith)
 less_or_last zero (suc i) h = inl (omega arith)
 less_or_last (suc j) (suc i) h = elim (less_or_last j i (omega arith)) [ inl less ↦ inl (omega arith) | inr same ↦ inr (ap suc same) ]
 
--- one more
+-- the members before the next index are valid where the member at this index is too
 pub members_turn : (features : Features) (types : List SubType) (group : Range ℕ) (i : ℕ) (t d : SubType) → i < length types → t ≡ get_or types i d → AreBeforeValid features types group i → IsTypeValid features types group.end t
     → AreBeforeValid features types group (i + 1)
 members_turn features types group i t d inside read before h j u low high at =
@@ -32,7 +32,7 @@ members_turn features types group i t d inside read before h j u low high at =
           subst (IsTypeValid features types group.end) (read ∙ same_Some (get_or types i d) u (sym (slice_get-get_or types i d inside) ∙ there)) h
     ]
 
--- one that is not valid
+-- a member of valid members is valid
 pub member_valid : (features : Features) (types : List SubType) (group : Range ℕ) (i : ℕ) (t d : SubType) → i < length types → t ≡ get_or types i d → group.start ≤ i → i < group.end → AreMembersValid features types group → IsTypeValid features types group.end t
 member_valid features types group i t d inside read low high valid =
     valid.each i t low high (slice_get-get_or types i d inside ∙ ap Some (sym read))

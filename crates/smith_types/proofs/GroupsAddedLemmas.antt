@@ -76,7 +76,7 @@ space_of_push groups group =
     ranges_push 0 groups group ∙ ap (λ (n : ℕ). ranges_from 0 groups ++ record { start = end_from 0 (ranges_from 0 groups); end = n } ∷ []) end in
     λ i. record { types = flat i; groups = ranges i }
 
--- the groups so far, and the one at hand, within all of them
+-- the types of the groups so far and of the group at hand stand at the front of the types of all groups
 pub groups_cut : (groups : List (List SubType)) (i : ℕ) (group d : List SubType) → i < length groups → group ≡ get_or groups i d
     → (space_of groups).types ≡ ((space_of (take i groups)).types ++ group) ++ flat_map (λ (group : List SubType). group) (drop (suc i) groups)
 groups_cut groups i group d inside read =

@@ -32,7 +32,7 @@ pub all_apart : {A : Type 0} (P : A → Type 0) (xs ys : List A) → All P (xs +
 all_apart P xs ys all =
     let apart = each_apart P xs ys (recursion_from_All P (xs ++ ys) all) in (All-from_recursion P xs apart.0, All-from_recursion P ys apart.1)
 
--- and the other way round
+-- what holds of the parts of all items holds of all parts of each item
 pub parts_of_all : {A B : Type 0} (P : B → Type 0) (f : A → List B) (items : List A) → All P (flat_map f items) → Each (λ item. All P (f item)) items
 parts_of_all P f [] all = tt
 parts_of_all P f (item ∷ items) all = let apart = all_apart P (f item) (flat_map f items) all in (apart.0, parts_of_all P f items apart.1)

@@ -14,7 +14,7 @@ pub slice_get-last : {A : Type 0} (xs : List A) (x : A) → slice_get (xs ++ x �
 slice_get-last [] x = refl
 slice_get-last (y ∷ xs) x = slice_get-last xs x
 
--- what stands in a list with one more was there, or is that one
+-- what stands in a list with an item more stood there before, or is that item
 pub slice_get-push : {A : Type 0} (xs : List A) (y : A) (i : ℕ) (x : A) → slice_get (xs ++ y ∷ []) i ≡ Some x → (slice_get xs i ≡ Some x) ⊎ ((i ≡ length xs) × (y ≡ x))
 slice_get-push [] y zero x at = inr (refl, cc)
 slice_get-push [] y (suc i) x at = cc

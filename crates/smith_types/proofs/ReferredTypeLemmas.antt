@@ -35,7 +35,7 @@ inner_in_range types (Struct structure) h =
     All-weaker (λ (field : FieldType). IsStored (IsValInRange types) field.element_type) (IsFieldInRange types) (λ field. stored_in_range types field.element_type) structure.fields
     (held_from_values (IsValInRange types) (Struct structure) h)
 
--- types whose values are in range are
+-- types whose values refer to types that stand do so themselves
 pub all_in_range : (types : List SubType) → All (λ (t : SubType). All (IsValInRange types) (values_of t.composite_type.inner)) types → AreInRange types
 all_in_range types all = record {
   each = λ i t at.

@@ -10,7 +10,7 @@ use Rattle.smith_types.specs.Types.{IsAlike, IsOrderly, end_from, next_start, ne
 use Rattle.smith_types.specs.Space.{IsSound, MayFollow, HasDepth, root, deeper, AreDepths, extensible_from}
 use Rattle.smith_types.proofs.ListLemmas.{slice_get-grown, slice_get-last, slice_get-push}
 
--- what stands below the end of a list stood there before one more was added
+-- what stands below the end of a list stood there before an item was added
 slice_get-shrunk : {A : Type 0} (xs : List A) (y : A) (i : ℕ) (x : A) → i < length xs → slice_get (xs ++ y ∷ []) i ≡ Some x → slice_get xs i ≡ Some x
 slice_get-shrunk xs y i x inside at = elim (slice_get-push xs y i x at) [ inl old ↦ old | inr (is, same) ↦ absurd (omega arith) ]
 
@@ -75,7 +75,7 @@ pub AreConsecutive-push : (start : ℕ) (groups : List (Range ℕ)) (group : Ran
 AreConsecutive-push start [] group c begins ends = (begins, omega arith, tt)
 AreConsecutive-push start (g ∷ groups) group (p, q, r) begins ends = (p, q, AreConsecutive-push g.end groups group r begins ends)
 
--- where the next group begins after one more
+-- where the next group begins after one more group
 pub next_start-push : (types : List SubType) (groups : List (Range ℕ)) → next_start (groups ++ next_group types groups ∷ []) ≡ length types
 next_start-push types groups = end_from-push 0 groups (next_group types groups)
 

@@ -98,7 +98,7 @@ before_or_not a zero = inr (omega arith)
 before_or_not zero (suc b) = inl (omega arith)
 before_or_not (suc a) (suc b) = elim (before_or_not a b) [ inl lt ↦ inl (omega arith) | inr le ↦ inr (omega arith) ]
 
--- what holds of each of consecutive groups holds of one that an index is in
+-- what holds of each of consecutive groups holds of the group that an index is in
 pub group_at : (P : Range ℕ → Type 0) (start : ℕ) (groups : List (Range ℕ)) (i : ℕ) → AreConsecutive start groups → ByRecursion P groups → start ≤ i → i < end_from start groups → (group : Range ℕ) × P group × (group.start ≤ i) × (i < group.end)
 group_at P start [] i c each low high = absurd (omega arith)
 group_at P start (group ∷ groups) i (begins, ordered, rest) (h, more) low high =

@@ -18,11 +18,11 @@ pub data Reaches (types : List SubType) : ℕ → ℕ → Type 0 where
   here : {i : ℕ} → Reaches types i i
   up : {i s j : ℕ} {t : SubType} → slice_get types i ≡ Some t → t.supertype ≡ Some s → Reaches types s j → Reaches types i j
 
--- the type there is below an abstract one
+-- the type of an index is below an abstract type
 abbrev pub IsUnder : List SubType → ℕ → Bool → AbstractHeapType → Type 0
 IsUnder types i r b = (t : SubType) × (slice_get types i ≡ Some t) × (shared t ≡ r) × IsTrue (is_abstract_below (kind t) b)
 
--- an abstract type is the bottom of the type there
+-- an abstract type is the bottom of the type of an index
 abbrev pub IsBottomAt : List SubType → Bool → AbstractHeapType → ℕ → Type 0
 IsBottomAt types s a j = (t : SubType) × (slice_get types j ≡ Some t) × (s ≡ shared t) × (a ≡ bottom t)
 
@@ -190,7 +190,7 @@ reaches_alone types i j t at none other (up {s = s'} {t = t'} at' sup' reach) =
     let same : t ≡ t' = same_Some t t' (sym at ∙ at') in
     none-some s' (sym none ∙ ap (λ x. x.supertype) same ∙ sup')
 
--- a type that is not the other one is below it exactly where its supertype, which stands, is
+-- a type is below a type other than itself exactly where its supertype, which stands, is
 pub below_above : (types : List SubType) → IsOrderly types → (i s j : ℕ) (d : SubType) → i < length types → (get_or types i d).supertype ≡ Some s → (i ≡ j → ⊥) → (s < i) × (IsBelow types (Concrete s) (Concrete j) ↔ IsBelow types (Concrete i) (Concrete j))
 below_above types o i s j d inside sup other =
     let t = get_or types i d in

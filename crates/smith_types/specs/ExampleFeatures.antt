@@ -6,7 +6,7 @@ use Rattle.smith_types.specs.Features.{Features, every_feature}
 abbrev pub usual_features : Features
 usual_features = record every_feature { custom_descriptors = false }
 
--- those without garbage collection
+-- the usual features without garbage collection
 abbrev pub without_gc : Features
 without_gc = record usual_features { gc = false }
 

@@ -111,7 +111,7 @@ refers_to index = constant (Val (Ref (nullable (Concrete index))))
 abbrev pub referring_type : SubType
 referring_type = final_type (struct (refers_to 1 ∷ []))
 
--- that type, and a type behind it
+-- a struct type that refers to the type behind it, and the type behind it
 abbrev pub referring : List SubType
 referring = referring_type ∷ final_type empty_struct ∷ []
 

@@ -67,7 +67,7 @@ IsStructAt types index fields = (t : SubType) × (slice_get types index ≡ Some
 abbrev pub IsArrayAt : List SubType → ℕ → FieldType → Type 0
 IsArrayAt types index element = (t : SubType) × (slice_get types index ≡ Some t) × (t.composite_type.inner ≡ inner.Array (record { 0 = element }))
 
--- a global that is immutable and stands below the visible ones' end (Validation, Constant Expressions)
+-- a global that is immutable and stands below the end of the visible globals (Validation, Constant Expressions)
 abbrev pub IsVisible : Context → ℕ → ValType → Type 0
 IsVisible context index value =
     (global : GlobalType) × (slice_get context.globals index ≡ Some global) × (index < context.visible) × (global.mutable ≡ false) × (global.val_type ≡ value)
@@ -81,7 +81,7 @@ pub record IsConversion (operands : List ValType) (result : ValType) (from into 
   pub given : result ≡ Ref (record { nullable = nullable; heap_type = into shared })
 
 -- an instruction takes operands of these types, the last of them on top, and gives a value of that type (Validation,
--- Instructions); that of a shared i31 is an own rule
+-- Instructions); the type of a shared i31 is an own rule
 abbrev pub HasType : Context → ConstInstr → List ValType → ValType → Type 0
 HasType context (instr.I32Const value) operands result = (operands ≡ []) × (result ≡ I32)
 HasType context (instr.I64Const value) operands result = (operands ≡ []) × (result ≡ I64)
@@ -139,15 +139,17 @@ pub record IsConstExpr (context : Context) (wanted : ValType) (expression : List
   pub below : IsValBelow context.types value wanted
   pub enabled : All (IsInstrEnabled context.features context.imported_globals) expression
 
--- where the visible globals end: imported ones for tables (Validation, Modules)
+-- where the visible globals end for tables: behind the imported globals (Validation, Modules)
 abbrev pub seen_by_tables : Context → ℕ
 seen_by_tables context = context.imported_globals
 
--- those before it for a global of this index (Validation, Modules); without garbage collection, imported ones (own rule)
+-- where the visible globals end for a global of this index: before it (Validation, Modules); without garbage collection, behind
+-- the imported globals (own rule)
 abbrev pub seen_by_global : Context → ℕ → ℕ
 seen_by_global context index = if context.features.gc then index else context.imported_globals
 
--- all of them for segments (Validation, Modules); without garbage collection, imported ones (own rule)
+-- where the visible globals end for segments: behind all (Validation, Modules); without garbage collection, behind the imported
+-- globals (own rule)
 abbrev pub seen_by_segments : Context → ℕ
 seen_by_segments context = if context.features.gc then length context.globals else context.imported_globals
 

@@ -13,7 +13,7 @@ pub record IsAlike (t u : SubType) : Type 0 where
 pub record IsOrderly (types : List SubType) : Type 0 where
   pub under : (i s : ℕ) (t : SubType) → slice_get types i ≡ Some t → t.supertype ≡ Some s → (s < i) × ((u : SubType) → slice_get types s ≡ Some u → IsAlike t u)
 
--- where the last of these groups ends, or that start where there is none
+-- where the last of these groups ends, or `start` where there is no group
 abbrev pub end_from : ℕ → List (Range ℕ) → ℕ
 end_from start [] = start
 end_from start (group ∷ groups) = end_from group.end groups
@@ -22,7 +22,7 @@ end_from start (group ∷ groups) = end_from group.end groups
 abbrev pub next_start : List (Range ℕ) → ℕ
 next_start groups = end_from 0 groups
 
--- each group begins where the one before it ended, the first of them there; empty ones are allowed
+-- each group begins where the group before it ended, and the first at `start`; a group may be empty
 abbrev pub AreConsecutive : ℕ → List (Range ℕ) → Type 0
 AreConsecutive start [] = Unit {0}
 AreConsecutive start (group ∷ groups) = (group.start ≡ start) × (start ≤ group.end) × AreConsecutive group.end groups
