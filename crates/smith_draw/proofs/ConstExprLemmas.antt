@@ -108,7 +108,7 @@ unfolding choose_at
 none_at [] all bytes is none = rw (← is) refl
 none_at (x ∷ items) all bytes is none = absurd (omega arith)
 
--- so many operands are read, and reading the others completes the whole
+-- the first `n` operands are read, and reading the others completes the whole
 pub record IsReading (context : Context) (limited : Bool) (operands : List Operand) (n : ℕ) (old now : State) : Type 0 where
   pub so_far : (depth : ℕ) → old.fuel < depth → operands_at (operand_at limited (expression_at context limited depth)) operands old ≡ operands_at (operand_at limited (expression_at context limited depth)) (drop n operands) now
 

@@ -15,7 +15,7 @@ use Rattle.smith_types.specs.declared.value_type.ValType.TheVariants.{I32, I64, 
 use Rattle.smith_types.specs.declared.composite_type.CompositeInnerType.{CompositeInnerType}
 use Rattle.smith_types.specs.declared.composite_type.SubType.{SubType}
 use Rattle.smith_draw.specs.ConstScopes.{IsScope}
-use Rattle.smith_draw.specs.ConstOffers.{past, each_from, offered_if, is_defaultable, is_integer, global_offers, function_offers, struct_offers, array_offers, conversions, other_offers, created_offers, reference_offers, offers}
+use Rattle.smith_draw.specs.ConstOffers.{past, each_from, offered_if, is_defaultable, is_integer, global_offers, function_offers, type_offers, types_offers, conversions, other_offers, created_offers, reference_offers, offers}
 use Rattle.smith_draw.specs.declared.const_expr.choice.Choice.{Choice}
 use Rattle.smith_draw.specs.declared.const_expr.choice.Choice.TheVariants as choice
 
@@ -100,11 +100,11 @@ few_taken zero xs = omega arith
 few_taken (suc n) [] = omega arith
 few_taken (suc n) (x ∷ xs) = let more = few_taken n xs in omega arith
 
-few_structs : (context : Context) (wanted : ValType) (fuel index : ℕ) (i : CompositeInnerType) → length (struct_offers context wanted fuel index i) ≤ 2
-few_structs context wanted fuel index i = search rules
+few_type : (context : Context) (wanted : ValType) (fuel : ℕ) (arrays : Bool) (index : ℕ) (i : CompositeInnerType) → length (type_offers context wanted fuel arrays index i) ≤ 3
+few_type context wanted fuel arrays index i = search rules
 
-few_arrays : (context : Context) (wanted : ValType) (fuel index : ℕ) (i : CompositeInnerType) → length (array_offers context wanted fuel index i) ≤ 3
-few_arrays context wanted fuel index i = search rules
+few_types : (context : Context) (wanted : ValType) (fuel : ℕ) (arrays : Bool) → length (types_offers context wanted fuel arrays) ≤ 3 * length context.types
+few_types context wanted fuel arrays = few_each (λ index (t : SubType). type_offers context wanted fuel arrays index t.composite_type.inner) 3 (λ i t. few_type context wanted fuel arrays i t.composite_type.inner) 0 context.types
 
 few_conversions : (h : HeapType) → length (conversions h) ≤ 1
 few_conversions h = search rules
@@ -119,20 +119,20 @@ few_others context r fuel =
     (few_join (offered_if (context.features.shared_everything_threads && is_val_below context.types (reference_to (Abstract true heap.I31)) (Ref r)) choice.SharedI31) (conversions r.heap_type) 1 1 2
     (few_if (context.features.shared_everything_threads && is_val_below context.types (reference_to (Abstract true heap.I31)) (Ref r)) choice.SharedI31) (few_conversions r.heap_type) (omega arith)) (omega arith))
 
-few_references : (context : Context) (wanted : ValType) (fuel : ℕ) → length (reference_offers context wanted fuel) ≤ length context.funcs + 5 * length context.types + 3
+few_references : (context : Context) (wanted : ValType) (fuel : ℕ) → length (reference_offers context wanted fuel) ≤ length context.funcs + 6 * length context.types + 3
 few_references context I32 fuel = omega arith
 few_references context I64 fuel = omega arith
 few_references context F32 fuel = omega arith
 few_references context F64 fuel = omega arith
 few_references context V128 fuel = omega arith
 few_references context (Ref r) fuel =
-    let structs = few_each (λ index (t : SubType). struct_offers context (Ref r) fuel index t.composite_type.inner) 2 (λ i t. few_structs context (Ref r) fuel i t.composite_type.inner) 0 context.types in
-    let arrays = few_each (λ index (t : SubType). array_offers context (Ref r) fuel index t.composite_type.inner) 3 (λ i t. few_arrays context (Ref r) fuel i t.composite_type.inner) 0 context.types in
+    let structs = few_types context (Ref r) fuel false in
+    let arrays = few_types context (Ref r) fuel true in
     let functions = few_each (function_offers context (Ref r)) 1 (λ i index. few_if (is_val_below context.types (function_reference context i index) (Ref r)) (choice.Function i)) 0 context.funcs in
     let others = few_others context r fuel in
-    let created : length (created_offers context r fuel) ≤ 5 * length context.types + 3 = simp length-append (omega arith) in
-    few_join (each_from (function_offers context (Ref r)) 0 context.funcs) (cond context.features.gc (created_offers context r fuel) []) (length context.funcs) (5 * length context.types + 3) (length context.funcs + 5 * length context.types + 3)
-    (omega arith) (few_cond context.features.gc (created_offers context r fuel) (5 * length context.types + 3) created) (omega arith)
+    let created : length (created_offers context r fuel) ≤ 6 * length context.types + 3 = simp length-append (omega arith) in
+    few_join (each_from (function_offers context (Ref r)) 0 context.funcs) (cond context.features.gc (created_offers context r fuel) []) (length context.funcs) (6 * length context.types + 3) (length context.funcs + 6 * length context.types + 3)
+    (omega arith) (few_cond context.features.gc (created_offers context r fuel) (6 * length context.types + 3) created) (omega arith)
 
 pub offers_few : (context : Context) (wanted : ValType) (fuel : ℕ) → IsScope context → length (offers context wanted fuel) < 2 ^ 64
 unfolding offers

@@ -29,7 +29,7 @@ use Rattle.smith_types.specs.declared.const_instr.ConstInstr.TheVariants as inst
 use Rattle.smith_draw.specs.Constants.{constant_at}
 use Rattle.smith_draw.specs.Below.{is_val_below}
 use Rattle.smith_draw.specs.ConstScopes.{IsScope, fields_of}
-use Rattle.smith_draw.specs.ConstOffers.{each_from, offered_if, is_defaultable, are_defaultable, is_integer, global_offers, function_offers, struct_ways, array_ways, struct_offers, array_offers, conversions, other_offers, created_offers, reference_offers, constant_offers, offers}
+use Rattle.smith_draw.specs.ConstOffers.{each_from, offered_if, is_defaultable, are_defaultable, is_integer, global_offers, function_offers, struct_ways, array_ways, type_offers, types_offers, conversions, other_offers, created_offers, reference_offers, constant_offers, offers}
 use Rattle.smith_draw.specs.ConstNodes.{field_operands, repeated, is_shared_heap, node_of, node_at}
 use Rattle.smith_draw.specs.ConstBounds.{widest, field_count, IsNonNullable, MayLack}
 use Rattle.smith_draw.specs.ConstSteps.{operand_type, MayRefuseValues, IsNode, IsFit}
@@ -254,12 +254,26 @@ module _ (context : Context) (wanted : ValType) (fuel : ℕ) (scope : IsScope co
   paid_by : (f n : ℕ) → (nat_lt 0 f || (n == 0)) ≡ true → 0 < n → 0 < f
   paid_by f n e some = grind (arith, nat_tests)
 
-  -- structs
-  struct_fits : IsTrue context.features.gc → (index : ℕ) (t : SubType) → slice_get context.types index ≡ Some t → (i : CompositeInnerType) → t.composite_type.inner ≡ i → Each (IsFit context wanted fuel) (struct_offers context wanted fuel index i)
+  repeat_types : (n : ℕ) (value : ValType) → map operand_type (repeated n (Value value ∷ [])) ≡ replicate n value
+  repeat_types zero value = refl
+  repeat_types (suc n) value = ap (λ (vs : List ValType). value ∷ vs) (repeat_types n value)
+
+  repeat_length : (n : ℕ) (operand : Operand) → length (repeated n (operand ∷ [])) ≡ n
+  repeat_length zero operand = refl
+  repeat_length (suc n) operand = ap suc (repeat_length n operand)
+
+  repeat_calm : (n : ℕ) (operand : Operand) → Calm operand → Each Calm (repeated n (operand ∷ []))
+  repeat_calm zero operand h = tt
+  repeat_calm (suc n) operand h = (h, repeat_calm n operand h)
+
+  some_fuel : (f : ℕ) → nat_lt 0 f ≡ true → 0 < f
+  some_fuel zero e = cc
+  some_fuel (suc f) e = omega arith
+
+  -- structs and arrays
+  type_fits : IsTrue context.features.gc → (arrays : Bool) (index : ℕ) (t : SubType) → slice_get context.types index ≡ Some t → (i : CompositeInnerType) → t.composite_type.inner ≡ i → Each (IsFit context wanted fuel) (type_offers context wanted fuel arrays index i)
   unfolding node_at
-  struct_fits on index t at (inner.Array array) is = tt
-  struct_fits on index t at (inner.Func function) is = tt
-  struct_fits on index t at (inner.Struct structure) is =
+  type_fits on false index t at (inner.Struct structure) is =
       let fields = structure.fields in
       let there : field_operands context.types index ≡ map Value (field_values fields) = rw (at, is) refl in
       let calm : Each Calm (map Value (field_values fields)) = rw is at (calm_type index t at) in
@@ -277,29 +291,7 @@ module _ (context : Context) (wanted : ValType) (fuel : ℕ) (scope : IsScope co
         node = λ bytes. leaf (instr.StructNewDefault index) (created context index) (fields, (t, at, is), All-from_recursion IsDefaultable (field_values fields) (defaults_each fields defaults), refl, refl) (below (created context index) lower) on;
         extended = λ e. cc;
       })))
-
-  repeat_types : (n : ℕ) (value : ValType) → map operand_type (repeated n (Value value ∷ [])) ≡ replicate n value
-  repeat_types zero value = refl
-  repeat_types (suc n) value = ap (λ (vs : List ValType). value ∷ vs) (repeat_types n value)
-
-  repeat_length : (n : ℕ) (operand : Operand) → length (repeated n (operand ∷ [])) ≡ n
-  repeat_length zero operand = refl
-  repeat_length (suc n) operand = ap suc (repeat_length n operand)
-
-  repeat_calm : (n : ℕ) (operand : Operand) → Calm operand → Each Calm (repeated n (operand ∷ []))
-  repeat_calm zero operand h = tt
-  repeat_calm (suc n) operand h = (h, repeat_calm n operand h)
-
-  some_fuel : (f : ℕ) → nat_lt 0 f ≡ true → 0 < f
-  some_fuel zero e = cc
-  some_fuel (suc f) e = omega arith
-
-  -- arrays
-  array_fits : IsTrue context.features.gc → (index : ℕ) (t : SubType) → slice_get context.types index ≡ Some t → (i : CompositeInnerType) → t.composite_type.inner ≡ i → Each (IsFit context wanted fuel) (array_offers context wanted fuel index i)
-  unfolding node_at
-  array_fits on index t at (inner.Struct structure) is = tt
-  array_fits on index t at (inner.Func function) is = tt
-  array_fits on index t at (inner.Array array) is =
+  type_fits on true index t at (inner.Array array) is =
       let element = array.0 in
       let value = unpacked element.element_type in
       let there : field_operands context.types index ≡ Value value ∷ [] = rw (at, is) refl in
@@ -331,12 +323,10 @@ module _ (context : Context) (wanted : ValType) (fuel : ℕ) (scope : IsScope co
           }),
         ),
       ))
+  type_fits on arrays index t at i is = tt
 
-  structs_fit : IsTrue context.features.gc → Each (IsFit context wanted fuel) (each_from (λ index (t : SubType). struct_offers context wanted fuel index t.composite_type.inner) 0 context.types)
-  structs_fit on = each_all (IsFit context wanted fuel) (λ index (t : SubType). struct_offers context wanted fuel index t.composite_type.inner) context.types (λ index t at. struct_fits on index t at t.composite_type.inner refl)
-
-  arrays_fit : IsTrue context.features.gc → Each (IsFit context wanted fuel) (each_from (λ index (t : SubType). array_offers context wanted fuel index t.composite_type.inner) 0 context.types)
-  arrays_fit on = each_all (IsFit context wanted fuel) (λ index (t : SubType). array_offers context wanted fuel index t.composite_type.inner) context.types (λ index t at. array_fits on index t at t.composite_type.inner refl)
+  types_fit : IsTrue context.features.gc → (arrays : Bool) → Each (IsFit context wanted fuel) (types_offers context wanted fuel arrays)
+  types_fit on arrays = each_all (IsFit context wanted fuel) (λ index (t : SubType). type_offers context wanted fuel arrays index t.composite_type.inner) context.types (λ index t at. type_fits on arrays index t at t.composite_type.inner refl)
 
   -- i31 references
   i31_fits : IsTrue context.features.gc → 0 < fuel → is_val_below context.types (reference_to (Abstract false heap.I31)) wanted ≡ true → IsFit context wanted fuel choice.I31
@@ -404,10 +394,9 @@ module _ (context : Context) (r : RefType) (fuel : ℕ) (scope : IsScope context
 
   created_fit : IsTrue context.features.gc → Each (IsFit context (Ref r) fuel) (created_offers context r fuel)
   created_fit on =
-      let structs = each_from (λ index (t : SubType). struct_offers context (Ref r) fuel index t.composite_type.inner) 0 context.types in
-      let arrays = each_from (λ index (t : SubType). array_offers context (Ref r) fuel index t.composite_type.inner) 0 context.types in
-      each_join (IsFit context (Ref r) fuel) structs (arrays ++ other_offers context r fuel) (structs_fit context (Ref r) fuel scope valid on)
-      (each_join (IsFit context (Ref r) fuel) arrays (other_offers context r fuel) (arrays_fit context (Ref r) fuel scope valid on) (others_fit on))
+      let arrays = types_offers context (Ref r) fuel true in
+      each_join (IsFit context (Ref r) fuel) (types_offers context (Ref r) fuel false) (arrays ++ other_offers context r fuel) (types_fit context (Ref r) fuel scope valid on false)
+      (each_join (IsFit context (Ref r) fuel) arrays (other_offers context r fuel) (types_fit context (Ref r) fuel scope valid on true) (others_fit on))
 
 references_fit : (context : Context) (wanted : ValType) (fuel : ℕ) → IsScope context → IsValTypeValid context.features (length context.types) wanted → Each (IsFit context wanted fuel) (reference_offers context wanted fuel)
 references_fit context (Ref r) fuel scope valid =

@@ -8,7 +8,7 @@ use Rattle.smith_draw.specs.MatchingTypes.{each_at}
 abbrev pub behind : {A : Type 0} → List A → List A × List ℕ → List A × List ℕ
 behind made drawn = (made ++ drawn.0, drawn.1)
 
--- so many are drawn, and what is drawn for the others completes the whole
+-- an item is drawn for each of the first `n`, and what is drawn for the others completes the whole
 pub record IsDrawing {A : Type 0} (draw : A → List ℕ → A × List ℕ) (xs : List A) (n : ℕ) (made : List A) (start bytes : List ℕ) : Type 0 where
   pub so_far : each_at draw xs start ≡ behind made (each_at draw (drop n xs) bytes)
   pub left : KeepsPieces start bytes

@@ -17,7 +17,7 @@ use Rattle.smith_draw.specs.declared.const_expr.extended.Operator.{Operator}
 use Rattle.smith_draw.specs.Putting.{Adds}
 use Rattle.smith_draw.proofs.PuttingLemmas.{below_itself}
 
--- instructions that take so many values of the type, and give one, on top of any others
+-- instructions that take `needed` values of the type, and give one, on top of any others
 pub record Ends (context : Context) (wanted : ValType) (needed : ℕ) (made : List ConstInstr) : Type 0 where
   pub steps : (base : List ValType) → AreStackSteps context made (base ++ replicate needed wanted) (base ++ wanted ∷ [])
   pub enabled : All (IsInstrEnabled context.features context.imported_globals) made
@@ -57,7 +57,7 @@ ends_operator context wanted needed made operator typed enabled ends = record {
   enabled = All-cons (IsInstrEnabled context.features context.imported_globals) operator made enabled ends.enabled;
 }
 
--- so many instructions are drawn, the last one first, and so many values are needed
+-- instructions are drawn, the last of the expression first, and `needed` values are needed before them
 pub record IsExtending (wanted : ValType) (wide : Bool) (needed : ℕ) (drawn : List ConstInstr) (start bytes : List ℕ) : Type 0 where
   pub number : (wanted ≡ I32) ⊎ (wanted ≡ I64)
   pub width : wide ≡ is_wide wanted

@@ -10,7 +10,7 @@ use Rattle.smith_draw.specs.RecGroups.{rec_group_at, least_types_at, more_types_
 use Rattle.smith_draw.proofs.ValueTypeLemmas.{drawn_is}
 use Rattle.smith_draw.proofs.GroupSizeLemmas.{AreWithin, rec_group_more}
 
--- so many more turns suffice, and what they draw completes the whole
+-- `turns` more turns suffice, and what they draw completes the whole
 pub record IsReaching (config : Config) (space : Space) (start bytes : List ℕ) (total : Space × List ℕ) : Type 0 where
   pub turns : ℕ
   pub enough : config.min_types ≤ length space.types + turns

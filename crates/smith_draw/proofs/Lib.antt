@@ -1,3 +1,4 @@
+pub mod CallerLemmas
 pub mod EnabledLemmas
 pub mod UntilLoop
 pub mod AncestorLemmas
@@ -9,6 +10,7 @@ pub mod StandingLemmas
 pub mod MatchingLemmas
 pub mod ChosenLemmas
 pub mod ValueTypeLemmas
+pub mod DrawingLemmas
 pub mod SpelledValueLemmas
 pub mod SpelledTypeLemmas
 pub mod SpelledSubTypeLemmas

@@ -41,10 +41,6 @@ grow_keeps {A = A} P draw keeps least (suc most) made bytes h =
     cond_both (λ (r : List A × List ℕ). P r.0) go.0 (grow_at draw least most (made ++ x.0 ∷ []) x.1) (made, go.1)
     (grow_keeps P draw keeps least most (made ++ x.0 ∷ []) x.1 (keeps made go.1 h)) h
 
-each_join_fields : (P : FieldType → Type 0) (xs ys : List FieldType) → Each P xs → Each P ys → Each P (xs ++ ys)
-each_join_fields P [] ys p q = q
-each_join_fields P (x ∷ xs) ys p q = (p.0, each_join_fields P xs ys p.1 q)
-
 -- fields match what those matched that they were made of
 fields_until_match : (config : Config) (types : List SubType) (must_share : Bool) (limit end : ℕ) (fields upper : List FieldType) (bytes : List ℕ) → AreFieldsMatched types fields upper → AreFieldsMatched types (fields_until_at config types must_share limit end fields bytes).0 upper
 unfolding fields_until_at
@@ -58,7 +54,7 @@ fields_until_keep : (P : FieldType → Type 0) (config : Config) (types : List S
 unfolding fields_until_at
 fields_until_keep P config types must_share limit end fields bytes holds sanitized may =
     grow_keeps (λ (made : List FieldType). Each P made) (λ _. field_type_at config types must_share limit)
-    (λ made after h. (each_join_fields P made ((field_type_at config types must_share limit after).0 ∷ [])) h (holds (field_type_at config types must_share limit after).0 (field_type_drawn config types must_share limit after sanitized may), tt))
+    (λ made after h. (each_join P made ((field_type_at config types must_share limit after).0 ∷ [])).1 (h, (holds (field_type_at config types must_share limit after).0 (field_type_drawn config types must_share limit after sanitized may), tt)))
     end (end - length fields) fields bytes
 
 -- what holds of the values of a struct holds of those of each field
@@ -86,30 +82,42 @@ pub record MayBeMatched (config : Config) (types : List SubType) (must_share : B
   pub enabled : IsInnerEnabled (features_of config) old
   pub values : All (IsValTypeValid (features_of config) limit) (values_of old)
 
-pub matching_struct : (config : Config) (types : List SubType) (must_share : Bool) (limit : ℕ) (structure : StructType) (bytes : List ℕ) → MayBeMatched config types must_share limit (Struct structure)
-    → IsInnerMatching config types must_share limit (Struct structure) (Struct (matching_struct_type_at config types must_share limit structure bytes).0)
-unfolding matching_struct_type_at matched_fields_at
-matching_struct config types must_share limit structure bytes h =
+-- what each field that is drawn has, and each matched one, each field of the struct has
+struct_fields_keep : (P : FieldType → Type 0) (config : Config) (types : List SubType) (must_share : Bool) (limit : ℕ) (structure : StructType) (bytes : List ℕ) → ((field : FieldType) → IsFieldDrawn config types must_share limit field → P field) → IsSanitized config → MayShare config must_share
+    → All P (matched_fields_at config types structure.fields (range_at 0 5 bytes).1).0 → Each P (matching_struct_type_at config types must_share limit structure bytes).0.fields
+unfolding matching_struct_type_at
+struct_fields_keep P config types must_share limit structure bytes holds sanitized may all =
     let extra = range_at 0 5 bytes in
     let matched = matched_fields_at config types structure.fields extra.1 in
-    let end = length matched.0 + extra.0 in
-    let fields = fields_until_at config types must_share limit end matched.0 matched.1 in
+    fields_until_keep P config types must_share limit (length matched.0 + extra.0) matched.0 matched.1 holds sanitized may (recursion_from_All P matched.0 all)
+
+pub matching_struct_match : (config : Config) (types : List SubType) (must_share : Bool) (limit : ℕ) (structure : StructType) (bytes : List ℕ) → AreFieldsMatched types (matching_struct_type_at config types must_share limit structure bytes).0.fields structure.fields
+unfolding matching_struct_type_at
+matching_struct_match config types must_share limit structure bytes =
+    let extra = range_at 0 5 bytes in
+    let matched = matched_fields_at config types structure.fields extra.1 in
+    fields_until_match config types must_share limit (length matched.0 + extra.0) matched.0 structure.fields matched.1 (matched_fields_match config types structure.fields extra.1)
+
+pub matching_struct_valid : (config : Config) (types : List SubType) (must_share : Bool) (limit : ℕ) (structure : StructType) (bytes : List ℕ) → IsSanitized config → MayShare config must_share → length types ≤ limit → All (IsSharingEnabled (features_of config)) types
+    → All (IsValTypeValid (features_of config) limit) (values_of (Struct structure)) → All (IsValTypeValid (features_of config) limit) (values_of (Struct (matching_struct_type_at config types must_share limit structure bytes).0))
+matching_struct_valid config types must_share limit structure bytes sanitized may room sharing old =
+    let P = IsValTypeValid (features_of config) limit in
     let Valid = λ (field : FieldType). IsFieldValid (features_of config) limit field in
+    let before = fields_of_values P structure.fields (recursion_from_All P (values_of (Struct structure)) old) in
+    let matched = (matched_fields_valid config types structure.fields (range_at 0 5 bytes).1).against limit room sharing (All-from_recursion Valid structure.fields before) in
+    values_of_fields P (matching_struct_type_at config types must_share limit structure bytes).0.fields
+    (struct_fields_keep Valid config types must_share limit structure bytes (λ field drawn. values_valid config types must_share limit (values_of_storage field.element_type) drawn.values) sanitized may matched)
+
+pub matching_struct_shareable : (config : Config) (types : List SubType) (must_share : Bool) (limit : ℕ) (structure : StructType) (bytes : List ℕ) → IsSanitized config → MayShare config must_share → IsOrderly types → IsTrue must_share
+    → All (IsShareable types) (values_of (Struct structure)) → All (IsShareable types) (values_of (Struct (matching_struct_type_at config types must_share limit structure bytes).0))
+unfolding matched_fields_at
+matching_struct_shareable config types must_share limit structure bytes sanitized may orderly must old =
     let Shared = λ (field : FieldType). IsStorageShareable types field.element_type in
-    let old_values = fields_of_values (IsValTypeValid (features_of config) limit) structure.fields (recursion_from_All (IsValTypeValid (features_of config) limit) (values_of (Struct structure)) h.values) in
-    let kept = recursion_from_All Valid matched.0 ((matched_fields_valid config types structure.fields extra.1).against limit h.room h.sharing (All-from_recursion Valid structure.fields old_values)) in
-    record {
-      enabled = h.gc;
-      values = values_of_fields (IsValTypeValid (features_of config) limit) fields.0
-          (fields_until_keep Valid config types must_share limit end matched.0 matched.1 (λ field drawn. values_valid config types must_share limit (values_of_storage field.element_type) drawn.values) h.sanitized h.may kept);
-      matched = fields_until_match config types must_share limit end matched.0 structure.fields matched.1 (matched_fields_match config types structure.fields extra.1);
-      shareable = λ must old.
-          let before = fields_of_values (IsShareable types) structure.fields (recursion_from_All (IsShareable types) (values_of (Struct structure)) old) in
-          let stay = all_stay Shared (matching_field_type_at config types)
-          (λ x rest s. (storage_shareable types h.orderly (matching_field_type_at config types x rest).0.element_type x.element_type (matching_field_match config types x rest).below).1 s) structure.fields extra.1 (All-from_recursion Shared structure.fields before) in
-          values_of_fields (IsShareable types) fields.0
-          (fields_until_keep Shared config types must_share limit end matched.0 matched.1 (λ field drawn. values_shared config types must_share limit (values_of_storage field.element_type) must drawn.values) h.sanitized h.may (recursion_from_All Shared matched.0 stay));
-    }
+    let before = fields_of_values (IsShareable types) structure.fields (recursion_from_All (IsShareable types) (values_of (Struct structure)) old) in
+    let matched = all_stay Shared (matching_field_type_at config types)
+    (λ x rest s. (storage_shareable types orderly (matching_field_type_at config types x rest).0.element_type x.element_type (matching_field_match config types x rest).below).1 s) structure.fields (range_at 0 5 bytes).1 (All-from_recursion Shared structure.fields before) in
+    values_of_fields (IsShareable types) (matching_struct_type_at config types must_share limit structure bytes).0.fields
+    (struct_fields_keep Shared config types must_share limit structure bytes (λ field drawn. values_shared config types must_share limit (values_of_storage field.element_type) must drawn.values) sanitized may matched)
 
 matching_func : (config : Config) (types : List SubType) (must_share : Bool) (limit : ℕ) (function : FuncType) (bytes : List ℕ) → MayBeMatched config types must_share limit (Func function)
     → IsInnerMatching config types must_share limit (Func function) (Func (matching_func_type_at config types function bytes).0)
@@ -143,7 +151,12 @@ matching_inner config types must_share limit (Array array) bytes h =
       shareable = λ must. (storage_shareable types h.orderly drawn.element_type array.0.element_type matched.below).1;
     }
 matching_inner config types must_share limit (Func function) bytes h = matching_func config types must_share limit function bytes h
-matching_inner config types must_share limit (Struct structure) bytes h = matching_struct config types must_share limit structure bytes h
+matching_inner config types must_share limit (Struct structure) bytes h = record {
+  enabled = h.gc;
+  values = matching_struct_valid config types must_share limit structure bytes h.sanitized h.may h.room h.sharing h.values;
+  matched = matching_struct_match config types must_share limit structure bytes;
+  shareable = matching_struct_shareable config types must_share limit structure bytes h.sanitized h.may h.orderly;
+}
 
 -- a matching composite type is of the same kind
 pub matching_kind : (config : Config) (types : List SubType) (must_share : Bool) (limit : ℕ) (inner : CompositeInnerType) (bytes : List ℕ) → kind_of (matching_inner_at config types must_share limit inner bytes).0 ≡ kind_of inner

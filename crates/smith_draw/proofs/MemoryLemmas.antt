@@ -5,7 +5,7 @@ use Rattle.std.specs.Prelude.{IsTrue, IsSome, IfSome}
 use Rattle.smith_types.specs.Entities.{AreLimitsValid, page_log2, addresses, most_pages}
 use Rattle.smith_types.specs.declared.entity_type.MemoryType.{MemoryType}
 use Rattle.smith_config.specs.declared.config.Config.{Config}
-use Rattle.smith_config.specs.Faults.{Passes}
+use Rattle.smith_draw.specs.Callers.{PassesButImports}
 use Rattle.smith_draw.specs.Bounds.{memory_bytes, ArePagesWithin, IsMemoryWithin}
 use Rattle.smith_draw.specs.Memories.{least_pages, drawn_pages}
 
@@ -28,16 +28,16 @@ least_few : (traps : Bool) → cond traps 1 0 ≤ 1
 least_few true = omega arith
 least_few false = omega arith
 
-bytes_fit : (config : Config) (memory64 : Bool) → Passes config → memory_bytes config memory64 ≤ addresses memory64
-bytes_fit config true passes = passes.memory64
-bytes_fit config false passes = passes.memory32
+bytes_fit : (config : Config) (memory64 : Bool) → PassesButImports config → memory_bytes config memory64 ≤ addresses memory64
+bytes_fit config true passes = passes.1.memory64
+bytes_fit config false passes = passes.1.memory32
 
 size_fits : (memory64 : Bool) (log2 : ℕ) → log2 ≤ 16 → 2 ^ log2 ≤ addresses memory64
 size_fits true log2 le = let small = pow-le-pow_right {n = 2} (lit< tt) le in omega (arith, small)
 size_fits false log2 le = let small = pow-le-pow_right {n = 2} (lit< tt) le in omega (arith, small)
 
 -- no more than a valid memory may have
-pub drawn_pages_fit : (config : Config) (memory64 : Bool) (page_size : Option ℕ) → page_log2 page_size ≤ 16 → Passes config → drawn_pages config memory64 page_size ≤ most_pages memory64 page_size
+pub drawn_pages_fit : (config : Config) (memory64 : Bool) (page_size : Option ℕ) → page_log2 page_size ≤ 16 → PassesButImports config → drawn_pages config memory64 page_size ≤ most_pages memory64 page_size
 unfolding drawn_pages
 drawn_pages_fit config memory64 page_size small passes =
     pages_fit (least_pages config) (memory_bytes config memory64) (addresses memory64) (2 ^ page_log2 page_size) (one-le-pow (page_log2 page_size) 2 (lit< tt))

@@ -85,7 +85,7 @@ each_shareable types orderly (x ∷ xs) (y ∷ ys) (below, more) =
     ((λ h. (one.0 h.0, others.0 h.1)), (λ h. (one.1 h.0, others.1 h.1)))
 each_shareable types orderly xs ys below = absurd below
 
-pub each_join : (P : ValType → Type 0) (xs ys : List ValType) → Each P (xs ++ ys) ↔ (Each P xs × Each P ys)
+pub each_join : {A : Type 0} (P : A → Type 0) (xs ys : List A) → Each P (xs ++ ys) ↔ (Each P xs × Each P ys)
 each_join P [] ys = ((λ h. (tt, h)), (λ h. h.1))
 each_join P (x ∷ xs) ys =
     let others = each_join P xs ys in

@@ -1,4 +1,4 @@
--- One turn of a loop that makes a list longer until it has so many items.
+-- One turn of a loop that makes a list longer until it has a given number of items.
 use Rattle.std.proofs.Common.{◌≡◌, ℕ, ◌+◌, ◌<◌, List, [], ◌∷◌, ◌++◌, true, refl, nat_lt}
 use Rattle.std.proofs.lemmas.Bool.{lt-ltb}
 use Rattle.smith_bytes.specs.Source.{KeepsPieces}

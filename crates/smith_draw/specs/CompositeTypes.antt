@@ -17,7 +17,7 @@ use Rattle.smith_draw.specs.FieldTypes.{field_type_at, fields_until_at}
 abbrev pub most_results : Config → ℕ
 most_results config = if config.multi_value_enabled then 20 else 1
 
--- at most that many value types (own rule)
+-- at most `most` value types (own rule)
 unfoldable pub val_types_at : Config → List SubType → Bool → ℕ → ℕ → List ℕ → List ValType × List ℕ
 val_types_at config types must_share limit most bytes =
     grow_at (λ _. val_type_at config types must_share limit) 0 most [] bytes

@@ -49,7 +49,7 @@ global_offers context wanted index global = offered_if (not global.mutable && is
 abbrev pub function_offers : Context → ValType → ℕ → ℕ → List Choice
 function_offers context wanted function index = offered_if (is_val_below context.types (function_reference context function index) wanted) (choice.Function function)
 
--- the ways of creating a struct of these fields, with so much fuel
+-- the ways of creating a struct of these fields, with some fuel left
 abbrev pub struct_ways : ℕ → ℕ → List FieldType → List Choice
 struct_ways fuel index fields = offered_if (nat_lt 0 fuel || (length fields == 0)) (choice.Struct index) ++ offered_if (are_defaultable fields) (choice.StructDefault index)
 
@@ -57,15 +57,15 @@ struct_ways fuel index fields = offered_if (nat_lt 0 fuel || (length fields == 0
 abbrev pub array_ways : ℕ → FieldType → List Choice
 array_ways index element = choice.Array index ∷ choice.FixedArray index ∷ offered_if (is_defaultable (unpacked element.element_type)) (choice.ArrayDefault index)
 
--- a struct type whose reference is below
-abbrev pub struct_offers : Context → ValType → ℕ → ℕ → CompositeInnerType → List Choice
-struct_offers context wanted fuel index (inner.Struct structure) = if is_val_below context.types (created context index) wanted then struct_ways fuel index structure.fields else []
-struct_offers context wanted fuel index _ = []
+-- a type whose reference is below, where structs are created, or, with fuel, arrays
+abbrev pub type_offers : Context → ValType → ℕ → Bool → ℕ → CompositeInnerType → List Choice
+type_offers context wanted fuel false index (inner.Struct structure) = if is_val_below context.types (created context index) wanted then struct_ways fuel index structure.fields else []
+type_offers context wanted fuel true index (inner.Array array) = if nat_lt 0 fuel && is_val_below context.types (created context index) wanted then array_ways index array.0 else []
+type_offers context wanted fuel arrays index _ = []
 
--- an array type whose reference is below, with fuel
-abbrev pub array_offers : Context → ValType → ℕ → ℕ → CompositeInnerType → List Choice
-array_offers context wanted fuel index (inner.Array array) = if nat_lt 0 fuel && is_val_below context.types (created context index) wanted then array_ways index array.0 else []
-array_offers context wanted fuel index _ = []
+-- what each type that stands offers, where structs or arrays are created
+abbrev pub types_offers : Context → ValType → ℕ → Bool → List Choice
+types_offers context wanted fuel arrays = each_from (λ index (t : SubType). type_offers context wanted fuel arrays index t.composite_type.inner) 0 context.types
 
 -- conversions to a heap type
 abbrev pub conversions : HeapType → List Choice
@@ -85,8 +85,7 @@ other_offers context wanted fuel =
 -- with garbage collection: structs, arrays and the others
 abbrev pub created_offers : Context → RefType → ℕ → List Choice
 created_offers context wanted fuel =
-    each_from (λ index (t : SubType). struct_offers context (Ref wanted) fuel index t.composite_type.inner) 0 context.types
-    ++ (each_from (λ index (t : SubType). array_offers context (Ref wanted) fuel index t.composite_type.inner) 0 context.types ++ other_offers context wanted fuel)
+    types_offers context (Ref wanted) fuel false ++ (types_offers context (Ref wanted) fuel true ++ other_offers context wanted fuel)
 
 -- of a reference: functions, and what can be created
 abbrev pub reference_offers : Context → ValType → ℕ → List Choice

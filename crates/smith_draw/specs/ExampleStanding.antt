@@ -11,11 +11,11 @@ of_each_kind =
     shared_type empty_struct ∷ shared_type (array (constant I8)) ∷ shared_type plain_func ∷
     final_type empty_struct ∷ final_type (array (constant I8)) ∷ []
 
--- that many structs, the first of them below the type of this index, each other one below the one before
+-- `count` structs: the first below the type of an index, each other below the struct before it
 abbrev pub structs_below : ℕ → ℕ → List SubType
 structs_below zero index = []
 structs_below (suc count) index = open_type (Some index) empty_struct ∷ structs_below count (index + 1)
 
--- a struct, and that many more, each below the one before
+-- a struct, and `count` more, each below the struct before it
 abbrev pub chain : ℕ → List SubType
 chain count = open_type None empty_struct ∷ structs_below count 0

@@ -1,4 +1,5 @@
 pub mod Drawing
+pub mod Callers
 pub mod Choices
 pub mod ValueTypes
 pub mod FieldTypes

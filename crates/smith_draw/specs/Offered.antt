@@ -79,12 +79,12 @@ is_shared_as false t = not (shared t)
 abbrev pub is_kind : Bool → AbstractHeapType → SubType → Bool
 is_kind is_shared kind t = is_shared_as is_shared t && is_of_kind kind t.composite_type.inner
 
--- an index, if there is one, is that one
+-- there is an index, and it is the given one
 abbrev pub is_index : ℕ → Option ℕ → Bool
 is_index index None = false
 is_index index (Some other) = other == index
 
--- a type is declared directly below the one of an index (Structure, Recursive Types)
+-- a type is declared directly below the type of an index (Structure, Recursive Types)
 abbrev pub is_declared_below : ℕ → SubType → Bool
 is_declared_below index t = is_index index t.supertype
 
@@ -97,7 +97,7 @@ picked_from test start (t ∷ types) = if test t then Concrete start ∷ picked_
 abbrev pub of_kinds : List SubType → Bool → List AbstractHeapType → List HeapType
 of_kinds types is_shared kinds = flat_map (λ kind. picked_from (is_kind is_shared kind) 0 types) kinds
 
--- the types that are declared directly below the one of an index, by index (own rule)
+-- the types that are declared directly below the type of an index, by index (own rule)
 abbrev pub direct_subtypes : List SubType → ℕ → List HeapType
 direct_subtypes types index = picked_from (is_declared_below index) 0 types
 
@@ -110,12 +110,12 @@ supertype_of (Some t) = t.supertype
 abbrev pub supertype_at : List SubType → ℕ → Option ℕ
 supertype_at types index = supertype_of (slice_get types index)
 
--- at most that many of the types on the way up from the one of an index, nearest first (own rule)
+-- at most `most` of the types on the way up from the type of an index, nearest first (own rule)
 abbrev pub ancestors_within : ℕ → List SubType → ℕ → List HeapType
 ancestors_within zero types index = []
 ancestors_within (suc most) types index = elim (supertype_at types index) [ None ↦ [] | Some supertype ↦ Concrete supertype ∷ ancestors_within most types supertype ]
 
--- the types on the way up from the one of an index, nearest first: no more than there are types (own rule)
+-- the types on the way up from the type of an index, nearest first: no more than there are types (own rule)
 unfoldable pub ancestors : List SubType → ℕ → List HeapType
 ancestors types index = ancestors_within (length types) types index
 

@@ -72,14 +72,14 @@ rec_group_at config allow_empty space bytes =
     let wanted = clone_wanted_at config space bytes in
     if wanted.0 then cloned_or_new_at config allow_empty space wanted.1 else new_group_at config allow_empty space wanted.1
 
--- at most that many groups that are not empty, while there are too few types (own rule)
+-- at most `most` groups that are not empty, while there are too few types (own rule)
 unfoldable pub least_types_at : Config → ℕ → Space → List ℕ → Space × List ℕ
 least_types_at config zero space bytes = (space, bytes)
 least_types_at config (suc most) space bytes =
     let grown = rec_group_at config false space bytes in
     if nat_lt (length space.types) config.min_types then least_types_at config most grown.0 grown.1 else (space, bytes)
 
--- at most that many groups, while there may be more types and a bool asks for a group (own rule)
+-- at most `most` groups, while there may be more types and a bool asks for a group (own rule)
 unfoldable pub more_types_at : Config → ℕ → Space → List ℕ → Space × List ℕ
 more_types_at config zero space bytes = (space, bytes)
 more_types_at config (suc most) space bytes =

@@ -10,7 +10,7 @@ use Rattle.smith_draw.specs.Offered.{ancestors}
 use Rattle.smith_draw.specs.CompositeTypes.{composite_type_at}
 use Rattle.smith_draw.specs.MatchingComposites.{matching_composite_type_at}
 
--- how many types stand on the way up from the one of an index, itself included (own rule)
+-- how many types stand on the way up from the type of an index, itself included (own rule)
 abbrev pub depth_at : List SubType → ℕ → ℕ
 depth_at types index = suc (length (ancestors types index))
 

@@ -2,7 +2,7 @@ ghost use Rattle.std.specs.Prelude.{◌≡◌, ◌≤◌, ◌/◌, ◌^◌, ◌�
 ghost use Rattle.smith_bytes.specs.Source.{KeepsPieces};
 ghost use Rattle.smith_types.specs.Entities.{IsMemoryValid, page_log2};
 ghost use Rattle.smith_config.specs.Features.{features_of};
-ghost use Rattle.smith_config.specs.Faults.{Passes};
+ghost use Rattle.smith_draw.specs.Callers.{PassesButImports};
 ghost use Rattle.smith_draw.specs.Drawing.{AlwaysDraws};
 ghost use Rattle.smith_draw.specs.Bounds.{IsMemoryWithin};
 ghost use Rattle.smith_draw.specs.Memories.{shared_memory_at, memory64_at, stated_page_at, page_size_at, least_pages, drawn_pages, likely_pages, memtype_at};
@@ -116,9 +116,8 @@ fn needs_maximum(config: &Config, shared: bool) -> bool
 
 #[tactic(auto, unfolding(crate::specs::Memories::memtype_at))]
 fn memory_type(config: &Config, u: &mut Unstructured<'_>) -> MemoryType
-    requires { Passes config.now }
     ensures draws { AlwaysDraws (memtype_at config.now u.old) result u.old u.new }
-    ensures valid { IsMemoryValid (features_of config.now) result }
+    ensures valid { PassesButImports config.now → IsMemoryValid (features_of config.now) result }
     ensures within { IsMemoryWithin config.now result }
 {
     let shared = shared_memory(config, u);
@@ -140,12 +139,12 @@ fn memory_type(config: &Config, u: &mut Unstructured<'_>) -> MemoryType
 
 /// Draws a memory type within the configured bytes. The standard's section Structure, Memory Types.
 ///
-/// `config` passes its check. Always `Ok`, since no memory is taken: the drawing calls of entities have one form.
+/// Where `config` passes its check, but for the pair of `min_imports` and `max_imports`, the type is valid. Always `Ok`, since no
+/// memory is taken: the drawing calls of entities have one form.
 pub fn arbitrary_memtype(config: &Config, u: &mut Unstructured<'_>) -> Result<MemoryType, Error>
-    requires { Passes config.now }
     ensures ok { IsOk result }
     ensures exact { IfOk result (λ drawn. memtype_at config.now u.old ≡ (drawn, u.new)) }
-    ensures valid { IfOk result (IsMemoryValid (features_of config.now)) }
+    ensures valid { PassesButImports config.now → IfOk result (IsMemoryValid (features_of config.now)) }
     ensures within { IfOk result (IsMemoryWithin config.now) }
     ensures left { KeepsPieces u.old u.new }
 {

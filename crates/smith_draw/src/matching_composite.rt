@@ -89,8 +89,8 @@ pub(crate) fn matching_composite_type(
 /// Draws a struct type that matches `structure`: its matched fields, and at most 5 more behind them. The standard's section
 /// Validation, Matching, Composite Types.
 ///
-/// `config` is sanitised, with garbage collection on, and `must_share` is set only where types may be shared. No type of
-/// `spaces` is past `limit`, each is shared only where that is enabled, and the fields of `structure` are valid below `limit`.
+/// `config` is sanitised, and `must_share` is set only where types may be shared. Where no type of `spaces` is past `limit`, each
+/// is shared only where that is enabled, and the fields of `structure` are valid below `limit`, those that are drawn are too.
 pub fn arbitrary_matching_struct_type(
     alloc: Global,
     config: &Config,
@@ -101,14 +101,12 @@ pub fn arbitrary_matching_struct_type(
     u: &mut Unstructured<'_>,
 ) -> Result<StructType, Error>
     requires sanitized { IsSanitized config.now }
-    requires gc { IsTrue config.now.gc_enabled }
     requires may_share { IsTrue must_share → IsTrue config.now.shared_everything_threads_enabled }
-    requires room { length spaces.now.types.now.types ≤ limit }
-    requires sharing { All (IsSharingEnabled (features_of config.now)) spaces.now.types.now.types }
-    requires valid { All (IsValTypeValid (features_of config.now) limit) (values_of (Struct structure.now)) }
     ensures draws { Draws (matching_struct_type_at config.now spaces.now.types.now.types must_share limit structure.now u.old) result u.old u.new }
     ensures below { IfOk result (λ drawn. AreFieldsMatched spaces.now.types.now.types drawn.fields structure.now.fields) }
-    ensures valid { IfOk result (λ drawn. All (IsValTypeValid (features_of config.now) limit) (values_of (Struct drawn))) }
+    ensures valid { length spaces.now.types.now.types ≤ limit → All (IsSharingEnabled (features_of config.now)) spaces.now.types.now.types
+        → All (IsValTypeValid (features_of config.now) limit) (values_of (Struct structure.now))
+        → IfOk result (λ drawn. All (IsValTypeValid (features_of config.now) limit) (values_of (Struct drawn))) }
     ensures shared { IsTrue must_share → All (IsShareable spaces.now.types.now.types) (values_of (Struct structure.now))
         → IfOk result (λ drawn. All (IsShareable spaces.now.types.now.types) (values_of (Struct drawn))) }
 {

@@ -4,10 +4,10 @@ ghost use Rattle.smith_bytes.specs.Takes.{Takes};
 ghost use Rattle.smith_types.specs.Floats.{HasNoFloat};
 ghost use Rattle.smith_types.specs.Space.{MayFollow};
 ghost use Rattle.smith_types.specs.ValidTypes.{AreTypesValid};
-ghost use Rattle.smith_config.specs.Faults.{Passes};
 ghost use Rattle.smith_config.specs.Features.{features_of};
 ghost use Rattle.smith_config.specs.Sanitized.{IsSanitized};
 ghost use Rattle.smith_config.specs.Shapes.{space_of};
+ghost use Rattle.smith_draw.specs.Callers.{PassesButImports};
 ghost use Rattle.smith_draw.specs.Drawing.{AlwaysDraws, DrawsInto};
 ghost use Rattle.smith_draw.specs.RecGroups.{
   types_left,
@@ -256,7 +256,8 @@ fn all_types(
 /// Adds a group again, chosen among those that stand, and gives whether it was added: not where it is empty and `allow_empty`
 /// is off, or has more types than there is room for.
 ///
-/// `config` passes its check, a group stands, and there are fewer types than `config` allows. Valid types stay valid.
+/// `config` passes its check, but for the pair of `min_imports` and `max_imports`, a group stands, and there are fewer types than
+/// `config` allows. Valid types stay valid.
 pub fn clone_rec_group(
     alloc: Global,
     config: &Config,
@@ -265,7 +266,7 @@ pub fn clone_rec_group(
     allow_empty: bool,
     u: &mut Unstructured<'_>,
 ) -> Result<bool, Error>
-    requires passes { Passes config.now }
+    requires passes { PassesButImports config.now }
     requires room { length types.old.types < config.now.max_types }
     requires some { 0 < length types.old.groups }
     ensures exact { IfOk result (λ added. clone_rec_group_at config.now allow_empty types.old u.old ≡ (added, (types.new, u.new))) }
@@ -282,7 +283,8 @@ pub fn clone_rec_group(
 /// Adds a group, of at least a type where `allow_empty` is off: without garbage collection of one type, with it a clone one
 /// time of 255. Where the clone may not be added and `allow_empty` is on, nothing is added.
 ///
-/// `config` is sanitised and passes its check, and there are fewer types than `config` allows. Valid types stay valid.
+/// `config` is sanitised and passes its check, but for the pair of `min_imports` and `max_imports`, and there are fewer types
+/// than `config` allows. Valid types stay valid.
 pub fn arbitrary_rec_group(
     alloc: Global,
     config: &Config,
@@ -291,7 +293,7 @@ pub fn arbitrary_rec_group(
     allow_empty: bool,
     u: &mut Unstructured<'_>,
 ) -> Result<(), Error>
-    requires passes { Passes config.now }
+    requires passes { PassesButImports config.now }
     requires sanitized { IsSanitized config.now }
     requires room { length types.old.types < config.now.max_types }
     ensures draws { DrawsInto (rec_group_at config.now allow_empty types.old u.old) types.new result u.old u.new }
@@ -306,7 +308,7 @@ pub fn arbitrary_rec_group(
 
 /// Adds groups until at least `min_types` types stand, and then more, up to `max_types` types.
 ///
-/// `config` is sanitised and passes its check. Valid types stay valid.
+/// `config` is sanitised and passes its check, but for the pair of `min_imports` and `max_imports`. Valid types stay valid.
 pub fn arbitrary_types(
     alloc: Global,
     config: &Config,
@@ -314,7 +316,7 @@ pub fn arbitrary_types(
     _entities: &Entities<'_>,
     u: &mut Unstructured<'_>,
 ) -> Result<(), Error>
-    requires passes { Passes config.now }
+    requires passes { PassesButImports config.now }
     requires sanitized { IsSanitized config.now }
     ensures draws { DrawsInto (types_at config.now types.old u.old) types.new result u.old u.new }
     ensures valid { AreTypesValid (features_of config.now) types.old → OnOk result (AreTypesValid (features_of config.now) types.new) }

@@ -151,6 +151,7 @@ fn are_two_groups(types: &TypeSpace) -> bool {
 }
 
 // Whether two groups are added of a type each, and how many bytes they leave.
+#[tactic(auto, using(smith_draw::proofs::CallerLemmas::passes_but_imports))]
 fn two_groups(alloc: Global, config: &Config, input: &[u8]) -> Result<(bool, usize), Error>
     requires sanitized { IsSanitized config.now }
 {

@@ -105,6 +105,7 @@ fn a_subtype_of_a_chosen_type(rt: HostRuntime) -> Result<(), Fail> {
 }
 
 // How many types and groups there are when one group is added again, where it may be.
+#[tactic(auto, using(smith_draw::proofs::CallerLemmas::passes_but_imports))]
 fn counts_with_clone(
     alloc: Global,
     config: &Config,

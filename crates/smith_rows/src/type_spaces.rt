@@ -24,7 +24,7 @@ pub(crate) fn spaces_of<'a>(types: &'a TypeSpace) -> Spaces<'a>
 }
 
 /// The types that bytes give.
-#[tactic(auto, using(smith_types::proofs::ValidityLemmas::no_types))]
+#[tactic(auto, using(smith_types::proofs::ValidityLemmas::no_types, smith_draw::proofs::CallerLemmas::passes_but_imports))]
 pub(crate) fn types_from(alloc: Global, config: &Config, input: &[u8]) -> Result<TypeSpace, Error>
     requires passes { Passes config.now }
     requires sanitized { IsSanitized config.now }

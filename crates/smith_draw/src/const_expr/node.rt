@@ -188,7 +188,7 @@ fn push_fields_of(operands: &mut Items<Operand>, inner: &CompositeInnerType) -> 
     }
 }
 
-/// The reference that is converted to the wanted one: of this type, nullable and shared as that one.
+/// The reference that is converted to the wanted reference: of the type `ty`, and as nullable and as shared as the wanted one.
 fn converted(wanted: ValType, ty: AbstractHeapType) -> ValType
     ensures { result ≡ converted wanted ty }
 {

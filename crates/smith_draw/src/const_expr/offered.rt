@@ -14,8 +14,8 @@ ghost use Rattle.smith_draw.specs.ConstOffers.{
   function_offers,
   struct_ways,
   array_ways,
-  struct_offers,
-  array_offers,
+  type_offers,
+  types_offers,
   conversions,
   other_offers,
   created_offers,
@@ -127,58 +127,61 @@ fn past_created(
     requires upper { IsValInRange (context_of scope.now).types (Ref wanted) }
     ensures { result ≡ past (created_offers (context_of scope.now) wanted fuel) place }
 {
-    let place = past_structs(scope, ValType::Ref(wanted), fuel, place)?;
-    let place = past_arrays(scope, ValType::Ref(wanted), fuel, place)?;
+    let place = past_types(scope, ValType::Ref(wanted), fuel, false, place)?;
+    let place = past_types(scope, ValType::Ref(wanted), fuel, true, place)?;
     past_others(scope, wanted, fuel, place)
 }
 
+/// Goes past the ways of creating a value of each type: those of structs, or of arrays.
 #[tactic(auto, using(crate::proofs::ConstFoundLemmas::past_append, crate::proofs::ConstFoundLemmas::past_front), unfolding(crate::specs::ConstOffers::past))]
-fn past_structs(
+fn past_types(
     scope: &Scope<'_>,
     wanted: ValType,
     fuel: u32,
+    arrays: bool,
     place: usize,
 ) -> Result<usize, Choice>
     requires scope { IsScope (context_of scope.now) }
     requires upper { IsValInRange (context_of scope.now).types wanted }
-    ensures { result ≡ past (each_from (λ index t. struct_offers (context_of scope.now) wanted fuel index t.composite_type.inner) 0 (context_of scope.now).types) place }
+    ensures { result ≡ past (types_offers (context_of scope.now) wanted fuel arrays) place }
 {
     let types = scope.spaces.types.types();
     let mut rest = place;
     for index in 0..types.len() {
-        rest = past_struct(
-            scope,
-            wanted,
-            fuel,
-            index as u32,
-            &types[index].composite_type.inner,
-            rest,
-        )?;
+        let inner = &types[index].composite_type.inner;
+        rest = past_type(scope, wanted, fuel, arrays, index as u32, inner, rest)?;
     }
     Ok(rest)
 }
 
 #[tactic(auto, using(crate::proofs::ConstFoundLemmas::past_append, crate::proofs::ConstFoundLemmas::past_front), unfolding(crate::specs::ConstOffers::past))]
-fn past_struct(
+fn past_type(
     scope: &Scope<'_>,
     wanted: ValType,
     fuel: u32,
+    arrays: bool,
     index: u32,
     inner: &CompositeInnerType,
     place: usize,
 ) -> Result<usize, Choice>
     requires there { index < length (context_of scope.now).types }
     requires upper { IsValInRange (context_of scope.now).types wanted }
-    ensures { result ≡ past (struct_offers (context_of scope.now) wanted fuel index inner.now) place }
+    ensures { result ≡ past (type_offers (context_of scope.now) wanted fuel arrays index inner.now) place }
 {
     match inner {
         CompositeInnerType::Struct(structure) => {
-            if !gives(scope, index, wanted) {
+            if arrays || !gives(scope, index, wanted) {
                 return Ok(place);
             }
             past_struct_ways(fuel, index, structure.fields.as_slice(), place)
         }
-        _ => Ok(place),
+        CompositeInnerType::Array(array) => {
+            if !arrays || fuel == 0 || !gives(scope, index, wanted) {
+                return Ok(place);
+            }
+            past_array_ways(index, array.0, place)
+        }
+        CompositeInnerType::Func(_) => Ok(place),
     }
 }
 
@@ -193,51 +196,6 @@ fn past_struct_ways(
 {
     let place = past_if(fuel > 0 || fields.is_empty(), Choice::Struct(index), place)?;
     past_if(are_defaultable(fields), Choice::StructDefault(index), place)
-}
-
-#[tactic(auto, using(crate::proofs::ConstFoundLemmas::past_append, crate::proofs::ConstFoundLemmas::past_front), unfolding(crate::specs::ConstOffers::past))]
-fn past_arrays(scope: &Scope<'_>, wanted: ValType, fuel: u32, place: usize) -> Result<usize, Choice>
-    requires scope { IsScope (context_of scope.now) }
-    requires upper { IsValInRange (context_of scope.now).types wanted }
-    ensures { result ≡ past (each_from (λ index t. array_offers (context_of scope.now) wanted fuel index t.composite_type.inner) 0 (context_of scope.now).types) place }
-{
-    let types = scope.spaces.types.types();
-    let mut rest = place;
-    for index in 0..types.len() {
-        rest = past_array(
-            scope,
-            wanted,
-            fuel,
-            index as u32,
-            &types[index].composite_type.inner,
-            rest,
-        )?;
-    }
-    Ok(rest)
-}
-
-#[tactic(auto, using(crate::proofs::ConstFoundLemmas::past_append, crate::proofs::ConstFoundLemmas::past_front), unfolding(crate::specs::ConstOffers::past))]
-fn past_array(
-    scope: &Scope<'_>,
-    wanted: ValType,
-    fuel: u32,
-    index: u32,
-    inner: &CompositeInnerType,
-    place: usize,
-) -> Result<usize, Choice>
-    requires there { index < length (context_of scope.now).types }
-    requires upper { IsValInRange (context_of scope.now).types wanted }
-    ensures { result ≡ past (array_offers (context_of scope.now) wanted fuel index inner.now) place }
-{
-    match inner {
-        CompositeInnerType::Array(array) => {
-            if fuel == 0 || !gives(scope, index, wanted) {
-                return Ok(place);
-            }
-            past_array_ways(index, array.0, place)
-        }
-        _ => Ok(place),
-    }
 }
 
 #[tactic(auto, using(crate::proofs::ConstFoundLemmas::past_append, crate::proofs::ConstFoundLemmas::past_front), unfolding(crate::specs::ConstOffers::past))]

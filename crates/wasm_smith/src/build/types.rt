@@ -15,7 +15,7 @@ use smith_types::TypeSpace;
 use std::alloc::Global;
 
 /// The types, drawn from an empty space on.
-#[tactic(auto, using(smith_types::proofs::ValidityLemmas::no_types))]
+#[tactic(auto, using(smith_types::proofs::ValidityLemmas::no_types, smith_draw::proofs::CallerLemmas::passes_but_imports))]
 pub(crate) fn types(
     alloc: Global,
     config: &Config,

@@ -1,25 +1,20 @@
 use Rattle.std.proofs.lemmas.Result.{IfOk-weaker}
-use Rattle.smith_types.specs.declared.composite_type.CompositeType.{CompositeType}
-use Rattle.smith_types.specs.ValidTypes.{values_of}
-use Rattle.smith_draw.proofs.ValueTypeLemmas.{drawn_is, values_valid, values_shared}
-use Rattle.smith_draw.proofs.CompositeTypeLemmas.{IsCompositeDrawn, composite_type_drawn}
+use Rattle.smith_draw.proofs.ValueTypeLemmas.{values_valid, values_shared}
+use Rattle.smith_draw.proofs.DrawingLemmas.{of_drawn}
+use Rattle.smith_draw.proofs.CompositeTypeLemmas.{composite_type_drawn}
 use Rattle.smith_draw.proofs.TakenLemmas.{composite_type_taken}
 use Rattle.smith_draw.proofs.composite_type.arbitrary_composite_type.Goals as goal
 
 pub returns : goal.returns
 returns c =
-    let types = c.args.spaces.now.types.now.types in
-    let config = c.args.config.now in
-    let limit = c.args.limit in
     let draws = rw c.types.ensures.value at c.composite_type.ensures in
-    let P = λ (composite : CompositeType). IsCompositeDrawn config types limit composite in
-    let drawn = IfOk-weaker c.composite_type.result _ P (λ _ e. drawn_is P _ (composite_type_drawn _ _ _ _ c.requires.sanitized) e) draws.exact in
+    let drawn = composite_type_drawn c.args.config.now c.args.spaces.now.types.now.types c.args.limit c.args.u.now c.requires.sanitized in
     record {
       draws = draws;
-      enabled = IfOk-weaker c.composite_type.result P _ (λ composite h. h.inner.enabled) drawn;
-      may_be_shared = IfOk-weaker c.composite_type.result P _ (λ composite h. h.shared) drawn;
-      valid = IfOk-weaker c.composite_type.result P _ (λ composite h. values_valid config types composite.shared limit (values_of composite.inner) h.inner.values) drawn;
-      stands = IfOk-weaker c.composite_type.result P _ (λ composite h. h.inner.stands) drawn;
-      shared = IfOk-weaker c.composite_type.result P _ (λ composite h must. values_shared config types composite.shared limit (values_of composite.inner) must h.inner.values) drawn;
+      enabled = of_drawn _ draws drawn.inner.enabled;
+      may_be_shared = of_drawn _ draws drawn.shared;
+      valid = of_drawn _ draws (values_valid _ _ _ _ _ drawn.inner.values);
+      stands = of_drawn _ draws drawn.inner.stands;
+      shared = of_drawn _ draws (λ must. values_shared _ _ _ _ _ must drawn.inner.values);
       reach = IfOk-weaker c.composite_type.result _ _ (λ _ e. composite_type_taken _ _ _ _ _ _ e) draws.exact;
     }

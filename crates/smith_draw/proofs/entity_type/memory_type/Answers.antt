@@ -3,10 +3,10 @@ use Rattle.smith_draw.proofs.MemoryLemmas.{drawn_pages_fit, drawn_pages_kept, li
 use Rattle.smith_draw.proofs.entity_type.memory_type.Goals as goal
 
 pub returns-clause-valid : goal.returns-clause-valid
-returns-clause-valid c =
+returns-clause-valid c = λ passes.
     let limits = c.arbitrary_limits64-minimum.ensures in
     record {
-      limits = limits_fit _ _ _ _ (rw c.drawn_pages-most.ensures.exact (drawn_pages_fit _ _ _ c.page_size-page_size_log2.ensures.small c.requires)) limits.minimum.1 limits.maximum;
+      limits = limits_fit _ _ _ _ (rw c.drawn_pages-most.ensures.exact (drawn_pages_fit _ _ _ c.page_size-page_size_log2.ensures.small passes)) limits.minimum.1 limits.maximum;
       page_size = c.page_size-page_size_log2.ensures.sizes;
       memory64 = c.memory64-memory64.ensures.enabled;
       shared = λ on. (c.shared_memory-shared.ensures.enabled on, limits.required (c.needs_maximum-required.ensures ∙ either_right _ _ on));

@@ -1,33 +1,17 @@
-use Rattle.std.proofs.Common.{◌↔◌}
-use Rattle.std.proofs.lemmas.Result.{IfOk-weaker}
-use Rattle.smith_types.specs.declared.value_type.ValType.{ValType}
-use Rattle.smith_types.specs.Subtyping.{IsValBelow}
-use Rattle.smith_types.specs.ValidTypes.{IsValTypeValid, IsShareable}
-use Rattle.smith_config.specs.Features.{features_of}
-use Rattle.smith_draw.specs.Kept.{StaysValid}
 use Rattle.smith_draw.proofs.SharedLemmas.{val_shareable}
 use Rattle.smith_draw.proofs.MatchingLemmas.{matching_val_below, matching_val_valid}
 use Rattle.smith_draw.proofs.StandingLemmas.{val_stands}
-use Rattle.smith_types.specs.Subtyping.{IsValInRange}
-use Rattle.smith_draw.proofs.ValueTypeLemmas.{drawn_is}
+use Rattle.smith_draw.proofs.DrawingLemmas.{of_drawn}
 use Rattle.smith_draw.proofs.matching.arbitrary_matching_val_type.Goals as goal
 
 pub returns-clause-below : goal.returns-clause-below
-returns-clause-below c =
-    let types = c.args.spaces.now.types.now.types in
-    IfOk-weaker c.matching_val_type.result _ _ (λ _. drawn_is (λ (v : ValType). IsValBelow types v c.args.ty) _ (matching_val_below _ _ _ _)) c.matching_val_type.ensures.exact
+returns-clause-below c = of_drawn _ c.matching_val_type.ensures (matching_val_below _ _ _ _)
 
 pub returns-clause-shared : goal.returns-clause-shared
-returns-clause-shared c =
-    let types = c.args.spaces.now.types.now.types in
-    IfOk-weaker c.matching_val_type.result _ _ (λ _. drawn_is (λ (v : ValType). IsShareable types v ↔ IsShareable types c.args.ty) _ (val_shareable types c.orderly.ensures _ _ (matching_val_below _ _ _ _))) c.matching_val_type.ensures.exact
+returns-clause-shared c = of_drawn _ c.matching_val_type.ensures (val_shareable _ c.orderly.ensures _ _ (matching_val_below _ _ _ _))
 
 pub returns-clause-valid : goal.returns-clause-valid
-returns-clause-valid c =
-    let types = c.args.spaces.now.types.now.types in
-    IfOk-weaker c.matching_val_type.result _ _ (λ _. drawn_is (StaysValid (IsValTypeValid (features_of c.args.config.now)) (features_of c.args.config.now) types c.args.ty) _ (matching_val_valid _ _ _ _)) c.matching_val_type.ensures.exact
+returns-clause-valid c = of_drawn _ c.matching_val_type.ensures (matching_val_valid _ _ _ _)
 
 pub returns-clause-stands : goal.returns-clause-stands
-returns-clause-stands c =
-    let types = c.args.spaces.now.types.now.types in
-    IfOk-weaker c.matching_val_type.result _ _ (λ _. drawn_is (λ (v : ValType). IsValInRange types c.args.ty → IsValInRange types v) _ (val_stands types _ _ (matching_val_below _ _ _ _))) c.matching_val_type.ensures.exact
+returns-clause-stands c = of_drawn _ c.matching_val_type.ensures (val_stands _ _ _ (matching_val_below _ _ _ _))

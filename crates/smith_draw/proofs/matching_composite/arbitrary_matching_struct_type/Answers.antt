@@ -1,30 +1,12 @@
-use Rattle.std.proofs.lemmas.Result.{IfOk-weaker}
-use Rattle.smith_types.specs.declared.composite_type.StructType.{StructType}
-use Rattle.smith_types.specs.declared.composite_type.CompositeInnerType.TheVariants.{Struct}
-use Rattle.smith_draw.proofs.ValueTypeLemmas.{drawn_is}
-use Rattle.smith_draw.proofs.MatchingCompositeLemmas.{IsInnerMatching, matching_struct}
+use Rattle.smith_draw.proofs.MatchingCompositeLemmas.{matching_struct_match, matching_struct_valid, matching_struct_shareable}
+use Rattle.smith_draw.proofs.DrawingLemmas.{of_drawn}
 use Rattle.smith_draw.proofs.matching_composite.arbitrary_matching_struct_type.Goals as goal
 
-pub returns : goal.returns
-returns c =
-    let types = c.args.spaces.now.types.now.types in
-    let config = c.args.config.now in
-    let P = λ (drawn : StructType). IsInnerMatching config types c.args.must_share c.args.limit (Struct c.args.structure.now) (Struct drawn) in
-    let matching =
-    matching_struct config types c.args.must_share c.args.limit c.args.structure.now c.args.u.now (record {
-      sanitized = c.requires.sanitized;
-      gc = c.requires.gc;
-      may = c.requires.may_share;
-      orderly = c.orderly.ensures;
-      room = c.requires.room;
-      sharing = c.requires.sharing;
-      enabled = c.requires.gc;
-      values = c.requires.valid;
-    }) in
-    let drawn = IfOk-weaker c.matching_struct_type.result _ P (λ _ e. drawn_is P _ matching e) c.matching_struct_type.ensures.exact in
-    record {
-      draws = c.matching_struct_type.ensures;
-      below = IfOk-weaker c.matching_struct_type.result P _ (λ _ h. h.matched) drawn;
-      valid = IfOk-weaker c.matching_struct_type.result P _ (λ _ h. h.values) drawn;
-      shared = λ must old. IfOk-weaker c.matching_struct_type.result P _ (λ _ h. h.shareable must old) drawn;
-    }
+pub returns-clause-below : goal.returns-clause-below
+returns-clause-below c = of_drawn _ c.matching_struct_type.ensures (matching_struct_match _ _ _ _ _ _)
+
+pub returns-clause-valid : goal.returns-clause-valid
+returns-clause-valid c = λ room sharing old. of_drawn _ c.matching_struct_type.ensures (matching_struct_valid _ _ _ _ _ _ c.requires.sanitized c.requires.may_share room sharing old)
+
+pub returns-clause-shared : goal.returns-clause-shared
+returns-clause-shared c = λ must old. of_drawn _ c.matching_struct_type.ensures (matching_struct_shareable _ _ _ _ _ _ c.requires.sanitized c.requires.may_share c.orderly.ensures must old)

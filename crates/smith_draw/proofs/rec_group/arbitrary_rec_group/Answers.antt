@@ -1,30 +1,28 @@
+use Rattle.std.proofs.Common.{◌≡◌, ◌≤◌, ◌<◌, false, length}
 use Rattle.std.proofs.lemmas.Result.{on_ok_weaker}
 use Rattle.smith_bytes.specs.declared.error.Count.TheVariants.{Types}
+use Rattle.smith_types.specs.Space.{Space}
 use Rattle.smith_types.specs.ValidTypes.{AreTypesValid}
 use Rattle.smith_config.specs.Features.{features_of}
-use Rattle.smith_draw.proofs.ValueTypeLemmas.{drawn_is}
-use Rattle.smith_draw.proofs.GroupSizeLemmas.{HasMore, rec_group_more}
+use Rattle.smith_draw.proofs.DrawingLemmas.{of_state}
+use Rattle.smith_draw.proofs.GroupSizeLemmas.{rec_group_more}
 use Rattle.smith_draw.proofs.RecGroupLemmas.{sound_within, rec_group_valid}
 use Rattle.smith_draw.proofs.TakenLemmas.{rec_group_taken}
 use Rattle.smith_draw.proofs.rec_group.arbitrary_rec_group.Goals as goal
 
 pub rec_group-requires-clause-few : goal.rec_group-requires-clause-few
-rec_group-requires-clause-few c = c.requires.passes.few Types
+rec_group-requires-clause-few c = c.requires.passes.1.few Types
 
 pub returns-clause-valid : goal.returns-clause-valid
-returns-clause-valid c = λ valid.
-    on_ok_weaker c.rec_group.result
-    (drawn_is (AreTypesValid (features_of c.args.config.now)) _ (rec_group_valid _ _ _ _ c.requires.sanitized valid)) c.rec_group.ensures.exact
+returns-clause-valid c = λ valid. of_state (AreTypesValid (features_of c.args.config.now)) c.rec_group.ensures (rec_group_valid _ _ _ _ c.requires.sanitized valid)
 
 pub returns-clause-most : goal.returns-clause-most
 returns-clause-most c =
-    on_ok_weaker c.rec_group.result
-    (λ drawn. (drawn_is (HasMore c.args.config.now c.args.allow_empty c.args.types.now) _ (rec_group_more _ _ _ _ (sound_within _ c.types-groups.ensures.sound) c.requires.room) drawn).most) c.rec_group.ensures.exact
+    of_state (λ (space : Space). length space.types ≤ c.args.config.now.max_types) c.rec_group.ensures (rec_group_more _ _ _ _ (sound_within _ c.types-groups.ensures.sound) c.requires.room).most
 
 pub returns-clause-some : goal.returns-clause-some
 returns-clause-some c =
-    on_ok_weaker c.rec_group.result
-    (λ drawn. (drawn_is (HasMore c.args.config.now c.args.allow_empty c.args.types.now) _ (rec_group_more _ _ _ _ (sound_within _ c.types-groups.ensures.sound) c.requires.room) drawn).some) c.rec_group.ensures.exact
+    of_state (λ (space : Space). c.args.allow_empty ≡ false → length c.args.types.now.types < length space.types) c.rec_group.ensures (rec_group_more _ _ _ _ (sound_within _ c.types-groups.ensures.sound) c.requires.room).some
 
 pub returns-clause-reach : goal.returns-clause-reach
 returns-clause-reach c = λ may roots. on_ok_weaker c.rec_group.result (rec_group_taken _ _ _ _ _ _ c.requires.sanitized may roots) c.rec_group.ensures.exact

@@ -15,7 +15,7 @@ drawn_space P (Ok added) drawn new left h exact = subst (λ (r : Bool × (Space 
 drawn_space P (Err e) drawn new left h exact = tt
 
 pub clone_group-requires-clause-few : goal.clone_group-requires-clause-few
-clone_group-requires-clause-few c = c.requires.passes.few Types
+clone_group-requires-clause-few c = c.requires.passes.1.few Types
 
 pub returns-clause-valid : goal.returns-clause-valid
 returns-clause-valid c = λ valid. drawn_space (AreTypesValid (features_of c.args.config.now)) c.clone_group.result _ _ _ (clone_rec_group_valid _ _ _ _ valid c.requires.some) c.clone_group.ensures.exact

@@ -1,8 +1,0 @@
-use Rattle.std.proofs.Common.{◌≡◌, drop}
-use Rattle.smith_types.specs.declared.composite_type.SubType.{SubType}
-use Rattle.smith_draw.specs.ConstOffers.{past, each_from, array_offers}
-use Rattle.smith_draw.specs.ConstScopes.{context_of}
-use Rattle.smith_draw.proofs.const_expr.offered.past_arrays.Given as goal
-
-abbrev pub invariant-loop-index : goal.invariant-loop-index
-invariant-loop-index l = past (each_from (λ index (t : SubType). array_offers (context_of l.scope) l.wanted l.fuel index t.composite_type.inner) l.index (drop l.index l.types)) l.rest ≡ past (each_from (λ index (t : SubType). array_offers (context_of l.fn.scope) l.fn.wanted l.fn.fuel index t.composite_type.inner) 0 (context_of l.fn.scope).types) l.fn.place
