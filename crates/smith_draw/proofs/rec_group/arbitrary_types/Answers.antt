@@ -8,7 +8,9 @@ use Rattle.smith_types.specs.ValidTypes.{AreTypesValid}
 use Rattle.smith_config.specs.Features.{features_of}
 use Rattle.smith_draw.proofs.ValueTypeLemmas.{drawn_is}
 use Rattle.smith_draw.proofs.RecGroupLemmas.{types_valid, types_most, types_least}
+use Rattle.smith_draw.specs.FuncSizes.{IsSmall}
 use Rattle.smith_draw.proofs.FloatLemmas.{types_no_float}
+use Rattle.smith_draw.proofs.FuncSizeLemmas.{types_small}
 use Rattle.smith_draw.proofs.TakenLemmas.{types_taken}
 use Rattle.smith_draw.proofs.rec_group.arbitrary_types.Goals as goal
 
@@ -40,3 +42,8 @@ pub returns-clause-floats : goal.returns-clause-floats
 returns-clause-floats c = λ off all.
     on_ok_weaker c.all_types.result
     (drawn_is (λ (space : Space). All HasNoFloat space.types) _ (types_no_float _ off _ _ all)) c.all_types.ensures.exact
+
+pub returns-clause-small : goal.returns-clause-small
+returns-clause-small c = λ all.
+    on_ok_weaker c.all_types.result
+    (drawn_is (λ (space : Space). All IsSmall space.types) _ (types_small _ _ _ all)) c.all_types.ensures.exact
