@@ -1,4 +1,4 @@
-ghost use Rattle.std.specs.Prelude.{◌≡◌, ◌<◌, ◌^◌, false, length, IfOk};
+ghost use Rattle.std.specs.Prelude.{◌≡◌, ◌<◌, ◌^◌, false, length, IsOk, IfOk};
 ghost use Rattle.smith_bytes.specs.Takes.{Takes, SpellsSuch};
 ghost use Rattle.smith_types.specs.Entities.{IsGlobalValid};
 ghost use Rattle.smith_types.specs.Floats.{IsNoFloat};
@@ -52,7 +52,7 @@ fn global_type(config: &Config, types: &[SubType], u: &mut Unstructured<'_>) -> 
 ///
 /// `config` is sanitised. Over valid types the global type is valid.
 ///
-/// Nothing is refused, since no memory is taken: the `Result` is the form of the drawing calls.
+/// Always `Ok`, since no memory is taken: the drawing calls of entities have one form.
 pub fn arbitrary_global_type(
     _alloc: Global,
     config: &Config,
@@ -60,6 +60,7 @@ pub fn arbitrary_global_type(
     u: &mut Unstructured<'_>,
 ) -> Result<GlobalType, Error>
     requires { IsSanitized config.now }
+    ensures ok { IsOk result }
     ensures draws { Draws (global_type_at config.now spaces.now.types.now.types u.old) result u.old u.new }
     ensures valid { AreTypesValid (features_of config.now) spaces.now.types.now → IfOk result (IsGlobalValid (features_of config.now) spaces.now.types.now.types) }
     ensures floats { config.now.allow_floats ≡ false → IfOk result (λ drawn. IsNoFloat drawn.val_type) }

@@ -1,4 +1,4 @@
-ghost use Rattle.std.specs.Prelude.{◌≡◌, ◌≤◌, IfOk};
+ghost use Rattle.std.specs.Prelude.{◌≡◌, ◌≤◌, IsOk, IfOk};
 ghost use Rattle.smith_types.specs.Entities.{IsTableValid, most_elements};
 ghost use Rattle.smith_types.specs.ValidTypes.{AreTypesValid};
 ghost use Rattle.smith_config.specs.Features.{features_of};
@@ -59,7 +59,7 @@ fn table_type(config: &Config, types: &TypeSpace, u: &mut Unstructured<'_>) -> T
 ///
 /// `config` is sanitised. Over valid types the table type is valid.
 ///
-/// Nothing is refused, since no memory is taken: the `Result` is the form of the drawing calls.
+/// Always `Ok`, since no memory is taken: the drawing calls of entities have one form.
 pub fn arbitrary_table_type(
     _alloc: Global,
     config: &Config,
@@ -67,6 +67,7 @@ pub fn arbitrary_table_type(
     u: &mut Unstructured<'_>,
 ) -> Result<TableType, Error>
     requires { IsSanitized config.now }
+    ensures ok { IsOk result }
     ensures draws { Draws (table_type_at config.now spaces.now.types.now.types u.old) result u.old u.new }
     ensures valid { AreTypesValid (features_of config.now) spaces.now.types.now → IfOk result (IsTableValid (features_of config.now) spaces.now.types.now.types) }
     ensures within { IfOk result (IsTableWithin config.now) }

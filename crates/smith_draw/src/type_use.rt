@@ -1,4 +1,4 @@
-ghost use Rattle.std.specs.Prelude.{◌≡◌, ◌<◌, ◌^◌, length, slice_index_or, IfOk};
+ghost use Rattle.std.specs.Prelude.{◌≡◌, ◌<◌, ◌^◌, length, slice_index_or, IsOk, IfOk};
 ghost use Rattle.smith_types.specs.Entities.{IsTagValid};
 ghost use Rattle.smith_draw.specs.Choices.{chosen_at};
 ghost use Rattle.smith_draw.specs.Drawing.{AlwaysDraws, Draws};
@@ -95,10 +95,12 @@ pub fn choose_type(for_use: TypeUse, types: &[SubType], u: &mut Unstructured<'_>
     type_at(for_use, types, place)
 }
 
-/// Draws the type of a tag: the index of a function type without results among the types of `spaces`, where there is one. The
-/// standard's section Structure, Tag Types.
+/// Draws the type of a tag: the index of a function type without results among the types of `spaces`. The standard's section
+/// Structure, Tag Types.
 ///
-/// Nothing is refused, since no memory is taken: the `Result` is the form of the drawing calls.
+/// There is such a type: [`count_types`] tells it.
+///
+/// Always `Ok`, since no memory is taken: the drawing calls of entities have one form.
 pub fn arbitrary_tag_type(
     _alloc: Global,
     _config: &Config,
@@ -106,6 +108,7 @@ pub fn arbitrary_tag_type(
     u: &mut Unstructured<'_>,
 ) -> Result<u32, Error>
     requires { 0 < length (types_for Tag spaces.now.types.now.types) }
+    ensures ok { IsOk result }
     ensures draws { Draws (chosen_at 0 (types_for Tag spaces.now.types.now.types) u.old) result u.old u.new }
     ensures valid { IfOk result (IsTagValid spaces.now.types.now.types) }
 {

@@ -1,3 +1,4 @@
+use Rattle.std.proofs.Common.{refl}
 use Rattle.smith_types.specs.Entities.{IsGlobalValid}
 use Rattle.smith_types.specs.Floats.{IsNoFloat}
 use Rattle.smith_types.specs.declared.entity_type.GlobalType.{GlobalType}
@@ -10,6 +11,7 @@ pub returns : goal.returns
 returns c =
     let exact = rw c.types.ensures.value at c.global_type.ensures.exact in
     record {
+      ok = refl;
       draws = record { exact = exact; memory = tt; left = c.global_type.ensures.left };
       valid = λ valid. drawn_is (IsGlobalValid (features_of c.args.config.now) c.args.spaces.now.types.now.types) _ (global_type_valid _ _ _ c.requires valid) exact;
       floats = λ off. drawn_is (λ (global : GlobalType). IsNoFloat global.val_type) _ (global_type_no_float _ _ _ off) exact;
