@@ -1,12 +1,10 @@
 -- Without floats no drawn type holds one, where none that stands does.
-use Rattle.std.proofs.Common.{◌≡◌, ℕ, zero, suc, ◌+◌, ◌-◌, Bool, true, false, cond, ◌||◌, Option, Some, None, List, [], ◌∷◌, ◌++◌, length, refl, sym, subst, nat_lt}
+use Rattle.std.proofs.Common.{◌≡◌, ℕ, zero, suc, ◌+◌, ◌-◌, Bool, false, Option, Some, None, List, [], length, refl, subst}
 use Rattle.std.specs.Prelude.{IsTrue, slice_get, All}
 use Rattle.std.specs.List.{AllByRecursion as Each}
-use Rattle.std.specs.declared.ops.Range.{Range}
-use Rattle.std.proofs.lemmas.List.Elements.{All-nil, All-append, All-take, All-drop, All-from_recursion, recursion_from_All}
+use Rattle.std.proofs.lemmas.List.Elements.{All-nil, All-append, All-from_recursion, recursion_from_All}
 use Rattle.std.proofs.lemmas.Option.{slice_get_within, get_or_from_slice_get}
-use Rattle.smith_bytes.specs.Draws.{bool_at, range_at}
-use Rattle.smith_bytes.specs.Growth.{goes_at, grow_at}
+use Rattle.smith_bytes.specs.Draws.{range_at}
 use Rattle.smith_bytes.proofs.GrownLemmas.{grow_all, cond_both}
 use Rattle.smith_types.specs.Floats.{IsNoFloat, HasNoFloat}
 use Rattle.smith_types.specs.Space.{Space}
@@ -31,13 +29,13 @@ use Rattle.smith_draw.specs.CompositeTypes.{most_results, val_types_at, func_typ
 use Rattle.smith_draw.specs.MatchingTypes.{each_at, matching_val_type_at, matching_storage_type_at, matching_field_type_at, matched_fields_at, super_val_type_at, matching_func_type_at}
 use Rattle.smith_draw.specs.MatchingComposites.{matching_struct_type_at, matching_inner_at, matching_composite_type_at}
 use Rattle.smith_draw.specs.SubTypes.{supertypes, is_final_at, root_type_at, sub_type_below_at, sub_type_of_at, supertype_wanted_at, sub_type_at}
-use Rattle.smith_draw.specs.RecGroups.{types_left, types_until_at, group_size_at, new_group_at, members, may_be_cloned, with_clone, clone_rec_group_at, clone_wanted_at, cloned_or_new_at, rec_group_at, least_types_at, more_types_at, types_at}
+use Rattle.smith_draw.specs.RecGroups.{types_at}
 use Rattle.smith_draw.proofs.EnabledLemmas.{enabled_all, chosen_is}
 use Rattle.smith_draw.proofs.SharedLemmas.{each_join}
 use Rattle.smith_draw.proofs.MatchingLemmas.{all_stay}
 use Rattle.smith_draw.proofs.FieldTypeLemmas.{values_of_fields}
-use Rattle.smith_draw.proofs.MatchingCompositeLemmas.{grow_keeps, fields_of_values}
-use Rattle.smith_draw.proofs.RecGroupLemmas.{least_keeps, more_keeps}
+use Rattle.smith_draw.proofs.MatchingCompositeLemmas.{fields_of_values}
+use Rattle.smith_draw.proofs.EachTypeLemmas.{types_keep}
 
 -- a class of value types that is no float
 IsNoFloatClass : ValueClass → Type 0
@@ -50,7 +48,7 @@ abbrev IsNoFloatField : FieldType → Type 0
 IsNoFloatField field = All IsNoFloat (values_of_storage field.element_type)
 
 -- the values of a list that stands hold where each of its items does
-stands_in : {A : Type 0} (P : A → Type 0) (xs : List A) (i : ℕ) (x : A) → slice_get xs i ≡ Some x → All P xs → P x
+pub stands_in : {A : Type 0} (P : A → Type 0) (xs : List A) (i : ℕ) (x : A) → slice_get xs i ≡ Some x → All P xs → P x
 stands_in P xs i x at each = subst P (get_or_from_slice_get xs i x x at) (each i x (slice_get_within xs i x at))
 
 matching_value : (config : Config) (types : List SubType) (ty : ValType) (bytes : List ℕ) → IsNoFloat ty → IsNoFloat (matching_val_type_at config types ty bytes).0
@@ -196,42 +194,5 @@ module _ (config : Config) (off : config.allow_floats ≡ false) where
       cond_both (λ (r : SubType × List ℕ). HasNoFloat r.0) wanted.0 (sub_type_of_at config types limit (supertypes types) wanted.1) (root_type_at config types limit wanted.1)
       (below_drawn types limit index.0 (slice_get types index.0) index.1 (λ t at. stands_in HasNoFloat types index.0 t at all)) (root_drawn types limit wanted.1)
 
-  types_until : (types : List SubType) (limit : ℕ) (bytes : List ℕ) → All HasNoFloat types → All HasNoFloat (types_until_at config limit types bytes).0
-  unfolding types_until_at
-  types_until types limit bytes all =
-      grow_keeps (λ (made : List SubType). All HasNoFloat made) (λ made. sub_type_at config made limit)
-      (λ made after h. All-append HasNoFloat made ((sub_type_at config made limit after).0 ∷ []) h (All-from_recursion HasNoFloat ((sub_type_at config made limit after).0 ∷ []) (sub_type_no_float made limit after h, tt)))
-      limit (limit - length types) types bytes all
-
-  new_group : (allow_empty : Bool) (space : Space) (bytes : List ℕ) → All HasNoFloat space.types → All HasNoFloat (new_group_at config allow_empty space bytes).0.types
-  unfolding new_group_at
-  new_group allow_empty space bytes all =
-      let size = group_size_at config allow_empty (types_left config space) bytes in
-      types_until space.types (length space.types + size.0) size.1 all
-
-  cloned : (allow_empty : Bool) (space : Space) (bytes : List ℕ) → All HasNoFloat space.types → All HasNoFloat (clone_rec_group_at config allow_empty space bytes).1.0.types
-  unfolding clone_rec_group_at
-  cloned allow_empty space bytes all =
-      let group = chosen_at (record { start = 0; end = 0 }) space.groups bytes in
-      let copies = members space.types group.0 in
-      cond_both (λ (s : Space). All HasNoFloat s.types) (may_be_cloned config allow_empty space group.0) (with_clone space group.0) space
-      (All-append HasNoFloat space.types copies all (All-take HasNoFloat (group.0.end - group.0.start) _ (All-drop HasNoFloat group.0.start space.types all))) all
-
-  rec_group : (allow_empty : Bool) (space : Space) (bytes : List ℕ) → All HasNoFloat space.types → All HasNoFloat (rec_group_at config allow_empty space bytes).0.types
-  unfolding rec_group_at
-  rec_group allow_empty space bytes all =
-      let wanted = clone_wanted_at config space bytes in
-      let clone = clone_rec_group_at config allow_empty space wanted.1 in
-      let copied = cloned allow_empty space wanted.1 all in
-      let P = λ (r : Space × List ℕ). All HasNoFloat r.0.types in
-      cond_both P wanted.0 (cloned_or_new_at config allow_empty space wanted.1) (new_group_at config allow_empty space wanted.1)
-      (cond_both P (clone.0 || allow_empty) clone.1 (new_group_at config allow_empty clone.1.0 clone.1.1) copied (new_group allow_empty clone.1.0 clone.1.1 copied))
-      (new_group allow_empty space wanted.1 all)
-
   pub types_no_float : (space : Space) (bytes : List ℕ) → All HasNoFloat space.types → All HasNoFloat (types_at config space bytes).0.types
-  unfolding types_at
-  types_no_float space bytes all =
-      let P = λ (s : Space). All HasNoFloat s.types in
-      let least = least_types_at config config.min_types space bytes in
-      more_keeps config P (λ s after room h. rec_group true s after h) (length least.1 + 1) least.0 least.1
-      (least_keeps config P (λ s after few h. rec_group false s after h) config.min_types space bytes all)
+  types_no_float space bytes all = types_keep config HasNoFloat sub_type_no_float space bytes all

@@ -25,7 +25,13 @@ pub mod CopiesLoop
 pub mod GroupSizeLemmas
 pub mod GroupsLoop
 pub mod RecGroupLemmas
+pub mod EachTypeLemmas
 pub mod FloatLemmas
+pub mod FuncSizeLemmas
+pub mod SharedHeapTypeLemmas
+pub mod GlobalTypeLemmas
+pub mod TableTypeLemmas
+pub mod TypeUseLemmas
 pub mod MemoryLemmas
 pub mod OneFunctionExamples
 pub mod BelowLemmas

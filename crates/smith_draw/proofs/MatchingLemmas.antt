@@ -46,7 +46,7 @@ each_stays P draw stays (x ∷ xs) bytes h = (stays x bytes h.0, each_stays P dr
 pub all_stay : {A : Type 0} (P : A → Type 0) (draw : A → List ℕ → A × List ℕ) → ((x : A) (bytes : List ℕ) → P x → P (draw x bytes).0) → (xs : List A) (bytes : List ℕ) → All P xs → All P (each_at draw xs bytes).0
 all_stay P draw stays xs bytes h = All-from_recursion P (each_at draw xs bytes).0 (each_stays P draw stays xs bytes (recursion_from_All P xs h))
 
-length-each_at : {A : Type 0} (draw : A → List ℕ → A × List ℕ) (xs : List A) (bytes : List ℕ) → length (each_at draw xs bytes).0 ≡ length xs
+pub length-each_at : {A : Type 0} (draw : A → List ℕ → A × List ℕ) (xs : List A) (bytes : List ℕ) → length (each_at draw xs bytes).0 ≡ length xs
 unfolding each_at
 length-each_at draw [] bytes = refl
 length-each_at draw (x ∷ xs) bytes = let more = length-each_at draw xs (draw x bytes).1 in omega arith

@@ -10,10 +10,15 @@ pub mod MatchingTypes
 pub mod MatchingComposites
 pub mod SubTypes
 pub mod RecGroups
+pub mod FuncSizes
 pub mod Limits
 pub mod Offsets
 pub mod Bounds
 pub mod Memories
+pub mod SharedHeapTypes
+pub mod GlobalTypes
+pub mod TableTypes
+pub mod TypeUses
 pub mod Spelling
 pub mod ExampleSpellings
 pub mod ExampleStanding

@@ -26,7 +26,7 @@ fn shared_memory(config: &Config, u: &mut Unstructured<'_>) -> bool
 }
 
 #[tactic(auto, unfolding(crate::specs::Memories::memory64_at))]
-fn memory64(config: &Config, u: &mut Unstructured<'_>) -> bool
+pub(crate) fn memory64(config: &Config, u: &mut Unstructured<'_>) -> bool
     ensures draws { AlwaysDraws (memory64_at config.now u.old) result u.old u.new }
     ensures enabled { IsTrue result → IsTrue config.now.memory64_enabled }
 {

@@ -7,14 +7,19 @@ mod const_expr;
 mod entity_type;
 mod examples;
 mod field_type;
+mod global_type;
 mod limits;
 mod matching;
 mod matching_composite;
 mod offered;
+mod offset;
 mod rec_group;
+mod shared_reference;
 mod spaces;
 mod sub_type;
 mod super_type;
+mod table_type;
+mod type_use;
 mod value_type;
 
 pub use choice::choose;
@@ -22,12 +27,14 @@ pub use composite_type::{arbitrary_composite_type, arbitrary_func_type, arbitrar
 pub use const_expr::{arbitrary_const_expr, arbitrary_table_init, globals_for_const_expr};
 pub use entity_type::arbitrary_memtype;
 pub use field_type::{arbitrary_field_type, arbitrary_storage_type};
+pub use global_type::arbitrary_global_type;
 pub use limits::{arbitrary_limits64, gradually_grow};
 pub use matching::{
     arbitrary_matching_field_type, arbitrary_matching_func_type, arbitrary_matching_heap_type,
     arbitrary_matching_ref_type, arbitrary_matching_storage_type, arbitrary_matching_val_type,
 };
 pub use matching_composite::arbitrary_matching_struct_type;
+pub use offset::arbitrary_offset;
 pub use rec_group::{add_type, arbitrary_rec_group, arbitrary_types, clone_rec_group};
 pub use spaces::{Entities, Spaces};
 pub use sub_type::{arbitrary_sub_type, arbitrary_sub_type_of_super_type};
@@ -35,4 +42,6 @@ pub use super_type::{
     arbitrary_super_type_of_heap_type, arbitrary_super_type_of_ref_type,
     arbitrary_super_type_of_val_type,
 };
+pub use table_type::arbitrary_table_type;
+pub use type_use::{TypeUse, arbitrary_tag_type, choose_type, count_types};
 pub use value_type::{arbitrary_heap_type, arbitrary_ref_type, arbitrary_valtype};

@@ -152,7 +152,7 @@ fn heap_type(
 }
 
 #[tactic(auto, unfolding(crate::specs::ValueTypes::ref_type_at))]
-fn ref_type(
+pub(crate) fn ref_type(
     config: &Config,
     types: &[SubType],
     must_share: bool,

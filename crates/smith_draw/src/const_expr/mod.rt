@@ -4,7 +4,7 @@ ghost use Rattle.std.specs.Prelude.{◌≡◌, ◌≤◌, ◌↔◌, ℕ, Some, 
 ghost use Rattle.std.specs.List.{Contains};
 ghost use Rattle.smith_bytes.specs.Source.{KeepsPieces};
 ghost use Rattle.smith_bytes.specs.Takes.{Takes};
-ghost use Rattle.smith_types.specs.ValidTypes.{IsValTypeValid};
+ghost use Rattle.smith_types.specs.ValidTypes.{IsRefTypeValid, IsValTypeValid};
 ghost use Rattle.smith_types.specs.declared.value_type.ValType.TheVariants.{I32, Ref};
 ghost use Rattle.smith_types.specs.Expressions.{IsConstExpr};
 ghost use Rattle.smith_config.specs.Features.{features_of};
@@ -77,7 +77,7 @@ pub fn arbitrary_const_expr(
 /// imported globals alone. The standard's section Validation, Tables.
 ///
 /// `spaces` is as [`arbitrary_const_expr`] asks, and `element` is valid over its types. Where `element` may not be null,
-/// garbage collection is on.
+/// garbage collection is on, and where that is on, reference types are.
 ///
 /// # Errors
 ///
@@ -91,8 +91,9 @@ pub fn arbitrary_table_init(
     u: &mut Unstructured<'_>,
 ) -> Result<Option<Items<ConstInstr>>, Error>
     requires standing { AreSpacesValid config.now spaces.now }
-    requires element { IsValTypeValid (features_of config.now) (length spaces.now.types.now.types) (Ref element) }
+    requires element { IsRefTypeValid (features_of config.now) (length spaces.now.types.now.types) element }
     requires created { element.nullable ≡ false → IsTrue config.now.gc_enabled }
+    requires references { IsTrue config.now.gc_enabled → IsTrue config.now.reference_types_enabled }
     ensures exact { IfOk result (λ initial. table_init_at config.now spaces.now element u.old ≡ Some (initial, u.new)) }
     ensures none { IfErr result (λ e. e ≡ Error.EmptyChoose → table_init_at config.now spaces.now element u.old ≡ None) }
     ensures typed { IfOk result (λ initial. IfSome initial (IsConstExpr (seen_by config.now spaces.now false) (Ref element))) }

@@ -3,6 +3,8 @@
 mod bounds;
 mod composite_types;
 mod const_exprs;
+mod entity_types;
+mod function_sizes;
 mod offered;
 mod offered_lists;
 mod offsets;

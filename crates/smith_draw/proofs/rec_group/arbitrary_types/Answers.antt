@@ -8,7 +8,9 @@ use Rattle.smith_types.specs.ValidTypes.{AreTypesValid}
 use Rattle.smith_config.specs.Features.{features_of}
 use Rattle.smith_draw.proofs.DrawingLemmas.{of_state}
 use Rattle.smith_draw.proofs.RecGroupLemmas.{types_valid, types_most, types_least}
+use Rattle.smith_draw.specs.FuncSizes.{IsSmall}
 use Rattle.smith_draw.proofs.FloatLemmas.{types_no_float}
+use Rattle.smith_draw.proofs.FuncSizeLemmas.{types_small}
 use Rattle.smith_draw.proofs.TakenLemmas.{types_taken}
 use Rattle.smith_draw.proofs.rec_group.arbitrary_types.Goals as goal
 
@@ -34,3 +36,6 @@ returns-clause-reach c = λ least empty. on_ok_weaker c.all_types.result (types_
 
 pub returns-clause-floats : goal.returns-clause-floats
 returns-clause-floats c = λ off all. of_state (λ (space : Space). All HasNoFloat space.types) c.all_types.ensures (types_no_float _ off _ _ all)
+
+pub returns-clause-small : goal.returns-clause-small
+returns-clause-small c = λ all. of_state (λ (space : Space). All IsSmall space.types) c.all_types.ensures (types_small _ _ _ all)

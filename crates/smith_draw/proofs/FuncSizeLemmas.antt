@@ -1,0 +1,80 @@
+-- Drawn function types take at most 20 values and give at most 20.
+use Rattle.std.proofs.Common.{◌≡◌, ℕ, zero, suc, ◌≤◌, Bool, true, false, cond, Option, Some, None, List, [], length, refl, arith}
+use Rattle.std.specs.Prelude.{slice_get, All}
+use Rattle.smith_bytes.proofs.GrownLemmas.{cond_both, grow_most}
+use Rattle.smith_types.specs.Space.{Space}
+use Rattle.smith_types.specs.declared.composite_type.CompositeInnerType.{CompositeInnerType}
+use Rattle.smith_types.specs.declared.composite_type.CompositeInnerType.TheVariants.{Array, Func, Struct}
+use Rattle.smith_types.specs.declared.composite_type.FuncType.{FuncType}
+use Rattle.smith_types.specs.declared.composite_type.SubType.{SubType}
+use Rattle.smith_config.specs.declared.config.Config.{Config}
+use Rattle.smith_draw.specs.Choices.{chosen_at}
+use Rattle.smith_draw.specs.CompositeTypes.{val_types_at, most_results, func_type_at, inner_of_number_at, inner_number_at, composite_type_at}
+use Rattle.smith_draw.specs.FuncSizes.{IsSmallFunction, IsSmallInner, IsSmall}
+use Rattle.smith_draw.specs.MatchingTypes.{each_at, super_val_type_at, matching_val_type_at, matching_func_type_at}
+use Rattle.smith_draw.specs.MatchingComposites.{matching_inner_at, matching_composite_type_at}
+use Rattle.smith_draw.specs.RecGroups.{types_at}
+use Rattle.smith_draw.specs.SubTypes.{is_final_at, root_type_at, sub_type_below_at, sub_type_of_at, supertype_wanted_at, supertypes, sub_type_at}
+use Rattle.smith_draw.specs.ValueTypes.{sharedness_at, val_type_at}
+use Rattle.smith_draw.proofs.EachTypeLemmas.{types_keep}
+use Rattle.smith_draw.proofs.FloatLemmas.{stands_in}
+use Rattle.smith_draw.proofs.MatchingLemmas.{length-each_at}
+
+values_few : (config : Config) (types : List SubType) (must_share : Bool) (limit most : ℕ) (bytes : List ℕ) → length (val_types_at config types must_share limit most bytes).0 ≤ most
+unfolding val_types_at
+values_few config types must_share limit most bytes = grow_most (λ _. val_type_at config types must_share limit) 0 most most [] bytes (omega arith)
+
+results_few : (several : Bool) → cond several 20 1 ≤ 20
+results_few true = omega arith
+results_few false = omega arith
+
+function_small : (config : Config) (types : List SubType) (must_share : Bool) (limit : ℕ) (bytes : List ℕ) → IsSmallFunction (func_type_at config types must_share limit bytes).0
+unfolding func_type_at
+function_small config types must_share limit bytes =
+    let params = val_types_at config types must_share limit 20 bytes in
+    let results = values_few config types must_share limit (most_results config) params.1 in
+    let most = results_few config.multi_value_enabled in
+    record { params = values_few config types must_share limit 20 bytes; results = omega arith }
+
+number_small : (config : Config) (types : List SubType) (must_share : Bool) (limit number : ℕ) (bytes : List ℕ) → IsSmallInner (inner_of_number_at config types must_share limit number bytes).0
+number_small config types must_share limit zero bytes = tt
+number_small config types must_share limit (suc zero) bytes = function_small config types must_share limit bytes
+number_small config types must_share limit (suc (suc number)) bytes = tt
+
+root_small : (config : Config) (types : List SubType) (limit : ℕ) (bytes : List ℕ) → IsSmall (root_type_at config types limit bytes).0
+unfolding root_type_at composite_type_at
+root_small config types limit bytes =
+    let is_final = is_final_at config bytes in
+    let shared = sharedness_at config false is_final.1 in
+    let number = inner_number_at config shared.1 in
+    number_small config types shared.0 limit number.0 number.1
+
+matched_function_small : (config : Config) (types : List SubType) (function : FuncType) (bytes : List ℕ) → IsSmallFunction function → IsSmallFunction (matching_func_type_at config types function bytes).0
+unfolding matching_func_type_at
+matched_function_small config types function bytes h =
+    let drawn = each_at (super_val_type_at config types) function.params bytes in
+    let params = length-each_at (super_val_type_at config types) function.params bytes in
+    let results = length-each_at (matching_val_type_at config types) function.results drawn.1 in
+    record { params = omega (arith, h.params); results = omega (arith, h.results) }
+
+matched_small : (config : Config) (types : List SubType) (must_share : Bool) (limit : ℕ) (inner : CompositeInnerType) (bytes : List ℕ) → IsSmallInner inner → IsSmallInner (matching_inner_at config types must_share limit inner bytes).0
+matched_small config types must_share limit (Array array) bytes h = tt
+matched_small config types must_share limit (Func function) bytes h = matched_function_small config types function bytes h
+matched_small config types must_share limit (Struct structure) bytes h = tt
+
+below_small : (config : Config) (types : List SubType) (limit index : ℕ) (at : Option SubType) (bytes : List ℕ) → ((t : SubType) → at ≡ Some t → IsSmall t) → IsSmall (sub_type_below_at config types limit index at bytes).0
+unfolding matching_composite_type_at
+below_small config types limit index None bytes h = root_small config types limit bytes
+below_small config types limit index (Some t) bytes h = matched_small config types t.composite_type.shared limit t.composite_type.inner bytes (h t refl)
+
+sub_type_small : (config : Config) (types : List SubType) (limit : ℕ) (bytes : List ℕ) → All IsSmall types → IsSmall (sub_type_at config types limit bytes).0
+unfolding sub_type_at sub_type_of_at
+sub_type_small config types limit bytes all =
+    let wanted = supertype_wanted_at config (length (supertypes types)) bytes in
+    let index = chosen_at 0 (supertypes types) wanted.1 in
+    cond_both (λ (r : SubType × List ℕ). IsSmall r.0) wanted.0 (sub_type_of_at config types limit (supertypes types) wanted.1) (root_type_at config types limit wanted.1)
+    (below_small config types limit index.0 (slice_get types index.0) index.1 (λ t at. stands_in IsSmall types index.0 t at all)) (root_small config types limit wanted.1)
+
+-- so are those of a type space that groups are drawn into
+pub types_small : (config : Config) (space : Space) (bytes : List ℕ) → All IsSmall space.types → All IsSmall (types_at config space bytes).0.types
+types_small config space bytes all = types_keep config IsSmall (sub_type_small config) space bytes all

@@ -1,0 +1,41 @@
+-- Which types tags and functions may have. Rules of this project.
+use Rattle.std.specs.Prelude.{ℕ, suc, Bool, true, false, ◌==◌, List, [], ◌∷◌, length, if◌then◌else◌}
+use Rattle.smith_types.specs.declared.composite_type.CompositeInnerType.{CompositeInnerType}
+use Rattle.smith_types.specs.declared.composite_type.CompositeInnerType.TheVariants.{Func}
+use Rattle.smith_types.specs.declared.composite_type.SubType.{SubType}
+use Rattle.smith_types.specs.Entities.{IsTagValid, IsFuncValid}
+use Rattle.smith_draw.specs.declared.type_use.TypeUse.{TypeUse}
+use Rattle.smith_draw.specs.declared.type_use.TypeUse.TheVariants.{Tag, ImportedFunc}
+
+-- whether a composite type is a function
+abbrev pub is_function : CompositeInnerType → Bool
+is_function (Func function) = true
+is_function _ = false
+
+-- whether a composite type is a function without results
+abbrev pub gives_nothing : CompositeInnerType → Bool
+gives_nothing (Func function) = length function.results == 0
+gives_nothing _ = false
+
+-- whether tags may have a type: it is a function type without results
+unfoldable pub is_tag_type : SubType → Bool
+is_tag_type t = gives_nothing t.composite_type.inner
+
+-- the places at which a test holds, in a list that begins at place n
+abbrev pub places_from : {A : Type 0} → (A → Bool) → ℕ → List A → List ℕ
+places_from test n [] = []
+places_from test n (x ∷ xs) = if test x then n ∷ places_from test (suc n) xs else places_from test (suc n) xs
+
+-- whether a type may be used: by a tag, or by an imported function, which may be shared
+abbrev pub may_be_used : TypeUse → SubType → Bool
+may_be_used Tag t = is_tag_type t
+may_be_used ImportedFunc t = is_function t.composite_type.inner
+
+-- the indices of the types that may be used
+abbrev pub types_for : TypeUse → List SubType → List ℕ
+types_for for_use types = places_from (may_be_used for_use) 0 types
+
+-- the type of this index is right for a use
+abbrev pub IsUsable : TypeUse → List SubType → ℕ → Type 0
+IsUsable Tag types index = IsTagValid types index
+IsUsable ImportedFunc types index = IsFuncValid types index

@@ -1,0 +1,70 @@
+ghost use Rattle.std.specs.Prelude.{◌≡◌, ◌<◌, ◌^◌, false, length, IsOk, IfOk};
+ghost use Rattle.smith_bytes.specs.Takes.{Takes, SpellsSuch};
+ghost use Rattle.smith_types.specs.Entities.{IsGlobalValid};
+ghost use Rattle.smith_types.specs.Floats.{IsNoFloat};
+ghost use Rattle.smith_types.specs.ValidTypes.{AreTypesValid};
+ghost use Rattle.smith_config.specs.Features.{features_of};
+ghost use Rattle.smith_config.specs.Sanitized.{IsSanitized};
+ghost use Rattle.smith_draw.specs.Drawing.{AlwaysDraws, Draws};
+ghost use Rattle.smith_draw.specs.GlobalTypes.{global_sharedness_at, global_type_at};
+ghost use Rattle.smith_draw.specs.SpelledGlobals.{mutable_i32, SpellsMutableI32};
+
+use crate::shared_reference::is_reference_shared;
+use crate::spaces::Spaces;
+use crate::value_type::{sharedness, val_type};
+use smith_bytes::{Error, Unstructured};
+use smith_config::Config;
+use smith_types::{GlobalType, SubType, ValType};
+use std::alloc::Global;
+
+/// Whether a global of a value type is shared.
+fn global_sharedness(
+    config: &Config,
+    types: &[SubType],
+    val_type: ValType,
+    u: &mut Unstructured<'_>,
+) -> bool
+    ensures { AlwaysDraws (global_sharedness_at config.now types.now val_type u.old) result u.old u.new }
+{
+    match val_type {
+        ValType::Ref(reference) => is_reference_shared(types, reference),
+        _ => sharedness(config, false, u),
+    }
+}
+
+#[tactic(auto, unfolding(crate::specs::GlobalTypes::global_type_at))]
+fn global_type(config: &Config, types: &[SubType], u: &mut Unstructured<'_>) -> GlobalType
+    requires { length types.now < 2 ^ 32 }
+    ensures { AlwaysDraws (global_type_at config.now types.now u.old) result u.old u.new }
+{
+    let val_type = val_type(config, types, false, types.len() as u32, u);
+    let shared = global_sharedness(config, types, val_type, u);
+    let mutable = u.arbitrary();
+    GlobalType {
+        val_type,
+        mutable,
+        shared,
+    }
+}
+
+/// Draws a global type: a value type over the types of `spaces`, shared as the reference that it is or else by a draw, and
+/// mutable or not. The standard's section Structure, Global Types.
+///
+/// `config` is sanitised. Over valid types the global type is valid.
+///
+/// Always `Ok`, since no memory is taken: the drawing calls of entities have one form.
+pub fn arbitrary_global_type(
+    _alloc: Global,
+    config: &Config,
+    spaces: &Spaces<'_>,
+    u: &mut Unstructured<'_>,
+) -> Result<GlobalType, Error>
+    requires { IsSanitized config.now }
+    ensures ok { IsOk result }
+    ensures draws { Draws (global_type_at config.now spaces.now.types.now.types u.old) result u.old u.new }
+    ensures valid { AreTypesValid (features_of config.now) spaces.now.types.now → IfOk result (IsGlobalValid (features_of config.now) spaces.now.types.now.types) }
+    ensures floats { config.now.allow_floats ≡ false → IfOk result (λ drawn. IsNoFloat drawn.val_type) }
+    ensures reach { IfOk result (λ drawn. Takes (SpellsSuch (λ global. global ≡ mutable_i32) (λ _. SpellsMutableI32 config.now)) u.old drawn u.new) }
+{
+    Ok(global_type(config, spaces.types.types(), u))
+}

@@ -1,0 +1,76 @@
+ghost use Rattle.std.specs.Prelude.{◌≡◌, ◌≤◌, IsOk, IfOk};
+ghost use Rattle.smith_types.specs.Entities.{IsTableValid, most_elements};
+ghost use Rattle.smith_types.specs.ValidTypes.{AreTypesValid};
+ghost use Rattle.smith_config.specs.Features.{features_of};
+ghost use Rattle.smith_config.specs.Sanitized.{IsSanitized};
+ghost use Rattle.smith_draw.specs.Bounds.{IsTableWithin};
+ghost use Rattle.smith_draw.specs.Drawing.{AlwaysDraws, Draws};
+ghost use Rattle.smith_draw.specs.TableTypes.{least_elements, drawn_elements, table_type_at};
+
+use crate::entity_type::memory64;
+use crate::limits::arbitrary_limits64;
+use crate::shared_reference::is_reference_shared;
+use crate::spaces::Spaces;
+use crate::value_type::ref_type;
+use smith_bytes::{Error, Unstructured};
+use smith_config::Config;
+use smith_types::{TableType, TypeSpace, most_elements_of};
+use std::alloc::Global;
+
+/// The most elements that are drawn of a table: no more than are configured, but at least one where nothing may trap.
+#[tactic(auto, unfolding(crate::specs::TableTypes::drawn_elements))]
+fn drawn_elements(config: &Config, table64: bool) -> u64
+    ensures exact { result ≡ drawn_elements config.now table64 }
+    ensures some { least_elements config.now ≤ result }
+    ensures fits { result ≤ most_elements table64 }
+{
+    config
+        .max_table_elements
+        .max(u64::from(config.disallow_traps))
+        .min(most_elements_of(table64))
+}
+
+#[tactic(auto, unfolding(crate::specs::TableTypes::table_type_at))]
+fn table_type(config: &Config, types: &TypeSpace, u: &mut Unstructured<'_>) -> TableType
+    requires { IsSanitized config.now }
+    ensures draws { AlwaysDraws (table_type_at config.now types.now.types u.old) result u.old u.new }
+    ensures valid { AreTypesValid (features_of config.now) types.now → IsTableValid (features_of config.now) types.now.types result }
+    ensures within { IsTableWithin config.now result }
+{
+    let standing = types.types();
+    let table64 = memory64(config, u);
+    let most = drawn_elements(config, table64);
+    let least = u64::from(config.disallow_traps);
+    let required = config.table_max_size_required;
+    let (minimum, maximum) = arbitrary_limits64(least, most, required, most.min(10_000), u);
+    let element_type = ref_type(config, standing, false, standing.len() as u32, u);
+    let shared = is_reference_shared(standing, element_type);
+    TableType {
+        element_type,
+        minimum,
+        maximum,
+        table64,
+        shared,
+    }
+}
+
+/// Draws a table type within the configured elements, of references over the types of `spaces`, and shared as these are. The
+/// standard's section Structure, Table Types.
+///
+/// `config` is sanitised. Over valid types the table type is valid.
+///
+/// Always `Ok`, since no memory is taken: the drawing calls of entities have one form.
+pub fn arbitrary_table_type(
+    _alloc: Global,
+    config: &Config,
+    spaces: &Spaces<'_>,
+    u: &mut Unstructured<'_>,
+) -> Result<TableType, Error>
+    requires { IsSanitized config.now }
+    ensures ok { IsOk result }
+    ensures draws { Draws (table_type_at config.now spaces.now.types.now.types u.old) result u.old u.new }
+    ensures valid { AreTypesValid (features_of config.now) spaces.now.types.now → IfOk result (IsTableValid (features_of config.now) spaces.now.types.now.types) }
+    ensures within { IfOk result (IsTableWithin config.now) }
+{
+    Ok(table_type(config, spaces.types, u))
+}

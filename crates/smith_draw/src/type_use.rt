@@ -1,0 +1,116 @@
+ghost use Rattle.std.specs.Prelude.{◌≡◌, ◌<◌, ◌^◌, length, slice_index_or, IsOk, IfOk};
+ghost use Rattle.smith_types.specs.Entities.{IsTagValid};
+ghost use Rattle.smith_draw.specs.Choices.{chosen_at};
+ghost use Rattle.smith_draw.specs.Drawing.{AlwaysDraws, Draws};
+ghost use Rattle.smith_draw.specs.TypeUses.{is_function, gives_nothing, is_tag_type, may_be_used, types_for, IsUsable};
+ghost use Rattle.smith_draw.specs.declared.type_use.TypeUse.TheVariants.{Tag};
+
+use crate::spaces::Spaces;
+use smith_bytes::{Error, Unstructured};
+use smith_config::Config;
+use smith_types::{CompositeInnerType, SubType};
+use std::alloc::Global;
+
+/// What a function type is to be used for.
+#[derive(Clone, Copy)]
+pub enum TypeUse {
+    /// By a tag: function types without results.
+    Tag,
+    /// By an imported function: all function types.
+    ImportedFunc,
+}
+
+fn is_function(inner: &CompositeInnerType) -> bool
+    ensures { result ≡ is_function inner.now }
+{
+    matches!(inner, CompositeInnerType::Func(_))
+}
+
+fn gives_nothing(inner: &CompositeInnerType) -> bool
+    ensures { result ≡ gives_nothing inner.now }
+{
+    match inner {
+        CompositeInnerType::Func(function) => function.results.is_empty(),
+        _ => false,
+    }
+}
+
+#[tactic(auto, unfolding(crate::specs::TypeUses::is_tag_type))]
+fn is_tag_type(t: &SubType) -> bool
+    ensures { result ≡ is_tag_type t.now }
+{
+    gives_nothing(&t.composite_type.inner)
+}
+
+fn may_be_used(for_use: TypeUse, t: &SubType) -> bool
+    ensures { result ≡ may_be_used for_use t.now }
+{
+    match for_use {
+        TypeUse::Tag => is_tag_type(t),
+        TypeUse::ImportedFunc => is_function(&t.composite_type.inner),
+    }
+}
+
+/// Counts the types among `types` that `for_use` may use.
+pub fn count_types(for_use: TypeUse, types: &[SubType]) -> usize
+    ensures { result ≡ length (types_for for_use types.now) }
+{
+    let mut count = 0;
+    for t in types {
+        if may_be_used(for_use, t) {
+            count += 1;
+        }
+    }
+    count
+}
+
+/// The index of the type at a place among those that may be used.
+fn type_at(for_use: TypeUse, types: &[SubType], mut place: usize) -> u32
+    requires { length types.now < 2 ^ 32 }
+    ensures { result ≡ slice_index_or (types_for for_use types.now) place 0 }
+{
+    for (index, t) in types.iter().enumerate() {
+        if !may_be_used(for_use, t) {
+            continue;
+        }
+        if place == 0 {
+            return index as u32;
+        }
+        place -= 1;
+    }
+    0
+}
+
+/// Chooses the index of a type among those of `types` that `for_use` may use. There is such a type, and there are fewer than
+/// 2^32 types.
+#[tactic(auto, unfolding(crate::specs::Choices::chosen_at))]
+pub fn choose_type(for_use: TypeUse, types: &[SubType], u: &mut Unstructured<'_>) -> u32
+    requires few { length types.now < 2 ^ 32 }
+    requires some { 0 < length (types_for for_use types.now) }
+    ensures draws { AlwaysDraws (chosen_at 0 (types_for for_use types.now) u.old) result u.old u.new }
+    ensures usable { IsUsable for_use types.now result }
+{
+    let last = count_types(for_use, types) - 1;
+    let place = u.int_in_range(0..=last);
+    type_at(for_use, types, place)
+}
+
+/// Draws the type of a tag: the index of a function type without results among the types of `spaces`. The standard's section
+/// Structure, Tag Types.
+///
+/// There is such a type: [`count_types`] tells it.
+///
+/// Always `Ok`, since no memory is taken: the drawing calls of entities have one form.
+pub fn arbitrary_tag_type(
+    _alloc: Global,
+    _config: &Config,
+    spaces: &Spaces<'_>,
+    u: &mut Unstructured<'_>,
+) -> Result<u32, Error>
+    requires { 0 < length (types_for Tag spaces.now.types.now.types) }
+    ensures ok { IsOk result }
+    ensures draws { Draws (chosen_at 0 (types_for Tag spaces.now.types.now.types) u.old) result u.old u.new }
+    ensures valid { IfOk result (IsTagValid spaces.now.types.now.types) }
+{
+    Ok(choose_type(TypeUse::Tag, spaces.types.types(), u))
+}
