@@ -16,3 +16,4 @@ pub mod FamilyFitLemmas
 pub mod NearNumberLemmas
 pub mod NoFloatLemmas
 pub mod SpellExamples
+pub mod ImportNameLemmas

@@ -14,6 +14,7 @@ ghost use Rattle.wasm_smith.specs.ToCome.{HasNoMore, MayComeOut};
 mod code;
 mod drawn;
 mod funcs;
+mod import_names;
 mod memories;
 mod parts_to_come;
 mod types;
