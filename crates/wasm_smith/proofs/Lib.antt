@@ -17,3 +17,8 @@ pub mod NearNumberLemmas
 pub mod NoFloatLemmas
 pub mod SpellExamples
 pub mod ImportNameLemmas
+pub mod ImportedEntityLemmas
+pub mod ImportsGrownLemmas
+pub mod FilledGroupLoop
+pub mod ImportGroupsLoop
+pub mod NoImportLemmas
