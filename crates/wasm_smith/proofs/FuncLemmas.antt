@@ -1,9 +1,9 @@
 -- The types that functions may have.
-use Rattle.std.proofs.Common.{◌≡◌, ◌⊎◌, ℕ, zero, suc, ◌-◌, ◌<◌, ◌≤◌, Bool, true, false, not, ◌&&◌, cond, eqb, List, [], ◌∷◌, ◌++◌, length, refl, sym, ap, subst, arith, append_assoc, length-append, inl, inr}
+use Rattle.std.proofs.Common.{◌≡◌, ◌⊎◌, ℕ, zero, suc, ◌-◌, ◌<◌, ◌≤◌, Bool, true, false, not, ◌&&◌, cond, eqb, List, [], ◌∷◌, length, refl, sym, ap, subst, arith, inl, inr}
 use Rattle.std.specs.Prelude.{slice_get, Result, Ok, Err, IfOk, IfErr}
-use Rattle.std.specs.List.{All, AllByRecursion as ByRecursion}
+use Rattle.std.specs.List.{All}
 use Rattle.std.proofs.lemmas.Bool.{eqb-true}
-use Rattle.std.proofs.lemmas.List.Elements.{All-nil, All-from_recursion}
+use Rattle.std.proofs.lemmas.List.Elements.{All-nil, All-weaker}
 use Rattle.smith_bytes.specs.Draws.{range_at}
 use Rattle.smith_bytes.proofs.DrawnLemmas.{range_within}
 use Rattle.smith_bytes.proofs.GrownLemmas.{grow_all, grow_most, grow_least}
@@ -14,7 +14,6 @@ use Rattle.smith_types.specs.declared.composite_type.CompositeInnerType.{Composi
 use Rattle.smith_types.specs.declared.composite_type.CompositeInnerType.TheVariants as inners
 use Rattle.smith_types.specs.declared.composite_type.FuncType.{FuncType}
 use Rattle.smith_types.specs.declared.composite_type.SubType.{SubType}
-use Rattle.smith_types.proofs.ListLemmas.{slice_get-last, slice_get-grown}
 use Rattle.smith_types.proofs.ValidityLemmas.{AreTypesValid-at}
 use Rattle.smith_config.specs.declared.config.Config.{Config}
 use Rattle.smith_config.specs.Features.{features_of}
@@ -27,7 +26,9 @@ use Rattle.smith_bytes.specs.declared.error.Why.TheVariants.{Unmet}
 use Rattle.smith_bytes.specs.declared.error.Count.{Count}
 use Rattle.smith_bytes.specs.declared.error.Count.TheVariants as counts
 use Rattle.wasm_smith.specs.ToCome.{MayComeOut}
-use Rattle.wasm_smith.specs.FuncTypes.{is_function, is_unshared_function, places_from, func_types}
+use Rattle.smith_draw.specs.TypeUses.{is_function, places_from}
+use Rattle.wasm_smith.specs.FuncTypes.{is_unshared_function, func_types}
+use Rattle.smith_draw.proofs.TypeUseLemmas.{IsPassing, places_pass}
 use Rattle.wasm_smith.specs.Build.{Gives, chosen_funcs_at, funcs_at}
 
 -- a type that passes the test is that of a function
@@ -36,26 +37,15 @@ is_of_function (inners.Func function) unshared h = (function, refl)
 is_of_function (inners.Array array) unshared h = cc
 is_of_function (inners.Struct structure) unshared h = cc
 
-places_turn : (types : List SubType) (n : ℕ) (b : Bool) (places : List ℕ) → (b ≡ true → IsFuncValid types n) → ByRecursion (IsFuncValid types) places → ByRecursion (IsFuncValid types) (cond b (n ∷ places) places)
-places_turn types n true places here rest = (here refl, rest)
-places_turn types n false places here rest = rest
-
--- each place of an unshared function's type is that of a function type
-places_stand : (front xs : List SubType) → ByRecursion (IsFuncValid (front ++ xs)) (places_from is_unshared_function (length front) xs)
+is_func : (types : List SubType) (n : ℕ) → IsPassing is_unshared_function types n → IsFuncValid types n
 unfolding is_unshared_function
-places_stand front [] = tt
-places_stand front (x ∷ xs) =
-    let regrouped : (front ++ x ∷ []) ++ xs ≡ front ++ x ∷ xs = append_assoc front (x ∷ []) xs in
-    let longer : length (front ++ x ∷ []) ≡ suc (length front) = simp length-append (omega arith) in
-    let later = places_stand (front ++ x ∷ []) xs in
-    places_turn (front ++ x ∷ xs) (length front) (is_unshared_function x) (places_from is_unshared_function (suc (length front)) xs)
-    (λ on.
-    let (function, same) = is_of_function x.composite_type.inner (not x.composite_type.shared) on in
-    (function, (x, rw (← regrouped) (slice_get-grown (front ++ x ∷ []) xs (length front) x (slice_get-last front x)), same)))
-    (rw (← longer, ← regrouped) later)
+is_func types n h =
+    let (function, same) = is_of_function h.item.composite_type.inner (not h.item.composite_type.shared) h.passes in
+    (function, (h.item, h.stands, same))
 
+-- each type that a function may be defined with is a function type
 func_types_stand : (types : List SubType) → All (IsFuncValid types) (func_types types)
-func_types_stand types = All-from_recursion (IsFuncValid types) (func_types types) (places_stand [] types)
+func_types_stand types = All-weaker (IsPassing is_unshared_function types) (IsFuncValid types) (is_func types) (func_types types) (places_pass is_unshared_function types)
 
 func_chosen : (types : List SubType) (bytes : List ℕ) → 0 < length (func_types types) → IsFuncValid types (chosen_at 0 (func_types types) bytes).0
 unfolding chosen_at

@@ -17,7 +17,8 @@ use Rattle.smith_config.specs.InUse.{HasNoShapes}
 use Rattle.smith_draw.specs.Choices.{chosen_at}
 use Rattle.smith_draw.specs.RecGroups.{types_at}
 use Rattle.smith_draw.specs.Memories.{memtype_at}
-use Rattle.wasm_smith.specs.FuncTypes.{is_tag_type, func_types}
+use Rattle.smith_draw.specs.TypeUses.{is_tag_type}
+use Rattle.wasm_smith.specs.FuncTypes.{func_types}
 use Rattle.wasm_smith.specs.Module.{Parts}
 use Rattle.wasm_smith.specs.declared.build.drawn.Drawn.{Drawn}
 use Rattle.smith_types.specs.declared.code.Code.{Code}

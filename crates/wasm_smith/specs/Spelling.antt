@@ -14,7 +14,8 @@ use Rattle.smith_config.specs.Shapes.{space_of}
 use Rattle.smith_draw.specs.Spelling.{SpellsPlace, SpellsGroups}
 use Rattle.smith_draw.specs.SpelledConstants.{SpellsConstant}
 use Rattle.smith_draw.specs.SpelledGlobals.{mutable_i32, SpellsMutableI32}
-use Rattle.wasm_smith.specs.FuncTypes.{is_tag_type, func_types}
+use Rattle.smith_draw.specs.TypeUses.{is_tag_type}
+use Rattle.wasm_smith.specs.FuncTypes.{func_types}
 use Rattle.wasm_smith.specs.Module.{Parts}
 
 -- that a loop ends before its first turn, where it might have one

@@ -9,7 +9,8 @@ ghost use Rattle.smith_types.specs.Entities.{IsFuncValid};
 ghost use Rattle.wasm_smith.specs.ToCome.{MayComeOut};
 ghost use Rattle.smith_draw.specs.Drawing.{Draws};
 ghost use Rattle.smith_draw.specs.Choices.{chosen_at};
-ghost use Rattle.wasm_smith.specs.FuncTypes.{is_function, is_unshared_function, func_types};
+ghost use Rattle.smith_draw.specs.TypeUses.{is_function};
+ghost use Rattle.wasm_smith.specs.FuncTypes.{is_unshared_function, func_types};
 ghost use Rattle.wasm_smith.specs.Build.{Gives, funcs_at};
 
 use smith_bytes::{Count, Error, Unstructured, Why, goes_on};

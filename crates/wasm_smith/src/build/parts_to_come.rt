@@ -5,7 +5,7 @@ ghost use Rattle.std.specs.List.{list_any};
 ghost use Rattle.smith_bytes.specs.Source.{KeepsPieces};
 ghost use Rattle.smith_config.specs.InUse.{HasNoShapes};
 ghost use Rattle.wasm_smith.specs.ToCome.{IsLeftOut, MayComeOut};
-ghost use Rattle.wasm_smith.specs.FuncTypes.{gives_nothing, is_tag_type};
+ghost use Rattle.smith_draw.specs.TypeUses.{gives_nothing, is_tag_type};
 ghost use Rattle.wasm_smith.specs.Build.{Gives, passed_at, may_have_tags, tags_at, elements_at};
 
 use smith_bytes::{Count, Error, Unstructured, Which, Why};
@@ -56,7 +56,7 @@ fn gives_nothing(inner: &CompositeInnerType) -> bool
     }
 }
 
-#[tactic(auto, unfolding(crate::specs::FuncTypes::is_tag_type))]
+#[tactic(auto, unfolding(smith_draw::specs::TypeUses::is_tag_type))]
 fn is_tag_type(t: &SubType) -> bool
     ensures { result ≡ is_tag_type t.now }
 {

@@ -1,5 +1,6 @@
 ghost use Rattle.std.specs.Prelude.{[], ◌∷◌, ◌≡◌, true, false};
-ghost use Rattle.wasm_smith.specs.FuncTypes.{func_types, is_tag_type};
+ghost use Rattle.smith_draw.specs.TypeUses.{is_tag_type};
+ghost use Rattle.wasm_smith.specs.FuncTypes.{func_types};
 ghost use Rattle.wasm_smith.specs.ExampleModules.{bytes_array, plain_function, foo_type, quux_type};
 ghost use Rattle.wasm_smith.specs.ExampleMembers.{final};
 

@@ -1,5 +1,6 @@
 use Rattle.std.proofs.Common.{◌≡◌, ◌+◌, ◌≤◌, length, drop}
-use Rattle.wasm_smith.specs.FuncTypes.{is_unshared_function, places_from, func_types}
+use Rattle.smith_draw.specs.TypeUses.{places_from}
+use Rattle.wasm_smith.specs.FuncTypes.{is_unshared_function, func_types}
 use Rattle.wasm_smith.proofs.build.funcs.count_func_types.Given as goal
 
 abbrev pub invariant-loop-t : goal.invariant-loop-t

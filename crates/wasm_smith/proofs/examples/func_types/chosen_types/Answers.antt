@@ -1,5 +1,6 @@
 use Rattle.std.proofs.Common.{refl}
-use Rattle.wasm_smith.specs.FuncTypes.{is_unshared_function, is_tag_type}
+use Rattle.smith_draw.specs.TypeUses.{is_tag_type}
+use Rattle.wasm_smith.specs.FuncTypes.{is_unshared_function}
 use Rattle.wasm_smith.proofs.examples.func_types.chosen_types.Goals as goal
 
 pub returns-clause-functions_alone : goal.returns-clause-functions_alone
