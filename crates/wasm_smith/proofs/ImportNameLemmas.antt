@@ -13,7 +13,7 @@ use Rattle.std.proofs.lemmas.List.Folds.{list_any-append}
 use Rattle.std.proofs.lemmas.List.Sorted.{list_any-IsPermutation}
 use Rattle.smith_bytes.specs.Names.{text_at, with_copies}
 use Rattle.smith_types.specs.declared.imports.Import.{Import}
-use Rattle.wasm_smith.specs.ImportNames.{has_names, is_taken, longest_name, new_name, import_name_at, is_pair, has_pair, HasPairs, AddsPair, IsMadeNew}
+use Rattle.wasm_smith.specs.ImportNames.{has_names, is_taken, longest_name, new_name, import_name_at, is_pair, has_pair, HasPairs, AddsPair, IsNewName}
 
 -- the length of the longest name of a pair
 abbrev pub longest_pair : List (String Global × String Global) → ℕ
@@ -51,7 +51,7 @@ making_more now there is_longer = record {
   needed = λ n below. below_more _ _ now.needed (rw now.made at there) n (omega arith);
 }
 
-pub making_done : {taken : List ℕ → Bool} {digits text name : List ℕ} → IsMaking taken digits text name → taken name ≡ false → IsMadeNew taken digits text name
+pub making_done : {taken : List ℕ → Bool} {digits text name : List ℕ} → IsMaking taken digits text name → taken name ≡ false → IsNewName taken digits text name
 making_done now new = record { some = now.some; copies = now.copies; made = now.made; fresh = new; needed = now.needed }
 
 -- a set has one pair more once a pair is inserted that it had not
@@ -102,7 +102,7 @@ few_copies taken digits text (suc n) most some short needed =
     omega (arith, short (with_copies text digits n) (needed n (omega arith)), copies_long text digits n some)
 
 -- the name that was made new is the one that the definition makes
-pub name_made : (imports : List Import) (from text name : List ℕ) (taken : List ℕ → Bool) (count : ℕ) → ((other : List ℕ) → taken other ≡ is_taken imports from other) → count ≡ length imports → IsMadeNew taken (decimal count) text name
+pub name_made : (imports : List Import) (from text name : List ℕ) (taken : List ℕ → Bool) (count : ℕ) → ((other : List ℕ) → taken other ≡ is_taken imports from other) → count ≡ length imports → IsNewName taken (decimal count) text name
     → new_name (is_taken imports from) (decimal (length imports)) (longest_name imports + 1) text ≡ name
 name_made imports from text name taken count same size made =
     let digits = decimal (length imports) in

@@ -1,14 +1,12 @@
 -- The entities that may be imported.
 use Rattle.std.proofs.Common.{rules, ◌≡◌, ℕ, zero, suc, ◌+◌, ◌-◌, ◌<◌, ◌≤◌, Bool, true, false, ◌&&◌, List, [], ◌∷◌, length, drop, add-one, refl, sym, subst, arith, ◌∙◌}
 use Rattle.std.proofs.Math.Seq.{drop-cons}
-use Rattle.std.proofs.lemmas.Option.{slice_get-get_or}
+use Rattle.std.proofs.lemmas.Option.{slice_get_within, get_or_from_slice_get}
 use Rattle.std.specs.Prelude.{slice_get, get_or, IsTrue, Some}
 use Rattle.std.specs.List.{All, filter, count_by, AllByRecursion as ByRecursion}
 use Rattle.std.proofs.lemmas.List.{length-map}
 use Rattle.std.proofs.lemmas.List.Sums.{length-filter}
 use Rattle.std.proofs.lemmas.List.Elements.{All-nil, All-cons, All-from_recursion}
-use Rattle.smith_bytes.specs.Draws.{range_at}
-use Rattle.smith_bytes.proofs.DrawnLemmas.{range_within}
 use Rattle.smith_types.specs.Entities.{IsTagValid, IsFuncValid, IsTableValid, IsMemoryValid, IsGlobalValid}
 use Rattle.smith_types.specs.Imports.{IndexSpaces}
 use Rattle.smith_types.specs.Sizes.{value_count, size_in}
@@ -27,6 +25,7 @@ use Rattle.smith_draw.specs.Bounds.{IsTableWithin, IsMemoryWithin}
 use Rattle.smith_draw.specs.Choices.{enabled, chosen_at}
 use Rattle.smith_draw.specs.FuncSizes.{IsSmall, IsSmallInner}
 use Rattle.smith_draw.proofs.EnabledLemmas.{enabled_all}
+use Rattle.smith_draw.proofs.SupertypeLemmas.{chosen_of}
 use Rattle.wasm_smith.specs.Imported.{MayImport, HasNoFloatValue, IsEntityFit, IsOffered}
 use Rattle.wasm_smith.specs.ImportedEntities.{kind_rows}
 
@@ -42,21 +41,13 @@ pub enabled_turn : {A : Type 0} (table : List (A × Bool)) (i place : ℕ) (d : 
 enabled_turn table i place d other inside on some =
     rw (drop-cons table i d inside, add-one) (sym (enabled_next (get_or table i d) (drop (suc i) table) place other on some))
 
--- what holds of each item holds of the item that is chosen
-chosen_among : {A : Type 0} (P : A → Type 0) (other : A) (items : List A) (bytes : List ℕ) → All P items → 0 < length items → P (chosen_at other items bytes).0
-unfolding chosen_at
-chosen_among P other items bytes each some =
-    let place = range_at 0 (length items - 1) bytes in
-    let within : place.0 ≤ length items - 1 = range_within 0 (length items - 1) bytes (omega arith) in
-    each place.0 other (omega arith)
-
 kind_offered : (config : Config) (types : List SubType) (spaces : IndexSpaces) (bytes : List ℕ) (of_kind : ExportKind) (after : List ℕ) → 0 < length (enabled (kind_rows config types spaces)) → chosen_at kind.Memory (enabled (kind_rows config types spaces)) bytes ≡ (of_kind, after)
     → IsOffered config types spaces of_kind
 kind_offered config types spaces bytes of_kind after some chosen =
     let P = IsOffered config types spaces in
     let rows : ByRecursion (λ (r : ExportKind × Bool). IsTrue r.1 → P r.0) (kind_rows config types spaces) = ((λ on. on), ((λ on. on), ((λ on. on), ((λ on. on), ((λ on. on), tt))))) in
     let each = enabled_all P (kind_rows config types spaces) (All-from_recursion (λ (r : ExportKind × Bool). IsTrue r.1 → P r.0) (kind_rows config types spaces) rows) in
-    subst (λ (drawn : ExportKind × List ℕ). P drawn.0) chosen (chosen_among P kind.Memory (enabled (kind_rows config types spaces)) bytes each some)
+    subst (λ (drawn : ExportKind × List ℕ). P drawn.0) chosen (chosen_of P kind.Memory (enabled (kind_rows config types spaces)) bytes some each)
 
 -- what is chosen of a table, which has the rows of the kinds, may be imported
 pub row_offered : (config : Config) (types : List SubType) (spaces : IndexSpaces) (table : List (ExportKind × Bool)) (bytes after : List ℕ) (of_kind : ExportKind) (count : ℕ) → table ≡ kind_rows config types spaces → count ≡ length (enabled table) → (count ≡ 0 → ⊥)
@@ -73,11 +64,6 @@ first_holds false b both = both
 pub second_holds : (a b : Bool) → (a && b) ≡ true → b ≡ true
 second_holds true b both = both
 second_holds false b both = absurd cc
-
-inside : (types : List SubType) (i : ℕ) (t : SubType) → slice_get types i ≡ Some t → i < length types
-inside [] i t at = absurd cc
-inside (x ∷ types) zero t at = omega arith
-inside (x ∷ types) (suc i) t at = let later = inside types i t at in omega arith
 
 -- a small function type takes and gives at most 40 values
 few_values : (inner : CompositeInnerType) → IsSmallInner inner → value_count inner ≤ 40
@@ -105,10 +91,7 @@ module _ (config : Config) (space : Space) (may : MayImport config space) where
 
   small_at : (index : ℕ) (t : SubType) → slice_get space.types index ≡ Some t → size_in space.types (entity.Func index) ≤ 41
   small_at index t at =
-      let within = inside space.types index t at in
-      let stands = slice_get-get_or space.types index t within in
-      let same : t ≡ get_or space.types index t = cc in
-      let small : IsSmall t = rw same (may.small index t within) in
+      let small : IsSmall t = rw (get_or_from_slice_get space.types index t t at) at (may.small index t (slice_get_within space.types index t at)) in
       rw at (omega (arith, few_values t.composite_type.inner small))
 
   pub func_fit : (index : ℕ) → IsFuncValid space.types index → IsEntityFit config space.types (entity.Func index)
@@ -125,7 +108,7 @@ module _ (config : Config) (space : Space) (may : MayImport config space) where
     memories = All-nil (IsMemoryWithin config);
     floats = λ off. All-nil HasNoFloatValue;
     small = small_at index t at;
-    typed = inside space.types index t at;
+    typed = slice_get_within space.types index t at;
   }
 
   pub global_fit : (global : GlobalType) → IsGlobalValid (features_of config) space.types global → (config.allow_floats ≡ false → HasNoFloatValue global) → IsEntityFit config space.types (entity.Global global)

@@ -35,7 +35,7 @@ import_name_at distinct imports from bytes =
     ((if distinct then new_name (is_taken imports from) (decimal (length imports)) (longest_name imports + 1) text.0 else text.0), text.1)
 
 -- the same name as a relation, that a loop keeps: digits stand behind the text as often as it takes until the name is not taken
-pub record IsMadeNew (taken : List ℕ → Bool) (digits text name : List ℕ) : Type 0 where
+pub record IsNewName (taken : List ℕ → Bool) (digits text name : List ℕ) : Type 0 where
   pub copies : ℕ
   pub made : name ≡ with_copies text digits copies
   pub fresh : taken name ≡ false

@@ -3,7 +3,7 @@ ghost use Rattle.std.specs.HashSet.{hash_set_len};
 ghost use Rattle.std.specs.Fmt.{decimal};
 ghost use Rattle.smith_bytes.specs.Source.{KeepsPieces};
 ghost use Rattle.smith_types.specs.declared.imports.Import.{Import};
-ghost use Rattle.wasm_smith.specs.ImportNames.{import_name_at, is_taken, has_pair, IsMadeNew, KnowsPairs, AddsPair};
+ghost use Rattle.wasm_smith.specs.ImportNames.{import_name_at, is_taken, has_pair, IsNewName, KnowsPairs, AddsPair};
 
 use smith_bytes::{Error, Unstructured, limited_string};
 use smith_types::Name;
@@ -18,7 +18,7 @@ fn new_pair(
     text: String,
 ) -> Result<(String, String), Error>
     ensures from { IfOk result (λ pair. string_bytes pair.0 ≡ string_bytes from) }
-    ensures made { IfOk result (λ pair. IsMadeNew (has_pair pairs.now (string_bytes from)) (decimal (hash_set_len pairs.now)) (string_bytes text) (string_bytes pair.1)) }
+    ensures made { IfOk result (λ pair. IsNewName (has_pair pairs.now (string_bytes from)) (decimal (hash_set_len pairs.now)) (string_bytes text) (string_bytes pair.1)) }
     ensures memory { IfErr result (λ e. e ≡ Error.Memory) }
 {
     let count = pairs.len();
@@ -36,7 +36,7 @@ fn distinct_name(
     pairs: &mut HashSet<(String, String)>,
     text: String,
 ) -> Result<String, Error>
-    ensures made { IfOk result (λ name. IsMadeNew (has_pair pairs.old from.now) (decimal (hash_set_len pairs.old)) (string_bytes text) (string_bytes name)) }
+    ensures made { IfOk result (λ name. IsNewName (has_pair pairs.old from.now) (decimal (hash_set_len pairs.old)) (string_bytes text) (string_bytes name)) }
     ensures added { IfOk result (λ name. AddsPair pairs.old pairs.new from.now (string_bytes name)) }
     ensures memory { IfErr result (λ e. e ≡ Error.Memory) }
 {
