@@ -1,5 +1,5 @@
 -- The turns of the loop over groups of imports.
-use Rattle.std.proofs.Common.{rules, ◌≡◌, ℕ, zero, suc, ◌+◌, ◌-◌, ◌<◌, ◌≤◌, Bool, true, false, List, [], ◌∷◌, ◌++◌, length, refl, sym, ap, arith, ◌∙◌, lt-ltb, le-ltb, nat_lt}
+use Rattle.std.proofs.Common.{◌≡◌, ℕ, suc, ◌+◌, ◌-◌, ◌<◌, ◌≤◌, Bool, true, false, List, length, refl, sym, ap, arith, ◌∙◌, lt-ltb, le-ltb, nat_lt}
 use Rattle.smith_bytes.specs.Source.{KeepsPieces}
 use Rattle.smith_bytes.specs.Growth.{goes_at}
 use Rattle.smith_draw.proofs.GroupsLoop.{piece_short}

@@ -1,7 +1,6 @@
 -- Imports, and one more.
-use Rattle.std.proofs.Common.{rules, ◌≡◌, ◌⊎◌, ℕ, zero, suc, ◌+◌, ◌*◌, ◌<◌, ◌≤◌, Bool, true, false, List, [], ◌∷◌, ◌++◌, length, refl, sym, ap, arith, append_assoc, length-append, inl, inr, ◌∙◌, ltb, String, Global, BuildHasherDefault, FoldHasher}
+use Rattle.std.proofs.Common.{◌≡◌, ◌⊎◌, ℕ, zero, suc, ◌+◌, ◌*◌, ◌<◌, ◌≤◌, Bool, true, false, List, [], ◌∷◌, ◌++◌, length, refl, sym, ap, arith, length-append, inl, inr, ◌∙◌, ltb, String, Global, BuildHasherDefault, FoldHasher}
 use Rattle.std.specs.Prelude.{slice_get, IsTrue, Some, map}
-use Rattle.std.specs.List.{All}
 use Rattle.std.specs.Str.{bytes_eq}
 use Rattle.std.specs.HashSet.{HashSet}
 use Rattle.std.proofs.lemmas.List.{append-nil, map-append}

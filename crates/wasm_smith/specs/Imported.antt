@@ -1,5 +1,5 @@
 -- What the step of imports keeps as it adds imports, and when it may refuse. Rules of this project.
-use Rattle.std.specs.Prelude.{◌≡◌, ℕ, ◌+◌, ◌*◌, ◌^◌, ◌<◌, ◌≤◌, ◌⊎◌, Bool, true, false, ◌&&◌, IsTrue, List, [], ◌++◌, length, map, All}
+use Rattle.std.specs.Prelude.{◌≡◌, ℕ, ◌+◌, ◌*◌, ◌^◌, ◌<◌, ◌≤◌, ◌⊎◌, Bool, true, false, ◌&&◌, IsTrue, List, [], length, map, All}
 use Rattle.smith_bytes.specs.declared.error.Error.{Error}
 use Rattle.smith_bytes.specs.declared.error.Error.TheVariants as errors
 use Rattle.smith_bytes.specs.declared.error.Why.TheVariants.{Unmet}
@@ -19,7 +19,7 @@ use Rattle.smith_types.specs.declared.entity_type.ExportKind.{ExportKind}
 use Rattle.smith_types.specs.declared.entity_type.GlobalType.{GlobalType}
 use Rattle.smith_types.specs.declared.imports.Import.{Import}
 use Rattle.smith_types.specs.declared.imports.Imports.{Imports}
-use Rattle.smith_types.specs.declared.imports.Imports.TheVariants.{Single, Compact1, Compact2}
+use Rattle.smith_types.specs.declared.imports.Imports.TheVariants.{Single, Compact2}
 use Rattle.smith_config.specs.declared.config.Config.{Config}
 use Rattle.smith_config.specs.Faults.{Passes}
 use Rattle.smith_config.specs.Features.{features_of}
@@ -28,7 +28,7 @@ use Rattle.smith_config.specs.Sanitized.{IsSanitized}
 use Rattle.smith_draw.specs.Bounds.{IsTableWithin, IsMemoryWithin}
 use Rattle.smith_draw.specs.FuncSizes.{IsSmall}
 use Rattle.wasm_smith.specs.ImportNames.{KnowsPairs}
-use Rattle.wasm_smith.specs.ImportedEntities.{kind_of, has_room, may_import, fits, sizes}
+use Rattle.wasm_smith.specs.ImportedEntities.{kind_of, has_room, may_import, sizes}
 use Rattle.wasm_smith.specs.Refusals.{MayLackImports}
 use Rattle.wasm_smith.specs.Spelling.{SpellsNone}
 use Rattle.wasm_smith.specs.declared.build.imported.Imported.{Imported}

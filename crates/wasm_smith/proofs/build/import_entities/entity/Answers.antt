@@ -1,4 +1,3 @@
-use Rattle.std.proofs.Common.{rules, ◌≡◌, ◌∙◌, true}
 use Rattle.wasm_smith.specs.ImportedEntities.{may_import, has_room}
 use Rattle.wasm_smith.specs.Imported.{IsOffered, spaces_of}
 use Rattle.wasm_smith.proofs.ImportedEntityLemmas.{first_holds, second_holds}

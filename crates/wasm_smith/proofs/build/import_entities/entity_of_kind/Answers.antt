@@ -1,4 +1,4 @@
-use Rattle.std.proofs.Common.{rules, ◌≡◌, true, length, nat_lt}
+use Rattle.std.proofs.Common.{length, nat_lt}
 use Rattle.smith_types.specs.Entities.{IsTagValid, IsFuncValid}
 use Rattle.smith_draw.specs.TypeUses.{types_for}
 use Rattle.smith_draw.specs.declared.type_use.TypeUse.TheVariants.{Tag}

@@ -1,6 +1,5 @@
-use Rattle.std.proofs.Common.{◌≡◌, ◌∙◌, sym, arith, ◌+◌}
+use Rattle.std.proofs.Common.{arith}
 use Rattle.std.proofs.lemmas.Bool.{leb-true}
-use Rattle.smith_types.specs.Sizes.{size_in}
 use Rattle.wasm_smith.proofs.build.import_entities.fits.Goals as goal
 
 pub returns-clause-sum : goal.returns-clause-sum

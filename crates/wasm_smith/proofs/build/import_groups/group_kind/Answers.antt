@@ -1,4 +1,4 @@
-use Rattle.std.proofs.Common.{◌<◌, arith, length}
+use Rattle.std.proofs.Common.{arith}
 use Rattle.wasm_smith.proofs.NoImportLemmas.{whole_takes}
 use Rattle.wasm_smith.proofs.build.import_groups.group_kind.Goals as goal
 

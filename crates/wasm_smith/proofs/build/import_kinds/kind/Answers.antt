@@ -1,4 +1,4 @@
-use Rattle.std.proofs.Common.{rules, ◌≡◌, ◌∙◌, sym, refl, List, ◌∷◌, [], Bool}
+use Rattle.std.proofs.Common.{◌≡◌, ◌∙◌, sym, refl, List, ◌∷◌, [], Bool}
 use Rattle.smith_types.specs.declared.entity_type.ExportKind.{ExportKind}
 use Rattle.wasm_smith.specs.Imported.{spaces_of}
 use Rattle.wasm_smith.specs.ImportedEntities.{kind_rows}

@@ -1,4 +1,4 @@
-use Rattle.std.proofs.Common.{◌≡◌, string_bytes, false, refl, sym, ◌∙◌}
+use Rattle.std.proofs.Common.{sym, ◌∙◌}
 use Rattle.wasm_smith.proofs.ImportNameLemmas.{pair_added}
 use Rattle.wasm_smith.proofs.build.import_names.distinct_name.Goals as goal
 

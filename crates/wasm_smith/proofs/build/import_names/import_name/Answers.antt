@@ -1,5 +1,4 @@
-use Rattle.std.proofs.Common.{rules, ◌≡◌, ◌∙◌, sym, ap, refl, string_bytes, true}
-use Rattle.wasm_smith.specs.ImportNames.{AddsPair}
+use Rattle.std.proofs.Common.{◌∙◌, sym, string_bytes}
 use Rattle.wasm_smith.proofs.ImportNameLemmas.{name_made, name_is, knows_more}
 use Rattle.wasm_smith.proofs.build.import_names.import_name.Goals as goal
 

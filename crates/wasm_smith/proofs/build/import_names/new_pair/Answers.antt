@@ -1,6 +1,5 @@
 use Rattle.std.proofs.Common.{◌≡◌, ◌<◌, ◌≤◌, length, string_bytes, true, false, refl, arith, length-append, ap, ◌∙◌, sym}
 use Rattle.std.specs.Fmt.{decimal}
-use Rattle.std.specs.HashSet.{hash_set_len}
 use Rattle.std.proofs.lemmas.Fmt.{decimal_nonempty}
 use Rattle.wasm_smith.specs.ImportNames.{has_pair}
 use Rattle.wasm_smith.proofs.ImportNameLemmas.{longest_pair, present_short, making_start, making_more, making_done}

@@ -1,4 +1,4 @@
-use Rattle.std.proofs.Common.{◌≡◌, sym, arith, ◌∙◌}
+use Rattle.std.proofs.Common.{arith}
 use Rattle.std.proofs.lemmas.Result.{IfOk-weaker}
 use Rattle.smith_draw.proofs.GroupsLoop.{piece_short}
 use Rattle.wasm_smith.proofs.build.imports.group.Goals as goal

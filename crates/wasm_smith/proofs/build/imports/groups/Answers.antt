@@ -1,4 +1,4 @@
-use Rattle.std.proofs.Common.{◌≡◌, ◌∙◌, sym, ap, refl, arith}
+use Rattle.std.proofs.Common.{arith}
 use Rattle.smith_bytes.specs.declared.error.Count.TheVariants as counts
 use Rattle.smith_draw.proofs.GroupsLoop.{piece_short}
 use Rattle.wasm_smith.proofs.ImportGroupsLoop.{groups_stop, groups_full, groups_end, groups_more}
