@@ -16,3 +16,9 @@ pub mod FamilyFitLemmas
 pub mod NearNumberLemmas
 pub mod NoFloatLemmas
 pub mod SpellExamples
+pub mod ImportNameLemmas
+pub mod ImportedEntityLemmas
+pub mod ImportsGrownLemmas
+pub mod FilledGroupLoop
+pub mod ImportGroupsLoop
+pub mod NoImportLemmas

@@ -7,6 +7,7 @@ mod func_types;
 mod given_modules;
 mod import_groups;
 mod imported_references;
+mod imports;
 mod interesting_values;
 mod modules;
 mod promises;

@@ -1,0 +1,66 @@
+-- The names of imports: which name is drawn beside imports, and how a set keeps their pairs of names. Rules of this project.
+use Rattle.std.specs.Prelude.{◌≡◌, ℕ, zero, suc, ◌+◌, ◌<◌, Bool, true, false, ◌&&◌, ◌||◌, IsTrue, max, List, [], ◌∷◌, ◌++◌, length, string_bytes, if◌then◌else◌}
+use Rattle.std.specs.List.{list_any}
+use Rattle.std.specs.HashSet.{HashSet, contains_by, hash_set_len}
+use Rattle.std.specs.Str.{bytes_eq}
+use Rattle.std.specs.Fmt.{decimal}
+use Rattle.std.specs.declared.string.String.{String}
+use Rattle.std.specs.declared.alloc.Global.{Global}
+use Rattle.smith_bytes.specs.Names.{text_at, with_copies}
+use Rattle.smith_types.specs.declared.imports.Import.{Import}
+
+-- whether an import has this pair of names: that of its module, and its own
+abbrev pub has_names : List ℕ → List ℕ → Import → Bool
+has_names from name one = bytes_eq from one.«module» && bytes_eq name one.name
+
+-- whether some import has this pair of names
+abbrev pub is_taken : List Import → List ℕ → List ℕ → Bool
+is_taken imports from name = list_any (has_names from name) imports
+
+-- the length of the longest name of an import
+abbrev pub longest_name : List Import → ℕ
+longest_name [] = 0
+longest_name (one ∷ imports) = max (length one.name) (longest_name imports)
+
+-- a name with these digits behind it as often as it takes until the name is not taken, but at most that often
+unfoldable pub new_name : (List ℕ → Bool) → List ℕ → ℕ → List ℕ → List ℕ
+new_name taken digits zero name = name
+new_name taken digits (suc most) name = if taken name then new_name taken digits most (name ++ digits) else name
+
+-- the name of an import from a module, beside other imports: a text of at most 1000 bytes; where pairs of names must be distinct
+-- and this one is taken, behind it the number of these imports as often as it takes
+unfoldable pub import_name_at : Bool → List Import → List ℕ → List ℕ → List ℕ × List ℕ
+import_name_at distinct imports from bytes =
+    let text = text_at 1000 bytes in
+    ((if distinct then new_name (is_taken imports from) (decimal (length imports)) (longest_name imports + 1) text.0 else text.0), text.1)
+
+-- the same name as a relation, that a loop keeps: digits stand behind the text as often as it takes until the name is not taken
+pub record IsNewName (taken : List ℕ → Bool) (digits text name : List ℕ) : Type 0 where
+  pub copies : ℕ
+  pub made : name ≡ with_copies text digits copies
+  pub fresh : taken name ≡ false
+  pub some : 0 < length digits
+  pub needed : (n : ℕ) → n < copies → taken (with_copies text digits n) ≡ true
+
+-- whether a pair of texts is this pair of names
+abbrev pub is_pair : List ℕ → List ℕ → String Global × String Global → Bool
+is_pair from name pair = bytes_eq from (string_bytes pair.0) && bytes_eq name (string_bytes pair.1)
+
+module _ {S : Type 0} where
+  -- whether a set has this pair of names
+  abbrev pub has_pair : HashSet (String Global × String Global) S → List ℕ → List ℕ → Bool
+  has_pair pairs from name = contains_by (is_pair from name) pairs
+
+  -- a set has the pairs of names of imports, each once
+  pub record HasPairs (pairs : HashSet (String Global × String Global) S) (imports : List Import) : Type 0 where
+    pub has : (from name : List ℕ) → has_pair pairs from name ≡ is_taken imports from name
+    pub size : hash_set_len pairs ≡ length imports
+
+  -- a set has them where pairs of names must be distinct; else it is not kept
+  abbrev pub KnowsPairs : Bool → HashSet (String Global × String Global) S → List Import → Type 0
+  KnowsPairs distinct pairs imports = IsTrue distinct → HasPairs pairs imports
+
+  -- a set has one pair more
+  pub record AddsPair (old new : HashSet (String Global × String Global) S) (from name : List ℕ) : Type 0 where
+    pub has : (other_from other_name : List ℕ) → has_pair new other_from other_name ≡ ((bytes_eq other_from from && bytes_eq other_name name) || has_pair old other_from other_name)
+    pub size : hash_set_len new ≡ hash_set_len old + 1
