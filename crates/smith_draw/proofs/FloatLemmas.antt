@@ -1,12 +1,10 @@
 -- Without floats no drawn type holds one, where none that stands does.
-use Rattle.std.proofs.Common.{◌≡◌, ℕ, zero, suc, ◌+◌, ◌-◌, Bool, true, false, cond, ◌||◌, Option, Some, None, List, [], ◌∷◌, ◌++◌, length, refl, sym, subst, nat_lt}
+use Rattle.std.proofs.Common.{◌≡◌, ℕ, zero, suc, ◌+◌, ◌-◌, Bool, true, false, ◌||◌, Option, Some, None, List, [], ◌∷◌, length, refl, subst}
 use Rattle.std.specs.Prelude.{IsTrue, slice_get, All}
 use Rattle.std.specs.List.{AllByRecursion as Each}
-use Rattle.std.specs.declared.ops.Range.{Range}
 use Rattle.std.proofs.lemmas.List.Elements.{All-nil, All-append, All-take, All-drop, All-from_recursion, recursion_from_All}
 use Rattle.std.proofs.lemmas.Option.{slice_get_within, get_or_from_slice_get}
-use Rattle.smith_bytes.specs.Draws.{bool_at, range_at}
-use Rattle.smith_bytes.specs.Growth.{goes_at, grow_at}
+use Rattle.smith_bytes.specs.Draws.{range_at}
 use Rattle.smith_bytes.proofs.GrownLemmas.{grow_all, cond_both}
 use Rattle.smith_types.specs.Floats.{IsNoFloat, HasNoFloat}
 use Rattle.smith_types.specs.Space.{Space}
@@ -31,7 +29,7 @@ use Rattle.smith_draw.specs.CompositeTypes.{most_results, val_types_at, func_typ
 use Rattle.smith_draw.specs.MatchingTypes.{each_at, matching_val_type_at, matching_storage_type_at, matching_field_type_at, matched_fields_at, super_val_type_at, matching_func_type_at}
 use Rattle.smith_draw.specs.MatchingComposites.{matching_struct_type_at, matching_inner_at, matching_composite_type_at}
 use Rattle.smith_draw.specs.SubTypes.{supertypes, is_final_at, root_type_at, sub_type_below_at, sub_type_of_at, supertype_wanted_at, sub_type_at}
-use Rattle.smith_draw.specs.RecGroups.{types_left, types_until_at, group_size_at, new_group_at, members, may_be_cloned, with_clone, clone_rec_group_at, clone_wanted_at, cloned_or_new_at, rec_group_at, least_types_at, more_types_at, types_at}
+use Rattle.smith_draw.specs.RecGroups.{types_left, types_until_at, group_size_at, new_group_at, members, may_be_cloned, with_clone, clone_rec_group_at, clone_wanted_at, cloned_or_new_at, rec_group_at, least_types_at, types_at}
 use Rattle.smith_draw.proofs.EnabledLemmas.{enabled_all, chosen_is}
 use Rattle.smith_draw.proofs.SharedLemmas.{each_join}
 use Rattle.smith_draw.proofs.MatchingLemmas.{all_stay}

@@ -1,5 +1,5 @@
 -- Which bytes spell the type of a global that is a mutable number of 32 bits. Rules of this project.
-use Rattle.std.specs.Prelude.{◌≡◌, ℕ, ◌-◌, true, false, List, length}
+use Rattle.std.specs.Prelude.{ℕ, ◌-◌, true, false, List, length}
 use Rattle.smith_bytes.specs.Spelling.{SpellsBool, SpellsNumber, Joined}
 use Rattle.smith_types.specs.declared.value_type.ValType.TheVariants.{I32}
 use Rattle.smith_types.specs.declared.entity_type.GlobalType.{GlobalType}
