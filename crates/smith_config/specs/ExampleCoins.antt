@@ -19,9 +19,9 @@ changing_bytes =
     -- rules
     1 ∷ 0 ∷ 0 ∷ 36 ∷ 0 ∷ 1 ∷ 0 ∷ 37 ∷ 1 ∷ []
 
--- what they give
-abbrev pub changing_config : Config
-changing_config = record least_config {
+-- the numbers that they give
+abbrev counted_config : Config
+counted_config = record least_config {
   max_types = 21;
   max_imports = 22;
   max_tags = 23;
@@ -33,23 +33,28 @@ changing_config = record least_config {
   max_data_segments = 29;
   max_instructions = 30;
   max_memories = 31;
-  max_tables = 32;
   max_memory32_bytes = 33;
   max_memory64_bytes = 34;
   min_uleb_size = 5;
-  reference_types_enabled = true;
-  multi_value_enabled = true;
   max_aliases = 35;
   max_nesting_depth = 6;
+  max_table_elements = 36;
+  const_expr_fuel = 37;
+}
+
+-- what they give
+abbrev pub changing_config : Config
+changing_config = record counted_config {
+  max_tables = 32;
+  reference_types_enabled = true;
+  multi_value_enabled = true;
   saturating_float_to_int_enabled = true;
   threads_enabled = true;
   gc_enabled = true;
   memory64_enabled = true;
   allowed_instructions = record { 0 = 1365 };
   table_max_size_required = true;
-  max_table_elements = 36;
   allow_floats = true;
-  const_expr_fuel = 37;
   limit_arrays_in_const_exprs = true;
 }
 
@@ -65,33 +70,15 @@ turned_bytes =
 
 -- what these give: numeric, vector, parametric, table, memory and aggregate instructions
 abbrev pub turned_config : Config
-turned_config = record least_config {
-  max_types = 21;
-  max_imports = 22;
-  max_tags = 23;
-  max_funcs = 24;
-  max_globals = 25;
-  max_exports = 26;
-  max_element_segments = 27;
-  max_elements = 28;
-  max_data_segments = 29;
-  max_instructions = 30;
-  max_memories = 31;
+turned_config = record counted_config {
   max_tables = 1;
-  max_memory32_bytes = 33;
-  max_memory64_bytes = 34;
-  min_uleb_size = 5;
   bulk_memory_enabled = true;
   simd_enabled = true;
-  max_aliases = 35;
-  max_nesting_depth = 6;
   sign_extension_ops_enabled = true;
   exceptions_enabled = true;
   tail_call_enabled = true;
   compact_imports_enabled = true;
   allowed_instructions = record { 0 = 2991 };
-  max_table_elements = 36;
   disallow_traps = true;
   extended_const_enabled = true;
-  const_expr_fuel = 37;
 }
