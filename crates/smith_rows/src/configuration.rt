@@ -1,8 +1,9 @@
-use smith_bytes::{ConfigFault, Count, Unstructured};
+use crate::repeated::same;
+use smith_bytes::{ConfigFault, Count, Error, Unstructured};
 use smith_config::{Config, MemoryOffsetChoices, OffsetChoicesFault};
 use smith_types::{InstructionKinds, WasmFeatures};
-use std::alloc::AllocError;
 use std::str::FromStr;
+use std::test::Fail;
 
 // The numbers that are drawn after those of types and imports.
 fn other_numbers(config: &Config) -> [usize; 12] {
@@ -43,22 +44,61 @@ fn rules(config: &Config) -> [bool; 4] {
     ]
 }
 
-#[test]
-fn four_bytes_draw_two_numbers(rt: HostRuntime) {
-    let mut u = Unstructured::new(&[0, 5, 3, 232]);
-    let config = Config::arbitrary(&mut u).unwrap();
-    assert_eq!(rt; [config.max_types, config.max_imports], [5, 1000]);
-    assert_eq!(rt; other_numbers(&config), [0; 12]);
-    assert_eq!(rt; sizes(&config), [0; 5]);
-    assert_eq!(rt; rules(&config), [false; 4]);
-    assert_eq!(rt; config.allowed_instructions, InstructionKinds::none());
-    let always = WasmFeatures::MUTABLE_GLOBAL | WasmFeatures::WASM1;
-    assert_eq!(rt; config.features(), always);
+/// What the tests compare of a configuration.
+#[derive(Clone, Copy, Debug, PartialEq)]
+struct Facts {
+    max_types: usize,
+    max_imports: usize,
+    other_numbers: [usize; 12],
+    sizes: [u128; 5],
+    rules: [bool; 4],
+    kinds: InstructionKinds,
+    features: WasmFeatures,
+}
+
+fn facts_of(config: &Config) -> Facts {
+    Facts {
+        max_types: config.max_types,
+        max_imports: config.max_imports,
+        other_numbers: other_numbers(config),
+        sizes: sizes(config),
+        rules: rules(config),
+        kinds: config.allowed_instructions,
+        features: config.features(),
+    }
+}
+
+fn drawn_once(input: &[u8]) -> Result<Facts, Error> {
+    let config = Config::arbitrary(&mut Unstructured::new(input))?;
+    Ok(facts_of(&config))
+}
+
+// The configuration that bytes give, drawn twice.
+fn drawn(input: &[u8]) -> Result<Facts, Fail> {
+    same(drawn_once(input)?, drawn_once(input)?)
 }
 
 #[test]
-fn default_features(rt: HostRuntime) {
-    let features = Config::default().features();
+fn four_bytes_draw_two_numbers(rt: HostRuntime) -> Result<(), Fail> {
+    let drawn = drawn(&[0, 5, 3, 232])?;
+    assert_eq!(rt; drawn.max_types, 5);
+    assert_eq!(rt; drawn.max_imports, 1000);
+    assert_eq!(rt; drawn.other_numbers, [0; 12]);
+    assert_eq!(rt; drawn.sizes, [0; 5]);
+    assert_eq!(rt; drawn.rules, [false; 4]);
+    assert_eq!(rt; drawn.kinds, InstructionKinds::none());
+    let always = WasmFeatures::MUTABLE_GLOBAL | WasmFeatures::WASM1;
+    assert_eq!(rt; drawn.features, always);
+    Ok(())
+}
+
+fn features_of_the_defaults() -> WasmFeatures {
+    Config::default().features()
+}
+
+#[test]
+fn default_features(rt: HostRuntime) -> Result<(), Fail> {
+    let features = same(features_of_the_defaults(), features_of_the_defaults())?;
     let off = [
         WasmFeatures::MULTI_MEMORY,
         WasmFeatures::SHARED_EVERYTHING_THREADS,
@@ -76,22 +116,29 @@ fn default_features(rt: HostRuntime) {
             flag.name()
         );
     }
+    Ok(())
 }
 
-#[test]
-fn references_off_leave_one_table(rt: HostRuntime) {
+// How many tables there may be without references where five are asked for, and whether garbage collection is on.
+fn without_references() -> (usize, bool) {
     let mut config = Config {
         reference_types_enabled: false,
         max_tables: 5,
         ..Config::default()
     };
     config.sanitize();
-    assert_eq!(rt; config.max_tables, 1);
-    assert!(rt; !config.gc_enabled);
+    (config.max_tables, config.gc_enabled)
+}
+
+#[test]
+fn references_off_leave_one_table(rt: HostRuntime) -> Result<(), Fail> {
+    let settled = same(without_references(), without_references())?;
+    assert_eq!(rt; settled, (1, false));
+    Ok(())
 }
 
 // What the check says of the defaults with these bounds.
-fn checked(min_tags: usize, max_tags: usize, max_types: usize) -> Result<(), ConfigFault> {
+fn checked_once(min_tags: usize, max_tags: usize, max_types: usize) -> Result<(), ConfigFault> {
     let mut config = Config::default();
     config.min_tags = min_tags;
     config.max_tags = max_tags;
@@ -99,17 +146,38 @@ fn checked(min_tags: usize, max_tags: usize, max_types: usize) -> Result<(), Con
     config.check()
 }
 
-#[test]
-fn faults_of_configurations(rt: HostRuntime) {
-    let above = ConfigFault::MinAboveMax(Count::Tags);
-    let large = ConfigFault::MaxTooLarge(Count::Types);
-    assert_eq!(rt; checked(3, 2, 100), Err(above));
-    assert_eq!(rt; checked(0, 100, (1 << 31) + 1), Err(large));
-    assert_eq!(rt; Config::default().check(), Ok(()));
+// The same, asked twice.
+fn checked(
+    min_tags: usize,
+    max_tags: usize,
+    max_types: usize,
+) -> Result<Result<(), ConfigFault>, Fail> {
+    same(
+        checked_once(min_tags, max_tags, max_types),
+        checked_once(min_tags, max_tags, max_types),
+    )
 }
 
 #[test]
-fn offset_choices(rt: HostRuntime) {
+fn faults_of_configurations(rt: HostRuntime) -> Result<(), Fail> {
+    let above = ConfigFault::MinAboveMax(Count::Tags);
+    let large = ConfigFault::MaxTooLarge(Count::Types);
+    assert_eq!(rt; checked(3, 2, 100)?, Err(above));
+    assert_eq!(rt; checked(0, 100, (1 << 31) + 1)?, Err(large));
+    assert_eq!(rt; checked(0, 100, 100)?, Ok(()));
+    Ok(())
+}
+
+// The choices of a text, read twice.
+fn choices_of(text: &str) -> Result<Result<MemoryOffsetChoices, OffsetChoicesFault>, Fail> {
+    same(
+        MemoryOffsetChoices::from_str(text),
+        MemoryOffsetChoices::from_str(text),
+    )
+}
+
+#[test]
+fn offset_choices(rt: HostRuntime) -> Result<(), Fail> {
     let inside = MemoryOffsetChoices(1, 0, 0);
     let cases = [
         ("1,0,0", Ok(inside)),
@@ -124,12 +192,13 @@ fn offset_choices(rt: HostRuntime) {
         ("1,,2", Err(OffsetChoicesFault::Number(1))),
     ];
     for (text, want) in cases {
-        assert_eq!(rt; MemoryOffsetChoices::from_str(text), want, "at {text}");
+        assert_eq!(rt; choices_of(text)?, want, "at {text}");
     }
+    Ok(())
 }
 
 #[test]
-fn texts_of_offset_faults(rt: HostRuntime) -> Result<(), AllocError> {
+fn texts_of_offset_faults(rt: HostRuntime) -> Result<(), Fail> {
     let cases = [
         (
             OffsetChoicesFault::NeedThree,

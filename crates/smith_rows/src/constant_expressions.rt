@@ -6,6 +6,7 @@ ghost use Rattle.smith_config.specs.Faults.{Passes};
 ghost use Rattle.smith_config.specs.Features.{features_of};
 ghost use Rattle.smith_config.specs.Sanitized.{IsSanitized};
 
+use crate::repeated::same;
 use crate::type_spaces::{spaces_of, types_from};
 use smith_draw::{arbitrary_const_expr, arbitrary_table_init, globals_for_const_expr};
 use smith_types::{
@@ -33,7 +34,7 @@ fn settled(fuel: u32, limited: bool) -> Result<Config, Error>
 }
 
 // An expression of a type, over types alone.
-fn drawn(
+fn drawn_once(
     alloc: Global,
     config: &Config,
     types: &TypeSpace,
@@ -47,16 +48,41 @@ fn drawn(
     arbitrary_const_expr(alloc, config, &spaces_of(types), wanted, true, &mut u)
 }
 
+// What is drawn twice, an expression or a refusal.
+type Answer = Result<Items<ConstInstr>, Error>;
+
+fn drawn(
+    alloc: Global,
+    config: &Config,
+    types: &TypeSpace,
+    wanted: ValType,
+    input: &[u8],
+) -> Result<Answer, Fail>
+    requires types { AreTypesValid (features_of config.now) types.now }
+    requires wanted { IsValTypeValid (features_of config.now) (length types.now.types) wanted }
+{
+    same(
+        drawn_once(alloc, config, types, wanted, input),
+        drawn_once(alloc, config, types, wanted, input),
+    )
+}
+
 // An i32 over nothing.
-fn number(alloc: Global, input: &[u8]) -> Result<Items<ConstInstr>, Error> {
-    let config = settled(50, false)?;
-    let types = types_from(alloc, &config, &[])?;
-    drawn(alloc, &config, &types, ValType::I32, input)
+fn number_under(alloc: Global, config: &Config, input: &[u8]) -> Result<Answer, Fail>
+    requires passes { Passes config.now }
+    requires sanitized { IsSanitized config.now }
+{
+    let types = types_from(alloc, config, &[])?;
+    drawn(alloc, config, &types, ValType::I32, input)
+}
+
+fn number(alloc: Global, input: &[u8]) -> Result<Answer, Fail> {
+    number_under(alloc, &settled(50, false)?, input)
 }
 
 #[test]
 fn a_sum(rt: HostRuntime) -> Result<(), Fail> {
-    let made = number(rt.alloc(), &[1, 1, 0, 5, 0, 0, 0, 0, 7, 0, 0, 0])?;
+    let made = number(rt.alloc(), &[1, 1, 0, 5, 0, 0, 0, 0, 7, 0, 0, 0])??;
     let sum = [
         ConstInstr::I32Const(7),
         ConstInstr::I32Const(5),
@@ -68,7 +94,7 @@ fn a_sum(rt: HostRuntime) -> Result<(), Fail> {
 
 #[test]
 fn a_longest_sum(rt: HostRuntime) -> Result<(), Fail> {
-    let made = number(rt.alloc(), &[1; 12])?;
+    let made = number(rt.alloc(), &[1; 12])??;
     let mut expected = [ConstInstr::I32Add; 23];
     for place in 0..12 {
         expected[place] = ConstInstr::I32Const(0);
@@ -84,7 +110,7 @@ const fn plain(ty: AbstractHeapType) -> HeapType
 }
 
 // An external reference that is not null.
-fn external(alloc: Global, config: &Config) -> Result<Items<ConstInstr>, Error>
+fn external_under(alloc: Global, config: &Config) -> Result<Answer, Fail>
     requires passes { Passes config.now }
     requires sanitized { IsSanitized config.now }
     requires gc { IsTrue config.now.gc_enabled }
@@ -98,6 +124,10 @@ fn external(alloc: Global, config: &Config) -> Result<Items<ConstInstr>, Error>
     drawn(alloc, config, &types, wanted, &[])
 }
 
+fn external(alloc: Global, fuel: u32) -> Result<Answer, Fail> {
+    external_under(alloc, &settled(fuel, false)?)
+}
+
 #[test]
 fn conversions_need_fuel(rt: HostRuntime) -> Result<(), Fail> {
     let converted = [
@@ -105,11 +135,9 @@ fn conversions_need_fuel(rt: HostRuntime) -> Result<(), Fail> {
         ConstInstr::RefI31,
         ConstInstr::ExternConvertAny,
     ];
-    assert!(rt; external(rt.alloc(), &settled(2, false)?)?.as_slice() == converted.as_slice());
-    assert_eq!(rt;
-        external(rt.alloc(), &settled(1, false)?).err(),
-        Some(Error::EmptyChoose)
-    );
+    let made = external(rt.alloc(), 2)??;
+    assert!(rt; made.as_slice() == converted.as_slice());
+    assert_eq!(rt; external(rt.alloc(), 1)?.err(), Some(Error::EmptyChoose));
     Ok(())
 }
 
@@ -119,12 +147,12 @@ const STRUCT: [u8; 6] = [1, 1, 1, 2, 1, 0];
 const ARRAY: [u8; 5] = [1, 1, 1, 0, 0];
 
 // How the first type that bytes give is made, where null would do.
-fn of_first(
+fn of_first_under(
     alloc: Global,
     config: &Config,
     types: &[u8],
     input: &[u8],
-) -> Result<Items<ConstInstr>, Error>
+) -> Result<Answer, Fail>
     requires passes { Passes config.now }
     requires sanitized { IsSanitized config.now }
     requires gc { IsTrue config.now.gc_enabled }
@@ -132,13 +160,17 @@ fn of_first(
 {
     let types = types_from(alloc, config, types)?;
     if types.types().is_empty() {
-        return Ok(Items::new(alloc));
+        return Ok(Ok(Items::new(alloc)));
     }
     let wanted = ValType::Ref(RefType {
         nullable: true,
         heap_type: HeapType::Concrete(0),
     });
     drawn(alloc, config, &types, wanted, input)
+}
+
+fn of_struct(alloc: Global, fuel: u32, input: &[u8]) -> Result<Answer, Fail> {
+    of_first_under(alloc, &settled(fuel, false)?, &STRUCT, input)
 }
 
 #[test]
@@ -156,10 +188,14 @@ fn structs(rt: HostRuntime) -> Result<(), Fail> {
         ),
     ];
     for (fuel, input, want) in cases {
-        let made = of_first(rt.alloc(), &settled(fuel, false)?, &STRUCT, &input)?;
+        let made = of_struct(rt.alloc(), fuel, &input)??;
         assert!(rt; made.as_slice() == want, "at {fuel}");
     }
     Ok(())
+}
+
+fn of_limited_array(alloc: Global, fuel: u32, input: &[u8]) -> Result<Answer, Fail> {
+    of_first_under(alloc, &settled(fuel, true)?, &ARRAY, input)
 }
 
 #[test]
@@ -169,31 +205,37 @@ fn limited_arrays(rt: HostRuntime) -> Result<(), Fail> {
         (u32::MAX, [3, 255, 255, 255, 254].as_slice(), -2),
     ];
     for (fuel, input, length) in cases {
-        let made = of_first(rt.alloc(), &settled(fuel, true)?, &ARRAY, input)?;
+        let made = of_limited_array(rt.alloc(), fuel, input)??;
         let want = [ConstInstr::I32Const(length), ConstInstr::ArrayNewDefault(0)];
         assert!(rt; made.as_slice() == want.as_slice(), "at {fuel}");
     }
     Ok(())
 }
 
-// The initialiser of a table of functions or null, and how many bytes it leaves.
-fn initialiser(
-    alloc: Global,
-    config: &Config,
-    input: &[u8],
-) -> Result<(Option<Items<ConstInstr>>, usize), Error>
+// The initialiser of a table, and how many bytes it leaves.
+type Initial = (Option<Items<ConstInstr>>, usize);
+
+// That of a table of functions or null, drawn twice.
+fn of_functions_under(alloc: Global, config: &Config, input: &[u8]) -> Result<Initial, Fail>
     requires passes { Passes config.now }
     requires sanitized { IsSanitized config.now }
     requires references { IsTrue config.now.reference_types_enabled }
 {
     let types = types_from(alloc, config, &[])?;
+    let spaces = spaces_of(&types);
     let element = RefType {
         nullable: true,
         heap_type: plain(AbstractHeapType::Func),
     };
     let mut u = Unstructured::new(input);
-    let drawn = arbitrary_table_init(alloc, config, &spaces_of(&types), element, &mut u)?;
-    Ok((drawn, u.len()))
+    let mut again = Unstructured::new(input);
+    let first = arbitrary_table_init(alloc, config, &spaces, element, &mut u)?;
+    let second = arbitrary_table_init(alloc, config, &spaces, element, &mut again)?;
+    same((first, u.len()), (second, again.len()))
+}
+
+fn of_functions(alloc: Global, input: &[u8]) -> Result<Initial, Fail> {
+    of_functions_under(alloc, &settled(50, false)?, input)
 }
 
 // Whether an expression is that of no function.
@@ -203,33 +245,37 @@ fn is_null(expression: &Items<ConstInstr>) -> bool {
 
 #[test]
 fn initialisers_of_tables(rt: HostRuntime) -> Result<(), Fail> {
-    let (initial, left) = initialiser(rt.alloc(), &settled(50, false)?, &[0, 7])?;
+    let (initial, left) = of_functions(rt.alloc(), &[0, 7])?;
     assert!(rt; initial.as_ref().is_some_and(is_null));
     assert_eq!(rt; left, 1);
-    let (initial, left) = initialiser(rt.alloc(), &settled(50, false)?, &[1, 7])?;
+    let (initial, left) = of_functions(rt.alloc(), &[1, 7])?;
     assert!(rt; initial.is_none());
     assert_eq!(rt; left, 1);
     Ok(())
 }
 
-// The initialiser of a table of i31 that holds no null.
-fn initialiser_of_numbers(
-    alloc: Global,
-    config: &Config,
-    input: &[u8],
-) -> Result<Option<Items<ConstInstr>>, Error>
+// That of a table of i31 that holds no null, drawn twice.
+fn of_numbers_under(alloc: Global, config: &Config, input: &[u8]) -> Result<Initial, Fail>
     requires passes { Passes config.now }
     requires sanitized { IsSanitized config.now }
     requires gc { IsTrue config.now.gc_enabled }
     requires references { IsTrue config.now.reference_types_enabled }
 {
     let types = types_from(alloc, config, &[])?;
+    let spaces = spaces_of(&types);
     let element = RefType {
         nullable: false,
         heap_type: plain(AbstractHeapType::I31),
     };
     let mut u = Unstructured::new(input);
-    arbitrary_table_init(alloc, config, &spaces_of(&types), element, &mut u)
+    let mut again = Unstructured::new(input);
+    let first = arbitrary_table_init(alloc, config, &spaces, element, &mut u)?;
+    let second = arbitrary_table_init(alloc, config, &spaces, element, &mut again)?;
+    same((first, u.len()), (second, again.len()))
+}
+
+fn of_numbers(alloc: Global, input: &[u8]) -> Result<Initial, Fail> {
+    of_numbers_under(alloc, &settled(50, false)?, input)
 }
 
 fn is_one(expression: &Items<ConstInstr>) -> bool {
@@ -238,8 +284,9 @@ fn is_one(expression: &Items<ConstInstr>) -> bool {
 
 #[test]
 fn an_initialiser_without_null(rt: HostRuntime) -> Result<(), Fail> {
-    let initial = initialiser_of_numbers(rt.alloc(), &settled(50, false)?, &[0, 1, 0, 0, 0])?;
+    let (initial, left) = of_numbers(rt.alloc(), &[0, 1, 0, 0, 0])?;
     assert!(rt; initial.as_ref().is_some_and(is_one));
+    assert_eq!(rt; left, 0);
     Ok(())
 }
 
@@ -272,8 +319,9 @@ fn with_globals<'a>(types: &'a TypeSpace, globals: &'a [GlobalType]) -> Spaces<'
     }
 }
 
-// The globals that an i32 may be read of: over a variable and a constant that are imported, and a constant that is not.
-fn readable(alloc: Global, config: &Config, allow_defined: bool) -> Result<Items<u32>, Error>
+// The globals that an i32 may be read of, asked for twice: over a variable and a constant that are imported, and a constant that
+// is not.
+fn readable_under(alloc: Global, config: &Config, allow_defined: bool) -> Result<Items<u32>, Fail>
     requires passes { Passes config.now }
     requires sanitized { IsSanitized config.now }
 {
@@ -284,12 +332,19 @@ fn readable(alloc: Global, config: &Config, allow_defined: bool) -> Result<Items
         number_global(false),
     ];
     let spaces = with_globals(&types, &globals);
-    globals_for_const_expr(alloc, config, &spaces, ValType::I32, allow_defined)
+    same(
+        globals_for_const_expr(alloc, config, &spaces, ValType::I32, allow_defined)?,
+        globals_for_const_expr(alloc, config, &spaces, ValType::I32, allow_defined)?,
+    )
+}
+
+fn readable(alloc: Global, allow_defined: bool) -> Result<Items<u32>, Fail> {
+    readable_under(alloc, &settled(50, false)?, allow_defined)
 }
 
 #[test]
 fn readable_globals(rt: HostRuntime) -> Result<(), Fail> {
-    assert!(rt; readable(rt.alloc(), &settled(50, false)?, true)?.as_slice() == [1, 2].as_slice());
-    assert!(rt; readable(rt.alloc(), &settled(50, false)?, false)?.as_slice() == [1].as_slice());
+    assert!(rt; readable(rt.alloc(), true)?.as_slice() == [1, 2].as_slice());
+    assert!(rt; readable(rt.alloc(), false)?.as_slice() == [1].as_slice());
     Ok(())
 }

@@ -1,9 +1,9 @@
-ghost use Rattle.std.specs.Prelude.{◌≡◌, false};
 ghost use Rattle.smith_config.specs.Sanitized.{IsSanitized};
 
 use crate::function_types::{is_function, takes_and_gives};
+use crate::repeated::same;
 use crate::type_spaces::spaces_of;
-use smith_types::{AbstractHeapType, HeapType, RefType, TypeSpace, ValType};
+use smith_types::{AbstractHeapType, FuncType, HeapType, RefType, TypeSpace, ValType};
 use std::alloc::Global;
 use std::test::Fail;
 use wasm_smith::{
@@ -15,7 +15,6 @@ use wasm_smith::{
 // to be fewer.
 fn without_gc(fewer: bool) -> Config
     ensures sanitized { IsSanitized result }
-    ensures without_gc { result.gc_enabled ≡ false }
 {
     let mut config = Config::default();
     config.gc_enabled = false;
@@ -39,13 +38,21 @@ fn reference(ty: AbstractHeapType) -> RefType {
     }
 }
 
-// A heap type, and how many bytes it leaves.
-fn heap_type(alloc: Global, fewer: bool, input: &[u8]) -> Result<(HeapType, usize), Error> {
+// A heap type that is drawn twice, and how many bytes it leaves.
+fn heap_type_under(alloc: Global, config: &Config, input: &[u8]) -> Result<(HeapType, usize), Fail>
+    requires sanitized { IsSanitized config.now }
+{
     let types = TypeSpace::new(alloc);
+    let spaces = spaces_of(&types);
     let mut u = Unstructured::new(input);
-    let config = without_gc(fewer);
-    let drawn = arbitrary_heap_type(alloc, &config, &spaces_of(&types), false, 0, &mut u)?;
-    Ok((drawn, u.len()))
+    let mut again = Unstructured::new(input);
+    let first = arbitrary_heap_type(alloc, config, &spaces, false, 0, &mut u)?;
+    let second = arbitrary_heap_type(alloc, config, &spaces, false, 0, &mut again)?;
+    same((first, u.len()), (second, again.len()))
+}
+
+fn heap_type(alloc: Global, fewer: bool, input: &[u8]) -> Result<(HeapType, usize), Fail> {
+    heap_type_under(alloc, &without_gc(fewer), input)
 }
 
 #[test]
@@ -63,7 +70,6 @@ fn heap_types(rt: HostRuntime) -> Result<(), Fail> {
 // The same with reference types, or without them.
 fn with_references(enabled: bool) -> Config
     ensures sanitized { IsSanitized result }
-    ensures without_gc { result.gc_enabled ≡ false }
 {
     let mut config = without_gc(false);
     config.reference_types_enabled = enabled;
@@ -71,13 +77,21 @@ fn with_references(enabled: bool) -> Config
     config
 }
 
-// A reference type, and how many bytes it leaves.
-fn ref_type(alloc: Global, enabled: bool, input: &[u8]) -> Result<(RefType, usize), Error> {
+// A reference type that is drawn twice, and how many bytes it leaves.
+fn ref_type_under(alloc: Global, config: &Config, input: &[u8]) -> Result<(RefType, usize), Fail>
+    requires sanitized { IsSanitized config.now }
+{
     let types = TypeSpace::new(alloc);
+    let spaces = spaces_of(&types);
     let mut u = Unstructured::new(input);
-    let config = with_references(enabled);
-    let drawn = arbitrary_ref_type(alloc, &config, &spaces_of(&types), false, 0, &mut u)?;
-    Ok((drawn, u.len()))
+    let mut again = Unstructured::new(input);
+    let first = arbitrary_ref_type(alloc, config, &spaces, false, 0, &mut u)?;
+    let second = arbitrary_ref_type(alloc, config, &spaces, false, 0, &mut again)?;
+    same((first, u.len()), (second, again.len()))
+}
+
+fn ref_type(alloc: Global, enabled: bool, input: &[u8]) -> Result<(RefType, usize), Fail> {
+    ref_type_under(alloc, &with_references(enabled), input)
 }
 
 #[test]
@@ -89,13 +103,21 @@ fn reference_types(rt: HostRuntime) -> Result<(), Fail> {
     Ok(())
 }
 
-// A value type, and how many bytes it leaves.
-fn val_type(alloc: Global, fewer: bool, input: &[u8]) -> Result<(ValType, usize), Error> {
+// A value type that is drawn twice, and how many bytes it leaves.
+fn val_type_under(alloc: Global, config: &Config, input: &[u8]) -> Result<(ValType, usize), Fail>
+    requires sanitized { IsSanitized config.now }
+{
     let types = TypeSpace::new(alloc);
+    let spaces = spaces_of(&types);
     let mut u = Unstructured::new(input);
-    let config = without_gc(fewer);
-    let drawn = arbitrary_valtype(alloc, &config, &spaces_of(&types), false, 0, &mut u)?;
-    Ok((drawn, u.len()))
+    let mut again = Unstructured::new(input);
+    let first = arbitrary_valtype(alloc, config, &spaces, false, 0, &mut u)?;
+    let second = arbitrary_valtype(alloc, config, &spaces, false, 0, &mut again)?;
+    same((first, u.len()), (second, again.len()))
+}
+
+fn val_type(alloc: Global, fewer: bool, input: &[u8]) -> Result<(ValType, usize), Fail> {
+    val_type_under(alloc, &without_gc(fewer), input)
 }
 
 #[test]
@@ -107,6 +129,23 @@ fn value_types(rt: HostRuntime) -> Result<(), Fail> {
     Ok(())
 }
 
+// A function type that is drawn twice, and how many bytes it leaves.
+fn func_type_under(alloc: Global, config: &Config, input: &[u8]) -> Result<(FuncType, usize), Fail>
+    requires sanitized { IsSanitized config.now }
+{
+    let types = TypeSpace::new(alloc);
+    let spaces = spaces_of(&types);
+    let mut u = Unstructured::new(input);
+    let mut again = Unstructured::new(input);
+    let first = arbitrary_func_type(alloc, config, &spaces, false, 0, &mut u)?;
+    let second = arbitrary_func_type(alloc, config, &spaces, false, 0, &mut again)?;
+    same((first, u.len()), (second, again.len()))
+}
+
+fn func_type(alloc: Global, fewer: bool, input: &[u8]) -> Result<(FuncType, usize), Fail> {
+    func_type_under(alloc, &without_gc(fewer), input)
+}
+
 // Whether a drawn function type takes and gives these, and how many bytes it leaves.
 fn is_func_type(
     alloc: Global,
@@ -114,12 +153,9 @@ fn is_func_type(
     input: &[u8],
     params: &[ValType],
     results: &[ValType],
-) -> Result<(bool, usize), Error> {
-    let types = TypeSpace::new(alloc);
-    let mut u = Unstructured::new(input);
-    let config = without_gc(fewer);
-    let drawn = arbitrary_func_type(alloc, &config, &spaces_of(&types), false, 0, &mut u)?;
-    Ok((takes_and_gives(&drawn, params, results), u.len()))
+) -> Result<(bool, usize), Fail> {
+    let (drawn, left) = func_type(alloc, fewer, input)?;
+    Ok((takes_and_gives(&drawn, params, results), left))
 }
 
 #[test]
@@ -152,7 +188,7 @@ fn are_two_groups(types: &TypeSpace) -> bool {
 
 // Whether two groups are added of a type each, and how many bytes they leave.
 #[tactic(auto, using(smith_draw::proofs::CallerLemmas::passes_but_imports))]
-fn two_groups(alloc: Global, config: &Config, input: &[u8]) -> Result<(bool, usize), Error>
+fn two_groups_under(alloc: Global, config: &Config, input: &[u8]) -> Result<(bool, usize), Error>
     requires sanitized { IsSanitized config.now }
 {
     let mut types = TypeSpace::new(alloc);
@@ -168,12 +204,22 @@ fn two_groups(alloc: Global, config: &Config, input: &[u8]) -> Result<(bool, usi
     Ok((are_two_groups(&types), u.len()))
 }
 
+// The same, drawn twice.
+fn two_groups_again(alloc: Global, config: &Config, input: &[u8]) -> Result<(bool, usize), Fail>
+    requires sanitized { IsSanitized config.now }
+{
+    same(
+        two_groups_under(alloc, config, input)?,
+        two_groups_under(alloc, config, input)?,
+    )
+}
+
+fn two_groups(alloc: Global, input: &[u8]) -> Result<(bool, usize), Fail> {
+    two_groups_again(alloc, &without_gc(false), input)
+}
+
 #[test]
 fn a_group_is_one_type(rt: HostRuntime) -> Result<(), Fail> {
-    let input = [0, 1, 1, 0, 0, 0, 7];
-    assert_eq!(rt;
-        two_groups(rt.alloc(), &without_gc(false), &input)?,
-        (true, 1)
-    );
+    assert_eq!(rt; two_groups(rt.alloc(), &[0, 1, 1, 0, 0, 0, 7])?, (true, 1));
     Ok(())
 }

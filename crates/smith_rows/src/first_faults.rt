@@ -1,5 +1,5 @@
-use crate::shape_parts::{empty_struct, fault, no_shape};
-use smith_config::{Config, Shape};
+use crate::shape_parts::{Rules, empty_struct, fault, no_shape};
+use smith_config::Shape;
 use smith_types::{ExportKind, GlobalType, HeapType, Items, MemoryType, Name, RefType, ValType};
 use std::alloc::Global;
 use std::test::Fail;
@@ -76,35 +76,40 @@ fn with_faults_from(alloc: Global, place: usize) -> Result<Shape, Error> {
     Ok(shape)
 }
 
-// The defaults without vectors, and with shared types.
-fn without_vectors() -> Config {
-    let mut config = Config::default();
-    config.simd_enabled = false;
-    config.shared_everything_threads_enabled = true;
-    config
+// The first fault of exports without vectors, and with shared types.
+fn fault_of(alloc: Global, shape: Shape) -> Result<Option<ShapeFault>, Fail> {
+    fault(
+        alloc,
+        Which::Exports,
+        Rules::WithoutVectorsWithShared,
+        shape,
+    )
 }
 
 #[test]
 fn the_first_fault_is_told(rt: HostRuntime) -> Result<(), Fail> {
     for place in 0..7 {
         let shape = with_faults_from(rt.alloc(), place)?;
-        let found = fault(rt.alloc(), Which::Exports, &without_vectors(), &shape)?;
-        assert_eq!(rt; found, Some(FAULTS[place]));
+        assert_eq!(rt; fault_of(rt.alloc(), shape)?, Some(FAULTS[place]));
     }
     let sound = with_faults_from(rt.alloc(), 7)?;
-    let found = fault(rt.alloc(), Which::Exports, &without_vectors(), &sound)?;
-    assert_eq!(rt; found, None);
+    assert_eq!(rt; fault_of(rt.alloc(), sound)?, None);
     Ok(())
+}
+
+// A shape that has this fault alone.
+fn with_fault(alloc: Global, fault: ShapeFault) -> Result<Shape, Error> {
+    let mut shape = no_shape(alloc);
+    shape.globals.push(global(ValType::I32, false))?;
+    add_fault(alloc, &mut shape, fault)?;
+    Ok(shape)
 }
 
 #[test]
 fn each_fault_alone(rt: HostRuntime) -> Result<(), Fail> {
-    for place in 0..7 {
-        let mut shape = no_shape(rt.alloc());
-        shape.globals.push(global(ValType::I32, false))?;
-        add_fault(rt.alloc(), &mut shape, FAULTS[place])?;
-        let found = fault(rt.alloc(), Which::Exports, &without_vectors(), &shape)?;
-        assert_eq!(rt; found, Some(FAULTS[place]));
+    for want in FAULTS {
+        let shape = with_fault(rt.alloc(), want)?;
+        assert_eq!(rt; fault_of(rt.alloc(), shape)?, Some(want));
     }
     Ok(())
 }

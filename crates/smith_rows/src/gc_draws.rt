@@ -1,9 +1,12 @@
 ghost use Rattle.smith_config.specs.Sanitized.{IsSanitized};
 
+use crate::repeated::same;
 use crate::type_spaces::spaces_of;
 use smith_types::{
-    ArrayType, CompositeInnerType, CompositeType, FieldType, StorageType, StructType, TypeSpace,
+    ArrayType, CompositeInnerType, CompositeType, FieldType, Items, StorageType, StructType,
+    TypeSpace,
 };
+use std::alloc::Global;
 use std::test::Fail;
 use wasm_smith::{
     Config, Entities, Spaces, Unstructured, arbitrary_composite_type, arbitrary_field_type,
@@ -26,55 +29,69 @@ const fn field(element_type: StorageType, mutable: bool) -> FieldType {
     }
 }
 
+// A storage type that is drawn twice, and how many bytes it leaves.
+fn storage_type(alloc: Global, config: &Config, input: &[u8]) -> Result<(StorageType, usize), Fail>
+    requires sanitized { IsSanitized config.now }
+{
+    let types = TypeSpace::new(alloc);
+    let spaces = spaces_of(&types);
+    let mut u = Unstructured::new(input);
+    let mut again = Unstructured::new(input);
+    let first = arbitrary_storage_type(alloc, config, &spaces, false, 0, &mut u)?;
+    let second = arbitrary_storage_type(alloc, config, &spaces, false, 0, &mut again)?;
+    same((first, u.len()), (second, again.len()))
+}
+
 #[test]
 fn storage_types(rt: HostRuntime) -> Result<(), Fail> {
-    let types = TypeSpace::new(rt.alloc());
-    let mut u = Unstructured::new(&[1, 3]);
-    let drawn = arbitrary_storage_type(
-        rt.alloc(),
-        &defaults(),
-        &spaces_of(&types),
-        false,
-        0,
-        &mut u,
-    )?;
-    assert_eq!(rt; drawn, StorageType::I16);
-    assert_eq!(rt; u.len(), 1);
+    let drawn = storage_type(rt.alloc(), &defaults(), &[1, 3])?;
+    assert_eq!(rt; drawn, (StorageType::I16, 1));
     Ok(())
+}
+
+// A field type that is drawn twice, and how many bytes it leaves.
+fn field_type(alloc: Global, config: &Config, input: &[u8]) -> Result<(FieldType, usize), Fail>
+    requires sanitized { IsSanitized config.now }
+{
+    let types = TypeSpace::new(alloc);
+    let spaces = spaces_of(&types);
+    let mut u = Unstructured::new(input);
+    let mut again = Unstructured::new(input);
+    let first = arbitrary_field_type(alloc, config, &spaces, false, 0, &mut u)?;
+    let second = arbitrary_field_type(alloc, config, &spaces, false, 0, &mut again)?;
+    same((first, u.len()), (second, again.len()))
 }
 
 #[test]
 fn field_types(rt: HostRuntime) -> Result<(), Fail> {
-    let types = TypeSpace::new(rt.alloc());
-    let mut u = Unstructured::new(&[3, 1, 9]);
-    let drawn = arbitrary_field_type(
-        rt.alloc(),
-        &defaults(),
-        &spaces_of(&types),
-        false,
-        0,
-        &mut u,
-    )?;
-    assert_eq!(rt; drawn, field(StorageType::I8, true));
-    assert_eq!(rt; u.len(), 1);
+    let drawn = field_type(rt.alloc(), &defaults(), &[3, 1, 9])?;
+    assert_eq!(rt; drawn, (field(StorageType::I8, true), 1));
     Ok(())
+}
+
+// A struct type that is drawn twice, and how many bytes it leaves.
+fn struct_type(
+    alloc: Global,
+    config: &Config,
+    input: &[u8],
+) -> Result<(Items<FieldType>, usize), Fail>
+    requires sanitized { IsSanitized config.now }
+{
+    let types = TypeSpace::new(alloc);
+    let spaces = spaces_of(&types);
+    let mut u = Unstructured::new(input);
+    let mut again = Unstructured::new(input);
+    let first = arbitrary_struct_type(alloc, config, &spaces, false, 0, &mut u)?;
+    let second = arbitrary_struct_type(alloc, config, &spaces, false, 0, &mut again)?;
+    same((first.fields, u.len()), (second.fields, again.len()))
 }
 
 #[test]
 fn struct_types(rt: HostRuntime) -> Result<(), Fail> {
-    let types = TypeSpace::new(rt.alloc());
-    let mut u = Unstructured::new(&[2, 0, 0, 1, 1]);
-    let StructType { fields } = arbitrary_struct_type(
-        rt.alloc(),
-        &defaults(),
-        &spaces_of(&types),
-        false,
-        0,
-        &mut u,
-    )?;
+    let (fields, left) = struct_type(rt.alloc(), &defaults(), &[2, 0, 0, 1, 1])?;
     let expected = [field(StorageType::I8, false), field(StorageType::I16, true)];
     assert!(rt; fields.as_slice() == expected.as_slice());
-    assert!(rt; u.is_empty());
+    assert_eq!(rt; left, 0);
     Ok(())
 }
 
@@ -86,15 +103,28 @@ fn array_of(composite: &CompositeType) -> Option<ArrayType> {
     }
 }
 
+// A composite type that is drawn twice, and how many bytes it leaves.
+fn composite_type(
+    alloc: Global,
+    config: &Config,
+    input: &[u8],
+) -> Result<(CompositeType, usize), Fail>
+    requires sanitized { IsSanitized config.now }
+{
+    let types = TypeSpace::new(alloc);
+    let spaces = spaces_of(&types);
+    let mut u = Unstructured::new(input);
+    let mut again = Unstructured::new(input);
+    let first = arbitrary_composite_type(alloc, config, &spaces, 0, &mut u)?;
+    let second = arbitrary_composite_type(alloc, config, &spaces, 0, &mut again)?;
+    same((first, u.len()), (second, again.len()))
+}
+
 #[test]
 fn composite_types(rt: HostRuntime) -> Result<(), Fail> {
-    let types = TypeSpace::new(rt.alloc());
-    let mut u = Unstructured::new(&[0, 1, 1, 5]);
-    let drawn = arbitrary_composite_type(rt.alloc(), &defaults(), &spaces_of(&types), 0, &mut u)?;
-    assert_eq!(rt;
-        array_of(&drawn),
-        Some(ArrayType(field(StorageType::I16, true)))
-    );
-    assert_eq!(rt; u.len(), 1);
+    let (drawn, left) = composite_type(rt.alloc(), &defaults(), &[0, 1, 1, 5])?;
+    let expected = ArrayType(field(StorageType::I16, true));
+    assert_eq!(rt; array_of(&drawn), Some(expected));
+    assert_eq!(rt; left, 1);
     Ok(())
 }

@@ -1,5 +1,7 @@
-use crate::shape_parts::{chain, empty_struct, fault, module_fault, no_shape, of_type, of_types};
-use smith_config::{Config, Shape};
+use crate::shape_parts::{
+    Rules, chain, empty_struct, fault, module_fault, no_shape, of_type, of_types,
+};
+use smith_config::Shape;
 use smith_types::{
     CompositeInnerType, CompositeType, ExportKind, FieldType, GlobalType, HeapType, Items, Name,
     RefType, StorageType, StructType, SubType, ValType,
@@ -14,7 +16,7 @@ const MANY: u32 = 10_000;
 #[test]
 fn a_chain_of_supertypes(rt: HostRuntime) -> Result<(), Fail> {
     let shape = of_types(rt.alloc(), chain(rt.alloc(), MANY)?)?;
-    assert_eq!(rt; module_fault(rt.alloc(), &shape)?, Some(ShapeFault::Limit));
+    assert_eq!(rt; module_fault(rt.alloc(), shape)?, Some(ShapeFault::Limit));
     Ok(())
 }
 
@@ -30,10 +32,7 @@ fn cycle(alloc: Global) -> Result<Items<SubType>, Error> {
 #[test]
 fn a_cycle_of_supertypes(rt: HostRuntime) -> Result<(), Fail> {
     let shape = of_types(rt.alloc(), cycle(rt.alloc())?)?;
-    assert_eq!(rt;
-        module_fault(rt.alloc(), &shape)?,
-        Some(ShapeFault::BadType)
-    );
+    assert_eq!(rt; module_fault(rt.alloc(), shape)?, Some(ShapeFault::BadType));
     Ok(())
 }
 
@@ -62,21 +61,28 @@ fn wide_struct(alloc: Global) -> Result<SubType, Error> {
 #[test]
 fn a_struct_of_many_fields(rt: HostRuntime) -> Result<(), Fail> {
     let shape = of_type(rt.alloc(), wide_struct(rt.alloc())?)?;
-    assert_eq!(rt; module_fault(rt.alloc(), &shape)?, None);
+    assert_eq!(rt; module_fault(rt.alloc(), shape)?, None);
     Ok(())
+}
+
+// A function of the last type that there may be.
+fn function_of_the_last_type(alloc: Global) -> Result<Shape, Error> {
+    let mut shape = no_shape(alloc);
+    shape.funcs.push(u32::MAX)?;
+    Ok(shape)
 }
 
 #[test]
 fn indices_at_the_limit(rt: HostRuntime) -> Result<(), Fail> {
-    let mut function = no_shape(rt.alloc());
-    function.funcs.push(u32::MAX)?;
+    let function = function_of_the_last_type(rt.alloc())?;
     assert_eq!(rt;
-        module_fault(rt.alloc(), &function)?,
+        module_fault(rt.alloc(), function)?,
         Some(ShapeFault::Index)
     );
-    let supertype = of_type(rt.alloc(), empty_struct(rt.alloc(), false, Some(u32::MAX)))?;
+    let below_the_last = empty_struct(rt.alloc(), false, Some(u32::MAX));
+    let supertype = of_type(rt.alloc(), below_the_last)?;
     assert_eq!(rt;
-        module_fault(rt.alloc(), &supertype)?,
+        module_fault(rt.alloc(), supertype)?,
         Some(ShapeFault::BadType)
     );
     Ok(())
@@ -109,7 +115,7 @@ fn ten_thousand_exports(rt: HostRuntime) -> Result<(), Fail> {
     ];
     for (last, want) in cases {
         let shape = many_exports(rt.alloc(), last)?;
-        let found = fault(rt.alloc(), Which::Exports, &Config::default(), &shape)?;
+        let found = fault(rt.alloc(), Which::Exports, Rules::Defaults, shape)?;
         assert_eq!(rt; found, want, "at {last}");
     }
     Ok(())

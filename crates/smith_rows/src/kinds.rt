@@ -1,6 +1,7 @@
+use crate::repeated::same;
 use smith_types::{InstructionKind, InstructionKinds, UnknownKind};
-use std::alloc::AllocError;
 use std::str::FromStr;
+use std::test::Fail;
 
 #[test]
 fn a_kind_with_floats_holds_the_kind_without(rt: HostRuntime) {
@@ -21,8 +22,16 @@ fn floats_are_taken_away(rt: HostRuntime) {
     assert!(rt; !kept.contains(InstructionKind::Numeric));
 }
 
+// The kinds of a text, read twice.
+fn kinds_of(text: &str) -> Result<Result<InstructionKinds, UnknownKind>, Fail> {
+    same(
+        InstructionKinds::from_str(text),
+        InstructionKinds::from_str(text),
+    )
+}
+
 #[test]
-fn names_between_commas(rt: HostRuntime) {
+fn names_between_commas(rt: HostRuntime) -> Result<(), Fail> {
     let both = InstructionKinds::new(&[InstructionKind::Numeric, InstructionKind::Memory]);
     let cases = [
         ("Numeric,memory", Ok(both)),
@@ -30,28 +39,31 @@ fn names_between_commas(rt: HostRuntime) {
         ("", Err(UnknownKind { part: 0 })),
     ];
     for (text, want) in cases {
-        assert_eq!(rt; InstructionKinds::from_str(text), want, "at {text}");
+        assert_eq!(rt; kinds_of(text)?, want, "at {text}");
     }
+    Ok(())
+}
+
+// The kind of a text, read twice.
+fn kind_of(text: &str) -> Result<Result<InstructionKind, UnknownKind>, Fail> {
+    same(
+        InstructionKind::from_str(text),
+        InstructionKind::from_str(text),
+    )
 }
 
 #[test]
-fn one_name_alone(rt: HostRuntime) -> Result<(), AllocError> {
-    assert_eq!(rt;
-        InstructionKind::from_str("AGGREGATE"),
-        Ok(InstructionKind::Aggregate)
-    );
+fn one_name_alone(rt: HostRuntime) -> Result<(), Fail> {
+    assert_eq!(rt; kind_of("AGGREGATE")?, Ok(InstructionKind::Aggregate));
     let unknown = UnknownKind { part: 0 };
-    assert_eq!(rt;
-        InstructionKind::from_str("aggregate,control"),
-        Err(unknown)
-    );
+    assert_eq!(rt; kind_of("aggregate,control")?, Err(unknown));
     let text = format!(in rt.alloc(); "{unknown}")?;
     assert_eq!(rt; text.as_str(), "part 0 names no kind of instructions");
     Ok(())
 }
 
 #[test]
-fn the_name_of_each_kind(rt: HostRuntime) {
+fn the_name_of_each_kind(rt: HostRuntime) -> Result<(), Fail> {
     let cases = [
         ("numeric_non_float", InstructionKind::NumericInt),
         ("numeric", InstructionKind::Numeric),
@@ -67,6 +79,7 @@ fn the_name_of_each_kind(rt: HostRuntime) {
         ("aggregate", InstructionKind::Aggregate),
     ];
     for (text, want) in cases {
-        assert_eq!(rt; InstructionKind::from_str(text), Ok(want), "at {text}");
+        assert_eq!(rt; kind_of(text)?, Ok(want), "at {text}");
     }
+    Ok(())
 }

@@ -30,6 +30,8 @@ mod matching_types;
 #[cfg(test)]
 mod modules;
 #[cfg(test)]
+mod repeated;
+#[cfg(test)]
 mod repeated_modules;
 #[cfg(test)]
 mod section_flags;
@@ -37,6 +39,8 @@ mod section_flags;
 mod shape_parts;
 #[cfg(test)]
 mod shapes;
+#[cfg(test)]
+mod sizes;
 #[cfg(test)]
 mod subtypes;
 #[cfg(test)]

@@ -1,7 +1,7 @@
-use crate::type_spaces::spaces_of;
+use crate::repeated::same;
+use crate::type_spaces::{spaces_of, two_structs};
 use smith_types::{
-    AbstractHeapType, CompositeInnerType, CompositeType, FieldType, FuncType, HeapType, Items,
-    RefType, StorageType, StructType, SubType, TypeSpace, ValType,
+    AbstractHeapType, FieldType, FuncType, HeapType, Items, RefType, StorageType, ValType,
 };
 use std::alloc::Global;
 use std::test::Fail;
@@ -12,36 +12,6 @@ use wasm_smith::{
     arbitrary_super_type_of_heap_type, arbitrary_super_type_of_ref_type,
     arbitrary_super_type_of_val_type,
 };
-
-// A struct type without fields.
-fn empty_struct(alloc: Global, supertype: Option<u32>) -> SubType {
-    SubType {
-        is_final: false,
-        supertype,
-        composite_type: CompositeType {
-            inner: CompositeInnerType::Struct(StructType {
-                fields: Items::new(alloc),
-            }),
-            shared: false,
-        },
-    }
-}
-
-fn add(types: &mut TypeSpace, added: SubType) -> Result<(), Error> {
-    if types.may_follow(&added) {
-        let _ = types.push_type(added)?;
-    }
-    Ok(())
-}
-
-// A struct type, and one below it.
-fn two_structs(alloc: Global) -> Result<TypeSpace, Error> {
-    let mut types = TypeSpace::new(alloc);
-    add(&mut types, empty_struct(alloc, None))?;
-    add(&mut types, empty_struct(alloc, Some(0)))?;
-    types.push_group()?;
-    Ok(types)
-}
 
 fn with_descriptors() -> Config {
     let mut config = Config::default();
@@ -59,29 +29,45 @@ const fn plain(ty: AbstractHeapType) -> HeapType {
     HeapType::Abstract { shared: false, ty }
 }
 
-// A heap type below one, and how many bytes are left.
+// A heap type below one that is drawn twice, and how many bytes are left.
 fn below(
     alloc: Global,
     config: &Config,
     ty: HeapType,
     input: &[u8],
-) -> Result<(HeapType, usize), Error> {
+) -> Result<(HeapType, usize), Fail> {
     let types = two_structs(alloc)?;
+    let spaces = spaces_of(&types);
     let mut u = Unstructured::new(input);
-    let drawn = arbitrary_matching_heap_type(alloc, config, &spaces_of(&types), ty, &mut u)?;
-    Ok((drawn, u.len()))
+    let mut again = Unstructured::new(input);
+    let first = arbitrary_matching_heap_type(alloc, config, &spaces, ty, &mut u)?;
+    let second = arbitrary_matching_heap_type(alloc, config, &spaces, ty, &mut again)?;
+    same((first, u.len()), (second, again.len()))
 }
 
-// A heap type above one.
-fn above(alloc: Global, ty: HeapType, input: &[u8]) -> Result<HeapType, Error> {
+// A heap type above one, drawn twice.
+fn above_under(
+    alloc: Global,
+    config: &Config,
+    ty: HeapType,
+    input: &[u8],
+) -> Result<HeapType, Fail> {
     let types = two_structs(alloc)?;
+    let spaces = spaces_of(&types);
     let mut u = Unstructured::new(input);
-    let config = Config::default();
-    arbitrary_super_type_of_heap_type(alloc, &config, &spaces_of(&types), ty, &mut u)
+    let mut again = Unstructured::new(input);
+    same(
+        arbitrary_super_type_of_heap_type(alloc, config, &spaces, ty, &mut u)?,
+        arbitrary_super_type_of_heap_type(alloc, config, &spaces, ty, &mut again)?,
+    )
 }
 
-// The same with the defaults, and with exact references.
-fn below_by_default(alloc: Global, ty: HeapType, input: &[u8]) -> Result<(HeapType, usize), Error> {
+fn above(alloc: Global, ty: HeapType, input: &[u8]) -> Result<HeapType, Fail> {
+    above_under(alloc, &Config::default(), ty, input)
+}
+
+// A heap type below one by the defaults, with exact references, and without garbage collection.
+fn below_by_default(alloc: Global, ty: HeapType, input: &[u8]) -> Result<(HeapType, usize), Fail> {
     below(alloc, &Config::default(), ty, input)
 }
 
@@ -89,11 +75,11 @@ fn below_with_descriptors(
     alloc: Global,
     ty: HeapType,
     input: &[u8],
-) -> Result<(HeapType, usize), Error> {
+) -> Result<(HeapType, usize), Fail> {
     below(alloc, &with_descriptors(), ty, input)
 }
 
-fn below_without_gc(alloc: Global, ty: HeapType, input: &[u8]) -> Result<(HeapType, usize), Error> {
+fn below_without_gc(alloc: Global, ty: HeapType, input: &[u8]) -> Result<(HeapType, usize), Fail> {
     below(alloc, &without_gc(), ty, input)
 }
 
@@ -180,17 +166,26 @@ fn from_second_to_first(alloc: Global) -> Result<FuncType, Error> {
     Ok(FuncType { params, results })
 }
 
-// A function type that matches it.
-fn function_below(alloc: Global, config: &Config) -> Result<FuncType, Error> {
+// A function type that matches it, drawn twice.
+fn function_below_under(alloc: Global, config: &Config) -> Result<FuncType, Fail> {
     let types = two_structs(alloc)?;
+    let spaces = spaces_of(&types);
     let function = from_second_to_first(alloc)?;
     let mut u = Unstructured::new(&[4, 1]);
-    arbitrary_matching_func_type(alloc, config, &spaces_of(&types), &function, &mut u)
+    let mut again = Unstructured::new(&[4, 1]);
+    same(
+        arbitrary_matching_func_type(alloc, config, &spaces, &function, &mut u)?,
+        arbitrary_matching_func_type(alloc, config, &spaces, &function, &mut again)?,
+    )
+}
+
+fn function_below(alloc: Global) -> Result<FuncType, Fail> {
+    function_below_under(alloc, &Config::default())
 }
 
 #[test]
 fn function_types(rt: HostRuntime) -> Result<(), Fail> {
-    let drawn = function_below(rt.alloc(), &Config::default())?;
+    let drawn = function_below(rt.alloc())?;
     let first = ValType::Ref(RefType {
         nullable: true,
         heap_type: HeapType::Concrete(0),
@@ -208,11 +203,20 @@ const fn field(mutable: bool, index: u32) -> FieldType {
     }
 }
 
-// A field that matches one.
-fn field_below(alloc: Global, field: FieldType) -> Result<FieldType, Error> {
+// A field that matches one, drawn twice.
+fn field_below_under(alloc: Global, config: &Config, field: FieldType) -> Result<FieldType, Fail> {
     let types = two_structs(alloc)?;
+    let spaces = spaces_of(&types);
     let mut u = Unstructured::new(&[1]);
-    arbitrary_matching_field_type(alloc, &Config::default(), &spaces_of(&types), field, &mut u)
+    let mut again = Unstructured::new(&[1]);
+    same(
+        arbitrary_matching_field_type(alloc, config, &spaces, field, &mut u)?,
+        arbitrary_matching_field_type(alloc, config, &spaces, field, &mut again)?,
+    )
+}
+
+fn field_below(alloc: Global, field: FieldType) -> Result<FieldType, Fail> {
+    field_below_under(alloc, &Config::default(), field)
 }
 
 #[test]
@@ -223,27 +227,41 @@ fn field_types(rt: HostRuntime) -> Result<(), Fail> {
 }
 
 // Below a byte, a float and a reference to the first struct.
-fn three_below(alloc: Global, config: &Config) -> Result<(StorageType, ValType, RefType), Error> {
+type ThreeBelow = (StorageType, ValType, RefType);
+
+fn three_below_once(alloc: Global, config: &Config) -> Result<ThreeBelow, Error> {
     let types = two_structs(alloc)?;
     let spaces = spaces_of(&types);
     let mut u = Unstructured::new(&[0]);
     let packed = arbitrary_matching_storage_type(alloc, config, &spaces, StorageType::I8, &mut u)?;
     let float = arbitrary_matching_val_type(alloc, config, &spaces, ValType::F64, &mut u)?;
-    let same = arbitrary_matching_ref_type(alloc, config, &spaces, reference(0), &mut u)?;
-    Ok((packed, float, same))
+    let not_null = arbitrary_matching_ref_type(alloc, config, &spaces, reference(0), &mut u)?;
+    Ok((packed, float, not_null))
+}
+
+// The same, drawn twice.
+fn three_below_under(alloc: Global, config: &Config) -> Result<ThreeBelow, Fail> {
+    same(
+        three_below_once(alloc, config)?,
+        three_below_once(alloc, config)?,
+    )
+}
+
+fn three_below(alloc: Global) -> Result<ThreeBelow, Fail> {
+    three_below_under(alloc, &Config::default())
 }
 
 #[test]
 fn values_below(rt: HostRuntime) -> Result<(), Fail> {
-    let (packed, float, same) = three_below(rt.alloc(), &Config::default())?;
+    let (packed, float, not_null) = three_below(rt.alloc())?;
     assert_eq!(rt; packed, StorageType::I8);
     assert_eq!(rt; float, ValType::F64);
-    assert_eq!(rt; same, reference(0));
+    assert_eq!(rt; not_null, reference(0));
     Ok(())
 }
 
 // Above a vector and a reference to the first struct.
-fn two_above(alloc: Global, config: &Config) -> Result<(ValType, RefType), Error> {
+fn two_above_once(alloc: Global, config: &Config) -> Result<(ValType, RefType), Error> {
     let types = two_structs(alloc)?;
     let spaces = spaces_of(&types);
     let mut u = Unstructured::new(&[1]);
@@ -252,9 +270,21 @@ fn two_above(alloc: Global, config: &Config) -> Result<(ValType, RefType), Error
     Ok((vector, any))
 }
 
+// The same, drawn twice.
+fn two_above_under(alloc: Global, config: &Config) -> Result<(ValType, RefType), Fail> {
+    same(
+        two_above_once(alloc, config)?,
+        two_above_once(alloc, config)?,
+    )
+}
+
+fn two_above(alloc: Global) -> Result<(ValType, RefType), Fail> {
+    two_above_under(alloc, &Config::default())
+}
+
 #[test]
 fn values_above(rt: HostRuntime) -> Result<(), Fail> {
-    let (vector, any) = two_above(rt.alloc(), &Config::default())?;
+    let (vector, any) = two_above(rt.alloc())?;
     assert_eq!(rt; vector, ValType::V128);
     assert_eq!(rt; any.nullable, true);
     assert_eq!(rt; any.heap_type, plain(AbstractHeapType::Any));

@@ -1,3 +1,4 @@
+use crate::repeated::same;
 use std::alloc::Global;
 use std::test::Fail;
 use wasm_smith::{Config, Error, Module, Unstructured};
@@ -19,10 +20,17 @@ fn few_parts() -> Config {
 }
 
 // Whether there is a type section and an import section, and how many bytes are left.
-fn flags(alloc: Global, input: &[u8]) -> Result<((bool, bool), usize), Error> {
+type Flags = ((bool, bool), usize);
+
+fn flags_once(alloc: Global, input: &[u8]) -> Result<Flags, Error> {
     let mut u = Unstructured::new(input);
     let module = Module::new(alloc, few_parts(), &mut u)?;
     Ok((flags_of(&module), u.len()))
+}
+
+// The same, drawn twice.
+fn flags(alloc: Global, input: &[u8]) -> Result<Flags, Fail> {
+    same(flags_once(alloc, input)?, flags_once(alloc, input)?)
 }
 
 #[test]

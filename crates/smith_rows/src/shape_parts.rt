@@ -1,8 +1,10 @@
+use crate::repeated::same;
 use smith_config::{Config, Shape};
 use smith_types::{
     CompositeInnerType, CompositeType, FuncType, Items, StructType, SubType, ValType,
 };
 use std::alloc::Global;
+use std::test::Fail;
 use wasm_smith::{Error, ShapeFault, Which};
 
 /// A shape of nothing.
@@ -76,8 +78,43 @@ pub(crate) fn chain(alloc: Global, count: u32) -> Result<Items<SubType>, Error> 
     Ok(types)
 }
 
-/// The fault of a shape in a use, if it has one.
-pub(crate) fn fault(
+/// How a configuration differs from the defaults.
+#[derive(Clone, Copy, Debug)]
+pub(crate) enum Rules {
+    Defaults,
+    WithoutVectors,
+    WithoutVectorsWithShared,
+    WithShared,
+    WithDescriptors,
+    WithoutExceptions,
+    /// At most this number of memories.
+    Memories(usize),
+    /// Three memories at most, and no compact groups of imports.
+    WithoutCompactImports,
+}
+
+fn config_of(rules: Rules) -> Config {
+    let mut config = Config::default();
+    match rules {
+        Rules::Defaults => {}
+        Rules::WithoutVectors => config.simd_enabled = false,
+        Rules::WithoutVectorsWithShared => {
+            config.simd_enabled = false;
+            config.shared_everything_threads_enabled = true;
+        }
+        Rules::WithShared => config.shared_everything_threads_enabled = true,
+        Rules::WithDescriptors => config.custom_descriptors_enabled = true,
+        Rules::WithoutExceptions => config.exceptions_enabled = false,
+        Rules::Memories(most) => config.max_memories = most,
+        Rules::WithoutCompactImports => {
+            config.max_memories = 3;
+            config.compact_imports_enabled = false;
+        }
+    }
+    config
+}
+
+fn fault_once(
     alloc: Global,
     which: Which,
     config: &Config,
@@ -90,7 +127,29 @@ pub(crate) fn fault(
     }
 }
 
+fn fault_under(
+    alloc: Global,
+    which: Which,
+    config: &Config,
+    shape: &Shape,
+) -> Result<Option<ShapeFault>, Fail> {
+    same(
+        fault_once(alloc, which, config, shape)?,
+        fault_once(alloc, which, config, shape)?,
+    )
+}
+
+/// The fault of a shape in a use, if it has one, looked for twice.
+pub(crate) fn fault(
+    alloc: Global,
+    which: Which,
+    rules: Rules,
+    shape: Shape,
+) -> Result<Option<ShapeFault>, Fail> {
+    fault_under(alloc, which, &config_of(rules), &shape)
+}
+
 /// The fault of a module shape under the defaults, if it has one.
-pub(crate) fn module_fault(alloc: Global, shape: &Shape) -> Result<Option<ShapeFault>, Error> {
-    fault(alloc, Which::ModuleShape, &Config::default(), shape)
+pub(crate) fn module_fault(alloc: Global, shape: Shape) -> Result<Option<ShapeFault>, Fail> {
+    fault(alloc, Which::ModuleShape, Rules::Defaults, shape)
 }

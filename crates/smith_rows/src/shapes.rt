@@ -1,7 +1,7 @@
 use crate::shape_parts::{
-    chain, empty_struct, fault, function, module_fault, no_shape, of_type, of_types,
+    Rules, chain, empty_struct, fault, function, module_fault, no_shape, of_type, of_types,
 };
-use smith_config::{Config, Shape};
+use smith_config::Shape;
 use smith_types::{
     AbstractHeapType, EntityType, ExportKind, GlobalType, HeapType, Import, Imports, MemoryType,
     Name, RefType, TableType, ValType,
@@ -88,28 +88,21 @@ fn export(
 
 #[test]
 fn nothing_is_a_shape(rt: HostRuntime) -> Result<(), Fail> {
-    let shape = no_shape(rt.alloc());
-    assert_eq!(rt; module_fault(rt.alloc(), &shape)?, None);
+    assert_eq!(rt; module_fault(rt.alloc(), no_shape(rt.alloc()))?, None);
     Ok(())
 }
 
 #[test]
 fn a_type_below_itself(rt: HostRuntime) -> Result<(), Fail> {
     let shape = of_type(rt.alloc(), empty_struct(rt.alloc(), false, Some(0)))?;
-    assert_eq!(rt;
-        module_fault(rt.alloc(), &shape)?,
-        Some(ShapeFault::BadType)
-    );
+    assert_eq!(rt; module_fault(rt.alloc(), shape)?, Some(ShapeFault::BadType));
     Ok(())
 }
 
 #[test]
 fn a_reference_to_no_type(rt: HostRuntime) -> Result<(), Fail> {
     let shape = of_global(rt.alloc(), constant(reference(true, HeapType::Concrete(0))))?;
-    assert_eq!(rt;
-        module_fault(rt.alloc(), &shape)?,
-        Some(ShapeFault::BadType)
-    );
+    assert_eq!(rt; module_fault(rt.alloc(), shape)?, Some(ShapeFault::BadType));
     Ok(())
 }
 
@@ -123,26 +116,35 @@ fn of_function(alloc: Global, index: u32) -> Result<Shape, Error> {
 #[test]
 fn a_function_of_no_type(rt: HostRuntime) -> Result<(), Fail> {
     let shape = of_function(rt.alloc(), 5)?;
-    assert_eq!(rt; module_fault(rt.alloc(), &shape)?, Some(ShapeFault::Index));
+    assert_eq!(rt; module_fault(rt.alloc(), shape)?, Some(ShapeFault::Index));
     Ok(())
+}
+
+// A shape of one tag, whose type gives a number.
+fn of_tag_with_a_result(alloc: Global) -> Result<Shape, Error> {
+    let mut shape = of_type(alloc, function(alloc, true, &[], &[ValType::I32])?)?;
+    shape.tags.push(0)?;
+    Ok(shape)
 }
 
 #[test]
 fn a_tag_with_a_result(rt: HostRuntime) -> Result<(), Fail> {
-    let mut shape = of_type(
-        rt.alloc(),
-        function(rt.alloc(), true, &[], &[ValType::I32])?,
-    )?;
-    shape.tags.push(0)?;
-    assert_eq!(rt; module_fault(rt.alloc(), &shape)?, Some(ShapeFault::Index));
+    let shape = of_tag_with_a_result(rt.alloc())?;
+    assert_eq!(rt; module_fault(rt.alloc(), shape)?, Some(ShapeFault::Index));
     Ok(())
+}
+
+// A shape of an export, of a memory that is not there.
+fn of_export(alloc: Global) -> Result<Shape, Error> {
+    let mut shape = no_shape(alloc);
+    export(alloc, &mut shape, "m", ExportKind::Memory, 0)?;
+    Ok(shape)
 }
 
 #[test]
 fn an_export_of_nothing(rt: HostRuntime) -> Result<(), Fail> {
-    let mut shape = no_shape(rt.alloc());
-    export(rt.alloc(), &mut shape, "m", ExportKind::Memory, 0)?;
-    assert_eq!(rt; module_fault(rt.alloc(), &shape)?, Some(ShapeFault::Index));
+    let shape = of_export(rt.alloc())?;
+    assert_eq!(rt; module_fault(rt.alloc(), shape)?, Some(ShapeFault::Index));
     Ok(())
 }
 
@@ -155,13 +157,8 @@ fn limits_of_tables(rt: HostRuntime) -> Result<(), Fail> {
         (table(4294967296, None), Some(ShapeFault::Limit)),
     ];
     for (ty, want) in cases {
-        let shape = of_table(rt.alloc(), ty)?;
-        assert_eq!(rt;
-            module_fault(rt.alloc(), &shape)?,
-            want,
-            "at {}",
-            ty.minimum
-        );
+        let found = module_fault(rt.alloc(), of_table(rt.alloc(), ty)?)?;
+        assert_eq!(rt; found, want, "at {}", ty.minimum);
     }
     Ok(())
 }
@@ -200,13 +197,8 @@ fn limits_of_memories(rt: HostRuntime) -> Result<(), Fail> {
         (paged_memory(16), Some(ShapeFault::Feature)),
     ];
     for (ty, want) in cases {
-        let shape = of_memory(rt.alloc(), ty)?;
-        assert_eq!(rt;
-            module_fault(rt.alloc(), &shape)?,
-            want,
-            "at {}",
-            ty.minimum
-        );
+        let found = module_fault(rt.alloc(), of_memory(rt.alloc(), ty)?)?;
+        assert_eq!(rt; found, want, "at {}", ty.minimum);
     }
     Ok(())
 }
@@ -216,40 +208,60 @@ fn depths_of_types(rt: HostRuntime) -> Result<(), Fail> {
     let cases = [(63, None), (64, Some(ShapeFault::Limit))];
     for (count, want) in cases {
         let shape = of_types(rt.alloc(), chain(rt.alloc(), count)?)?;
-        assert_eq!(rt; module_fault(rt.alloc(), &shape)?, want, "at {count}");
+        assert_eq!(rt; module_fault(rt.alloc(), shape)?, want, "at {count}");
     }
     Ok(())
 }
 
 #[test]
 fn vectors_need_a_feature(rt: HostRuntime) -> Result<(), Fail> {
-    let shape = of_global(rt.alloc(), constant(ValType::V128))?;
-    let mut config = Config::default();
-    config.simd_enabled = false;
-    let found = fault(rt.alloc(), Which::ModuleShape, &config, &shape)?;
-    assert_eq!(rt; found, Some(ShapeFault::Feature));
-    assert_eq!(rt; module_fault(rt.alloc(), &shape)?, None);
+    let cases = [
+        (Rules::WithoutVectors, Some(ShapeFault::Feature)),
+        (Rules::Defaults, None),
+    ];
+    for (rules, want) in cases {
+        let shape = of_global(rt.alloc(), constant(ValType::V128))?;
+        let found = fault(rt.alloc(), Which::ModuleShape, rules, shape)?;
+        assert_eq!(rt; found, want, "at {rules:?}");
+    }
     Ok(())
+}
+
+// A global that is exported twice by one name.
+fn of_two_exports(alloc: Global) -> Result<Shape, Error> {
+    let mut shape = of_global(alloc, constant(ValType::I32))?;
+    export(alloc, &mut shape, "a", ExportKind::Global, 0)?;
+    export(alloc, &mut shape, "a", ExportKind::Global, 0)?;
+    Ok(shape)
 }
 
 #[test]
 fn two_exports_of_one_name(rt: HostRuntime) -> Result<(), Fail> {
-    let mut shape = of_global(rt.alloc(), constant(ValType::I32))?;
-    export(rt.alloc(), &mut shape, "a", ExportKind::Global, 0)?;
-    export(rt.alloc(), &mut shape, "a", ExportKind::Global, 0)?;
-    let found = fault(rt.alloc(), Which::Exports, &Config::default(), &shape)?;
+    let shape = of_two_exports(rt.alloc())?;
+    let found = fault(rt.alloc(), Which::Exports, Rules::Defaults, shape)?;
     assert_eq!(rt; found, Some(ShapeFault::DuplicateExport));
     Ok(())
 }
 
+// An exported function of a type that is not final.
+fn of_open_function(alloc: Global) -> Result<Shape, Error> {
+    let mut shape = of_type(alloc, function(alloc, false, &[], &[])?)?;
+    shape.funcs.push(0)?;
+    export(alloc, &mut shape, "f", ExportKind::Func, 0)?;
+    Ok(shape)
+}
+
 #[test]
 fn an_exported_function_that_is_not_final(rt: HostRuntime) -> Result<(), Fail> {
-    let mut shape = of_type(rt.alloc(), function(rt.alloc(), false, &[], &[])?)?;
-    shape.funcs.push(0)?;
-    export(rt.alloc(), &mut shape, "f", ExportKind::Func, 0)?;
-    let found = fault(rt.alloc(), Which::Exports, &Config::default(), &shape)?;
-    assert_eq!(rt; found, Some(ShapeFault::NotPlain));
-    assert_eq!(rt; module_fault(rt.alloc(), &shape)?, None);
+    let cases = [
+        (Which::Exports, Some(ShapeFault::NotPlain)),
+        (Which::ModuleShape, None),
+    ];
+    for (which, want) in cases {
+        let shape = of_open_function(rt.alloc())?;
+        let found = fault(rt.alloc(), which, Rules::Defaults, shape)?;
+        assert_eq!(rt; found, want, "as {which}");
+    }
     Ok(())
 }
 
@@ -264,15 +276,15 @@ fn of_exact_reference(alloc: Global) -> Result<Shape, Error> {
 
 #[test]
 fn exact_references(rt: HostRuntime) -> Result<(), Fail> {
-    let shape = of_exact_reference(rt.alloc())?;
-    let mut config = Config::default();
-    assert_eq!(rt;
-        module_fault(rt.alloc(), &shape)?,
-        Some(ShapeFault::Feature)
-    );
-    config.custom_descriptors_enabled = true;
-    let found = fault(rt.alloc(), Which::ModuleShape, &config, &shape)?;
-    assert_eq!(rt; found, Some(ShapeFault::LeftOut));
+    let cases = [
+        (Rules::Defaults, ShapeFault::Feature),
+        (Rules::WithDescriptors, ShapeFault::LeftOut),
+    ];
+    for (rules, want) in cases {
+        let shape = of_exact_reference(rt.alloc())?;
+        let found = fault(rt.alloc(), Which::ModuleShape, rules, shape)?;
+        assert_eq!(rt; found, Some(want), "at {rules:?}");
+    }
     Ok(())
 }
 
@@ -289,11 +301,9 @@ fn references_in_exports(rt: HostRuntime) -> Result<(), Fail> {
         (HeapType::Concrete(0), ShapeFault::NotPlain),
         (HeapType::Exact(0), ShapeFault::LeftOut),
     ];
-    let mut config = Config::default();
-    config.custom_descriptors_enabled = true;
     for (heap_type, want) in cases {
         let shape = of_function_reference(rt.alloc(), heap_type)?;
-        let found = fault(rt.alloc(), Which::Exports, &config, &shape)?;
+        let found = fault(rt.alloc(), Which::Exports, Rules::WithDescriptors, shape)?;
         assert_eq!(rt; found, Some(want));
     }
     Ok(())
@@ -306,32 +316,44 @@ fn shared_globals(rt: HostRuntime) -> Result<(), Fail> {
         mutable: false,
         shared: true,
     };
-    let shape = of_global(rt.alloc(), shared)?;
-    let mut config = Config::default();
-    assert_eq!(rt;
-        module_fault(rt.alloc(), &shape)?,
-        Some(ShapeFault::Feature)
-    );
-    config.shared_everything_threads_enabled = true;
-    let found = fault(rt.alloc(), Which::ModuleShape, &config, &shape)?;
-    assert_eq!(rt; found, Some(ShapeFault::LeftOut));
+    let cases = [
+        (Rules::Defaults, ShapeFault::Feature),
+        (Rules::WithShared, ShapeFault::LeftOut),
+    ];
+    for (rules, want) in cases {
+        let shape = of_global(rt.alloc(), shared)?;
+        let found = fault(rt.alloc(), Which::ModuleShape, rules, shape)?;
+        assert_eq!(rt; found, Some(want), "at {rules:?}");
+    }
     Ok(())
+}
+
+// The import of a tag of the first type.
+fn tag(alloc: Global) -> Result<Imports, Error> {
+    Ok(Imports::Single(Import {
+        module: Name::from_text(alloc, "")?,
+        name: Name::from_text(alloc, "")?,
+        entity_type: EntityType::Tag(0),
+    }))
+}
+
+// A tag to import.
+fn of_imported_tag(alloc: Global) -> Result<Shape, Error> {
+    let mut shape = of_type(alloc, function(alloc, true, &[], &[])?)?;
+    shape.imports.push(tag(alloc)?)?;
+    Ok(shape)
 }
 
 #[test]
 fn available_tags_without_exceptions(rt: HostRuntime) -> Result<(), Fail> {
-    let alloc = rt.alloc();
-    let mut shape = of_type(alloc, function(alloc, true, &[], &[])?)?;
-    shape.imports.push(Imports::Single(Import {
-        module: Name::from_text(alloc, "")?,
-        name: Name::from_text(alloc, "")?,
-        entity_type: EntityType::Tag(0),
-    }))?;
-    let mut config = Config::default();
-    config.exceptions_enabled = false;
-    let available = fault(alloc, Which::AvailableImports, &config, &shape)?;
-    let module = fault(alloc, Which::ModuleShape, &config, &shape)?;
-    assert_eq!(rt; available, None);
-    assert_eq!(rt; module, Some(ShapeFault::Feature));
+    let cases = [
+        (Which::AvailableImports, None),
+        (Which::ModuleShape, Some(ShapeFault::Feature)),
+    ];
+    for (which, want) in cases {
+        let shape = of_imported_tag(rt.alloc())?;
+        let found = fault(rt.alloc(), which, Rules::WithoutExceptions, shape)?;
+        assert_eq!(rt; found, want, "as {which}");
+    }
     Ok(())
 }

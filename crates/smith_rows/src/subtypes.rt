@@ -5,6 +5,7 @@ ghost use Rattle.smith_config.specs.Features.{features_of};
 ghost use Rattle.smith_config.specs.Sanitized.{IsSanitized};
 
 use crate::function_types::is_function;
+use crate::repeated::same;
 use crate::type_spaces::{spaces_of, types_from};
 use smith_types::{FieldType, Items, StorageType, StructType, SubType, TypeSpace, ValType};
 use std::alloc::Global;
@@ -44,20 +45,24 @@ fn one_more(
     arbitrary_sub_type(alloc, config, &spaces_of(types), limit, &mut u)
 }
 
-// Whether the one type that these bytes draw takes a float.
-fn takes_a_float(alloc: Global, config: &Config) -> Result<bool, Error>
+// Whether the type that these bytes draw, twice, takes a float.
+fn takes_a_float_under(alloc: Global, config: &Config) -> Result<bool, Fail>
     requires passes { Passes config.now }
     requires sanitized { IsSanitized config.now }
 {
     let types = types_from(alloc, config, &[])?;
-    let drawn = one_more(alloc, config, &types, &[1, 3])?;
-    Ok(is_function(&drawn, &[ValType::F64], &[]))
+    let first = one_more(alloc, config, &types, &[1, 3])?;
+    let second = one_more(alloc, config, &types, &[1, 3])?;
+    Ok(is_function(&same(first, second)?, &[ValType::F64], &[]))
+}
+
+fn takes_a_float(alloc: Global) -> Result<bool, Fail> {
+    takes_a_float_under(alloc, &settled(false)?)
 }
 
 #[test]
 fn a_subtype_without_gc(rt: HostRuntime) -> Result<(), Fail> {
-    let config = settled(false)?;
-    assert!(rt; takes_a_float(rt.alloc(), &config)?);
+    assert!(rt; takes_a_float(rt.alloc())?);
     Ok(())
 }
 
@@ -86,21 +91,26 @@ fn is_last_below(ty: &SubType, index: u32) -> bool {
     ty.is_final && ty.supertype == Some(index)
 }
 
-// Whether a type that is drawn below the first of two is below the second.
-fn is_below_the_second(alloc: Global, config: &Config) -> Result<bool, Error>
+// Whether a type that is drawn below the first of two, twice, is below the second.
+fn is_below_the_second_under(alloc: Global, config: &Config) -> Result<bool, Fail>
     requires passes { Passes config.now }
     requires sanitized { IsSanitized config.now }
     requires gc { IsTrue config.now.gc_enabled }
 {
     let types = types_from(alloc, config, &[1, 2])?;
-    let drawn = one_below(alloc, config, &types, &[1, 1])?;
+    let first = one_below(alloc, config, &types, &[1, 1])?;
+    let second = one_below(alloc, config, &types, &[1, 1])?;
+    let drawn = same(first, second)?;
     Ok(drawn.as_ref().is_some_and(|ty| is_last_below(ty, 1)))
+}
+
+fn is_below_the_second(alloc: Global) -> Result<bool, Fail> {
+    is_below_the_second_under(alloc, &settled(true)?)
 }
 
 #[test]
 fn a_subtype_of_a_chosen_type(rt: HostRuntime) -> Result<(), Fail> {
-    let config = settled(true)?;
-    assert!(rt; is_below_the_second(rt.alloc(), &config)?);
+    assert!(rt; is_below_the_second(rt.alloc())?);
     Ok(())
 }
 
@@ -125,7 +135,7 @@ fn counts_with_clone(
 }
 
 // The same for the group of two types that these bytes draw.
-fn counts_of_two(alloc: Global, config: &Config) -> Result<Option<(usize, usize)>, Error>
+fn counts_of_two_once(alloc: Global, config: &Config) -> Result<Option<(usize, usize)>, Error>
     requires passes { Passes config.now }
     requires sanitized { IsSanitized config.now }
 {
@@ -133,10 +143,24 @@ fn counts_of_two(alloc: Global, config: &Config) -> Result<Option<(usize, usize)
     counts_with_clone(alloc, config, types)
 }
 
+// The same, drawn twice.
+fn counts_of_two_under(alloc: Global, config: &Config) -> Result<Option<(usize, usize)>, Fail>
+    requires passes { Passes config.now }
+    requires sanitized { IsSanitized config.now }
+{
+    same(
+        counts_of_two_once(alloc, config)?,
+        counts_of_two_once(alloc, config)?,
+    )
+}
+
+fn counts_of_two(alloc: Global) -> Result<Option<(usize, usize)>, Fail> {
+    counts_of_two_under(alloc, &settled(true)?)
+}
+
 #[test]
 fn a_group_is_added_again(rt: HostRuntime) -> Result<(), Fail> {
-    let config = settled(true)?;
-    assert_eq!(rt; counts_of_two(rt.alloc(), &config)?, Some((4, 2)));
+    assert_eq!(rt; counts_of_two(rt.alloc())?, Some((4, 2)));
     Ok(())
 }
 
@@ -161,12 +185,14 @@ fn extended(alloc: Global, config: &Config, input: &[u8]) -> Result<StructType, 
     )
 }
 
-// Whether the one field that these bytes draw for it is a mutable byte.
-fn has_a_byte(alloc: Global, config: &Config) -> Result<bool, Error>
+// Whether the one field that these bytes draw for it, twice, is a mutable byte.
+fn has_a_byte_under(alloc: Global, config: &Config) -> Result<bool, Fail>
     requires sanitized { IsSanitized config.now }
     requires gc { IsTrue config.now.gc_enabled }
 {
-    let StructType { fields } = extended(alloc, config, &[1, 0, 1])?;
+    let first = extended(alloc, config, &[1, 0, 1])?;
+    let second = extended(alloc, config, &[1, 0, 1])?;
+    let StructType { fields } = same(first, second)?;
     let expected = [FieldType {
         element_type: StorageType::I8,
         mutable: true,
@@ -174,9 +200,12 @@ fn has_a_byte(alloc: Global, config: &Config) -> Result<bool, Error>
     Ok(fields.as_slice() == expected.as_slice())
 }
 
+fn has_a_byte(alloc: Global) -> Result<bool, Fail> {
+    has_a_byte_under(alloc, &settled(true)?)
+}
+
 #[test]
 fn a_struct_with_an_extra_field(rt: HostRuntime) -> Result<(), Fail> {
-    let config = settled(true)?;
-    assert!(rt; has_a_byte(rt.alloc(), &config)?);
+    assert!(rt; has_a_byte(rt.alloc())?);
     Ok(())
 }

@@ -1,8 +1,10 @@
-ghost use Rattle.std.specs.Prelude.{◌≡◌, ◌∷◌, [], IfOk};
+ghost use Rattle.std.specs.Prelude.{◌≡◌, ◌∷◌, [], length, IfOk};
 ghost use Rattle.smith_types.specs.declared.composite_type.CompositeInnerType.TheVariants.{Func};
 ghost use Rattle.smith_types.specs.declared.value_type.HeapType.TheVariants.{Concrete};
 ghost use Rattle.smith_types.specs.declared.value_type.ValType.TheVariants.{I32, I64, F64};
 
+use crate::repeated::same;
+use crate::type_spaces::two_structs;
 use smith_types::{
     AbstractHeapType, CompositeInnerType, CompositeType, EntityType, FieldType, FuncType, HeapType,
     Import, ImportItem, Imports, Items, Name, RefType, StorageType, StructType, SubType, TypeSpace,
@@ -10,22 +12,6 @@ use smith_types::{
 };
 use std::alloc::{AllocError, Global};
 use std::test::Fail;
-
-// A struct type without fields.
-fn empty_struct(alloc: Global, supertype: Option<u32>) -> SubType
-    ensures { result.supertype ≡ supertype }
-{
-    SubType {
-        is_final: false,
-        supertype,
-        composite_type: CompositeType {
-            inner: CompositeInnerType::Struct(StructType {
-                fields: Items::new(alloc),
-            }),
-            shared: false,
-        },
-    }
-}
 
 const NONE: HeapType = HeapType::Abstract {
     shared: false,
@@ -42,36 +28,57 @@ fn reference(nullable: bool, index: u32) -> RefType
     }
 }
 
+/// What the tests compare of a struct type and one below it.
+#[derive(Clone, Copy, Debug, PartialEq)]
+struct Facts {
+    groups: usize,
+    depths: [u32; 2],
+    is_below: [bool; 6],
+}
+
+// Whether types are below others, the second type below the first at first.
+fn are_below(space: &TypeSpace) -> [bool; 6]
+    requires two { length space.now.types ≡ 2 }
+{
+    let first = HeapType::Concrete(0);
+    let second = HeapType::Concrete(1);
+    let exact = HeapType::Exact(0);
+    let value = ValType::Ref(reference(false, 1));
+    let wider = ValType::Ref(reference(true, 0));
+    [
+        space.heap_type_is_sub_type(second, first),
+        space.heap_type_is_sub_type(first, exact),
+        space.heap_type_is_sub_type(exact, first),
+        space.heap_type_is_sub_type(NONE, exact),
+        space.ref_type_is_sub_type(reference(true, 1), reference(false, 0)),
+        space.val_type_is_sub_type(value, wider),
+    ]
+}
+
+// None where there are not two types.
+fn facts_of(space: &TypeSpace) -> Option<Facts> {
+    if space.types().len() != 2 {
+        return None;
+    }
+    Some(Facts {
+        groups: space.rec_groups().len(),
+        depths: [space.depth(0), space.depth(1)],
+        is_below: are_below(space),
+    })
+}
+
+// The facts of two structs, told twice.
+fn facts_of_two(alloc: Global) -> Result<Option<Facts>, Fail> {
+    let space = two_structs(alloc)?;
+    same(facts_of(&space), facts_of(&space))
+}
+
 #[test]
 fn a_struct_and_one_below_it(rt: HostRuntime) -> Result<(), Fail> {
-    let alloc = rt.alloc();
-    let mut space = TypeSpace::new(alloc);
-    let first = empty_struct(alloc, None);
-    assert!(rt; space.may_follow(&first));
-    let zero = space.push_type(first)?;
-    let second = empty_struct(alloc, Some(zero));
-    assert!(rt; space.may_follow(&second));
-    let one = space.push_type(second)?;
-    space.push_group()?;
-
-    assert_eq!(rt; zero, 0);
-    assert_eq!(rt; one, 1);
-    assert_eq!(rt; space.types().len(), 2);
-    assert_eq!(rt; space.rec_groups().len(), 1);
-    assert_eq!(rt; space.depth(zero), 1);
-    assert_eq!(rt; space.depth(one), 2);
-
-    assert!(rt; space.heap_type_is_sub_type(HeapType::Concrete(one), HeapType::Concrete(zero)));
-    assert!(rt; !space.heap_type_is_sub_type(HeapType::Concrete(zero), HeapType::Exact(zero)));
-    assert!(rt; space.heap_type_is_sub_type(HeapType::Exact(zero), HeapType::Concrete(zero)));
-    assert!(rt; space.heap_type_is_sub_type(NONE, HeapType::Exact(zero)));
-    assert!(rt; !space.ref_type_is_sub_type(reference(true, one), reference(false, zero)));
-    assert!(rt;
-        space.val_type_is_sub_type(
-            ValType::Ref(reference(false, one)),
-            ValType::Ref(reference(true, zero))
-        )
-    );
+    let facts = facts_of_two(rt.alloc())?.ok_or("not two types")?;
+    assert_eq!(rt; facts.groups, 1);
+    assert_eq!(rt; facts.depths, [1, 2]);
+    assert_eq!(rt; facts.is_below, [true, false, true, true, false, true]);
     Ok(())
 }
 

@@ -1,4 +1,4 @@
-//! Type spaces for the worked cases: those that bytes give, and what may be drawn over them without entities.
+//! Type spaces for the worked cases: those that bytes give, two structs, and what may be drawn over them without entities.
 
 ghost use Rattle.std.specs.Prelude.{◌≡◌, [], IfOk};
 ghost use Rattle.smith_types.specs.ValidTypes.{AreTypesValid};
@@ -6,9 +6,10 @@ ghost use Rattle.smith_config.specs.Faults.{Passes};
 ghost use Rattle.smith_config.specs.Features.{features_of};
 ghost use Rattle.smith_config.specs.Sanitized.{IsSanitized};
 
-use smith_types::TypeSpace;
+use crate::shape_parts::empty_struct;
+use smith_types::{SubType, TypeSpace};
 use std::alloc::Global;
-use wasm_smith::{Config, Entities, Error, Spaces, Unstructured, arbitrary_types};
+use wasm_smith::{Config, Entities, Error, Spaces, Unstructured, add_type, arbitrary_types};
 
 /// These types, without entities.
 pub(crate) fn spaces_of<'a>(types: &'a TypeSpace) -> Spaces<'a>
@@ -38,5 +39,21 @@ pub(crate) fn types_from(alloc: Global, config: &Config, input: &[u8]) -> Result
         &Entities::none(),
         &mut Unstructured::new(input),
     )?;
+    Ok(types)
+}
+
+fn add(types: &mut TypeSpace, added: SubType) -> Result<(), Error> {
+    if types.may_follow(&added) {
+        let _ = add_type(types, added)?;
+    }
+    Ok(())
+}
+
+/// A struct type, and one below it.
+pub(crate) fn two_structs(alloc: Global) -> Result<TypeSpace, Error> {
+    let mut types = TypeSpace::new(alloc);
+    add(&mut types, empty_struct(alloc, false, None))?;
+    add(&mut types, empty_struct(alloc, false, Some(0)))?;
+    types.push_group()?;
     Ok(types)
 }

@@ -1,4 +1,6 @@
+use crate::repeated::same;
 use std::alloc::Global;
+use std::test::Fail;
 use wasm_smith::{Config, Count, Error, Module, Unstructured, Why};
 
 // The defaults, with one thing of this kind at least.
@@ -25,8 +27,16 @@ fn refusal(alloc: Global, config: Config) -> Option<Error> {
     Module::new(alloc, config, &mut Unstructured::new(&[])).err()
 }
 
+// The same of one thing at least, drawn twice.
+fn refusal_of(alloc: Global, count: Count) -> Result<Option<Error>, Fail> {
+    same(
+        refusal(alloc, at_least_one(count)),
+        refusal(alloc, at_least_one(count)),
+    )
+}
+
 #[test]
-fn minimums_that_are_not_met(rt: HostRuntime) {
+fn minimums_that_are_not_met(rt: HostRuntime) -> Result<(), Fail> {
     let unmet = [
         Count::Imports,
         Count::Tags,
@@ -39,32 +49,49 @@ fn minimums_that_are_not_met(rt: HostRuntime) {
         Count::Tables,
     ];
     for count in unmet {
-        let found = refusal(rt.alloc(), at_least_one(count));
+        let found = refusal_of(rt.alloc(), count)?;
         assert_eq!(rt; found, Some(Error::IncorrectFormat(Why::Unmet(count))));
     }
+    Ok(())
 }
 
 #[test]
-fn minimums_that_are_met(rt: HostRuntime) {
+fn minimums_that_are_met(rt: HostRuntime) -> Result<(), Fail> {
     for count in [Count::Types, Count::Memories] {
-        let found = refusal(rt.alloc(), at_least_one(count));
-        assert_eq!(rt; found, None, "at {count}");
+        assert_eq!(rt; refusal_of(rt.alloc(), count)?, None, "at {count}");
     }
+    Ok(())
 }
 
-#[test]
-fn exports_where_everything_is_exported(rt: HostRuntime) {
+// The defaults, with an export at least, where everything is exported.
+fn everything_exported() -> Config {
     let mut config = at_least_one(Count::Exports);
     config.export_everything = true;
-    let unmet = Error::IncorrectFormat(Why::Unmet(Count::Exports));
-    assert_eq!(rt; refusal(rt.alloc(), config), Some(unmet));
+    config
 }
 
 #[test]
-fn the_first_section_is_told(rt: HostRuntime) {
+fn exports_where_everything_is_exported(rt: HostRuntime) -> Result<(), Fail> {
+    let unmet = Error::IncorrectFormat(Why::Unmet(Count::Exports));
+    let first = refusal(rt.alloc(), everything_exported());
+    let second = refusal(rt.alloc(), everything_exported());
+    assert_eq!(rt; same(first, second)?, Some(unmet));
+    Ok(())
+}
+
+// The defaults, with a table, an import and a global at least.
+fn three_minimums() -> Config {
     let mut config = at_least_one(Count::Tables);
     config.min_imports = 1;
     config.min_globals = 1;
+    config
+}
+
+#[test]
+fn the_first_section_is_told(rt: HostRuntime) -> Result<(), Fail> {
     let unmet = Error::IncorrectFormat(Why::Unmet(Count::Imports));
-    assert_eq!(rt; refusal(rt.alloc(), config), Some(unmet));
+    let first = refusal(rt.alloc(), three_minimums());
+    let second = refusal(rt.alloc(), three_minimums());
+    assert_eq!(rt; same(first, second)?, Some(unmet));
+    Ok(())
 }

@@ -1,5 +1,5 @@
-use crate::shape_parts::{fault, function, no_shape};
-use smith_config::{Config, Shape};
+use crate::shape_parts::{Rules, fault, function, no_shape};
+use smith_config::Shape;
 use smith_types::{
     AbstractHeapType, EntityType, ExportKind, GlobalType, HeapType, Import, ImportItem, Imports,
     Items, MemoryType, Name, RefType, TableType, ValType,
@@ -67,13 +67,10 @@ fn of_groups(alloc: Global) -> Result<Shape, Error> {
 
 #[test]
 fn groups_of_imports_count_as_flat(rt: HostRuntime) -> Result<(), Fail> {
-    let shape = of_groups(rt.alloc())?;
-    for compact in [true, false] {
-        let mut config = Config::default();
-        config.max_memories = 3;
-        config.compact_imports_enabled = compact;
-        let found = fault(rt.alloc(), Which::ModuleShape, &config, &shape)?;
-        assert_eq!(rt; found, None, "with compact groups: {compact}");
+    for rules in [Rules::Memories(3), Rules::WithoutCompactImports] {
+        let shape = of_groups(rt.alloc())?;
+        let found = fault(rt.alloc(), Which::ModuleShape, rules, shape)?;
+        assert_eq!(rt; found, None, "at {rules:?}");
     }
     Ok(())
 }
@@ -137,15 +134,10 @@ fn of_exports(alloc: Global) -> Result<Shape, Error> {
 
 #[test]
 fn an_export_of_each_kind(rt: HostRuntime) -> Result<(), Fail> {
-    let shape = of_exports(rt.alloc())?;
-    let mut config = Config::default();
-    config.max_memories = 2;
     for which in [Which::Exports, Which::ModuleShape, Which::AvailableImports] {
-        assert_eq!(rt;
-            fault(rt.alloc(), which, &config, &shape)?,
-            None,
-            "as {which}"
-        );
+        let shape = of_exports(rt.alloc())?;
+        let found = fault(rt.alloc(), which, Rules::Memories(2), shape)?;
+        assert_eq!(rt; found, None, "as {which}");
     }
     Ok(())
 }
@@ -172,12 +164,7 @@ fn of_imports(alloc: Global) -> Result<Shape, Error> {
 #[test]
 fn two_available_imports(rt: HostRuntime) -> Result<(), Fail> {
     let shape = of_imports(rt.alloc())?;
-    let found = fault(
-        rt.alloc(),
-        Which::AvailableImports,
-        &Config::default(),
-        &shape,
-    )?;
+    let found = fault(rt.alloc(), Which::AvailableImports, Rules::Defaults, shape)?;
     assert_eq!(rt; found, None);
     Ok(())
 }

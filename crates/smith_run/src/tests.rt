@@ -107,9 +107,10 @@ impl ByteWriter {
     }
 }
 
+// Each twice.
 #[test]
 fn empty_input_makes_the_empty_module(rt: HostRuntime) -> Result<(), Fail> {
-    for drawn in [false, true] {
+    for drawn in [false, true, false, true] {
         let mut out = Vec::new(rt.alloc());
         let mut source = FromRead::new(b"".as_slice());
         let mut sink = FromWrite::new(&mut out);
@@ -121,12 +122,17 @@ fn empty_input_makes_the_empty_module(rt: HostRuntime) -> Result<(), Fail> {
 }
 
 // Whether an input, with a drawn configuration or without, is told by a line that begins with these counts.
-fn is_told(alloc: Global, drawn: bool, input: &[u8], counts: &str) -> bool {
+fn is_told_once(alloc: Global, drawn: bool, input: &[u8], counts: &str) -> bool {
     let mut out = Vec::new(alloc);
     let mut source = FromRead::new(input);
     let mut sink = FromWrite::new(&mut out);
     let ended = run(alloc, drawn, &mut source, &mut sink);
     ended == Ok(Outcome::Made) && out.as_slice().starts_with(counts.as_bytes())
+}
+
+// The same of two runs.
+fn is_told(alloc: Global, drawn: bool, input: &[u8], counts: &str) -> bool {
+    is_told_once(alloc, drawn, input, counts) && is_told_once(alloc, drawn, input, counts)
 }
 
 #[test]
