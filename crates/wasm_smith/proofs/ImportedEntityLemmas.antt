@@ -18,6 +18,7 @@ use Rattle.smith_types.specs.declared.entity_type.EntityType.TheVariants as enti
 use Rattle.smith_types.specs.declared.entity_type.ExportKind.{ExportKind}
 use Rattle.smith_types.specs.declared.entity_type.ExportKind.TheVariants as kind
 use Rattle.smith_types.specs.declared.entity_type.GlobalType.{GlobalType}
+use Rattle.smith_types.specs.declared.entity_type.MemoryType.{MemoryType}
 use Rattle.smith_types.specs.declared.entity_type.TableType.{TableType}
 use Rattle.smith_config.specs.declared.config.Config.{Config}
 use Rattle.smith_config.specs.Features.{features_of}
@@ -124,6 +125,23 @@ module _ (config : Config) (space : Space) (may : MayImport config space) where
     tables = All-nil (IsTableWithin config);
     memories = All-nil (IsMemoryWithin config);
     floats = λ off. All-cons HasNoFloatValue global [] (floats off) (All-nil HasNoFloatValue);
+    small = omega arith;
+    typed = tt;
+  }
+
+  pub memory_fit : (memory : MemoryType) → IsMemoryValid (features_of config) memory → IsMemoryWithin config memory → IsEntityFit config space.types (entity.Memory memory)
+  memory_fit memory valid within = record {
+    valid = record {
+      tags = All-nil (IsTagValid space.types);
+      funcs = All-nil (IsFuncValid space.types);
+      tables = All-nil (IsTableValid (features_of config) space.types);
+      memories = All-cons (IsMemoryValid (features_of config)) memory [] valid (All-nil (IsMemoryValid (features_of config)));
+      globals = All-nil (IsGlobalValid (features_of config) space.types);
+    };
+    tag = λ some. absurd (omega arith);
+    tables = All-nil (IsTableWithin config);
+    memories = All-cons (IsMemoryWithin config) memory [] within (All-nil (IsMemoryWithin config));
+    floats = λ off. All-nil HasNoFloatValue;
     small = omega arith;
     typed = tt;
   }
