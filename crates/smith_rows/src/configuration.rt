@@ -45,7 +45,7 @@ fn rules(config: &Config) -> [bool; 4] {
 }
 
 /// What the tests compare of a configuration.
-#[derive(Clone, Copy, Debug, PartialEq)]
+#[derive(Clone, Copy, PartialEq)]
 struct Facts {
     max_types: usize,
     max_imports: usize,

@@ -30,7 +30,11 @@ const fn field(element_type: StorageType, mutable: bool) -> FieldType {
 }
 
 // A storage type that is drawn twice, and how many bytes it leaves.
-fn storage_type(alloc: Global, config: &Config, input: &[u8]) -> Result<(StorageType, usize), Fail>
+fn storage_type_under(
+    alloc: Global,
+    config: &Config,
+    input: &[u8],
+) -> Result<(StorageType, usize), Fail>
     requires sanitized { IsSanitized config.now }
 {
     let types = TypeSpace::new(alloc);
@@ -42,15 +46,23 @@ fn storage_type(alloc: Global, config: &Config, input: &[u8]) -> Result<(Storage
     same((first, u.len()), (second, again.len()))
 }
 
+fn storage_type(alloc: Global, input: &[u8]) -> Result<(StorageType, usize), Fail> {
+    storage_type_under(alloc, &defaults(), input)
+}
+
 #[test]
 fn storage_types(rt: HostRuntime) -> Result<(), Fail> {
-    let drawn = storage_type(rt.alloc(), &defaults(), &[1, 3])?;
+    let drawn = storage_type(rt.alloc(), &[1, 3])?;
     assert_eq!(rt; drawn, (StorageType::I16, 1));
     Ok(())
 }
 
 // A field type that is drawn twice, and how many bytes it leaves.
-fn field_type(alloc: Global, config: &Config, input: &[u8]) -> Result<(FieldType, usize), Fail>
+fn field_type_under(
+    alloc: Global,
+    config: &Config,
+    input: &[u8],
+) -> Result<(FieldType, usize), Fail>
     requires sanitized { IsSanitized config.now }
 {
     let types = TypeSpace::new(alloc);
@@ -62,15 +74,19 @@ fn field_type(alloc: Global, config: &Config, input: &[u8]) -> Result<(FieldType
     same((first, u.len()), (second, again.len()))
 }
 
+fn field_type(alloc: Global, input: &[u8]) -> Result<(FieldType, usize), Fail> {
+    field_type_under(alloc, &defaults(), input)
+}
+
 #[test]
 fn field_types(rt: HostRuntime) -> Result<(), Fail> {
-    let drawn = field_type(rt.alloc(), &defaults(), &[3, 1, 9])?;
+    let drawn = field_type(rt.alloc(), &[3, 1, 9])?;
     assert_eq!(rt; drawn, (field(StorageType::I8, true), 1));
     Ok(())
 }
 
 // A struct type that is drawn twice, and how many bytes it leaves.
-fn struct_type(
+fn struct_type_under(
     alloc: Global,
     config: &Config,
     input: &[u8],
@@ -86,9 +102,13 @@ fn struct_type(
     same((first.fields, u.len()), (second.fields, again.len()))
 }
 
+fn struct_type(alloc: Global, input: &[u8]) -> Result<(Items<FieldType>, usize), Fail> {
+    struct_type_under(alloc, &defaults(), input)
+}
+
 #[test]
 fn struct_types(rt: HostRuntime) -> Result<(), Fail> {
-    let (fields, left) = struct_type(rt.alloc(), &defaults(), &[2, 0, 0, 1, 1])?;
+    let (fields, left) = struct_type(rt.alloc(), &[2, 0, 0, 1, 1])?;
     let expected = [field(StorageType::I8, false), field(StorageType::I16, true)];
     assert!(rt; fields.as_slice() == expected.as_slice());
     assert_eq!(rt; left, 0);
@@ -104,7 +124,7 @@ fn array_of(composite: &CompositeType) -> Option<ArrayType> {
 }
 
 // A composite type that is drawn twice, and how many bytes it leaves.
-fn composite_type(
+fn composite_type_under(
     alloc: Global,
     config: &Config,
     input: &[u8],
@@ -120,9 +140,13 @@ fn composite_type(
     same((first, u.len()), (second, again.len()))
 }
 
+fn composite_type(alloc: Global, input: &[u8]) -> Result<(CompositeType, usize), Fail> {
+    composite_type_under(alloc, &defaults(), input)
+}
+
 #[test]
 fn composite_types(rt: HostRuntime) -> Result<(), Fail> {
-    let (drawn, left) = composite_type(rt.alloc(), &defaults(), &[0, 1, 1, 5])?;
+    let (drawn, left) = composite_type(rt.alloc(), &[0, 1, 1, 5])?;
     let expected = ArrayType(field(StorageType::I16, true));
     assert_eq!(rt; array_of(&drawn), Some(expected));
     assert_eq!(rt; left, 1);

@@ -88,7 +88,16 @@ fn indices_at_the_limit(rt: HostRuntime) -> Result<(), Fail> {
     Ok(())
 }
 
-// Many exports of one global, each with a name of its own but the last, which has this one.
+// Adds many exports of the first global, each with a name of its own but the last, which has this one.
+fn export_many(alloc: Global, shape: &mut Shape, last: &str) -> Result<(), Error> {
+    for index in 1..MANY {
+        let name = Name::from_string(format!(in alloc; "{index}")?);
+        shape.exports.push((name, ExportKind::Global, 0))?;
+    }
+    let name = Name::from_text(alloc, last)?;
+    shape.exports.push((name, ExportKind::Global, 0))
+}
+
 fn many_exports(alloc: Global, last: &str) -> Result<Shape, Error> {
     let mut shape = no_shape(alloc);
     shape.globals.push(GlobalType {
@@ -96,13 +105,7 @@ fn many_exports(alloc: Global, last: &str) -> Result<Shape, Error> {
         mutable: false,
         shared: false,
     })?;
-    for index in 1..MANY {
-        let name = Name::from_string(format!(in alloc; "{index}")?);
-        shape.exports.push((name, ExportKind::Global, 0))?;
-    }
-    shape
-        .exports
-        .push((Name::from_text(alloc, last)?, ExportKind::Global, 0))?;
+    export_many(alloc, &mut shape, last)?;
     Ok(shape)
 }
 

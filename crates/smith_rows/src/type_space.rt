@@ -29,7 +29,7 @@ fn reference(nullable: bool, index: u32) -> RefType
 }
 
 /// What the tests compare of a struct type and one below it.
-#[derive(Clone, Copy, Debug, PartialEq)]
+#[derive(Clone, Copy, PartialEq)]
 struct Facts {
     groups: usize,
     depths: [u32; 2],

@@ -48,20 +48,19 @@ fn of_names(alloc: Global, entity_type: EntityType, count: u32) -> Result<Import
     })
 }
 
-// A group of each form with imports, one of each without, and one of no function without.
+// Adds a group of each form with imports, one of each without, and one of no function without.
+fn add_groups(alloc: Global, imports: &mut Items<Imports>) -> Result<(), Error> {
+    let memory = EntityType::Memory(PAGE);
+    imports.push(of_items(alloc, 1)?)?;
+    imports.push(of_items(alloc, 0)?)?;
+    imports.push(of_names(alloc, memory, 2)?)?;
+    imports.push(of_names(alloc, memory, 0)?)?;
+    imports.push(of_names(alloc, EntityType::Func(9), 0)?)
+}
+
 fn of_groups(alloc: Global) -> Result<Shape, Error> {
     let mut shape = no_shape(alloc);
-    shape.imports.push(of_items(alloc, 1)?)?;
-    shape.imports.push(of_items(alloc, 0)?)?;
-    shape
-        .imports
-        .push(of_names(alloc, EntityType::Memory(PAGE), 2)?)?;
-    shape
-        .imports
-        .push(of_names(alloc, EntityType::Memory(PAGE), 0)?)?;
-    shape
-        .imports
-        .push(of_names(alloc, EntityType::Func(9), 0)?)?;
+    add_groups(alloc, &mut shape.imports)?;
     Ok(shape)
 }
 
@@ -120,15 +119,19 @@ fn define(shape: &mut Shape) -> Result<(), Error> {
     })
 }
 
-// One export of each kind.
+// Adds one definition and one export of each kind.
+fn add_exports(alloc: Global, shape: &mut Shape) -> Result<(), Error> {
+    define(shape)?;
+    export(alloc, shape, "foo", ExportKind::Func)?;
+    export(alloc, shape, "bar", ExportKind::Global)?;
+    export(alloc, shape, "baz", ExportKind::Memory)?;
+    export(alloc, shape, "qux", ExportKind::Table)?;
+    export(alloc, shape, "quux", ExportKind::Tag)
+}
+
 fn of_exports(alloc: Global) -> Result<Shape, Error> {
     let mut shape = of_two_types(alloc)?;
-    define(&mut shape)?;
-    export(alloc, &mut shape, "foo", ExportKind::Func)?;
-    export(alloc, &mut shape, "bar", ExportKind::Global)?;
-    export(alloc, &mut shape, "baz", ExportKind::Memory)?;
-    export(alloc, &mut shape, "qux", ExportKind::Table)?;
-    export(alloc, &mut shape, "quux", ExportKind::Tag)?;
+    add_exports(alloc, &mut shape)?;
     Ok(shape)
 }
 
