@@ -28,6 +28,7 @@ pub mod RecGroupLemmas
 pub mod EachTypeLemmas
 pub mod FloatLemmas
 pub mod FuncSizeLemmas
+pub mod NullableLemmas
 pub mod SharedHeapTypeLemmas
 pub mod GlobalTypeLemmas
 pub mod TableTypeLemmas

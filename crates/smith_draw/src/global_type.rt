@@ -5,6 +5,7 @@ ghost use Rattle.smith_types.specs.Floats.{IsNoFloat};
 ghost use Rattle.smith_types.specs.ValidTypes.{AreTypesValid};
 ghost use Rattle.smith_config.specs.Features.{features_of};
 ghost use Rattle.smith_config.specs.Sanitized.{IsSanitized};
+ghost use Rattle.smith_draw.specs.ConstBounds.{IsNonNullable};
 ghost use Rattle.smith_draw.specs.Drawing.{AlwaysDraws, Draws};
 ghost use Rattle.smith_draw.specs.GlobalTypes.{global_sharedness_at, global_type_at};
 ghost use Rattle.smith_draw.specs.SpelledGlobals.{mutable_i32, SpellsMutableI32};
@@ -64,6 +65,7 @@ pub fn arbitrary_global_type(
     ensures draws { Draws (global_type_at config.now spaces.now.types.now.types u.old) result u.old u.new }
     ensures valid { AreTypesValid (features_of config.now) spaces.now.types.now → IfOk result (IsGlobalValid (features_of config.now) spaces.now.types.now.types) }
     ensures floats { config.now.allow_floats ≡ false → IfOk result (λ drawn. IsNoFloat drawn.val_type) }
+    ensures nullable { IfOk result (λ drawn. ¬ IsNonNullable drawn.val_type) }
     ensures reach { IfOk result (λ drawn. Takes (SpellsSuch (λ global. global ≡ mutable_i32) (λ _. SpellsMutableI32 config.now)) u.old drawn u.new) }
 {
     Ok(global_type(config, spaces.types.types(), u))

@@ -8,6 +8,7 @@ ghost use Rattle.smith_config.specs.Features.{features_of};
 ghost use Rattle.smith_config.specs.Sanitized.{IsSanitized};
 ghost use Rattle.smith_config.specs.Shapes.{space_of};
 ghost use Rattle.smith_draw.specs.Callers.{PassesButImports};
+ghost use Rattle.smith_draw.specs.ConstBounds.{HoldsNonNullableField};
 ghost use Rattle.smith_draw.specs.Drawing.{AlwaysDraws, DrawsInto};
 ghost use Rattle.smith_draw.specs.FuncSizes.{IsSmall};
 ghost use Rattle.smith_draw.specs.RecGroups.{
@@ -325,6 +326,7 @@ pub fn arbitrary_types(
     ensures least { AreTypesValid (features_of config.now) types.old → OnOk result (config.now.min_types ≤ length types.new.types) }
     ensures floats { config.now.allow_floats ≡ false → All HasNoFloat types.old.types → OnOk result (All HasNoFloat types.new.types) }
     ensures small { All IsSmall types.old.types → OnOk result (All IsSmall types.new.types) }
+    ensures nullable { ¬ HoldsNonNullableField types.old.types → OnOk result (¬ HoldsNonNullableField types.new.types) }
     ensures reach { config.now.min_types ≡ 0 → types.old ≡ space_of [] → OnOk result (Takes (SpellsSpace config.now) u.old types.new u.new) }
 {
     all_types(alloc, config, types, u)

@@ -1,4 +1,4 @@
-ghost use Rattle.std.specs.Prelude.{◌≡◌, ◌≤◌, IsOk, IfOk};
+ghost use Rattle.std.specs.Prelude.{◌≡◌, ◌≤◌, true, IsOk, IfOk};
 ghost use Rattle.smith_types.specs.Entities.{IsTableValid, most_elements};
 ghost use Rattle.smith_types.specs.ValidTypes.{AreTypesValid};
 ghost use Rattle.smith_config.specs.Features.{features_of};
@@ -36,6 +36,7 @@ fn table_type(config: &Config, types: &TypeSpace, u: &mut Unstructured<'_>) -> T
     ensures draws { AlwaysDraws (table_type_at config.now types.now.types u.old) result u.old u.new }
     ensures valid { AreTypesValid (features_of config.now) types.now → IsTableValid (features_of config.now) types.now.types result }
     ensures within { IsTableWithin config.now result }
+    ensures nullable { result.element_type.nullable ≡ true }
 {
     let standing = types.types();
     let table64 = memory64(config, u);
@@ -71,6 +72,7 @@ pub fn arbitrary_table_type(
     ensures draws { Draws (table_type_at config.now spaces.now.types.now.types u.old) result u.old u.new }
     ensures valid { AreTypesValid (features_of config.now) spaces.now.types.now → IfOk result (IsTableValid (features_of config.now) spaces.now.types.now.types) }
     ensures within { IfOk result (IsTableWithin config.now) }
+    ensures nullable { IfOk result (λ drawn. drawn.element_type.nullable ≡ true) }
 {
     Ok(table_type(config, spaces.types, u))
 }

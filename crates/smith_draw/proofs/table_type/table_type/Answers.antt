@@ -1,8 +1,9 @@
-use Rattle.std.proofs.Common.{false, length}
+use Rattle.std.proofs.Common.{◌≡◌, true, false, length}
 use Rattle.smith_types.specs.Flags.{IsElementEnabled}
 use Rattle.smith_types.specs.declared.value_type.RefType.{RefType}
 use Rattle.smith_config.specs.Features.{features_of}
 use Rattle.smith_draw.proofs.MemoryLemmas.{limits_fit}
+use Rattle.smith_draw.proofs.NullableLemmas.{ref_type_nullable}
 use Rattle.smith_draw.proofs.SharedHeapTypeLemmas.{sharing}
 use Rattle.smith_draw.proofs.TableTypeLemmas.{element_enabled, table_within}
 use Rattle.smith_draw.proofs.ValueTypeLemmas.{drawn_is, IsRefTypeDrawn, ref_type_drawn}
@@ -26,3 +27,6 @@ pub returns-clause-within : goal.returns-clause-within
 returns-clause-within c =
     let limits = rw c.drawn_elements-most.ensures.exact at c.arbitrary_limits64-minimum.ensures in
     table_within _ _ limits.minimum.1 limits.maximum limits.required
+
+pub returns-clause-nullable : goal.returns-clause-nullable
+returns-clause-nullable c = drawn_is (λ (ty : RefType). ty.nullable ≡ true) _ (ref_type_nullable _ _ _ _ _) c.ref_type-element_type.ensures.exact
