@@ -42,7 +42,7 @@ IsNullableField field = ¬ IsNonNullable (unpacked field.element_type)
 abbrev HasNullableFields : SubType → Type 0
 HasNullableFields t = All IsNullableField (fields_of t.composite_type.inner)
 
--- a property that no item has
+-- where no item has a property each lacks it, and the other way round
 none_each : {A : Type 0} (P : A → Type 0) (xs : List A) → ¬ Any P xs → Each (λ (x : A). ¬ P x) xs
 none_each P [] none = tt
 none_each P (x ∷ xs) none = ((λ p. none (0, x, omega arith, refl, p)), none_each P xs (λ any. none (suc any.0, any.1, omega (arith, any.2), any.3, any.4)))
@@ -60,7 +60,7 @@ fields_joined : (fields : List FieldType) → Each IsNullableField fields → Ea
 fields_joined [] h = tt
 fields_joined (field ∷ fields) h = (h.0, fields_joined fields h.1)
 
--- a type has no field or element that is a reference that may not be null, or each is something else
+-- no field or element of each type is such a reference: of its values together, and of each field
 each_of : (types : List SubType) → Each (λ (t : SubType). ¬ Any IsNonNullable (field_values (fields_of t.composite_type.inner))) types → Each HasNullableFields types
 each_of [] h = tt
 each_of (t ∷ types) h =

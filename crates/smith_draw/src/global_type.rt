@@ -48,8 +48,8 @@ fn global_type(config: &Config, types: &[SubType], u: &mut Unstructured<'_>) -> 
     }
 }
 
-/// Draws a global type: a value type over the types of `spaces`, shared as the reference that it is or else by a draw, and
-/// mutable or not. The standard's section Structure, Global Types.
+/// Draws a global type: a value type over the types of `spaces`, shared as the nullable reference that it is or else by a
+/// draw, and mutable or not. The standard's section Structure, Global Types.
 ///
 /// `config` is sanitised. Over valid types the global type is valid.
 ///

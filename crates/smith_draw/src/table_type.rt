@@ -55,8 +55,8 @@ fn table_type(config: &Config, types: &TypeSpace, u: &mut Unstructured<'_>) -> T
     }
 }
 
-/// Draws a table type within the configured elements, of references over the types of `spaces`, and shared as these are. The
-/// standard's section Structure, Table Types.
+/// Draws a table type within the configured elements, of nullable references over the types of `spaces`, and shared as these
+/// are. The standard's section Structure, Table Types.
 ///
 /// `config` is sanitised. Over valid types the table type is valid.
 ///

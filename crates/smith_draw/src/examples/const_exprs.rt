@@ -13,7 +13,7 @@ ghost use Rattle.smith_types.specs.declared.const_instr.ConstInstr.TheVariants a
 ghost use Rattle.smith_types.specs.Expressions.{Context};
 ghost use Rattle.smith_types.specs.Features.{every_feature};
 ghost use Rattle.smith_types.specs.ExampleFeatures.{usual_features, without_gc};
-ghost use Rattle.smith_types.specs.ExampleTypes.{final_type, struct, array, constant, plain, nullable, not_null, anyref, shared_anyref};
+ghost use Rattle.smith_types.specs.ExampleTypes.{final_type, struct, array, taking, constant, plain, nullable, not_null, anyref, shared_anyref};
 ghost use Rattle.smith_types.specs.ExampleContexts.{context_types, context_with};
 ghost use Rattle.smith_config.specs.Config.{default_config};
 ghost use Rattle.smith_draw.specs.declared.const_expr.choice.Choice.TheVariants as choice;
@@ -103,6 +103,7 @@ fn refusals()
     ensures a_reference_that_may_not_be_null { MayLack [] (Ref (not_null (plain heap.Any))) }
     ensures a_field_that_may_not_be_null { MayLack context_types anyref }
     ensures an_element_that_may_not_be_null { MayLack (final_type (array (constant (Val (Ref (not_null (plain heap.Func)))))) ∷ []) I32 }
+    ensures a_parameter_that_may_not_be_null { ¬ MayLack (final_type (taking (Ref (not_null (plain heap.Func)) ∷ [])) ∷ []) I32 }
     ensures fields_that_are_numbers { ¬ MayLack (final_type (struct (constant I8 ∷ [])) ∷ []) anyref }
     ensures want_of_memory { MayRefuseConstExpr [] I32 errors.Memory }
     ensures nothing_to_choose_from { MayRefuseConstExpr [] (Ref (not_null (plain heap.None))) errors.EmptyChoose }
