@@ -41,7 +41,8 @@ use std::alloc::Global;
 /// Expressions.
 ///
 /// The types of `spaces` are valid so far, its functions and globals are valid over them, each fewer than 2^32, and
-/// imported ones are among them. `wanted` is valid over these types.
+/// imported ones are among them. `wanted` is valid over these types. Where it is no float and none of these types holds one,
+/// no constant that is drawn is a float's.
 ///
 /// # Errors
 ///
@@ -80,7 +81,8 @@ pub fn arbitrary_const_expr(
 /// imported globals alone. The standard's section Validation, Tables.
 ///
 /// `spaces` is as [`arbitrary_const_expr`] asks, and `element` is valid over its types. Where `element` may not be null,
-/// garbage collection is on, and where that is on, reference types are.
+/// garbage collection is on, and where that is on, reference types are. Where none of these types holds a float, no constant
+/// that is drawn is a float's.
 ///
 /// # Errors
 ///
