@@ -45,4 +45,5 @@ pub mod PuttingLemmas
 pub mod ExtendedLemmas
 pub mod ConstStepLemmas
 pub mod ConstExprLemmas
+pub mod ConstFloatLemmas
 pub mod SpelledConstExprLemmas

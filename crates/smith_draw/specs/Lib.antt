@@ -31,6 +31,7 @@ pub mod ConstExprs
 pub mod ConstBounds
 pub mod Putting
 pub mod ConstSteps
+pub mod ConstFloats
 pub mod SpelledConstants
 pub mod SpelledGlobals
 pub mod ExampleConstExprs

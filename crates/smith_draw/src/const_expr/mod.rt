@@ -1,18 +1,20 @@
 //! Drawn constant expressions, by recursion under fuel.
 
-ghost use Rattle.std.specs.Prelude.{◌≡◌, ◌≤◌, ◌↔◌, ℕ, Some, None, [], length, IsTrue, IfOk, IfErr, IfSome, IsSome, false};
+ghost use Rattle.std.specs.Prelude.{◌≡◌, ◌≤◌, ◌↔◌, ℕ, Some, None, [], length, IsTrue, IfOk, IfErr, IfSome, IsSome, false, All};
 ghost use Rattle.std.specs.List.{Contains};
 ghost use Rattle.smith_bytes.specs.Source.{KeepsPieces};
 ghost use Rattle.smith_bytes.specs.Takes.{Takes};
 ghost use Rattle.smith_types.specs.ValidTypes.{IsRefTypeValid, IsValTypeValid};
 ghost use Rattle.smith_types.specs.declared.value_type.ValType.TheVariants.{I32, Ref};
 ghost use Rattle.smith_types.specs.Expressions.{IsConstExpr};
+ghost use Rattle.smith_types.specs.Floats.{IsNoFloat, HasNoFloat};
 ghost use Rattle.smith_config.specs.Features.{features_of};
 ghost use Rattle.smith_draw.specs.SpelledConstants.{SpellsConstExpr};
 ghost use Rattle.smith_draw.specs.ConstOffers.{readable_globals};
 ghost use Rattle.smith_draw.specs.ConstExprs.{const_expr_at, table_init_at};
 ghost use Rattle.smith_draw.specs.ConstScopes.{seen_by, IsReadable, AreSpacesValid};
 ghost use Rattle.smith_draw.specs.ConstBounds.{most_instructions, MayRefuseConstExpr};
+ghost use Rattle.smith_draw.specs.ConstFloats.{GivesNoFloat};
 
 mod choice;
 mod constant;
@@ -39,7 +41,8 @@ use std::alloc::Global;
 /// Expressions.
 ///
 /// The types of `spaces` are valid so far, its functions and globals are valid over them, each fewer than 2^32, and
-/// imported ones are among them. `wanted` is valid over these types.
+/// imported ones are among them. `wanted` is valid over these types. Where it is no float and none of these types holds one,
+/// no constant that is drawn is a float's.
 ///
 /// # Errors
 ///
@@ -59,6 +62,7 @@ pub fn arbitrary_const_expr(
     ensures none { IfErr result (λ e. e ≡ Error.EmptyChoose → const_expr_at config.now spaces.now wanted allow_defined u.old ≡ None) }
     ensures typed { IfOk result (IsConstExpr (seen_by config.now spaces.now allow_defined) wanted) }
     ensures short { IfOk result (λ drawn. length drawn ≤ most_instructions config.now spaces.now.types.now.types) }
+    ensures floats { All HasNoFloat spaces.now.types.now.types → IsNoFloat wanted → IfOk result (All GivesNoFloat) }
     ensures refusal { IfErr result (MayRefuseConstExpr spaces.now.types.now.types wanted) }
     ensures reach { wanted ≡ I32 → readable_globals (seen_by config.now spaces.now allow_defined) I32 ≡ [] → IfOk result (λ drawn. Takes (SpellsConstExpr config.now) u.old drawn u.new) }
     ensures left { KeepsPieces u.old u.new }
@@ -77,7 +81,8 @@ pub fn arbitrary_const_expr(
 /// imported globals alone. The standard's section Validation, Tables.
 ///
 /// `spaces` is as [`arbitrary_const_expr`] asks, and `element` is valid over its types. Where `element` may not be null,
-/// garbage collection is on, and where that is on, reference types are.
+/// garbage collection is on, and where that is on, reference types are. Where none of these types holds a float, no constant
+/// that is drawn is a float's.
 ///
 /// # Errors
 ///
@@ -98,6 +103,7 @@ pub fn arbitrary_table_init(
     ensures none { IfErr result (λ e. e ≡ Error.EmptyChoose → table_init_at config.now spaces.now element u.old ≡ None) }
     ensures typed { IfOk result (λ initial. IfSome initial (IsConstExpr (seen_by config.now spaces.now false) (Ref element))) }
     ensures short { IfOk result (λ initial. IfSome initial (λ drawn. length drawn ≤ most_instructions config.now spaces.now.types.now.types)) }
+    ensures floats { All HasNoFloat spaces.now.types.now.types → IfOk result (λ initial. IfSome initial (All GivesNoFloat)) }
     ensures gc { IfOk result (λ initial. IsSome initial → IsTrue config.now.gc_enabled) }
     ensures needed { element.nullable ≡ false → IfOk result IsSome }
     ensures refusal { IfErr result (MayRefuseConstExpr spaces.now.types.now.types (Ref element)) }
