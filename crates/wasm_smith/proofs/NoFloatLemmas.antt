@@ -8,9 +8,10 @@ use Rattle.smith_types.specs.ValidTypes.{values_of}
 use Rattle.smith_types.specs.declared.value_type.ValType.{ValType}
 use Rattle.smith_types.specs.declared.composite_type.SubType.{SubType}
 use Rattle.smith_types.specs.declared.code.Code.{Code}
+use Rattle.smith_draw.specs.ConstFloats.{GivesNoFloat}
 use Rattle.wasm_smith.specs.Build.{trap}
 use Rattle.wasm_smith.specs.Module.{Parts}
-use Rattle.wasm_smith.specs.Promises.{GivesNoFloat, HasNoFloats}
+use Rattle.wasm_smith.specs.Promises.{HasNoFloats}
 use Rattle.wasm_smith.specs.ToCome.{HasNoMore}
 
 of_types : (types : List SubType) → Each HasNoFloat types → All IsNoFloat (flat_map (λ (t : SubType). values_of t.composite_type.inner) types)

@@ -13,24 +13,18 @@ use Rattle.smith_types.specs.declared.entity_type.ExportKind.{ExportKind}
 use Rattle.smith_types.specs.declared.entity_type.ExportKind.TheVariants as kind
 use Rattle.smith_types.specs.declared.imports.Import.{Import}
 use Rattle.smith_types.specs.declared.const_instr.ConstInstr.{ConstInstr}
-use Rattle.smith_types.specs.declared.const_instr.ConstInstr.TheVariants.{F32Const, F64Const}
 use Rattle.smith_types.specs.declared.segments.Elements.{Elements}
 use Rattle.smith_types.specs.declared.segments.Elements.TheVariants.{Functions, Expressions}
 use Rattle.smith_types.specs.declared.segments.ElementSegment.{ElementSegment}
 use Rattle.smith_types.specs.declared.code.Code.{Code}
 use Rattle.smith_config.specs.declared.config.Config.{Config}
 use Rattle.smith_config.specs.InUse.{HasNoShapes, FixesImports, FixesExports}
+use Rattle.smith_draw.specs.ConstFloats.{GivesNoFloat}
 use Rattle.wasm_smith.specs.Module.{Parts}
 
 -- no two imports have the same pair of names
 abbrev pub HasDistinctImports : Parts → Type 0
 HasDistinctImports m = AreDistinct {A = List ℕ × List ℕ} (map (λ (one : Import). (one.«module», one.name)) (flattened m.imports))
-
--- an instruction that is not a float's
-abbrev pub GivesNoFloat : ConstInstr → Type 0
-GivesNoFloat (F32Const bits) = ⊥
-GivesNoFloat (F64Const bits) = ⊥
-GivesNoFloat _ = Unit {0}
 
 -- the expressions of an element segment
 abbrev pub expressions_of : Elements → List (List ConstInstr)

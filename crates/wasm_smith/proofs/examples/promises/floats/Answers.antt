@@ -2,7 +2,7 @@ use Rattle.std.proofs.Common.{[], ◌∷◌}
 use Rattle.std.specs.List.{All}
 use Rattle.std.proofs.lemmas.List.Elements.{All-head}
 use Rattle.smith_types.specs.declared.const_instr.ConstInstr.TheVariants.{F32Const, F64Const}
-use Rattle.wasm_smith.specs.Promises.{GivesNoFloat}
+use Rattle.smith_draw.specs.ConstFloats.{GivesNoFloat}
 use Rattle.wasm_smith.proofs.examples.promises.floats.Goals as goal
 
 pub returns-clause-in_an_expression : goal.returns-clause-in_an_expression
