@@ -39,8 +39,8 @@ fn utf8_front(bytes: &[u8]) -> &str
     ensures size { length result.now ≡ utf8_valid_len bytes.now }
     ensures within { utf8_valid_len bytes.now ≤ length bytes.now }
 {
-    match simdutf8::compat::from_utf8(bytes) {
+    match std::str::from_utf8(bytes) {
         Ok(text) => text,
-        Err(e) => simdutf8::compat::from_utf8(&bytes[..e.valid_up_to()]).unwrap(),
+        Err(e) => std::str::from_utf8(&bytes[..e.valid_up_to()]).unwrap(),
     }
 }
