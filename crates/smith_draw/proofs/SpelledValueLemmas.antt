@@ -25,7 +25,7 @@ use Rattle.smith_draw.specs.ValueTypes.{value_classes, abstract_heap_types, shar
 use Rattle.smith_draw.specs.Spelling.{SpellsPlace, SpellsUnshared, SpellsConcrete, SpellsHeapType, SpellsRefType, SpellsBehindClass, SpellsValType, class_of}
 use Rattle.smith_draw.proofs.EnabledLemmas.{enabled_all}
 
-chosen_read : {A : Type 0} (other : A) (items : List A) (item : A) (piece after : List ℕ) → SpellsPlace items item piece → chosen_at other items (piece ++ after) ≡ (item, after)
+pub chosen_read : {A : Type 0} (other : A) (items : List A) (item : A) (piece after : List ℕ) → SpellsPlace items item piece → chosen_at other items (piece ++ after) ≡ (item, after)
 unfolding chosen_at
 chosen_read other items item piece after h = rw (number_read h.place 0 (length items - 1) piece after h.number, get_or_from_slice_get items h.place item other h.stands) refl
 

@@ -1,4 +1,4 @@
--- The types that tags and imported functions may have are right for them.
+-- The types that tags and functions may have are right for them.
 use Rattle.std.proofs.Common.{◌≡◌, ℕ, suc, Bool, true, false, cond, List, [], ◌∷◌, ◌++◌, length, refl, arith, append_assoc, length-append}
 use Rattle.std.specs.Prelude.{◌==◌, Some, slice_get, All}
 use Rattle.std.specs.List.{AllByRecursion as ByRecursion}
@@ -9,9 +9,9 @@ use Rattle.smith_types.specs.declared.composite_type.CompositeInnerType.{Composi
 use Rattle.smith_types.specs.declared.composite_type.CompositeInnerType.TheVariants.{Array, Func, Struct}
 use Rattle.smith_types.specs.declared.composite_type.SubType.{SubType}
 use Rattle.smith_types.proofs.ListLemmas.{slice_get-last, slice_get-grown}
-use Rattle.smith_draw.specs.TypeUses.{is_tag_type, places_from, may_be_used, types_for, IsUsable}
+use Rattle.smith_draw.specs.TypeUses.{is_tag_type, is_unshared_function, places_from, may_be_used, types_for, IsUsable}
 use Rattle.smith_draw.specs.declared.type_use.TypeUse.{TypeUse}
-use Rattle.smith_draw.specs.declared.type_use.TypeUse.TheVariants.{Tag, ImportedFunc}
+use Rattle.smith_draw.specs.declared.type_use.TypeUse.TheVariants.{Tag, ImportedFunc, DefinedFunc}
 
 -- at this place of a list stands an item that passes a test
 pub record IsPassing {A : Type 0} (test : A → Bool) (xs : List A) (place : ℕ) : Type 0 where
@@ -42,13 +42,16 @@ no_results [] none = refl
 no_results (r ∷ results) none = let never = eqb-true (length (r ∷ results)) 0 none in absurd (omega arith)
 
 usable_by : (for_use : TypeUse) (types : List SubType) (n : ℕ) (t : SubType) (inner : CompositeInnerType) → slice_get types n ≡ Some t → t.composite_type.inner ≡ inner → may_be_used for_use t ≡ true → IsUsable for_use types n
-unfolding is_tag_type
+unfolding is_tag_type is_unshared_function
 usable_by Tag types n t (Func function) at is on = (function, (t, at, is), no_results function.results (rw is at on))
 usable_by Tag types n t (Array array) at is on = absurd (cc (rw is at on))
 usable_by Tag types n t (Struct structure) at is on = absurd (cc (rw is at on))
 usable_by ImportedFunc types n t (Func function) at is on = (function, (t, at, is))
 usable_by ImportedFunc types n t (Array array) at is on = absurd (cc (rw is at on))
 usable_by ImportedFunc types n t (Struct structure) at is on = absurd (cc (rw is at on))
+usable_by DefinedFunc types n t (Func function) at is on = (function, (t, at, is))
+usable_by DefinedFunc types n t (Array array) at is on = absurd (cc (rw is at on))
+usable_by DefinedFunc types n t (Struct structure) at is on = absurd (cc (rw is at on))
 
 -- each type that may be used is right
 pub types_usable : (for_use : TypeUse) (types : List SubType) → All (IsUsable for_use types) (types_for for_use types)

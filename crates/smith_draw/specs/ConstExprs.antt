@@ -10,8 +10,6 @@ use Rattle.smith_types.specs.declared.const_instr.ConstInstr.{ConstInstr}
 use Rattle.smith_types.specs.declared.const_instr.ConstInstr.TheVariants as instr
 use Rattle.smith_types.specs.declared.value_type.RefType.{RefType}
 use Rattle.smith_config.specs.declared.config.Config.{Config}
-use Rattle.smith_draw.specs.declared.spaces.Spaces.{Spaces}
-use Rattle.smith_draw.specs.ConstScopes.{seen_by}
 use Rattle.smith_draw.specs.Constants.{extended_at}
 use Rattle.smith_draw.specs.ConstOffers.{offers}
 use Rattle.smith_draw.specs.ConstNodes.{is_extended, node_at}
@@ -72,15 +70,15 @@ unfoldable pub expression_alone_at : Context → Bool → ℕ → ValType → Li
 expression_alone_at context limited fuel wanted bytes =
     option_map (λ (s : State). (s.made, s.bytes)) (expression_at context limited (suc fuel) wanted (state_of [] fuel bytes))
 
--- the expression of a type that bytes give over spaces, with the configured fuel
-abbrev pub const_expr_at : Config → Spaces → ValType → Bool → List ℕ → Option (List ConstInstr × List ℕ)
-const_expr_at config spaces wanted allow_defined bytes =
-    expression_alone_at (seen_by config spaces allow_defined) config.limit_arrays_in_const_exprs config.const_expr_fuel wanted bytes
+-- the expression of a type that bytes give in a context, with the configured fuel
+abbrev pub const_expr_at : Config → Context → ValType → List ℕ → Option (List ConstInstr × List ℕ)
+const_expr_at config context wanted bytes =
+    expression_alone_at context config.limit_arrays_in_const_exprs config.const_expr_fuel wanted bytes
 
 -- the initialiser of a table: none without garbage collection, and where elements may be null a bool says so
-unfoldable pub table_init_at : Config → Spaces → RefType → List ℕ → Option (Option (List ConstInstr) × List ℕ)
-table_init_at config spaces element bytes =
+unfoldable pub table_init_at : Config → Context → RefType → List ℕ → Option (Option (List ConstInstr) × List ℕ)
+table_init_at config context element bytes =
     let null = if element.nullable then bool_at bytes else (false, bytes) in
     if not config.gc_enabled then Some (None, bytes)
     else if null.0 then Some (None, null.1)
-    else option_map (λ (drawn : List ConstInstr × List ℕ). (Some drawn.0, drawn.1)) (const_expr_at config spaces (Ref element) false null.1)
+    else option_map (λ (drawn : List ConstInstr × List ℕ). (Some drawn.0, drawn.1)) (const_expr_at config context (Ref element) null.1)

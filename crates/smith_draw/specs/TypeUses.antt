@@ -1,11 +1,11 @@
 -- Which types tags and functions may have. Rules of this project.
-use Rattle.std.specs.Prelude.{ℕ, suc, Bool, true, false, ◌==◌, List, [], ◌∷◌, length, if◌then◌else◌}
+use Rattle.std.specs.Prelude.{ℕ, suc, Bool, true, false, not, ◌&&◌, ◌==◌, List, [], ◌∷◌, length, if◌then◌else◌}
 use Rattle.smith_types.specs.declared.composite_type.CompositeInnerType.{CompositeInnerType}
 use Rattle.smith_types.specs.declared.composite_type.CompositeInnerType.TheVariants.{Func}
 use Rattle.smith_types.specs.declared.composite_type.SubType.{SubType}
 use Rattle.smith_types.specs.Entities.{IsTagValid, IsFuncValid}
 use Rattle.smith_draw.specs.declared.type_use.TypeUse.{TypeUse}
-use Rattle.smith_draw.specs.declared.type_use.TypeUse.TheVariants.{Tag, ImportedFunc}
+use Rattle.smith_draw.specs.declared.type_use.TypeUse.TheVariants.{Tag, ImportedFunc, DefinedFunc}
 
 -- whether a composite type is a function
 abbrev pub is_function : CompositeInnerType → Bool
@@ -21,15 +21,20 @@ gives_nothing _ = false
 unfoldable pub is_tag_type : SubType → Bool
 is_tag_type t = gives_nothing t.composite_type.inner
 
+-- whether a function may be defined with a type: it is that of a function that is not shared
+unfoldable pub is_unshared_function : SubType → Bool
+is_unshared_function t = is_function t.composite_type.inner && not t.composite_type.shared
+
 -- the places at which a test holds, in a list that begins at place n
 abbrev pub places_from : {A : Type 0} → (A → Bool) → ℕ → List A → List ℕ
 places_from test n [] = []
 places_from test n (x ∷ xs) = if test x then n ∷ places_from test (suc n) xs else places_from test (suc n) xs
 
--- whether a type may be used: by a tag, or by an imported function, which may be shared
+-- whether a type may be used: by a tag, by an imported function, which may be shared, or by a function that is defined
 abbrev pub may_be_used : TypeUse → SubType → Bool
 may_be_used Tag t = is_tag_type t
 may_be_used ImportedFunc t = is_function t.composite_type.inner
+may_be_used DefinedFunc t = is_unshared_function t
 
 -- the indices of the types that may be used
 abbrev pub types_for : TypeUse → List SubType → List ℕ
@@ -39,3 +44,4 @@ types_for for_use types = places_from (may_be_used for_use) 0 types
 abbrev pub IsUsable : TypeUse → List SubType → ℕ → Type 0
 IsUsable Tag types index = IsTagValid types index
 IsUsable ImportedFunc types index = IsFuncValid types index
+IsUsable DefinedFunc types index = IsFuncValid types index

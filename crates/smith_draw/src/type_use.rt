@@ -1,14 +1,14 @@
-ghost use Rattle.std.specs.Prelude.{◌≡◌, ◌<◌, ◌^◌, length, slice_index_or, IsOk, IfOk};
+ghost use Rattle.std.specs.Prelude.{◌≡◌, ◌<◌, ◌^◌, length, slice_index_or, IsOk, IfOk, IfErr};
 ghost use Rattle.smith_types.specs.Entities.{IsTagValid};
 ghost use Rattle.smith_draw.specs.Choices.{chosen_at};
 ghost use Rattle.smith_draw.specs.Drawing.{AlwaysDraws, Draws};
-ghost use Rattle.smith_draw.specs.TypeUses.{is_function, gives_nothing, is_tag_type, may_be_used, types_for, IsUsable};
+ghost use Rattle.smith_draw.specs.TypeUses.{is_function, gives_nothing, is_tag_type, is_unshared_function, may_be_used, types_for, IsUsable};
 ghost use Rattle.smith_draw.specs.declared.type_use.TypeUse.TheVariants.{Tag};
 
 use crate::spaces::Spaces;
 use smith_bytes::{Error, Unstructured};
 use smith_config::Config;
-use smith_types::{CompositeInnerType, SubType};
+use smith_types::{CompositeInnerType, Items, SubType};
 use std::alloc::Global;
 
 /// What a function type is to be used for.
@@ -18,6 +18,8 @@ pub enum TypeUse {
     Tag,
     /// By an imported function: all function types.
     ImportedFunc,
+    /// By a function that is defined: types of functions that are not shared.
+    DefinedFunc,
 }
 
 fn is_function(inner: &CompositeInnerType) -> bool
@@ -42,12 +44,20 @@ fn is_tag_type(t: &SubType) -> bool
     gives_nothing(&t.composite_type.inner)
 }
 
+#[tactic(auto, unfolding(crate::specs::TypeUses::is_unshared_function))]
+fn is_unshared_function(t: &SubType) -> bool
+    ensures { result ≡ is_unshared_function t.now }
+{
+    is_function(&t.composite_type.inner) && !t.composite_type.shared
+}
+
 fn may_be_used(for_use: TypeUse, t: &SubType) -> bool
     ensures { result ≡ may_be_used for_use t.now }
 {
     match for_use {
         TypeUse::Tag => is_tag_type(t),
         TypeUse::ImportedFunc => is_function(&t.composite_type.inner),
+        TypeUse::DefinedFunc => is_unshared_function(t),
     }
 }
 
@@ -62,6 +72,21 @@ pub fn count_types(for_use: TypeUse, types: &[SubType]) -> usize
         }
     }
     count
+}
+
+/// Lists the indices of the types among `types` that `for_use` may use. There are fewer than 2^32 types.
+pub fn list_types(alloc: Global, for_use: TypeUse, types: &[SubType]) -> Result<Items<u32>, Error>
+    requires few { length types.now < 2 ^ 32 }
+    ensures exact { IfOk result (λ indices. indices ≡ types_for for_use types.now) }
+    ensures memory { IfErr result (λ e. e ≡ Error.Memory) }
+{
+    let mut indices = Items::with_capacity(alloc, count_types(for_use, types))?;
+    for (index, t) in types.iter().enumerate() {
+        if may_be_used(for_use, t) {
+            indices.push(index as u32)?;
+        }
+    }
+    Ok(indices)
 }
 
 /// The index of the type at a place among those that may be used.

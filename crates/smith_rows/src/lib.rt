@@ -22,6 +22,10 @@ mod gc_modules;
 #[cfg(test)]
 mod hostile_shapes;
 #[cfg(test)]
+mod imported_modules;
+#[cfg(test)]
+mod initialised_modules;
+#[cfg(test)]
 mod kinds;
 #[cfg(test)]
 mod library_example;

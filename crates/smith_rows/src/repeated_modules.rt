@@ -37,8 +37,18 @@ fn have_same_types(a: &Module, b: &Module) -> bool {
     a.types() == b.types() && a.rec_groups() == b.rec_groups()
 }
 
+fn have_same_entities(a: &Module, b: &Module) -> bool {
+    a.tags() == b.tags()
+        && a.funcs() == b.funcs()
+        && a.tables() == b.tables()
+        && a.memories() == b.memories()
+        && a.globals() == b.globals()
+}
+
 fn have_same_definitions(a: &Module, b: &Module) -> bool {
-    a.funcs() == b.funcs() && a.memories() == b.memories()
+    a.imports() == b.imports()
+        && a.defined_tables() == b.defined_tables()
+        && a.defined_globals() == b.defined_globals()
 }
 
 fn have_same_flags(a: &Module, b: &Module) -> bool {
@@ -47,7 +57,10 @@ fn have_same_flags(a: &Module, b: &Module) -> bool {
 }
 
 fn are_same(a: &Module, b: &Module) -> bool {
-    have_same_types(a, b) && have_same_definitions(a, b) && have_same_flags(a, b)
+    have_same_types(a, b)
+        && have_same_entities(a, b)
+        && have_same_definitions(a, b)
+        && have_same_flags(a, b)
 }
 
 fn made(alloc: Global, asked: Asked, input: &[u8]) -> Result<Module, Error> {

@@ -38,15 +38,12 @@ fn refusal_of(alloc: Global, count: Count) -> Result<Option<Error>, Fail> {
 #[test]
 fn minimums_that_are_not_met(rt: HostRuntime) -> Result<(), Fail> {
     let unmet = [
-        Count::Imports,
         Count::Tags,
         Count::Funcs,
-        Count::Globals,
         Count::Exports,
         Count::ElementSegments,
         Count::Elements,
         Count::DataSegments,
-        Count::Tables,
     ];
     for count in unmet {
         let found = refusal_of(rt.alloc(), count)?;
@@ -57,7 +54,14 @@ fn minimums_that_are_not_met(rt: HostRuntime) -> Result<(), Fail> {
 
 #[test]
 fn minimums_that_are_met(rt: HostRuntime) -> Result<(), Fail> {
-    for count in [Count::Types, Count::Memories] {
+    let met = [
+        Count::Types,
+        Count::Imports,
+        Count::Globals,
+        Count::Memories,
+        Count::Tables,
+    ];
+    for count in met {
         assert_eq!(rt; refusal_of(rt.alloc(), count)?, None, "at {count}");
     }
     Ok(())
@@ -79,17 +83,17 @@ fn exports_where_everything_is_exported(rt: HostRuntime) -> Result<(), Fail> {
     Ok(())
 }
 
-// The defaults, with a table, an import and a global at least.
+// The defaults, with a data segment, a tag and an export at least.
 fn three_minimums() -> Config {
-    let mut config = at_least_one(Count::Tables);
-    config.min_imports = 1;
-    config.min_globals = 1;
+    let mut config = at_least_one(Count::DataSegments);
+    config.min_tags = 1;
+    config.min_exports = 1;
     config
 }
 
 #[test]
 fn the_first_section_is_told(rt: HostRuntime) -> Result<(), Fail> {
-    let unmet = Error::IncorrectFormat(Why::Unmet(Count::Imports));
+    let unmet = Error::IncorrectFormat(Why::Unmet(Count::Tags));
     let first = refusal(rt.alloc(), three_minimums());
     let second = refusal(rt.alloc(), three_minimums());
     assert_eq!(rt; same(first, second)?, Some(unmet));

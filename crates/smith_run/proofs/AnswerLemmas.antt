@@ -1,5 +1,5 @@
 -- What the written line says of the answer, and when writing it failed.
-use Rattle.std.proofs.Common.{rules, ◌≡◌, ℕ, Bool, true, false, List, Option, Result, Ok, Err, inl, refl}
+use Rattle.std.proofs.Common.{rules, ◌≡◌, ℕ, Bool, true, false, List, Option, Result, Ok, Err, inl}
 use Rattle.std.specs.Prelude.{◌⊎◌, ◌↔◌, ◌||◌, IfOk, IfErr, OnOk, IsErrOf, is_err}
 use Rattle.std.specs.Io.KnownBytes.{Appends}
 use Rattle.smith_bytes.specs.declared.error.Error.{Error}
@@ -23,7 +23,7 @@ answer_told drawn left input answer before after (Ok outcome) read allowed writt
 answer_told drawn left input answer before after (Err e) read allowed written told = search rules
 
 -- what the default configuration allows and the input gives may be answered where no configuration is drawn
-pub answered_by_default : (drawn : Bool) (input : List ℕ) (answer : Result Parts Error) (left : List ℕ) → drawn ≡ false → Allows default_config answer → IsGiven (sanitized default_config) input answer left → MayAnswer drawn input answer
+pub answered_by_default : (drawn : Bool) (input : List ℕ) (answer : Result Parts Error) (left : List ℕ) → drawn ≡ false → Allows default_config answer → IsGiven false (sanitized default_config) input answer left → MayAnswer drawn input answer
 answered_by_default false input answer left off allowed given = record { allowed = allowed; left = left; given = given }
 answered_by_default true input answer left off allowed given = cc
 

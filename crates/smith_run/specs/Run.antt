@@ -20,7 +20,7 @@ use Rattle.smith_run.specs.Line.{line_of}
 pub record Answers (config : Config) (bytes : List ℕ) (answer : Result Parts Error) : Type 0 where
   pub allowed : Allows config answer
   pub left : List ℕ
-  pub given : IsGiven (sanitized config) bytes answer left
+  pub given : IsGiven false (sanitized config) bytes answer left
 
 -- it may answer this for the input: with the default configuration, or with the one that the input gives first and the bytes that
 -- this leaves

@@ -1,5 +1,5 @@
 -- A module with one more global, which counts fuel, is valid where it was.
-use Rattle.std.proofs.Common.{rules, arith, ◌≡◌, ℕ, ◌+◌, ◌≤◌, Bool, true, false, List, [], ◌∷◌, ◌++◌, Option, Some, None, length, inl, inr, refl, sym, subst, ap, ◌∙◌}
+use Rattle.std.proofs.Common.{rules, arith, ◌≡◌, ℕ, ◌+◌, ◌≤◌, Bool, true, false, List, [], ◌∷◌, ◌++◌, Some, length, inl, inr, refl, sym, subst, ap, ◌∙◌}
 use Rattle.std.specs.Prelude.{slice_get, if◌then◌else◌}
 use Rattle.std.specs.Int.{cast_signed, w32}
 use Rattle.std.specs.List.{All}
@@ -11,8 +11,6 @@ use Rattle.smith_types.specs.Entities.{IsGlobalValid}
 use Rattle.smith_types.specs.Expressions.{seeing, seen_by_tables, seen_by_global, seen_by_segments}
 use Rattle.smith_types.specs.Segments.{IsElementValid, IsDataValid}
 use Rattle.smith_types.specs.Bodies.{IsFuel}
-use Rattle.smith_types.specs.declared.value_type.ValType.TheVariants.{Ref}
-use Rattle.smith_types.specs.declared.entity_type.TableType.{TableType}
 use Rattle.smith_types.specs.declared.const_instr.ConstInstr.{ConstInstr}
 use Rattle.smith_types.specs.declared.const_instr.ConstInstr.TheVariants.{I32Const}
 use Rattle.smith_types.specs.declared.segments.ElementSegment.{ElementSegment}
@@ -22,8 +20,9 @@ use Rattle.smith_types.proofs.EntityGrowthLemmas.{no_fewer}
 use Rattle.smith_types.proofs.ExpressionGrowthLemmas.{IsConstExpr-grown}
 use Rattle.smith_types.proofs.SegmentGrowthLemmas.{IsElementValid-grown, IsDataValid-grown}
 use Rattle.smith_types.proofs.ExportGrowthLemmas.{AreExportsValid-grown}
-use Rattle.wasm_smith.specs.Module.{module_context, Parts, IsValid, IsTableInitialised, IsGlobalDefined, module_features, module_spaces, module_imports, table_context, global_context, segment_context}
+use Rattle.wasm_smith.specs.Module.{module_context, Parts, IsValid, IsGlobalDefined, module_features, module_spaces, module_imports, table_context, global_context, segment_context}
 use Rattle.wasm_smith.specs.Termination.{counter}
+use Rattle.wasm_smith.proofs.InitialLemmas.{IsTableInitialised-grown}
 use Rattle.wasm_smith.proofs.PartExamples.{number_given}
 
 -- a module with a counter of this index
@@ -34,7 +33,7 @@ counted fuel index m = record m {
   fuel_globals = m.fuel_globals ++ index ∷ [];
 }
 
-all_kept : {A : Type 0} (xs : List A) → Extends xs xs
+pub all_kept : {A : Type 0} (xs : List A) → Extends xs xs
 all_kept xs = record { more = []; parts = search rules }
 
 -- with no more than was there, a list is what it was
@@ -56,11 +55,6 @@ module _ (fuel : ℕ) (old : Parts) (valid : IsValid old) where
     imported_globals = refl;
     visible = more;
   }
-
-  tables_grown : (context : IsContextGrown (table_context old) (table_context new)) (table : TableType) (initial : Option (List ConstInstr))
-      → IsTableInitialised (table_context old) table initial → IsTableInitialised (table_context new) table initial
-  tables_grown context table None h = h
-  tables_grown context table (Some expression) (gc, h) = (gc, IsConstExpr-grown (table_context old) (table_context new) context (Ref table.element_type) expression h)
 
   global_grown : (place index : ℕ) (initial : List ConstInstr) → IsGlobalDefined old place index initial → IsGlobalDefined new place index initial
   global_grown place index initial h =
@@ -160,7 +154,7 @@ module _ (fuel : ℕ) (old : Parts) (valid : IsValid old) where
     definitions = record {
       tables = λ place initial at.
           let (table, stands, h) = valid.definitions.tables place initial at in
-          (table, stands, tables_grown (context_grown (seen_by_tables (module_context old)) (seen_by_tables (module_context new)) (omega arith)) table initial h);
+          (table, stands, IsTableInitialised-grown (table_context old) (table_context new) (context_grown (seen_by_tables (module_context old)) (seen_by_tables (module_context new)) (omega arith)) table initial h);
       globals = globals_defined_more;
     };
     exports = AreExportsValid-grown (module_spaces old) (module_spaces new) spaces_grown old.exports valid.exports;

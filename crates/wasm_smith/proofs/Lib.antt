@@ -1,9 +1,10 @@
-pub mod FuncLemmas
-pub mod MemoryCountLemmas
+pub mod RefusalLemmas
 pub mod NoShapeLemmas
 pub mod NeedlessLemmas
 pub mod BodyLemmas
-pub mod AloneLemmas
+pub mod DrawnStepLemmas
+pub mod DrawnModuleLemmas
+pub mod InitialLemmas
 pub mod SpelledExamples
 pub mod SpelledMemberLemmas
 pub mod PlaceLemmas
@@ -22,3 +23,13 @@ pub mod ImportsGrownLemmas
 pub mod FilledGroupLoop
 pub mod ImportGroupsLoop
 pub mod NoImportLemmas
+pub mod DefinedLoop
+pub mod DefinedLemmas
+pub mod GivenLemmas
+pub mod TypedLemmas
+pub mod DefinedMemoryLemmas
+pub mod GlobalsLoop
+pub mod GlobalCountLemmas
+pub mod NumberedGlobalLemmas
+pub mod DefinedTablesLoop
+pub mod DefinedTableLemmas

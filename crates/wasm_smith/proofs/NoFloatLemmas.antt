@@ -1,18 +1,20 @@
--- A module whose types hold no floats, and that has no globals, locals and expressions, has no floats.
-use Rattle.std.proofs.Common.{◌≡◌, ℕ, zero, suc, List, [], ◌∷◌, ◌++◌, replicate, subst, sym, refl}
+-- A module is without floats where the parts that were drawn are.
+use Rattle.std.proofs.Common.{◌≡◌, ℕ, zero, suc, List, [], ◌∷◌, ◌++◌, map, replicate, refl}
 use Rattle.std.specs.Prelude.{All}
 use Rattle.std.specs.List.{flat_map, AllByRecursion as Each}
-use Rattle.std.proofs.lemmas.List.Elements.{All-nil, All-append, recursion_from_All}
+use Rattle.std.proofs.lemmas.List.Elements.{All-nil, All-append, All-map, recursion_from_All}
 use Rattle.smith_types.specs.Floats.{IsNoFloat, HasNoFloat}
 use Rattle.smith_types.specs.ValidTypes.{values_of}
-use Rattle.smith_types.specs.declared.value_type.ValType.{ValType}
 use Rattle.smith_types.specs.declared.composite_type.SubType.{SubType}
+use Rattle.smith_types.specs.declared.entity_type.GlobalType.{GlobalType}
+use Rattle.smith_types.specs.declared.const_instr.ConstInstr.{ConstInstr}
 use Rattle.smith_types.specs.declared.code.Code.{Code}
+use Rattle.smith_config.specs.declared.config.Config.{Config}
 use Rattle.smith_draw.specs.ConstFloats.{GivesNoFloat}
-use Rattle.wasm_smith.specs.Build.{trap}
-use Rattle.wasm_smith.specs.Module.{Parts}
-use Rattle.wasm_smith.specs.Promises.{HasNoFloats}
-use Rattle.wasm_smith.specs.ToCome.{HasNoMore}
+use Rattle.wasm_smith.specs.Build.{parts_of, trap}
+use Rattle.wasm_smith.specs.DrawnParts.{HasNoFloatParts}
+use Rattle.wasm_smith.specs.Promises.{HasNoFloats, initial_of}
+use Rattle.wasm_smith.specs.declared.build.drawn.Drawn.{Drawn}
 
 of_types : (types : List SubType) → Each HasNoFloat types → All IsNoFloat (flat_map (λ (t : SubType). values_of t.composite_type.inner) types)
 of_types [] each = All-nil IsNoFloat
@@ -23,14 +25,18 @@ no_locals : (count : ℕ) → flat_map (λ (body : Code). body.locals) (replicat
 no_locals zero = refl
 no_locals (suc count) = no_locals count
 
-no_floats_in : (types : List SubType) (count : ℕ) → All HasNoFloat types
-    → All IsNoFloat (flat_map (λ (t : SubType). values_of t.composite_type.inner) types ++ flat_map (λ (body : Code). body.locals) (replicate count trap))
-no_floats_in types count all =
-    subst (λ (locals : List ValType). All IsNoFloat (flat_map (λ (t : SubType). values_of t.composite_type.inner) types ++ locals)) (sym (no_locals count))
-    (All-append IsNoFloat (flat_map (λ (t : SubType). values_of t.composite_type.inner) types) [] (of_types types (recursion_from_All HasNoFloat types all)) (All-nil IsNoFloat))
+no_locals_float : (count : ℕ) → All IsNoFloat (flat_map (λ (body : Code). body.locals) (replicate count trap))
+no_locals_float count = rw (no_locals count) (All-nil IsNoFloat)
 
-pub no_floats_alone : (m : Parts) (count : ℕ) → HasNoMore m → All HasNoFloat m.types → m.code ≡ replicate count trap → HasNoFloats m
-no_floats_alone m count none all code = record {
-  values = rw (code, none.globals) (no_floats_in m.types count all);
-  constants = rw (none.defined_tables, none.defined_globals, none.elems) (All-nil (All GivesNoFloat));
-}
+pub no_floats_drawn : (config : Config) (drawn : Drawn) → drawn.code ≡ replicate drawn.definitions.num_funcs trap → HasNoFloatParts drawn → HasNoFloats (parts_of config drawn)
+no_floats_drawn config drawn code h =
+    let types = flat_map (λ (t : SubType). values_of t.composite_type.inner) drawn.types.types in
+    let globals = map (λ (global : GlobalType). global.val_type) drawn.imported.spaces.globals in
+    let locals = flat_map (λ (body : Code). body.locals) drawn.code in
+    let tables = flat_map initial_of drawn.definitions.tables in
+    let initials = map (λ (one : ℕ × List ConstInstr). one.1) drawn.definitions.globals in
+    record {
+      values = All-append IsNoFloat types (globals ++ locals) (of_types drawn.types.types (recursion_from_All HasNoFloat drawn.types.types h.types))
+          (All-append IsNoFloat globals locals (All-map IsNoFloat (λ (global : GlobalType). global.val_type) drawn.imported.spaces.globals h.defined.globals) (rw code (no_locals_float drawn.definitions.num_funcs)));
+      constants = All-append (All GivesNoFloat) tables (initials ++ []) h.defined.tables (All-append (All GivesNoFloat) initials [] h.defined.initials (All-nil (All GivesNoFloat)));
+    }

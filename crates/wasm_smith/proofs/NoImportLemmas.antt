@@ -1,19 +1,19 @@
 -- What no import leaves of a source, and the kind of a group.
-use Rattle.std.proofs.Common.{◌≡◌, ◌∙◌, ℕ, zero, suc, ◌+◌, ◌<◌, Bool, false, List, [], ◌∷◌, ◌++◌, length, refl, sym, ap, arith, lt-ltb, drop, length-drop}
-use Rattle.std.specs.Prelude.{Result, Ok, Err, IfOk}
+use Rattle.std.proofs.Common.{◌≡◌, ℕ, zero, suc, ◌+◌, ◌<◌, Bool, false, List, [], ◌∷◌, ◌++◌, length, refl, ap, arith, lt-ltb, drop, length-drop}
+use Rattle.std.specs.Prelude.{Result, Ok, IfOk}
 use Rattle.smith_bytes.specs.Draws.{whole_at}
 use Rattle.smith_bytes.specs.Spelling.{SpellsBool}
 use Rattle.smith_bytes.specs.Takes.{Takes}
 use Rattle.smith_bytes.specs.declared.error.Error.{Error}
 use Rattle.smith_bytes.proofs.SpelledLemmas.{bool_read}
 use Rattle.smith_types.specs.declared.composite_type.SubType.{SubType}
-use Rattle.smith_types.specs.declared.imports.Imports.{Imports}
 use Rattle.smith_config.specs.declared.config.Config.{Config}
 use Rattle.wasm_smith.specs.Build.{Gives}
 use Rattle.wasm_smith.specs.Spelling.{SpellsNone}
 use Rattle.wasm_smith.specs.Importing.{groups_at, imports_at}
 use Rattle.wasm_smith.specs.Imported.{SpellsNoImport}
 use Rattle.wasm_smith.specs.declared.build.imported.Imported.{Imported}
+use Rattle.wasm_smith.proofs.GivenLemmas.{given_takes}
 
 -- the pieces of a number above 0
 pub whole_takes : (bytes after : List ℕ) (x : ℕ) → whole_at 4 bytes ≡ (x, after) → 0 < x → length after < length bytes
@@ -37,10 +37,6 @@ no_import_read config types distinct piece after none spelled =
 
 pub no_import_taken : (config : Config) (types : List SubType) (distinct : Bool) (old new : List ℕ) (r : Result Imported Error) → config.min_imports ≡ 0 → Gives (λ (made : Imported). (made.groups, new)) r (imports_at config types distinct old) → IfOk r (λ made. Takes (SpellsNoImport config) old made.groups new)
 unfolding SpellsNoImport
-no_import_taken config types distinct old new (Err e) none given = tt
-no_import_taken config types distinct old new (Ok made) none given =
-    let read = λ (value : List Imports) (piece after : List ℕ) (h : SpellsNoImport config value piece) (e : old ≡ piece ++ after). sym given ∙ (ap (λ bytes. imports_at config types distinct bytes) e ∙ no_import_read config types distinct piece after none h.1) in
-    record {
-      made = λ value piece after h e. let same = read value piece after h e in let pair : (made.groups, new) ≡ ([], after) = cc in ap (λ (r : List Imports × List ℕ). r.0) pair ∙ sym h.0;
-      left = λ value piece after h e. let same = read value piece after h e in let pair : (made.groups, new) ≡ ([], after) = cc in ap (λ (r : List Imports × List ℕ). r.1) pair;
-    }
+no_import_taken config types distinct old new r none given =
+    given_takes (SpellsNoImport config) (λ (made : Imported). made.groups) (imports_at config types distinct) old new r
+    (λ groups piece after h. rw h.0 (no_import_read config types distinct piece after none h.1)) given

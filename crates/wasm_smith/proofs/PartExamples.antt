@@ -19,8 +19,8 @@ use Rattle.smith_types.specs.declared.const_instr.ConstInstr.{ConstInstr}
 use Rattle.smith_types.specs.declared.const_instr.ConstInstr.TheVariants.{I32Const, GlobalGet}
 use Rattle.smith_types.proofs.GrowthLemmas.{IsRefBelow-refl}
 use Rattle.smith_types.proofs.ConstStepLemmas.{alone as one_instruction}
-use Rattle.wasm_smith.specs.Module.{Parts, IsGlobalDefined}
-use Rattle.wasm_smith.specs.ExampleModules.{a_type, bytes_array, plain_function, group_of}
+use Rattle.wasm_smith.specs.Module.{Parts, IsValid, IsGlobalDefined, module_features}
+use Rattle.wasm_smith.specs.ExampleModules.{a_type, bytes_array, plain_function, group_of, one_function}
 use Rattle.wasm_smith.specs.ExampleParts.{no_function}
 use Rattle.wasm_smith.specs.ExampleMembers.{taking_a_number}
 use Rattle.wasm_smith.proofs.PlaceLemmas.{EachFrom, each_place}
@@ -118,3 +118,19 @@ first_read context visible enabled = alone context (GlobalGet 0) I32 I32 (refl, 
 pub globals_defined : (m : Parts) → EachFrom (λ place (one : ℕ × List ConstInstr). IsGlobalDefined m place one.0 one.1) 0 m.defined_globals
     → (place index : ℕ) (initial : List ConstInstr) → slice_get m.defined_globals place ≡ Some (index, initial) → IsGlobalDefined m place index initial
 globals_defined m each place index initial at = each_place (λ place (one : ℕ × List ConstInstr). IsGlobalDefined m place one.0 one.1) m.defined_globals each place (index, initial) at
+
+-- the module of one function is valid
+pub one_function_valid : IsValid one_function
+one_function_valid = record {
+  types = function_types (module_features one_function);
+  imports = search rules;
+  spaces = search rules;
+  entities = record { tags = search rules; funcs = functions_valid; tables = search rules; memories = search rules; globals = search rules };
+  counts = search rules;
+  definitions = search rules;
+  exports = search rules;
+  start = tt;
+  elements = search rules;
+  data_segments = search rules;
+  bodies = search rules;
+}

@@ -10,8 +10,7 @@ use Rattle.smith_draw.specs.Choices.{enabled}
 use Rattle.smith_draw.specs.ValueTypes.{value_classes}
 use Rattle.smith_draw.specs.Spelling.{SpellsPlace, SpellsUnshared, SpellsGroups, SpellsGroup, SpellsSubTypes, SpellsFuncType}
 use Rattle.smith_draw.specs.SpelledConstants.{SpellsI32, SpellsConstant}
-use Rattle.smith_draw.specs.TypeUses.{is_tag_type}
-use Rattle.wasm_smith.specs.FuncTypes.{is_unshared_function}
+use Rattle.smith_draw.specs.TypeUses.{is_tag_type, is_unshared_function}
 use Rattle.wasm_smith.specs.Spelling.{SpellsMember, SpellsGlobal}
 use Rattle.wasm_smith.specs.ExampleMembers.{one_function_type}
 

@@ -1,28 +1,30 @@
 -- Which module the bytes give, step by step, and what each step leaves: what `exact` of `Module::new` speaks of. What a module
 -- keeps is said apart, and can be believed without it.
-use Rattle.std.specs.Prelude.{◌≡◌, ℕ, Bool, true, ◌&&◌, None, List, [], length, replicate, Result, Ok, Err, ◌==◌, if◌then◌else◌}
-use Rattle.std.specs.List.{list_any}
+use Rattle.std.specs.Prelude.{◌≡◌, ℕ, ◌-◌, Bool, true, None, Option, List, [], length, replicate, Result, Ok, Err, ◌==◌, if◌then◌else◌}
 use Rattle.smith_bytes.specs.declared.error.Error.{Error}
 use Rattle.smith_bytes.specs.declared.error.Error.TheVariants as errors
 use Rattle.smith_bytes.specs.declared.error.Why.TheVariants.{Unmet}
 use Rattle.smith_bytes.specs.declared.error.Count.{Count}
 use Rattle.smith_bytes.specs.declared.error.Count.TheVariants as counts
 use Rattle.smith_bytes.specs.Draws.{bool_at}
-use Rattle.smith_bytes.specs.Growth.{grow_at}
+use Rattle.smith_types.specs.Imports.{IndexSpaces, flattened, imported_spaces}
+use Rattle.smith_types.specs.IndexSpaces.{spaces_in}
+use Rattle.smith_types.specs.Space.{Space}
 use Rattle.smith_types.specs.declared.composite_type.SubType.{SubType}
-use Rattle.smith_types.specs.declared.entity_type.MemoryType.{MemoryType}
+use Rattle.smith_types.specs.declared.imports.Imports.{Imports}
+use Rattle.smith_types.specs.declared.const_instr.ConstInstr.{ConstInstr}
+use Rattle.smith_types.specs.declared.code.Code.{Code}
+use Rattle.smith_types.specs.declared.code.Instructions.TheVariants.{Unreachable}
 use Rattle.smith_config.specs.declared.config.Config.{Config}
 use Rattle.smith_config.specs.Faults.{Passes}
 use Rattle.smith_config.specs.InUse.{HasNoShapes}
-use Rattle.smith_draw.specs.Choices.{chosen_at}
 use Rattle.smith_draw.specs.RecGroups.{types_at}
-use Rattle.smith_draw.specs.Memories.{memtype_at}
-use Rattle.smith_draw.specs.TypeUses.{is_tag_type}
-use Rattle.wasm_smith.specs.FuncTypes.{func_types}
+use Rattle.wasm_smith.specs.Definitions.{standing_over, tags_at, funcs_at, tables_at, memories_at, globals_at}
+use Rattle.wasm_smith.specs.ImportedEntities.{sizes}
+use Rattle.wasm_smith.specs.Importing.{imports_at}
 use Rattle.wasm_smith.specs.Module.{Parts}
+use Rattle.wasm_smith.specs.declared.build.definitions.Definitions.{Definitions}
 use Rattle.wasm_smith.specs.declared.build.drawn.Drawn.{Drawn}
-use Rattle.smith_types.specs.declared.code.Code.{Code}
-use Rattle.smith_types.specs.declared.code.Instructions.TheVariants.{Unreachable}
 
 -- What a step gave, with what it left, is what reading gives, unless memory ran out.
 abbrev pub Gives : {X Y : Type 0} → (X → Y) → Result X Error → Result Y Count → Type 0
@@ -31,35 +33,13 @@ Gives view (Err errors.Memory) read = Unit {0}
 Gives view (Err (errors.IncorrectFormat (Unmet count))) read = read ≡ Err count
 Gives view (Err _) read = ⊥
 
--- a part that is not drawn yet: the bool that would begin its loop, where it has one; its minimum can't be met
-unfoldable pub passed_at : Count → ℕ → ℕ → List ℕ → Result (List ℕ) Count
-passed_at count least most bytes =
-    if least == 0 then Ok (if most == 0 then bytes else (bool_at bytes).1) else Err count
+-- a part that is not drawn yet takes no byte, and its minimum can't be met
+unfoldable pub passed_at : Count → ℕ → Result (Unit {0}) Count
+passed_at count least = if least == 0 then Ok tt else Err count
 
--- tags have function types without results, where exceptions are enabled
-abbrev pub may_have_tags : Config → List SubType → Bool
-may_have_tags config types = config.exceptions_enabled && list_any is_tag_type types
-
-unfoldable pub tags_at : Config → List SubType → List ℕ → Result (List ℕ) Count
-tags_at config types bytes = passed_at counts.Tags config.min_tags (if may_have_tags config types then config.max_tags else 0) bytes
-
--- the type of each function, chosen among those that it may have
-unfoldable pub chosen_funcs_at : Config → List SubType → List ℕ → List ℕ × List ℕ
-chosen_funcs_at config types bytes = grow_at (λ _. chosen_at 0 (func_types types)) config.min_funcs config.max_funcs [] bytes
-
--- no function where no type is one
-unfoldable pub funcs_at : Config → List SubType → List ℕ → Result (List ℕ × List ℕ) Count
-funcs_at config types bytes =
-    if length (func_types types) == 0
-    then (if config.min_funcs == 0 then Ok ([], bytes) else Err counts.Funcs)
-    else Ok (chosen_funcs_at config types bytes)
-
-unfoldable pub memories_at : Config → List ℕ → List MemoryType × List ℕ
-memories_at config bytes = grow_at (λ _. memtype_at config) config.min_memories config.max_memories [] bytes
-
--- the types section is written where there are types, else where a bool says so
-unfoldable pub type_flag_at : ℕ → List ℕ → Bool × List ℕ
-type_flag_at types bytes = if types == 0 then bool_at bytes else (true, bytes)
+-- a section of types or of imports is written where there are some, else where a bool says so
+unfoldable pub section_flag_at : ℕ → List ℕ → Bool × List ℕ
+section_flag_at count bytes = if count == 0 then bool_at bytes else (true, bytes)
 
 -- a body that only traps
 abbrev pub trap : Code
@@ -70,71 +50,89 @@ abbrev pub ◌>>=◌ : {A B : Type 0} → Result A Count → (A → Result B Cou
 (Ok x) >>= f = f x
 (Err count) >>= f = Err count
 
--- the bytes left behind element segments and their items
-unfoldable pub elements_at : Config → List ℕ → Result (List ℕ) Count
-elements_at config bytes = do
-  segments ← passed_at counts.ElementSegments config.min_element_segments 0 bytes
-  passed_at counts.Elements config.min_elements 0 segments
+-- segments are not drawn yet
+unfoldable pub segments_at : Config → Result (Unit {0}) Count
+segments_at config = do
+  segments ← passed_at counts.ElementSegments config.min_element_segments
+  items ← passed_at counts.Elements config.min_elements
+  passed_at counts.DataSegments config.min_data_segments
 
--- the module of the parts that are drawn, with none of those to come
-abbrev pub module_of : Config → Drawn → Parts
-module_of config drawn = record {
+-- what is defined in index spaces behind what is imported, with these initialisers of tables and globals
+abbrev pub defined_in : IndexSpaces → IndexSpaces → List (Option (List ConstInstr)) → List (ℕ × List ConstInstr) → Definitions
+defined_in imported spaces tables globals = record {
+  num_tags = length spaces.tags - length imported.tags;
+  num_funcs = length spaces.funcs - length imported.funcs;
+  tables = tables;
+  num_memories = length spaces.memories - length imported.memories;
+  globals = globals;
+}
+
+-- the index spaces that the bytes give behind what is imported, and what is defined in them
+unfoldable pub definitions_at : Config → List SubType → IndexSpaces → List ℕ → Result ((IndexSpaces × Definitions) × List ℕ) Count
+definitions_at config types imported bytes = do
+  tags ← tags_at config types imported.tags bytes
+  funcs ← funcs_at config types imported.funcs tags.1
+  let standing = standing_over types funcs.0 (length imported.funcs) imported.globals
+  let tables = tables_at config standing imported.tables funcs.1
+  let memories = memories_at config imported.memories tables.1
+  let globals = globals_at config standing memories.1
+  let spaces : IndexSpaces = record { tags = tags.0; funcs = funcs.0; tables = tables.0.0; memories = memories.0; globals = globals.0.0 }
+  Ok ((spaces, defined_in imported spaces tables.0.1 globals.0.1), globals.1)
+
+-- the module of what is drawn: types, imports, index spaces and what is defined in them, and which sections are written; with
+-- none of the parts to come
+abbrev pub module_of : Config → Space → List Imports → IndexSpaces → Definitions → Bool → Bool → Parts
+module_of config types imports spaces definitions encodes_types encodes_imports = record {
   config = config;
-  types = drawn.types.types;
-  groups = drawn.types.groups;
-  imports = [];
-  num_imports = 0;
-  tags = [];
-  funcs = drawn.funcs;
-  tables = [];
-  defined_tables = [];
-  memories = drawn.memories;
-  globals = [];
-  defined_globals = [];
-  num_defined_tags = 0;
-  num_defined_funcs = length drawn.funcs;
-  num_defined_memories = length drawn.memories;
+  types = types.types;
+  groups = types.groups;
+  imports = imports;
+  num_imports = length (flattened imports);
+  tags = spaces.tags;
+  funcs = spaces.funcs;
+  tables = spaces.tables;
+  defined_tables = definitions.tables;
+  memories = spaces.memories;
+  globals = spaces.globals;
+  defined_globals = definitions.globals;
+  num_defined_tags = definitions.num_tags;
+  num_defined_funcs = definitions.num_funcs;
+  num_defined_memories = definitions.num_memories;
   exports = [];
   start = None;
   elems = [];
   segments = [];
-  code = drawn.code;
+  code = replicate definitions.num_funcs trap;
   fuel_globals = [];
-  encodes_types = drawn.encodes_types;
-  encodes_imports = drawn.encodes_imports;
-  type_size = 0;
+  encodes_types = encodes_types;
+  encodes_imports = encodes_imports;
+  type_size = sizes types.types (flattened imports);
   interesting_values32 = [];
   interesting_values64 = [];
 }
 
--- the module that the bytes give, step by step, and what they leave
-unfoldable pub module_at : Config → List ℕ → Result (Parts × List ℕ) Count
-module_at config bytes = do
+-- the module that the bytes give, step by step, and what they leave; with `distinct` no two imports have the same names
+unfoldable pub module_at : Bool → Config → List ℕ → Result (Parts × List ℕ) Count
+module_at distinct config bytes = do
   let types = types_at config (record { types = []; groups = [] }) bytes
-  imports ← passed_at counts.Imports config.min_imports config.max_imports types.1
-  let import_flag = bool_at imports
-  tags ← tags_at config types.0.types import_flag.1
-  funcs ← funcs_at config types.0.types tags
-  tables ← passed_at counts.Tables config.min_tables config.max_tables funcs.1
-  let memories = memories_at config tables
-  globals ← passed_at counts.Globals config.min_globals config.max_globals memories.1
-  exports ← passed_at counts.Exports config.min_exports 0 globals
-  let type_flag = type_flag_at (length types.0.types) exports
-  elements ← elements_at config type_flag.1
-  rest ← passed_at counts.DataSegments config.min_data_segments 0 elements
-  Ok (
-    module_of config (record {
-      types = types.0;
-      funcs = funcs.0;
-      memories = memories.0;
-      code = replicate (length funcs.0) trap;
-      encodes_types = type_flag.0;
-      encodes_imports = import_flag.0;
-    }),
-    rest,
-  )
+  imports ← imports_at config types.0.types distinct types.1
+  let import_flag = section_flag_at (length imports.0) imports.1
+  definitions ← definitions_at config types.0.types (imported_spaces (flattened imports.0)) import_flag.1
+  exports ← passed_at counts.Exports config.min_exports
+  let type_flag = section_flag_at (length types.0.types) definitions.1
+  segments ← segments_at config
+  Ok (module_of config types.0 imports.0 definitions.0.0 definitions.0.1 type_flag.0 import_flag.0, type_flag.1)
+
+-- the parts that were drawn, as a module
+abbrev pub parts_of : Config → Drawn → Parts
+parts_of config drawn =
+    record (module_of config drawn.types drawn.imported.groups (spaces_in drawn.imported.spaces) drawn.definitions drawn.encodes_types drawn.encodes_imports) {
+      num_imports = drawn.imported.count;
+      type_size = drawn.imported.type_size;
+      code = drawn.code;
+    }
 
 -- an answer is the module that a configuration and bytes give, with what they leave, or the minimum that they leave unmet,
 -- unless memory ran out; it is told of a configuration that may be drawn for
-pub record IsGiven (config : Config) (bytes : List ℕ) (answer : Result Parts Error) (left : List ℕ) : Type 0 where
-  pub exact : Passes config → HasNoShapes config → Gives (λ m. (m, left)) answer (module_at config bytes)
+pub record IsGiven (distinct : Bool) (config : Config) (bytes : List ℕ) (answer : Result Parts Error) (left : List ℕ) : Type 0 where
+  pub exact : Passes config → HasNoShapes config → Gives (λ m. (m, left)) answer (module_at distinct config bytes)

@@ -164,9 +164,6 @@ room_for_two = record default_config { min_imports = 2; max_memories = 2; max_ta
 
 -- a part that is not drawn yet, whose minimum may stay unmet where it may not when all is drawn
 abbrev pub IsToCome : Count → Type 0
-IsToCome counts.Imports = Unit {0}
-IsToCome counts.Tables = Unit {0}
-IsToCome counts.Globals = Unit {0}
 IsToCome counts.Exports = Unit {0}
 IsToCome counts.ElementSegments = Unit {0}
 IsToCome counts.DataSegments = Unit {0}

@@ -1,5 +1,5 @@
 -- What stands until every part of a module is drawn.
-use Rattle.std.specs.Prelude.{◌≡◌, ◌<◌, false, None, IsSome, [], Result, Ok, Err}
+use Rattle.std.specs.Prelude.{◌≡◌, ◌<◌, None, IsSome, [], Result, Ok, Err}
 use Rattle.smith_bytes.specs.declared.error.Error.{Error}
 use Rattle.smith_bytes.specs.declared.error.Error.TheVariants as errors
 use Rattle.smith_bytes.specs.declared.error.Why.TheVariants.{Unmet}
@@ -9,29 +9,21 @@ use Rattle.smith_bytes.specs.declared.error.ShapeFault.TheVariants.{LeftOut}
 use Rattle.smith_bytes.specs.declared.error.Count.{Count}
 use Rattle.smith_bytes.specs.declared.error.Count.TheVariants as counts
 use Rattle.smith_config.specs.declared.config.Config.{Config}
-use Rattle.smith_config.specs.Faults.{IsFirstFault, Passes, minimum_of}
+use Rattle.smith_config.specs.Faults.{IsFirstFault, Passes}
 use Rattle.smith_config.specs.Sanitized.{sanitized}
 use Rattle.smith_config.specs.InUse.{HasNoShapes}
 use Rattle.wasm_smith.specs.Module.{Parts, IsValid, shown_config}
 use Rattle.wasm_smith.specs.Bounds.{KeepsBounds, MeetsMinimums}
 use Rattle.wasm_smith.specs.Promises.{WritesSections}
+use Rattle.wasm_smith.specs.Refusals.{MayBeUnmet}
 
--- no part stands beside types, functions, memories and bodies
+-- no export, start, segment, counter of fuel or interesting value stands
 pub record HasNoMore (m : Parts) : Type 0 where
-  pub imports : m.imports ≡ []
-  pub num_imports : m.num_imports ≡ 0
-  pub tags : m.tags ≡ []
-  pub tables : m.tables ≡ []
-  pub defined_tables : m.defined_tables ≡ []
-  pub globals : m.globals ≡ []
-  pub defined_globals : m.defined_globals ≡ []
-  pub num_defined_tags : m.num_defined_tags ≡ 0
   pub exports : m.exports ≡ []
   pub start : m.start ≡ None
   pub elems : m.elems ≡ []
   pub segments : m.segments ≡ []
   pub fuel_globals : m.fuel_globals ≡ []
-  pub type_size : m.type_size ≡ 0
   pub interesting_values32 : m.interesting_values32 ≡ []
   pub interesting_values64 : m.interesting_values64 ≡ []
 
@@ -46,13 +38,18 @@ pub record IsDrawn (config : Config) (m : Parts) : Type 0 where
   pub sections : WritesSections m
   pub no_more : HasNoMore m
 
--- where a minimum may stay unmet: it is above zero, that of types and memories never, and that of functions without garbage
--- collection only where no type is asked for; that of a part which is not drawn yet always
+-- no segment is asked for
+pub record AsksForNoSegments (config : Config) : Type 0 where
+  pub segments : config.min_element_segments ≡ 0
+  pub elements : config.min_elements ≡ 0
+  pub data_segments : config.min_data_segments ≡ 0
+
+-- where a minimum may stay unmet: where it may once all is drawn, and that of a part which is not drawn yet where it is above zero
 abbrev pub StaysUnmet : Config → Count → Type 0
-StaysUnmet config counts.Types = ⊥
-StaysUnmet config counts.Memories = ⊥
-StaysUnmet config counts.Funcs = (0 < config.min_funcs) × (config.gc_enabled ≡ false → config.min_types ≡ 0)
-StaysUnmet config count = 0 < minimum_of config count
+StaysUnmet config counts.Exports = 0 < config.min_exports
+StaysUnmet config counts.ElementSegments = 0 < config.min_element_segments
+StaysUnmet config counts.DataSegments = 0 < config.min_data_segments
+StaysUnmet config count = MayBeUnmet config count
 
 -- the shape for which a configuration is refused, since no part of it is used yet: the module shape, else the available
 -- imports, else the exports

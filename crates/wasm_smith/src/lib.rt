@@ -6,7 +6,7 @@ mod examples;
 pub mod laws;
 mod module;
 
-pub use module::Module;
+pub use module::{DuplicateImportsBehavior, Module};
 pub use smith_bytes::{
     Arbitrary, ConfigFault, Count, Error, Int, ShapeFault, Unstructured, Which, Why,
     arbitrary_loop, goes_on, limited_str, limited_string, unique_kebab_string, unique_string,

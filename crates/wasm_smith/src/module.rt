@@ -1,9 +1,8 @@
-ghost use Rattle.std.specs.Prelude.{◌≡◌, false, IfOk, OnOk, IfErr, IsErrOf, IsErrAnd};
-ghost use Rattle.smith_bytes.specs.Source.{IsPiece};
-ghost use Rattle.smith_config.specs.Faults.{Passes};
+ghost use Rattle.std.specs.Prelude.{◌≡◌, false, IfErr};
+ghost use Rattle.wasm_smith.specs.Generated.{is_distinct};
 
 use crate::build::{build, shape_left_out};
-use smith_bytes::{Error, ShapeFault, Unstructured, Which};
+use smith_bytes::{Error, ShapeFault, Unstructured};
 use smith_config::Config;
 use smith_types::{
     Code, ConstInstr, DataSegment, ElementSegment, ExportKind, GlobalType, Imports, Items,
@@ -80,39 +79,59 @@ impl Model for Module {
     } };
 }
 
+/// What a drawn module does with imports that have the same pair of names as another.
+#[derive(Clone, Copy, Debug, PartialEq, Eq)]
+pub enum DuplicateImportsBehavior {
+    /// They stand as they are drawn.
+    Allowed,
+    /// No two have the same pair: a name that would repeat one gets the number of pairs so far behind it, until it is new.
+    Disallowed,
+}
+
+impl DuplicateImportsBehavior {
+    /// Whether no two imports may have the same pair of names.
+    fn is_distinct(self) -> bool
+        ensures { result ≡ is_distinct self }
+    {
+        match self {
+            DuplicateImportsBehavior::Allowed => false,
+            DuplicateImportsBehavior::Disallowed => true,
+        }
+    }
+}
+
 impl Module {
-    ghost use Rattle.smith_config.specs.Sanitized.{sanitized};
-    ghost use Rattle.smith_config.specs.InUse.{HasNoShapes};
-    ghost use Rattle.wasm_smith.specs.Build.{IsGiven};
-    ghost use Rattle.wasm_smith.specs.Module.{IsValid, shown_config};
-    ghost use Rattle.wasm_smith.specs.Bounds.{KeepsBounds, MeetsMinimums};
-    ghost use Rattle.wasm_smith.specs.Promises.{HasNoFloats, HasNoFuel, WritesSections};
-    ghost use Rattle.wasm_smith.specs.Refusals.{HasNoMinimums};
-    ghost use Rattle.wasm_smith.specs.ToCome.{HasNoMore, IsFaulted, IsLeftOut, MayComeOut};
+    ghost use Rattle.smith_config.specs.Config.{default_config};
+    ghost use Rattle.wasm_smith.specs.Generated.{IsGenerated, is_distinct};
+
+    /// Draws a module from the bytes, for the default configuration: [`Module::new`] says how.
+    pub fn arbitrary(alloc: Global, u: &mut Unstructured<'_>) -> Result<Module, Error>
+        ensures generated { IsGenerated false default_config u.old result u.new }
+        ensures memory { IfErr result (λ e. e ≡ Error.Memory) }
+    {
+        Module::new(alloc, Config::default(), u)
+    }
 
     /// Draws a module from the bytes. The configuration is sanitised and checked first.
     ///
     /// A configuration that fails its check is refused, a minimum that can't be met, and want of memory. Until shapes
     /// are used, a configuration with a shape is refused before anything is drawn, for the shape that is left out: the module
     /// shape, else the available imports, else the exports.
-    pub fn new(alloc: Global, mut config: Config, u: &mut Unstructured<'_>) -> Result<Module, Error>
-        ensures exact { IsGiven (sanitized config) u.old result u.new }
-        ensures fault { (Passes (sanitized config) → ⊥) → IsErrAnd result (IsFaulted (sanitized config)) }
-        ensures config { IfOk result (λ m. m.config ≡ shown_config config) }
-        ensures passes { OnOk result (Passes (sanitized config)) }
-        ensures no_shapes { OnOk result (HasNoShapes (sanitized config)) }
-        ensures valid { IfOk result IsValid }
-        ensures bounds { IfOk result (KeepsBounds (sanitized config)) }
-        ensures minimums { IfOk result (MeetsMinimums (sanitized config)) }
-        ensures floats { config.allow_floats ≡ false → IfOk result HasNoFloats }
-        ensures sections { IfOk result WritesSections }
-        ensures fuel { IfOk result HasNoFuel }
-        ensures no_more { IfOk result HasNoMore }
-        ensures refusals { IfErr result (MayComeOut (sanitized config)) }
-        ensures needless { Passes (sanitized config) → HasNoShapes (sanitized config) → HasNoMinimums (sanitized config) → IfErr result (λ e. e ≡ Error.Memory) }
-        ensures shape { (for_use : Which) → Passes (sanitized config) → IsLeftOut (sanitized config) for_use → IsErrOf result (Error.Shape for_use ShapeFault.LeftOut) }
-        ensures undrawn { (for_use : Which) → IsLeftOut (sanitized config) for_use → u.new ≡ u.old }
-        ensures source { IsPiece u.old u.new }
+    pub fn new(alloc: Global, config: Config, u: &mut Unstructured<'_>) -> Result<Module, Error>
+        ensures { IsGenerated false config u.old result u.new }
+    {
+        Module::new_internal(alloc, config, u, DuplicateImportsBehavior::Allowed)
+    }
+
+    /// Draws a module from the bytes as [`Module::new`] does, with imports whose pairs of names are distinct where `behavior`
+    /// asks for it.
+    pub fn new_internal(
+        alloc: Global,
+        mut config: Config,
+        u: &mut Unstructured<'_>,
+        behavior: DuplicateImportsBehavior,
+    ) -> Result<Module, Error>
+        ensures { IsGenerated (is_distinct behavior) config u.old result u.new }
     {
         config.sanitize();
         if let Err(fault) = config.check() {
@@ -121,7 +140,7 @@ impl Module {
         if let Some(which) = shape_left_out(&config) {
             return Err(Error::Shape(which, ShapeFault::LeftOut));
         }
-        build(alloc, config, u)
+        build(alloc, config, behavior.is_distinct(), u)
     }
 
     /// The configuration that the module was drawn for, sanitised. Its available imports were used up and show as none.

@@ -58,8 +58,8 @@ pub fn arbitrary_const_expr(
 ) -> Result<Items<ConstInstr>, Error>
     requires standing { AreSpacesValid config.now spaces.now }
     requires wanted { IsValTypeValid (features_of config.now) (length spaces.now.types.now.types) wanted }
-    ensures exact { IfOk result (λ drawn. const_expr_at config.now spaces.now wanted allow_defined u.old ≡ Some (drawn, u.new)) }
-    ensures none { IfErr result (λ e. e ≡ Error.EmptyChoose → const_expr_at config.now spaces.now wanted allow_defined u.old ≡ None) }
+    ensures exact { IfOk result (λ drawn. const_expr_at config.now (seen_by config.now spaces.now allow_defined) wanted u.old ≡ Some (drawn, u.new)) }
+    ensures none { IfErr result (λ e. e ≡ Error.EmptyChoose → const_expr_at config.now (seen_by config.now spaces.now allow_defined) wanted u.old ≡ None) }
     ensures typed { IfOk result (IsConstExpr (seen_by config.now spaces.now allow_defined) wanted) }
     ensures short { IfOk result (λ drawn. length drawn ≤ most_instructions config.now spaces.now.types.now.types) }
     ensures floats { All HasNoFloat spaces.now.types.now.types → IsNoFloat wanted → IfOk result (All GivesNoFloat) }
@@ -99,8 +99,8 @@ pub fn arbitrary_table_init(
     requires element { IsRefTypeValid (features_of config.now) (length spaces.now.types.now.types) element }
     requires created { element.nullable ≡ false → IsTrue config.now.gc_enabled }
     requires references { IsTrue config.now.gc_enabled → IsTrue config.now.reference_types_enabled }
-    ensures exact { IfOk result (λ initial. table_init_at config.now spaces.now element u.old ≡ Some (initial, u.new)) }
-    ensures none { IfErr result (λ e. e ≡ Error.EmptyChoose → table_init_at config.now spaces.now element u.old ≡ None) }
+    ensures exact { IfOk result (λ initial. table_init_at config.now (seen_by config.now spaces.now false) element u.old ≡ Some (initial, u.new)) }
+    ensures none { IfErr result (λ e. e ≡ Error.EmptyChoose → table_init_at config.now (seen_by config.now spaces.now false) element u.old ≡ None) }
     ensures typed { IfOk result (λ initial. IfSome initial (IsConstExpr (seen_by config.now spaces.now false) (Ref element))) }
     ensures short { IfOk result (λ initial. IfSome initial (λ drawn. length drawn ≤ most_instructions config.now spaces.now.types.now.types)) }
     ensures floats { All HasNoFloat spaces.now.types.now.types → IfOk result (λ initial. IfSome initial (All GivesNoFloat)) }

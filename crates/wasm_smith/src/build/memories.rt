@@ -1,53 +1,60 @@
-ghost use Rattle.std.specs.Prelude.{◌≤◌, ◌<◌, length, IsTrue, IfOk, All};
+ghost use Rattle.std.specs.Prelude.{◌≡◌, ◌<◌, ◌≤◌, [], length, IsTrue, OnOk, All};
+ghost use Rattle.smith_bytes.specs.Takes.{Takes};
 ghost use Rattle.smith_types.specs.Entities.{IsMemoryValid};
 ghost use Rattle.smith_config.specs.Faults.{Passes};
 ghost use Rattle.smith_config.specs.Features.{features_of};
-ghost use Rattle.smith_draw.specs.Drawing.{Draws};
 ghost use Rattle.smith_draw.specs.Bounds.{IsMemoryWithin};
-ghost use Rattle.wasm_smith.specs.Build.{memories_at};
+ghost use Rattle.smith_draw.specs.Drawing.{DrawsInto};
+ghost use Rattle.wasm_smith.specs.Defined.{IsFilled, SpellsEmpty};
+ghost use Rattle.wasm_smith.specs.Definitions.{memories_at};
+ghost use Rattle.wasm_smith.specs.Spelling.{SpellsNone};
 
+use crate::build::past_full::ask_past_full;
 use smith_bytes::{Error, Unstructured, goes_on};
 use smith_config::Config;
 use smith_draw::arbitrary_memtype;
 use smith_types::{Items, MemoryType};
-use std::alloc::Global;
 
-/// The memories, each drawn as a memory type.
-#[tactic(auto, unfolding(crate::specs::Build::memories_at))]
+/// Adds memories behind the imported ones, each drawn as a memory type.
+#[tactic(auto, unfolding(crate::specs::Definitions::memories_at))]
 fn drawn_memories(
-    alloc: Global,
     config: &Config,
+    memories: &mut Items<MemoryType>,
     u: &mut Unstructured<'_>,
-) -> Result<Items<MemoryType>, Error>
-    requires { Passes config.now }
-    ensures draws { Draws (memories_at config.now u.old) result u.old u.new }
-    ensures valid { IfOk result (All (IsMemoryValid (features_of config.now))) }
-    ensures within { IfOk result (All (IsMemoryWithin config.now)) }
+) -> Result<(), Error>
+    requires passes { Passes config.now }
+    requires imported { length memories.old ≤ config.now.max_memories }
+    ensures draws { DrawsInto (memories_at config.now memories.old u.old) memories.new result u.old u.new }
+    ensures valid { All (IsMemoryValid (features_of config.now)) memories.old → OnOk result (All (IsMemoryValid (features_of config.now)) memories.new) }
+    ensures within { All (IsMemoryWithin config.now) memories.old → OnOk result (All (IsMemoryWithin config.now) memories.new) }
 {
-    let mut memories = Items::new(alloc);
-    for made in 0..config.max_memories {
-        if !goes_on(u, made, config.min_memories as usize) {
-            return Ok(memories);
+    let imported = memories.len();
+    let needed = (config.min_memories as usize).saturating_sub(imported);
+    for made in 0..config.max_memories - imported {
+        if !goes_on(u, made, needed) {
+            return Ok(());
         }
         let memory = arbitrary_memtype(config, u)?;
         memories.push(memory)?;
     }
-    Ok(memories)
+    ask_past_full(imported, u);
+    Ok(())
 }
 
-/// As many memories as are asked for, and no more than may be.
+/// Adds memories behind the imported ones: as many as are asked for, and no more than may be.
 pub(crate) fn memories(
-    alloc: Global,
     config: &Config,
+    memories: &mut Items<MemoryType>,
     u: &mut Unstructured<'_>,
-) -> Result<Items<MemoryType>, Error>
-    requires { Passes config.now }
-    ensures draws { Draws (memories_at config.now u.old) result u.old u.new }
-    ensures valid { IfOk result (All (IsMemoryValid (features_of config.now))) }
-    ensures within { IfOk result (All (IsMemoryWithin config.now)) }
-    ensures most { IfOk result (λ memories. length memories ≤ config.now.max_memories) }
-    ensures least { IfOk result (λ memories. config.now.min_memories ≤ length memories) }
-    ensures several { IfOk result (λ memories. 1 < length memories → IsTrue (features_of config.now).multi_memory) }
+) -> Result<(), Error>
+    requires passes { Passes config.now }
+    requires imported { length memories.old ≤ config.now.max_memories }
+    ensures draws { DrawsInto (memories_at config.now memories.old u.old) memories.new result u.old u.new }
+    ensures filled { OnOk result (IsFilled config.now.min_memories config.now.max_memories memories.old memories.new) }
+    ensures valid { All (IsMemoryValid (features_of config.now)) memories.old → OnOk result (All (IsMemoryValid (features_of config.now)) memories.new) }
+    ensures within { All (IsMemoryWithin config.now) memories.old → OnOk result (All (IsMemoryWithin config.now) memories.new) }
+    ensures several { OnOk result (1 < length memories.new → IsTrue (features_of config.now).multi_memory) }
+    ensures none { config.now.min_memories ≡ 0 → memories.old ≡ [] → OnOk result (Takes (SpellsEmpty (SpellsNone config.now.max_memories)) u.old memories.new u.new) }
 {
-    drawn_memories(alloc, config, u)
+    drawn_memories(config, memories, u)
 }

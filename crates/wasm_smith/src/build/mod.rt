@@ -1,6 +1,6 @@
 //! The steps of building a module.
 
-ghost use Rattle.std.specs.Prelude.{◌≡◌, false, IfOk, IfErr};
+ghost use Rattle.std.specs.Prelude.{◌≡◌, false, IsTrue, IfOk, IfErr};
 ghost use Rattle.smith_bytes.specs.Source.{KeepsPieces};
 ghost use Rattle.smith_config.specs.Faults.{Passes};
 ghost use Rattle.smith_config.specs.InUse.{HasNoShapes};
@@ -8,12 +8,14 @@ ghost use Rattle.smith_config.specs.Sanitized.{IsSanitized};
 ghost use Rattle.wasm_smith.specs.Build.{Gives, module_at};
 ghost use Rattle.wasm_smith.specs.Module.{IsValid};
 ghost use Rattle.wasm_smith.specs.Bounds.{KeepsBounds, MeetsMinimums};
-ghost use Rattle.wasm_smith.specs.Promises.{HasNoFloats, WritesSections};
+ghost use Rattle.wasm_smith.specs.Promises.{HasDistinctImports, HasNoFloats, WritesSections};
 ghost use Rattle.wasm_smith.specs.ToCome.{HasNoMore, MayComeOut};
 
 mod code;
+mod definitions;
 mod drawn;
 mod funcs;
+mod globals;
 mod import_entities;
 mod import_groups;
 mod import_kinds;
@@ -22,6 +24,12 @@ mod imported;
 mod imports;
 mod memories;
 mod parts_to_come;
+mod past_full;
+mod section_flag;
+mod standing;
+mod tables;
+mod tags;
+mod typed;
 mod types;
 
 use crate::module::Module;
@@ -31,51 +39,57 @@ use smith_config::Config;
 use smith_types::Items;
 use std::alloc::Global;
 
-/// Draws a module for a configuration that is sanitised, passes its check and has no shapes.
+/// Draws a module for a configuration that is sanitised, passes its check and has no shapes. Where `distinct` is set, no two of
+/// its imports have the same pair of names.
 pub(crate) fn build(
     alloc: Global,
     config: Config,
+    distinct: bool,
     u: &mut Unstructured<'_>,
 ) -> Result<Module, Error>
     requires passes { Passes config }
     requires sanitized { IsSanitized config }
     requires no_shapes { HasNoShapes config }
-    ensures exact { Gives (λ m. (m, u.new)) result (module_at config u.old) }
+    ensures exact { Gives (λ m. (m, u.new)) result (module_at distinct config u.old) }
     ensures config { IfOk result (λ m. m.config ≡ config) }
     ensures valid { IfOk result IsValid }
     ensures bounds { IfOk result (KeepsBounds config) }
     ensures minimums { IfOk result (MeetsMinimums config) }
+    ensures names { IsTrue distinct → IfOk result HasDistinctImports }
     ensures floats { config.allow_floats ≡ false → IfOk result HasNoFloats }
     ensures sections { IfOk result WritesSections }
     ensures no_more { IfOk result HasNoMore }
     ensures refusal { IfErr result (MayComeOut config) }
     ensures left { KeepsPieces u.old u.new }
 {
-    let drawn = drawn::draw(alloc, &config, u)?;
+    let drawn = drawn::draw(alloc, &config, distinct, u)?;
+    let imported = drawn.imported;
+    let spaces = imported.spaces;
+    let definitions = drawn.definitions;
     Ok(Module {
-        num_imports: 0,
-        imports: Items::new(alloc),
-        tags: Items::new(alloc),
-        tables: Items::new(alloc),
-        defined_tables: Items::new(alloc),
-        globals: Items::new(alloc),
-        defined_globals: Items::new(alloc),
-        num_defined_tags: 0,
-        num_defined_funcs: drawn.funcs.len(),
-        num_defined_memories: drawn.memories.len(),
+        config,
+        types: drawn.types,
+        imports: imported.groups,
+        num_imports: imported.count,
+        tags: spaces.tags,
+        funcs: spaces.funcs,
+        tables: spaces.tables,
+        defined_tables: definitions.tables,
+        memories: spaces.memories,
+        globals: spaces.globals,
+        defined_globals: definitions.globals,
+        num_defined_tags: definitions.num_tags,
+        num_defined_funcs: definitions.num_funcs,
+        num_defined_memories: definitions.num_memories,
         exports: Items::new(alloc),
         start: None,
         elems: Items::new(alloc),
         segments: Items::new(alloc),
+        code: drawn.code,
         fuel_globals: Items::new(alloc),
-        type_size: 0,
+        type_size: imported.type_size,
         interesting_values32: Items::new(alloc),
         interesting_values64: Items::new(alloc),
-        config,
-        types: drawn.types,
-        funcs: drawn.funcs,
-        memories: drawn.memories,
-        code: drawn.code,
         encodes_types: drawn.encodes_types,
         encodes_imports: drawn.encodes_imports,
     })

@@ -1,12 +1,13 @@
-ghost use Rattle.std.specs.Prelude.{◌≡◌, ◌≤◌, ◌<◌, true, false, [], length, IfOk, All};
+ghost use Rattle.std.specs.Prelude.{◌≡◌, ◌≤◌, false, [], length, IfOk, All};
 ghost use Rattle.smith_types.specs.Floats.{HasNoFloat};
 ghost use Rattle.smith_types.specs.ValidTypes.{AreTypesValid};
 ghost use Rattle.smith_config.specs.Faults.{Passes};
 ghost use Rattle.smith_config.specs.Features.{features_of};
 ghost use Rattle.smith_config.specs.Sanitized.{IsSanitized};
-ghost use Rattle.smith_draw.specs.Drawing.{AlwaysDraws, Draws};
+ghost use Rattle.smith_draw.specs.ConstBounds.{HoldsNonNullableField};
+ghost use Rattle.smith_draw.specs.Drawing.{Draws};
+ghost use Rattle.smith_draw.specs.FuncSizes.{IsSmall};
 ghost use Rattle.smith_draw.specs.RecGroups.{types_at};
-ghost use Rattle.wasm_smith.specs.Build.{type_flag_at};
 
 use smith_bytes::{Error, Unstructured};
 use smith_config::Config;
@@ -28,20 +29,10 @@ pub(crate) fn types(
     ensures most { IfOk result (λ space. length space.types ≤ config.now.max_types) }
     ensures least { IfOk result (λ space. config.now.min_types ≤ length space.types) }
     ensures floats { config.now.allow_floats ≡ false → IfOk result (λ space. All HasNoFloat space.types) }
+    ensures small { IfOk result (λ space. All IsSmall space.types) }
+    ensures nullable { IfOk result (λ space. ¬ HoldsNonNullableField space.types) }
 {
     let mut types = TypeSpace::with_capacity(alloc, config.min_types)?;
     arbitrary_types(alloc, config, &mut types, &Entities::none(), u)?;
     Ok(types)
-}
-
-/// Whether the types section is written: where there are types, else where a bool says so.
-#[tactic(auto, unfolding(crate::specs::Build::type_flag_at))]
-pub(crate) fn type_flag(types: usize, u: &mut Unstructured<'_>) -> bool
-    ensures draws { AlwaysDraws (type_flag_at types u.old) result u.old u.new }
-    ensures written { 0 < types → result ≡ true }
-{
-    if types > 0 {
-        return true;
-    }
-    u.arbitrary()
 }

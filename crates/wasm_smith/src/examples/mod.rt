@@ -2,6 +2,7 @@
 
 mod bounds;
 mod changed_bytes;
+mod definitions;
 mod family;
 mod func_types;
 mod given_modules;

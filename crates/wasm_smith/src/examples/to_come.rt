@@ -1,4 +1,4 @@
-ghost use Rattle.std.specs.Prelude.{◌⊎◌, true, false, [], ◌∷◌, pos, Some, None, Ok, Err};
+ghost use Rattle.std.specs.Prelude.{◌⊎◌, true, false, [], ◌∷◌, pos, Some, Ok, Err};
 ghost use Rattle.smith_bytes.specs.declared.error.Error.{Error};
 ghost use Rattle.smith_bytes.specs.declared.error.Error.TheVariants.{EmptyChoose, IncorrectFormat, Memory, Config as Faulty, Shape as Misshapen};
 ghost use Rattle.smith_bytes.specs.declared.error.Which.TheVariants.{AvailableImports, Exports, ModuleShape};
@@ -6,20 +6,24 @@ ghost use Rattle.smith_bytes.specs.declared.error.ShapeFault.TheVariants.{Duplic
 ghost use Rattle.smith_bytes.specs.declared.error.ConfigFault.TheVariants.{MinAboveMax};
 ghost use Rattle.smith_bytes.specs.declared.error.Count.TheVariants as counts;
 ghost use Rattle.smith_bytes.specs.declared.error.Why.TheVariants.{Unmet, TypeSize};
-ghost use Rattle.smith_types.specs.Flags.{funcref};
 ghost use Rattle.smith_types.specs.declared.segments.Elements.TheVariants.{Functions};
 ghost use Rattle.smith_types.specs.declared.entity_type.ExportKind.TheVariants as kind;
 ghost use Rattle.smith_config.specs.Config.{default_config};
 ghost use Rattle.smith_config.specs.declared.config.Config.{Config};
 ghost use Rattle.wasm_smith.specs.Refusals.{MayRefuse};
 ghost use Rattle.wasm_smith.specs.ToCome.{MayComeOut, HasNoMore, IsDrawn, Allows};
-ghost use Rattle.wasm_smith.specs.ExampleParts.{table, number, passive_elements, active_data};
-ghost use Rattle.wasm_smith.specs.ExampleModules.{one_function, one_import, empty_module};
+ghost use Rattle.wasm_smith.specs.ExampleParts.{passive_elements, active_data};
+ghost use Rattle.wasm_smith.specs.ExampleModules.{one_function, empty_module};
 ghost use Rattle.wasm_smith.specs.ExampleShapes.{for_module, for_imports, for_exports, environment, five_exports, IsRefusalToCome};
 
 fn refusals()
     ensures allowed_later { (config : Config) (e : Error) → MayComeOut config e → MayRefuse config e ⊎ IsRefusalToCome config e }
-    ensures tables_are_refused { MayComeOut (record default_config { min_tables = 1 }) (IncorrectFormat (Unmet counts.Tables)) }
+    ensures exports_are_refused { MayComeOut (record default_config { min_exports = 1 }) (IncorrectFormat (Unmet counts.Exports)) }
+    ensures tables_are_not { ¬ MayComeOut (record default_config { min_tables = 1 }) (IncorrectFormat (Unmet counts.Tables)) }
+    ensures globals_are_not { ¬ MayComeOut (record default_config { min_globals = 1 }) (IncorrectFormat (Unmet counts.Globals)) }
+    ensures an_import_that_fits { ¬ MayComeOut (record default_config { min_imports = 1 }) (IncorrectFormat (Unmet counts.Imports)) }
+    ensures imports_of_too_many_memories { MayComeOut (record default_config { min_imports = 2 }) (IncorrectFormat (Unmet counts.Imports)) }
+    ensures tags_may_be { MayComeOut (record default_config { min_tags = 1 }) (IncorrectFormat (Unmet counts.Tags)) }
     ensures types_are_not { ¬ MayComeOut (record default_config { min_types = 1 }) (IncorrectFormat (Unmet counts.Types)) }
     ensures memories_are_not { ¬ MayComeOut (record default_config { min_memories = 1 }) (IncorrectFormat (Unmet counts.Memories)) }
     ensures functions_of_no_type { MayComeOut (record default_config { min_funcs = 1; gc_enabled = false }) (IncorrectFormat (Unmet counts.Funcs)) }
@@ -42,20 +46,12 @@ fn refusals()
 
 fn parts()
     ensures a_function { HasNoMore one_function }
-    ensures an_import { ¬ HasNoMore (record one_function { imports = one_import.imports }) }
-    ensures a_number_of_imports { ¬ HasNoMore (record one_function { num_imports = 1 }) }
-    ensures a_tag { ¬ HasNoMore (record one_function { tags = 0 ∷ [] }) }
-    ensures a_table { ¬ HasNoMore (record one_function { tables = table funcref 1 None ∷ [] }) }
-    ensures a_defined_table { ¬ HasNoMore (record one_function { defined_tables = None ∷ [] }) }
-    ensures a_global { ¬ HasNoMore (record one_function { globals = number ∷ [] }) }
-    ensures a_defined_global { ¬ HasNoMore (record one_function { defined_globals = (0, []) ∷ [] }) }
-    ensures a_number_of_tags { ¬ HasNoMore (record one_function { num_defined_tags = 1 }) }
     ensures an_export { ¬ HasNoMore (record one_function { exports = ([], kind.Func, 0) ∷ [] }) }
     ensures a_start { ¬ HasNoMore (record one_function { start = Some 0 }) }
     ensures elements { ¬ HasNoMore (record one_function { elems = passive_elements (Functions []) ∷ [] }) }
     ensures bytes { ¬ HasNoMore (record one_function { segments = active_data (pos 0) [] ∷ [] }) }
+    ensures a_number_to_try { ¬ HasNoMore (record one_function { interesting_values32 = 0 ∷ [] }) }
     ensures a_counter_of_fuel { ¬ HasNoMore (record one_function { fuel_globals = 0 ∷ [] }) }
-    ensures a_type_size { ¬ HasNoMore (record one_function { type_size = 1 }) }
 {}
 
 fn drawn()

@@ -1,23 +1,22 @@
-use Rattle.std.proofs.lemmas.Result.{IfOk-weaker}
+use Rattle.std.proofs.lemmas.Result.{on_ok_weaker}
 use Rattle.smith_bytes.specs.declared.error.Count.TheVariants.{Funcs}
-use Rattle.wasm_smith.proofs.FuncLemmas.{AreFuncs, given_funcs_are, funcs_refuse}
+use Rattle.wasm_smith.specs.Definitions.{funcs_at}
+use Rattle.wasm_smith.specs.Spelling.{SpellsFuncs}
+use Rattle.wasm_smith.proofs.RefusalLemmas.{funcs_refuse}
+use Rattle.wasm_smith.proofs.GivenLemmas.{given_takes}
+use Rattle.wasm_smith.proofs.TypedLemmas.{funcs_are, funcs_read}
 use Rattle.wasm_smith.proofs.build.funcs.funcs.Goals as goal
 
+pub returns-clause-filled : goal.returns-clause-filled
+returns-clause-filled c = on_ok_weaker c.drawn_funcs.result (λ are. are.filled) (funcs_are _ _ _ _ _ _ c.drawn_funcs.result (c.requires.passes.ordered Funcs tt) c.requires.imported c.drawn_funcs.ensures.exact)
+
 pub returns-clause-valid : goal.returns-clause-valid
-returns-clause-valid c =
-    IfOk-weaker c.drawn_funcs.result (AreFuncs c.args.config.now c.args.types.now.types) _ (λ _ h. h.valid)
-    (given_funcs_are _ _ _ _ c.drawn_funcs.result (c.requires.passes.ordered Funcs tt) (rw c.types.ensures.value at c.drawn_funcs.ensures.exact))
-
-pub returns-clause-most : goal.returns-clause-most
-returns-clause-most c =
-    IfOk-weaker c.drawn_funcs.result (AreFuncs c.args.config.now c.args.types.now.types) _ (λ _ h. h.most)
-    (given_funcs_are _ _ _ _ c.drawn_funcs.result (c.requires.passes.ordered Funcs tt) (rw c.types.ensures.value at c.drawn_funcs.ensures.exact))
-
-pub returns-clause-least : goal.returns-clause-least
-returns-clause-least c =
-    IfOk-weaker c.drawn_funcs.result (AreFuncs c.args.config.now c.args.types.now.types) _ (λ _ h. h.least)
-    (given_funcs_are _ _ _ _ c.drawn_funcs.result (c.requires.passes.ordered Funcs tt) (rw c.types.ensures.value at c.drawn_funcs.ensures.exact))
+returns-clause-valid c = λ before. on_ok_weaker c.drawn_funcs.result (λ are. are.valid before) (funcs_are _ _ _ _ _ _ c.drawn_funcs.result (c.requires.passes.ordered Funcs tt) c.requires.imported c.drawn_funcs.ensures.exact)
 
 pub returns-clause-refusal : goal.returns-clause-refusal
-returns-clause-refusal c =
-    funcs_refuse _ _ c.drawn_funcs.result c.requires.sanitized c.requires.valid c.requires.least (rw c.types.ensures.value at c.drawn_funcs.ensures.refusal)
+returns-clause-refusal c = funcs_refuse _ _ c.drawn_funcs.result c.requires.sanitized c.requires.valid c.requires.least c.drawn_funcs.ensures.refusal
+
+pub returns-clause-reach : goal.returns-clause-reach
+returns-clause-reach c = λ none empty.
+    given_takes (SpellsFuncs c.args.config.now c.args.types.now.types) (λ _. c.drawn_funcs.new.funcs) (funcs_at c.args.config.now c.args.types.now.types c.args.funcs.now) _ _ c.drawn_funcs.result
+    (λ funcs piece after h. funcs_read _ _ _ funcs piece after none empty h) c.drawn_funcs.ensures.exact

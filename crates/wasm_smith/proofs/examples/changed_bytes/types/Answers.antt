@@ -14,8 +14,7 @@ use Rattle.smith_config.specs.Config.{default_config}
 use Rattle.smith_config.specs.Sanitized.{IsSanitized}
 use Rattle.smith_config.specs.Shapes.{space_of}
 use Rattle.smith_types.specs.Space.{Space}
-use Rattle.smith_draw.specs.TypeUses.{is_tag_type}
-use Rattle.wasm_smith.specs.FuncTypes.{is_unshared_function}
+use Rattle.smith_draw.specs.TypeUses.{is_tag_type, is_unshared_function}
 use Rattle.wasm_smith.specs.Spelling.{SpellsMember}
 use Rattle.wasm_smith.specs.ExampleMembers.{alone, one_function_type, array_and_struct, taking_a_number, one_of_each_without_gc}
 use Rattle.wasm_smith.proofs.SpelledExamples.{joined, any_byte, one_odd, bool_first, any_first, place_alone, without_nothing}

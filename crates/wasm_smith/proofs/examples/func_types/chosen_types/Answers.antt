@@ -1,6 +1,5 @@
 use Rattle.std.proofs.Common.{refl}
-use Rattle.smith_draw.specs.TypeUses.{is_tag_type}
-use Rattle.wasm_smith.specs.FuncTypes.{is_unshared_function}
+use Rattle.smith_draw.specs.TypeUses.{is_tag_type, is_unshared_function}
 use Rattle.wasm_smith.proofs.examples.func_types.chosen_types.Goals as goal
 
 pub returns-clause-functions_alone : goal.returns-clause-functions_alone

@@ -2,8 +2,8 @@ use Rattle.std.proofs.Common.{rules, [], ◌∷◌, refl}
 use Rattle.std.proofs.lemmas.List.Elements.{All-from_recursion}
 use Rattle.smith_types.specs.ValidTypes.{IsGroupValid, AreTypesValid}
 use Rattle.wasm_smith.specs.Module.{module_features, module_types}
-use Rattle.wasm_smith.specs.ExampleModules.{group_of, arrays, three_arrays, one_function}
-use Rattle.wasm_smith.proofs.PartExamples.{function_types, functions_valid, array_valid, array_below, group_valid}
+use Rattle.wasm_smith.specs.ExampleModules.{group_of, arrays, three_arrays}
+use Rattle.wasm_smith.proofs.PartExamples.{one_function_valid, array_valid, array_below, group_valid}
 use Rattle.wasm_smith.proofs.examples.modules.types_and_functions.Goals as goal
 
 two_types : AreTypesValid (module_features arrays) (module_types arrays)
@@ -60,16 +60,4 @@ returns-clause-two_below_one c = record {
 }
 
 pub returns-clause-a_function : goal.returns-clause-a_function
-returns-clause-a_function c = record {
-  types = function_types (module_features one_function);
-  imports = search rules;
-  spaces = search rules;
-  entities = record { tags = search rules; funcs = functions_valid; tables = search rules; memories = search rules; globals = search rules };
-  counts = search rules;
-  definitions = search rules;
-  exports = search rules;
-  start = tt;
-  elements = search rules;
-  data_segments = search rules;
-  bodies = search rules;
-}
+returns-clause-a_function c = one_function_valid

@@ -2,8 +2,7 @@ use Rattle.std.proofs.Common.{[], ◌∷◌, refl}
 use Rattle.smith_bytes.specs.Spelling.{Listed, Each}
 use Rattle.smith_bytes.specs.Draws.{digit_count}
 use Rattle.smith_draw.specs.Spelling.{SpellsGroups, SpellsGroup, SpellsSubTypes, SpellsFuncType, SpellsValType, SpellsField, SpellsStructType}
-use Rattle.smith_draw.specs.TypeUses.{is_tag_type}
-use Rattle.wasm_smith.specs.FuncTypes.{is_unshared_function}
+use Rattle.smith_draw.specs.TypeUses.{is_tag_type, is_unshared_function}
 use Rattle.wasm_smith.specs.Spelling.{SpellsMember}
 use Rattle.wasm_smith.proofs.SpelledExamples.{joined, go, stop, any_byte, no_clone, one_function_spelled}
 use Rattle.wasm_smith.proofs.examples.spelling.members.Goals as goal

@@ -1,8 +1,7 @@
 use Rattle.std.proofs.Common.{[], ◌∷◌, refl}
 use Rattle.smith_bytes.specs.Spelling.{Listed}
 use Rattle.smith_bytes.specs.Draws.{digit_count}
-use Rattle.smith_draw.specs.TypeUses.{is_tag_type}
-use Rattle.wasm_smith.specs.FuncTypes.{is_unshared_function}
+use Rattle.smith_draw.specs.TypeUses.{is_tag_type, is_unshared_function}
 use Rattle.wasm_smith.proofs.SpelledExamples.{joined, go, stop, one_odd, bool_first, place_first}
 use Rattle.wasm_smith.proofs.examples.spelling.parts_of_members.Goals as goal
 

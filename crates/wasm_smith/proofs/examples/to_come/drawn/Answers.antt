@@ -1,11 +1,9 @@
 use Rattle.std.proofs.Common.{rules, arith, ◌≤◌, refl}
 use Rattle.smith_bytes.specs.declared.error.Count.TheVariants as counts
 use Rattle.smith_config.specs.Config.{default_config}
-use Rattle.wasm_smith.specs.Module.{module_features}
 use Rattle.wasm_smith.specs.ToCome.{IsDrawn}
 use Rattle.wasm_smith.specs.ExampleModules.{one_function}
-use Rattle.wasm_smith.proofs.AloneLemmas.{valid_alone}
-use Rattle.wasm_smith.proofs.PartExamples.{function_types, functions_valid}
+use Rattle.wasm_smith.proofs.PartExamples.{one_function_valid}
 use Rattle.wasm_smith.proofs.examples.to_come.drawn.Goals as goal
 
 function_drawn : IsDrawn default_config one_function
@@ -13,7 +11,7 @@ function_drawn = record {
   accepts = refl;
   passes = search rules;
   no_shapes = search rules;
-  valid = valid_alone one_function (search rules) (search rules) (function_types (module_features one_function)) functions_valid (search rules) (search rules) (search rules);
+  valid = one_function_valid;
   bounds = search rules;
   minimums = search rules;
   sections = search rules;

@@ -1,0 +1,153 @@
+-- What tables are like that stand behind imported ones, with their initialisers.
+use Rattle.std.proofs.Common.{◌≡◌, ◌∙◌, ℕ, zero, suc, ◌+◌, ◌<◌, ◌≤◌, Bool, true, false, ◌&&◌, cond, List, [], ◌∷◌, ◌++◌, map, length, refl, ap, subst, arith, length-append, inl, inr}
+use Rattle.std.specs.Prelude.{Option, Some, None, All, IfSome, IsSome, IsTrue, slice_get}
+use Rattle.std.specs.List.{flat_map, AllByRecursion as Each}
+use Rattle.std.proofs.lemmas.Bool.{and_right}
+use Rattle.std.proofs.lemmas.List.{length-map}
+use Rattle.std.proofs.lemmas.List.Elements.{All-nil, All-cons, All-append, All-map, All-weaker, recursion_from_All}
+use Rattle.smith_bytes.specs.declared.error.Count.TheVariants as counts
+use Rattle.smith_bytes.specs.declared.error.Error.{Error}
+use Rattle.smith_bytes.specs.declared.error.Error.TheVariants.{Memory}
+use Rattle.smith_bytes.specs.Takes.{Takes}
+use Rattle.smith_bytes.proofs.SpelledLemmas.{takes_by}
+use Rattle.smith_types.specs.Entities.{IsTableValid}
+use Rattle.smith_types.specs.Expressions.{IsConstExpr}
+use Rattle.smith_types.specs.Floats.{HasNoFloat}
+use Rattle.smith_types.specs.declared.const_instr.ConstInstr.{ConstInstr}
+use Rattle.smith_types.specs.declared.entity_type.TableType.{TableType}
+use Rattle.smith_types.specs.declared.value_type.ValType.TheVariants.{Ref}
+use Rattle.smith_types.specs.declared.value_type.RefType.{RefType}
+use Rattle.smith_types.specs.declared.composite_type.SubType.{SubType}
+use Rattle.smith_types.proofs.HeldValueLemmas.{all_of_parts}
+use Rattle.smith_config.specs.declared.config.Config.{Config}
+use Rattle.smith_config.specs.Features.{features_of}
+use Rattle.smith_config.specs.Sanitized.{IsSanitized}
+use Rattle.smith_draw.specs.Bounds.{IsTableWithin}
+use Rattle.smith_draw.specs.ConstBounds.{HoldsNonNullableField, MayRefuseConstExpr}
+use Rattle.smith_draw.specs.ConstExprs.{table_init_at}
+use Rattle.smith_draw.specs.ConstFloats.{GivesNoFloat}
+use Rattle.smith_draw.specs.ConstScopes.{AreSpacesValid, seen_by}
+use Rattle.smith_draw.specs.TableTypes.{table_type_at}
+use Rattle.smith_draw.specs.declared.spaces.Spaces.{Spaces}
+use Rattle.wasm_smith.specs.Defined.{IsFilled, SpellsEmpty, MayInitialise, AreTablesDefined, standing_of}
+use Rattle.wasm_smith.specs.DefinedTables.{IsTableFit, AreTablesDrawn}
+use Rattle.wasm_smith.specs.Definitions.{Standing, Table, defined_at, table_at, tables_at, table_scope}
+use Rattle.wasm_smith.specs.Module.{IsTableInitialised}
+use Rattle.wasm_smith.specs.Promises.{initial_of}
+use Rattle.wasm_smith.specs.Spelling.{SpellsNone}
+use Rattle.wasm_smith.proofs.DefinedLemmas.{parts_filled, defined_none}
+
+-- with defined globals out of sight, the imported ones are seen
+imported_seen : (on : Bool) (globals imported : ℕ) → cond (on && false) globals imported ≡ imported
+imported_seen on globals imported = rw (and_right on false refl) refl
+
+-- over spaces whose globals are all imported, an expression sees what the initialiser of a table may refer to
+seen_by_table : (config : Config) (spaces : Spaces) → spaces.entities.imported_globals ≡ length spaces.entities.globals.now → seen_by config spaces false ≡ table_scope config (standing_of spaces)
+seen_by_table config spaces all = rw (imported_seen config.gc_enabled (length spaces.entities.globals.now) spaces.entities.imported_globals, all) refl
+
+pub spaces_valid : (config : Config) (spaces : Spaces) → MayInitialise config spaces.types.now (standing_of spaces) → spaces.entities.imported_globals ≡ length spaces.entities.globals.now → AreSpacesValid config spaces
+spaces_valid config spaces may all = record {
+  types = may.valid;
+  funcs = may.funcs;
+  globals = may.globals;
+  imported = omega (arith, all);
+  few_funcs = omega (arith, may.few_funcs, may.passes.few counts.Funcs);
+  few_globals = omega (arith, may.few_globals, may.passes.few counts.Globals);
+}
+
+-- a table is that of its draws
+pub table_is : (config : Config) (spaces : Spaces) (bytes mid after : List ℕ) (table : TableType) (initial : Option (List ConstInstr)) → spaces.entities.imported_globals ≡ length spaces.entities.globals.now
+    → table_type_at config spaces.types.now.types bytes ≡ (table, mid) → table_init_at config (seen_by config spaces false) table.element_type mid ≡ Some (initial, after) → table_at config (standing_of spaces) bytes ≡ ((table, initial), after)
+unfolding table_at
+table_is config spaces bytes mid after table initial all type_drawn init_drawn = rw (type_drawn, ← seen_by_table config spaces all, init_drawn) refl
+
+pub table_fit : (config : Config) (spaces : Spaces) (table : TableType) (initial : Option (List ConstInstr)) → spaces.entities.imported_globals ≡ length spaces.entities.globals.now
+    → IsTableValid (features_of config) spaces.types.now.types table → IsTableWithin config table → table.element_type.nullable ≡ true
+    → IfSome initial (IsConstExpr (seen_by config spaces false) (Ref table.element_type)) → (IsSome initial → IsTrue config.gc_enabled) → (All HasNoFloat spaces.types.now.types → IfSome initial (All GivesNoFloat))
+    → IsTableFit config (standing_of spaces) (table, initial)
+table_fit config spaces table None all valid within nullable typed gc floats = record { valid = valid; within = within; initialised = nullable; floats = λ calm. All-nil (All GivesNoFloat) }
+table_fit config spaces table (Some expression) all valid within nullable typed gc floats = record {
+  valid = valid;
+  within = within;
+  initialised = (gc refl, rw (seen_by_table config spaces all) at typed);
+  floats = λ calm. All-cons (All GivesNoFloat) expression [] (floats calm) (All-nil (All GivesNoFloat));
+}
+
+-- the initialiser of a table is refused for want of memory alone, where no reference is there that may not be null
+pub only_memory : (types : List SubType) (element : RefType) (e : Error) → element.nullable ≡ true → (HoldsNonNullableField types → ⊥) → MayRefuseConstExpr types (Ref element) e → e ≡ Memory
+only_memory types element e nullable none (inl memory) = memory
+only_memory types element e nullable none (inr (empty, inl strict)) = absurd cc
+only_memory types element e nullable none (inr (empty, inr holds)) = absurd (none holds)
+
+-- what holds of the tables that were drawn, and of the imported ones, holds of all
+pub tables_all : (P : TableType → Type 0) {config : Config} {standing : Standing} {imported space : List TableType} {initials : List (Option (List ConstInstr))}
+    → ((one : Table) → IsTableFit config standing one → P one.0) → AreTablesDrawn config standing imported space initials → All P imported → All P space
+tables_all P {config = config} {standing = standing} {imported = imported} fits so_far all =
+    let of_table = λ (one : Table). one.0 in
+    rw so_far.tables (All-append P imported (map of_table so_far.drawn) all
+    (All-map P of_table so_far.drawn (All-weaker (IsTableFit config standing) (λ (one : Table). P one.0) fits so_far.drawn so_far.fit)))
+
+slice_get-behind : {A : Type 0} (xs ys : List A) (i : ℕ) → slice_get (xs ++ ys) (length xs + i) ≡ slice_get ys i
+slice_get-behind {A = A} [] ys i = let none : length {A = A} [] + i ≡ i = omega arith in rw none refl
+slice_get-behind (x ∷ xs) ys i = let one : length (x ∷ xs) + i ≡ suc (length xs + i) = omega arith in rw one (slice_get-behind xs ys i)
+
+-- each initialiser is that of the table that was drawn with it
+initialised_at : (P : TableType → Option (List ConstInstr) → Type 0) (drawn : List Table) → Each (λ (one : Table). P one.0 one.1) drawn
+    → (place : ℕ) (initial : Option (List ConstInstr)) → slice_get (map (λ (one : Table). one.1) drawn) place ≡ Some initial
+    → (table : TableType) × (slice_get (map (λ (one : Table). one.0) drawn) place ≡ Some table) × P table initial
+initialised_at P [] each place initial at = cc
+initialised_at P (one ∷ drawn) each zero initial at = let same : one.1 ≡ initial = cc in (one.0, refl, subst (λ (given : Option (List ConstInstr)). P one.0 given) same each.0)
+initialised_at P (one ∷ drawn) each (suc place) initial at = initialised_at P drawn each.1 place initial at
+
+pub tables_defined : {config : Config} {standing : Standing} {imported space : List TableType} {initials : List (Option (List ConstInstr))} → AreTablesDrawn config standing imported space initials → AreTablesDefined config standing imported space initials
+tables_defined {config = config} {standing = standing} {imported = imported} so_far =
+    let of_table = λ (one : Table). one.0 in
+    let of_initial = λ (one : Table). one.1 in
+    let all = All-weaker (IsTableFit config standing) (λ (one : Table). IsTableInitialised (table_scope config standing) one.0 one.1) (λ one fit. fit.initialised) so_far.drawn so_far.fit in
+    record {
+      count = rw (so_far.tables, so_far.initialisers) (omega (arith, length-append imported (map of_table so_far.drawn), length-map so_far.drawn of_table, length-map so_far.drawn of_initial));
+      each = λ place initial at.
+          let (table, stands, initialised) = initialised_at (IsTableInitialised (table_scope config standing)) so_far.drawn (recursion_from_All _ so_far.drawn all) place initial (rw so_far.initialisers at at) in
+          (table, rw so_far.tables (slice_get-behind imported (map of_table so_far.drawn) place ∙ stands), initialised);
+    }
+
+-- without floats among the types no constant is a float's
+pub tables_no_float : {config : Config} {standing : Standing} {imported space : List TableType} {initials : List (Option (List ConstInstr))} → All HasNoFloat standing.types → AreTablesDrawn config standing imported space initials
+    → All (All GivesNoFloat) (flat_map initial_of initials)
+tables_no_float {config = config} {standing = standing} calm so_far =
+    let of_initial = λ (one : Table). one.1 in
+    let calm_initial = λ (initial : Option (List ConstInstr)). All (All GivesNoFloat) (initial_of initial) in
+    rw so_far.initialisers (all_of_parts (All GivesNoFloat) initial_of (map of_initial so_far.drawn) (recursion_from_All calm_initial (map of_initial so_far.drawn)
+    (All-map calm_initial of_initial so_far.drawn (All-weaker (IsTableFit config standing) (λ (one : Table). calm_initial one.1) (λ one fit. fit.floats calm) so_far.drawn so_far.fit))))
+
+-- the tables, and the bytes that are left
+abbrev tables_alone : (List TableType × List (Option (List ConstInstr))) × List ℕ → List TableType × List ℕ
+tables_alone drawn = (drawn.0.0, drawn.1)
+
+-- as many stand behind imported ones as are asked for, and no more than may be
+pub tables_fill : (config : Config) (standing : Standing) (imported space : List TableType) (initials : List (Option (List ConstInstr))) (old new : List ℕ) → config.min_tables ≤ config.max_tables → length imported ≤ config.max_tables
+    → tables_at config standing imported old ≡ ((space, initials), new) → IsFilled config.min_tables config.max_tables imported space
+unfolding tables_at
+tables_fill config standing imported space initials old new ordered few exact =
+    subst (λ (tables : List TableType). IsFilled config.min_tables config.max_tables imported tables) (ap (λ drawn. (tables_alone drawn).0) exact)
+    (parts_filled (λ (one : Table). one.0) (λ (made : List Table). table_at config standing) config.min_tables config.max_tables imported old ordered few)
+
+-- several tables are there only where several may be
+several_by : (on : Bool) (most n : ℕ) → (on ≡ false → most ≤ 1) → n ≤ most → 1 < n → on ≡ true
+several_by true most n one within several = refl
+several_by false most n one within several = absurd (omega (arith, one refl))
+
+pub several_tables : (config : Config) (imported space : List TableType) → IsSanitized config → IsFilled config.min_tables config.max_tables imported space → 1 < length space → config.reference_types_enabled ≡ true
+several_tables config imported space sanitized filled several = several_by config.reference_types_enabled config.max_tables (length space) sanitized.one_table filled.within several
+
+no_table_read : (config : Config) (standing : Standing) (imported : List TableType) (piece after : List ℕ) → config.min_tables ≡ 0 → imported ≡ [] → SpellsNone config.max_tables piece → tables_at config standing imported (piece ++ after) ≡ (([], []), after)
+unfolding tables_at
+no_table_read config standing imported piece after asked none spelled =
+    let drawn = defined_none (λ (made : List Table). table_at config standing) config.min_tables config.max_tables (length imported) piece after asked (rw none refl) spelled in
+    rw (drawn, none) refl
+
+-- a piece that spells that there is no table is taken
+pub no_table_taken : (config : Config) (standing : Standing) (imported space : List TableType) (initials : List (Option (List ConstInstr))) (old new : List ℕ) → config.min_tables ≡ 0 → imported ≡ []
+    → tables_at config standing imported old ≡ ((space, initials), new) → Takes (SpellsEmpty (SpellsNone config.max_tables)) old space new
+no_table_taken config standing imported space initials old new asked none exact =
+    takes_by (λ bytes. tables_alone (tables_at config standing imported bytes)) (λ value piece after h. rw (no_table_read config standing imported piece after asked none h.spelled, h.none) refl) (ap tables_alone exact)

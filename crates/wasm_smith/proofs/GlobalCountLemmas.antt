@@ -1,0 +1,15 @@
+-- How many globals stand when the defined ones are drawn.
+use Rattle.std.proofs.Common.{◌≡◌, ℕ, ◌≤◌, List, length, subst, ap}
+use Rattle.smith_types.specs.declared.entity_type.GlobalType.{GlobalType}
+use Rattle.smith_types.specs.declared.const_instr.ConstInstr.{ConstInstr}
+use Rattle.smith_config.specs.declared.config.Config.{Config}
+use Rattle.wasm_smith.specs.Definitions.{Standing, Global, global_at, globals_at}
+use Rattle.wasm_smith.specs.Defined.{IsFilled}
+use Rattle.wasm_smith.proofs.DefinedLemmas.{parts_filled}
+
+pub globals_fill : (config : Config) (standing : Standing) (globals : List GlobalType) (initials : List (ℕ × List ConstInstr)) (old new : List ℕ) → config.min_globals ≤ config.max_globals → length standing.imported_globals ≤ config.max_globals
+    → globals_at config standing old ≡ ((globals, initials), new) → IsFilled config.min_globals config.max_globals standing.imported_globals globals
+unfolding globals_at
+globals_fill config standing globals initials old new ordered few exact =
+    subst (λ (all : List GlobalType). IsFilled config.min_globals config.max_globals standing.imported_globals all) (ap (λ (drawn : (List GlobalType × List (ℕ × List ConstInstr)) × List ℕ). drawn.0.0) exact)
+    (parts_filled (λ (one : Global). one.0) (global_at config standing) config.min_globals config.max_globals standing.imported_globals old ordered few)

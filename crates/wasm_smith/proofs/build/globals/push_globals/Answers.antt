@@ -1,0 +1,46 @@
+use Rattle.std.proofs.Common.{arith}
+use Rattle.std.proofs.Math.Bool.{and-true}
+use Rattle.smith_bytes.specs.declared.error.Count.TheVariants as counts
+use Rattle.wasm_smith.specs.Definitions.{standing_over}
+use Rattle.wasm_smith.proofs.GlobalsLoop.{none_made, define_more, define_stop, define_full, count_is}
+use Rattle.wasm_smith.proofs.build.globals.push_globals.Goals as goal
+
+pub loop-made-init : goal.loop-made-init
+loop-made-init c = rw c.new-initials.ensures (none_made c.args.config.now (standing_over c.args.types.now.types c.args.funcs.now c.args.imported_funcs c.args.globals.now) c.args.u.now c.requires.may.globals)
+
+pub returns-then-not-goes_on-clause-exact : goal.returns-then-not-goes_on-clause-exact
+returns-then-not-goes_on-clause-exact c =
+    define_stop c.loop-made.invariant (rw c.len-imported.ensures at c.loop-made-test.true) (rw (c.saturating_sub-least.ensures, c.len-imported.ensures) at c.goes_on.ensures.exact) c.if-not-goes_on.true
+
+pub initialised_global-requires-clause-standing : goal.initialised_global-requires-clause-standing
+initialised_global-requires-clause-standing c =
+    let may = c.requires.may in
+    let count = count_is c.loop-made.invariant in
+    let same = c.as_slice.ensures in
+    record {
+      types = may.valid;
+      funcs = may.funcs;
+      globals = rw same c.loop-made.invariant.valid;
+      imported = rw same (omega (arith, count, c.len-imported.ensures));
+      few_funcs = omega (arith, may.few_funcs, may.passes.few counts.Funcs);
+      few_globals = rw same (omega (arith, count, c.len-imported.ensures, may.few_globals, may.passes.few counts.Globals));
+    }
+
+pub loop-made-preserved : goal.loop-made-preserved
+loop-made-preserved c =
+    let drawn = c.in_ok-global.ensures in
+    let visible = and-true c.args.config.now.gc_enabled in
+    define_more c.loop-made.invariant (rw c.len-imported.ensures at c.loop-made-test.true) (rw (c.saturating_sub-least.ensures, c.len-imported.ensures) at c.goes_on.ensures.exact) c.if-not-goes_on.false
+    (rw (c.as_slice.ensures, c.len-imported.ensures, visible) at drawn.draws.exact)
+    drawn.valid
+    (rw (c.as_slice.ensures, c.len-imported.ensures, visible) at drawn.initialised)
+    drawn.floats
+    drawn.constants
+    c.in_ok-push.ensures.ok
+    c.in_ok-push-2.ensures.ok
+    c.goes_on.ensures.left
+    drawn.draws.left
+
+pub returns-clause-exact : goal.returns-clause-exact
+returns-clause-exact c =
+    define_full c.loop-made.invariant c.requires.may.few_globals (rw c.len-imported.ensures at c.loop-made-test.false) (rw c.len-imported.ensures at c.ask_past_full.ensures.exact)

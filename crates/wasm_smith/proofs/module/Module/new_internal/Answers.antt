@@ -1,0 +1,79 @@
+use Rattle.std.proofs.lemmas.Result.{IfOk-weaker, IfErr-weaker}
+use Rattle.std.proofs.Common.{rules, Err, ap, sym, subst}
+use Rattle.std.proofs.lemmas.Option.{same_Some}
+use Rattle.smith_bytes.specs.declared.error.Error.TheVariants.{Shape}
+use Rattle.smith_bytes.specs.declared.error.ShapeFault.TheVariants.{LeftOut}
+use Rattle.smith_bytes.proofs.PieceLemmas.{piece_same}
+use Rattle.smith_config.specs.Sanitized.{sanitized}
+use Rattle.wasm_smith.specs.Module.{IsValid}
+use Rattle.wasm_smith.specs.ToCome.{IsLeftOut, MayComeOut}
+use Rattle.wasm_smith.proofs.NoShapeLemmas.{shown_sanitized}
+use Rattle.wasm_smith.proofs.NeedlessLemmas.{memory_alone}
+use Rattle.wasm_smith.proofs.module.Module.new_internal.Goals as goal
+
+pub returns-in-Err : goal.returns-in-Err
+returns-in-Err c = record {
+  exact = search rules;
+  config = tt;
+  valid = tt;
+  bounds = tt;
+  minimums = tt;
+  names = λ distinct. tt;
+  floats = λ off. tt;
+  sections = tt;
+  fuel = tt;
+  no_more = tt;
+  passes = tt;
+  no_shapes = tt;
+  fault = search rules;
+  refusals = search rules;
+  needless = search rules;
+  shape = search rules;
+  undrawn = search rules;
+  source = piece_same _;
+}
+
+pub returns-in-Some : goal.returns-in-Some
+returns-in-Some c = record {
+  exact = search rules;
+  config = tt;
+  valid = tt;
+  bounds = tt;
+  minimums = tt;
+  names = λ distinct. tt;
+  floats = λ off. tt;
+  sections = tt;
+  fuel = tt;
+  no_more = tt;
+  passes = tt;
+  no_shapes = tt;
+  fault = search rules;
+  refusals = rw c.sanitize.ensures.exact at c.in-Some.ensures.given;
+  needless = search rules;
+  shape = λ for_use passes left_out.
+      ap (λ w. Err (Shape w LeftOut)) (same_Some c.in-Some.which for_use (c.in-Some.ensures.first for_use (subst (λ config. IsLeftOut config for_use) (sym c.sanitize.ensures.exact) left_out)));
+  undrawn = search rules;
+  source = piece_same _;
+}
+
+pub returns : goal.returns
+returns c = record {
+  exact = search rules;
+  config = rw (shown_sanitized _ _ c.sanitize.ensures.exact c.in_default-shape_left_out.ensures.none) at c.build.ensures.config;
+  valid = c.build.ensures.valid;
+  bounds = search rules;
+  minimums = search rules;
+  names = search rules;
+  floats = search rules;
+  sections = c.build.ensures.sections;
+  fuel = search rules;
+  no_more = c.build.ensures.no_more;
+  passes = IfOk-weaker c.build.result IsValid _ (λ m valid. search rules) c.build.ensures.valid;
+  no_shapes = IfOk-weaker c.build.result IsValid _ (λ m valid. search rules) c.build.ensures.valid;
+  fault = search rules;
+  refusals = rw c.sanitize.ensures.exact at c.build.ensures.refusal;
+  needless = λ passes shapeless none. IfErr-weaker c.build.result (MayComeOut (sanitized c.args.config)) _ (λ e h. memory_alone (sanitized c.args.config) e passes shapeless none h) (rw c.sanitize.ensures.exact at c.build.ensures.refusal);
+  shape = search rules;
+  undrawn = search rules;
+  source = c.build.ensures.left _ (piece_same _);
+}

@@ -1,0 +1,116 @@
+-- What holds of an index space once its definitions stand behind its imports.
+use Rattle.std.specs.Prelude.{◌≡◌, ℕ, ◌+◌, ◌<◌, ◌≤◌, ◌^◌, IsTrue, Option, Some, List, [], map, length, slice_get, All, if◌then◌else◌}
+use Rattle.std.specs.List.{flat_map}
+use Rattle.smith_types.specs.Entities.{IsFuncValid, IsGlobalValid, AreEntitiesValid, AreCountsEnabled}
+use Rattle.smith_types.specs.Expressions.{IsConstExpr}
+use Rattle.smith_types.specs.Grown.{Extends}
+use Rattle.smith_types.specs.Imports.{IndexSpaces}
+use Rattle.smith_types.specs.Space.{Space}
+use Rattle.smith_types.specs.ValidTypes.{AreTypesValid}
+use Rattle.smith_types.specs.declared.composite_type.SubType.{SubType}
+use Rattle.smith_types.specs.declared.entity_type.GlobalType.{GlobalType}
+use Rattle.smith_types.specs.declared.entity_type.TableType.{TableType}
+use Rattle.smith_types.specs.declared.const_instr.ConstInstr.{ConstInstr}
+use Rattle.smith_config.specs.declared.config.Config.{Config}
+use Rattle.smith_config.specs.Faults.{Passes}
+use Rattle.smith_config.specs.Features.{features_of}
+use Rattle.smith_config.specs.Sanitized.{IsSanitized}
+use Rattle.smith_draw.specs.Bounds.{IsTableWithin, IsMemoryWithin}
+use Rattle.smith_draw.specs.ConstBounds.{HoldsNonNullableField}
+use Rattle.smith_draw.specs.ConstFloats.{GivesNoFloat}
+use Rattle.smith_draw.specs.declared.spaces.Spaces.{Spaces}
+use Rattle.wasm_smith.specs.Definitions.{Standing, standing_over, context_at, table_scope}
+use Rattle.wasm_smith.specs.Imported.{AreSpacesWithin, HasNoFloatValue}
+use Rattle.wasm_smith.specs.Module.{IsTableInitialised}
+use Rattle.wasm_smith.specs.Promises.{initial_of}
+use Rattle.wasm_smith.specs.declared.build.definitions.Definitions.{Definitions}
+
+-- imported items come first, and there are as many items as these bounds say
+pub record IsFilled {A : Type 0} (least most : ℕ) (imported space : List A) : Type 0 where
+  pub extends : Extends imported space
+  pub enough : least ≤ length space
+  pub within : length space ≤ most
+
+-- that a list is empty, by a piece that says so
+pub record SpellsEmpty {A : Type 0} (IsEmptySpelled : List ℕ → Type 0) (items : List A) (piece : List ℕ) : Type 0 where
+  pub none : items ≡ []
+  pub spelled : IsEmptySpelled piece
+
+-- what initialisers may refer to is valid, and no type holds a reference that may not be null
+pub record MayInitialise (config : Config) (space : Space) (standing : Standing) : Type 0 where
+  pub passes : Passes config
+  pub sanitized : IsSanitized config
+  pub valid : AreTypesValid (features_of config) space
+  pub types : standing.types ≡ space.types
+  pub nullable : HoldsNonNullableField space.types → ⊥
+  pub funcs : All (IsFuncValid space.types) standing.funcs
+  pub globals : All (IsGlobalValid (features_of config) space.types) standing.imported_globals
+  pub few_funcs : length standing.funcs ≤ config.max_funcs
+  pub few_globals : length standing.imported_globals ≤ config.max_globals
+
+-- what the initialisers of tables may refer to, over spaces whose globals are the imported ones
+abbrev pub standing_of : Spaces → Standing
+standing_of spaces = record {
+  types = spaces.types.now.types;
+  funcs = spaces.entities.funcs.now;
+  imported_funcs = spaces.entities.imported_funcs;
+  imported_globals = spaces.entities.globals.now;
+}
+
+-- each initialiser is that of a table behind the imported ones
+pub record AreTablesDefined (config : Config) (standing : Standing) (imported tables : List TableType) (initials : List (Option (List ConstInstr))) : Type 0 where
+  pub count : length tables ≡ length imported + length initials
+  pub each : (place : ℕ) (initial : Option (List ConstInstr)) → slice_get initials place ≡ Some initial
+      → (table : TableType) × (slice_get tables (length imported + place) ≡ Some table) × IsTableInitialised (table_scope config standing) table initial
+
+-- an initialiser is that of the global of this index, which stands behind the imported ones
+pub record IsGlobalInitialised (config : Config) (standing : Standing) (globals : List GlobalType) (place index : ℕ) (initial : List ConstInstr) : Type 0 where
+  pub in_order : index ≡ length standing.imported_globals + place
+  pub global : GlobalType
+  pub stands : slice_get globals index ≡ Some global
+  pub initialised : IsConstExpr (context_at config standing globals (if config.gc_enabled then index else length standing.imported_globals)) global.val_type initial
+
+-- each initialiser is that of a global behind the imported ones
+pub record AreGlobalsDefined (config : Config) (standing : Standing) (globals : List GlobalType) (initials : List (ℕ × List ConstInstr)) : Type 0 where
+  pub count : length globals ≡ length standing.imported_globals + length initials
+  pub each : (place index : ℕ) (initial : List ConstInstr) → slice_get initials place ≡ Some (index, initial) → IsGlobalInitialised config standing globals place index initial
+
+-- items may be defined behind these imported ones
+pub record MayDefine (config : Config) (space : Space) (imported : IndexSpaces) : Type 0 where
+  pub passes : Passes config
+  pub sanitized : IsSanitized config
+  pub valid : AreTypesValid (features_of config) space
+  pub least : config.min_types ≤ length space.types
+  pub few : length space.types < 2 ^ 32
+  pub nullable : HoldsNonNullableField space.types → ⊥
+  pub entities : AreEntitiesValid (features_of config) space.types imported
+  pub tags : 0 < length imported.tags → IsTrue config.exceptions_enabled
+  pub within : AreSpacesWithin config imported
+
+-- what initialisers refer to, once functions are defined
+abbrev pub standing_in : List SubType → IndexSpaces → IndexSpaces → Standing
+standing_in types imported spaces = standing_over types spaces.funcs (length imported.funcs) imported.globals
+
+-- index spaces hold what is defined behind what is imported: all of it valid, initialised, and as much as the configuration asks
+-- for and allows
+pub record AreDefined (config : Config) (types : List SubType) (imported spaces : IndexSpaces) (defined : Definitions) : Type 0 where
+  pub tags : IsFilled config.min_tags config.max_tags imported.tags spaces.tags
+  pub funcs : IsFilled config.min_funcs config.max_funcs imported.funcs spaces.funcs
+  pub tables : IsFilled config.min_tables config.max_tables imported.tables spaces.tables
+  pub memories : IsFilled config.min_memories config.max_memories imported.memories spaces.memories
+  pub globals : IsFilled config.min_globals config.max_globals imported.globals spaces.globals
+  pub entities : AreEntitiesValid (features_of config) types spaces
+  pub counts : AreCountsEnabled (features_of config) spaces
+  pub each_table : All (IsTableWithin config) spaces.tables
+  pub each_memory : All (IsMemoryWithin config) spaces.memories
+  pub initial_tables : AreTablesDefined config (standing_in types imported spaces) imported.tables spaces.tables defined.tables
+  pub initial_globals : AreGlobalsDefined config (standing_in types imported spaces) spaces.globals defined.globals
+  pub num_tags : defined.num_tags + length imported.tags ≡ length spaces.tags
+  pub num_funcs : defined.num_funcs + length imported.funcs ≡ length spaces.funcs
+  pub num_memories : defined.num_memories + length imported.memories ≡ length spaces.memories
+
+-- no global and no constant of what is defined is a float's
+pub record HaveNoFloats (spaces : IndexSpaces) (defined : Definitions) : Type 0 where
+  pub globals : All HasNoFloatValue spaces.globals
+  pub tables : All (All GivesNoFloat) (flat_map initial_of defined.tables)
+  pub initials : All (All GivesNoFloat) (map (λ (one : ℕ × List ConstInstr). one.1) defined.globals)

@@ -1,0 +1,127 @@
+-- Which items of each kind are defined behind imported ones, and which bytes they take. Rules of this project.
+use Rattle.std.specs.Prelude.{ℕ, ◌+◌, ◌-◌, ◌&&◌, ◌==◌, nat_lt, Option, None, List, [], ◌++◌, map, length, Result, Ok, Err, if◌then◌else◌, unwrap_or}
+use Rattle.smith_bytes.specs.declared.error.Count.{Count}
+use Rattle.smith_bytes.specs.declared.error.Count.TheVariants as counts
+use Rattle.smith_bytes.specs.Draws.{bool_at}
+use Rattle.smith_bytes.specs.Growth.{grow_at}
+use Rattle.smith_types.specs.Expressions.{Context}
+use Rattle.smith_types.specs.declared.composite_type.SubType.{SubType}
+use Rattle.smith_types.specs.declared.entity_type.GlobalType.{GlobalType}
+use Rattle.smith_types.specs.declared.entity_type.MemoryType.{MemoryType}
+use Rattle.smith_types.specs.declared.entity_type.TableType.{TableType}
+use Rattle.smith_types.specs.declared.const_instr.ConstInstr.{ConstInstr}
+use Rattle.smith_config.specs.declared.config.Config.{Config}
+use Rattle.smith_config.specs.Features.{features_of}
+use Rattle.smith_draw.specs.Choices.{chosen_at}
+use Rattle.smith_draw.specs.ConstExprs.{const_expr_at, table_init_at}
+use Rattle.smith_draw.specs.GlobalTypes.{global_type_at}
+use Rattle.smith_draw.specs.Memories.{memtype_at}
+use Rattle.smith_draw.specs.TableTypes.{table_type_at}
+use Rattle.smith_draw.specs.TypeUses.{types_for}
+use Rattle.smith_draw.specs.declared.type_use.TypeUse.TheVariants as uses
+
+-- the items of a kind that are defined behind as many imported ones: one is drawn after another until there are as many as
+-- are asked for, then while a bool asks for one; where some are imported that bool is drawn once more when no more may be
+unfoldable pub defined_at : {A : Type 0} → (List A → List ℕ → A × List ℕ) → ℕ → ℕ → ℕ → List ℕ → List A × List ℕ
+defined_at draw least most imported bytes =
+    let grown = grow_at draw (least - imported) (most - imported) [] bytes in
+    if nat_lt 0 imported && (imported + length grown.0 == most) then (grown.0, (bool_at grown.1).1) else grown
+
+-- items behind imported ones
+abbrev pub behind : {A : Type 0} → List A → List A × List ℕ → List A × List ℕ
+behind imported drawn = (imported ++ drawn.0, drawn.1)
+
+-- tags or functions behind imported ones, each by the index of its type, which is chosen among these; where there is none to
+-- choose, none is defined, and too few are refused
+unfoldable pub typed_at : Count → List ℕ → ℕ → ℕ → List ℕ → List ℕ → Result (List ℕ × List ℕ) Count
+typed_at count choices least most imported bytes =
+    if length choices == 0 then (if nat_lt (length imported) least then Err count else Ok (imported, bytes))
+    else Ok (behind imported (defined_at (λ _. chosen_at 0 choices) least most (length imported) bytes))
+
+-- the types that tags may have: function types without results, where exceptions are enabled
+abbrev pub tag_types : Config → List SubType → List ℕ
+tag_types config types = if config.exceptions_enabled then types_for uses.Tag types else []
+
+unfoldable pub tags_at : Config → List SubType → List ℕ → List ℕ → Result (List ℕ × List ℕ) Count
+tags_at config types imported bytes = typed_at counts.Tags (tag_types config types) config.min_tags config.max_tags imported bytes
+
+-- functions have types of functions that are not shared
+unfoldable pub funcs_at : Config → List SubType → List ℕ → List ℕ → Result (List ℕ × List ℕ) Count
+funcs_at config types imported bytes = typed_at counts.Funcs (types_for uses.DefinedFunc types) config.min_funcs config.max_funcs imported bytes
+
+unfoldable pub memories_at : Config → List MemoryType → List ℕ → List MemoryType × List ℕ
+memories_at config imported bytes =
+    behind imported (defined_at (λ _. memtype_at config) config.min_memories config.max_memories (length imported) bytes)
+
+-- what initialisers may refer to: types, functions, and globals, the imported ones of which come first
+pub record Standing : Type 0 where
+  pub types : List SubType
+  pub funcs : List ℕ
+  pub imported_funcs : ℕ
+  pub imported_globals : List GlobalType
+
+-- what stands, of these
+abbrev pub standing_over : List SubType → List ℕ → ℕ → List GlobalType → Standing
+standing_over types funcs imported_funcs imported_globals =
+    record { types = types; funcs = funcs; imported_funcs = imported_funcs; imported_globals = imported_globals }
+
+-- the context of an initialiser beside these globals, which may read those below an end
+abbrev pub context_at : Config → Standing → List GlobalType → ℕ → Context
+context_at config standing globals visible = record {
+  features = features_of config;
+  types = standing.types;
+  funcs = standing.funcs;
+  globals = globals;
+  imported_funcs = standing.imported_funcs;
+  imported_globals = length standing.imported_globals;
+  visible = visible;
+}
+
+-- a table sees imported globals alone; so does a global, but with garbage collection all that stand before it
+abbrev pub table_scope : Config → Standing → Context
+table_scope config standing = context_at config standing standing.imported_globals (length standing.imported_globals)
+
+abbrev pub global_scope : Config → Standing → List GlobalType → Context
+global_scope config standing globals =
+    context_at config standing globals (if config.gc_enabled then length globals else length standing.imported_globals)
+
+-- a table that is defined, and its initialiser, if it has one
+abbrev pub Table : Type 0
+Table = TableType × Option (List ConstInstr)
+
+unfoldable pub table_at : Config → Standing → List ℕ → Table × List ℕ
+table_at config standing bytes =
+    let table = table_type_at config standing.types bytes in
+    let initial = unwrap_or (table_init_at config (table_scope config standing) table.0.element_type table.1) (None, table.1) in
+    ((table.0, initial.0), initial.1)
+
+-- the tables behind imported ones, and the initialisers of those that are defined
+unfoldable pub tables_at : Config → Standing → List TableType → List ℕ → (List TableType × List (Option (List ConstInstr))) × List ℕ
+tables_at config standing imported bytes =
+    let drawn = defined_at (λ _. table_at config standing) config.min_tables config.max_tables (length imported) bytes in
+    ((imported ++ map (λ (one : Table). one.0) drawn.0, map (λ (one : Table). one.1) drawn.0), drawn.1)
+
+-- a global that is defined, its index and its initialiser
+abbrev pub Global : Type 0
+Global = GlobalType × (ℕ × List ConstInstr)
+
+-- the globals so far
+abbrev pub globals_of : Standing → List Global → List GlobalType
+globals_of standing defined = standing.imported_globals ++ map (λ (one : Global). one.0) defined
+
+-- a global behind those of a context, its index and its initialiser
+unfoldable pub initialised_at : Config → Context → List ℕ → Global × List ℕ
+initialised_at config context bytes =
+    let global = global_type_at config context.types bytes in
+    let initial = unwrap_or (const_expr_at config context global.0.val_type global.1) ([], global.1) in
+    ((global.0, (length context.globals, initial.0)), initial.1)
+
+-- a global behind those that are defined so far
+unfoldable pub global_at : Config → Standing → List Global → List ℕ → Global × List ℕ
+global_at config standing defined = initialised_at config (global_scope config standing (globals_of standing defined))
+
+-- the globals behind imported ones, and the indices and initialisers of those that are defined
+unfoldable pub globals_at : Config → Standing → List ℕ → (List GlobalType × List (ℕ × List ConstInstr)) × List ℕ
+globals_at config standing bytes =
+    let drawn = defined_at (global_at config standing) config.min_globals config.max_globals (length standing.imported_globals) bytes in
+    ((globals_of standing drawn.0, map (λ (one : Global). one.1) drawn.0), drawn.1)

@@ -1,0 +1,39 @@
+-- What holds of the parts that are drawn, of which a module is put together.
+use Rattle.std.specs.Prelude.{◌≡◌, ◌<◌, ◌≤◌, Bool, false, IsTrue, length, replicate, All}
+use Rattle.smith_types.specs.Floats.{HasNoFloat}
+use Rattle.smith_types.specs.Imports.{IsImportsValid, flattened, imported_spaces}
+use Rattle.smith_types.specs.IndexSpaces.{spaces_in}
+use Rattle.smith_types.specs.ValidTypes.{AreTypesValid}
+use Rattle.smith_config.specs.declared.config.Config.{Config}
+use Rattle.smith_config.specs.Features.{features_of}
+use Rattle.smith_config.specs.InUse.{HasNoShapes}
+use Rattle.wasm_smith.specs.Build.{trap}
+use Rattle.wasm_smith.specs.Defined.{AreDefined, HaveNoFloats}
+use Rattle.wasm_smith.specs.Imported.{AreImportsFit}
+use Rattle.wasm_smith.specs.ImportedEntities.{sizes}
+use Rattle.wasm_smith.specs.ToCome.{AsksForNoSegments}
+use Rattle.wasm_smith.specs.declared.build.drawn.Drawn.{Drawn}
+
+-- no part that is drawn holds a float
+pub record HasNoFloatParts (drawn : Drawn) : Type 0 where
+  pub types : All HasNoFloat drawn.types.types
+  pub defined : HaveNoFloats (spaces_in drawn.imported.spaces) drawn.definitions
+
+-- the parts were drawn for a configuration, by one step after another
+pub record IsDrawnFor (distinct : Bool) (config : Config) (drawn : Drawn) : Type 0 where
+  pub no_shapes : HasNoShapes config
+  pub types : AreTypesValid (features_of config) drawn.types
+  pub most_types : length drawn.types.types ≤ config.max_types
+  pub least_types : config.min_types ≤ length drawn.types.types
+  pub groups : All (IsImportsValid (features_of config)) drawn.imported.groups
+  pub imports : AreImportsFit config drawn.types.types distinct (flattened drawn.imported.groups)
+  pub least_imports : config.min_imports ≤ drawn.imported.count
+  pub count : drawn.imported.count ≡ length (flattened drawn.imported.groups)
+  pub type_size : drawn.imported.type_size ≡ sizes drawn.types.types (flattened drawn.imported.groups)
+  pub defined : AreDefined config drawn.types.types (imported_spaces (flattened drawn.imported.groups)) (spaces_in drawn.imported.spaces) drawn.definitions
+  pub exports : config.min_exports ≡ 0
+  pub segments : AsksForNoSegments config
+  pub code : drawn.code ≡ replicate drawn.definitions.num_funcs trap
+  pub encodes_types : 0 < length drawn.types.types → IsTrue drawn.encodes_types
+  pub encodes_imports : 0 < length drawn.imported.groups → IsTrue drawn.encodes_imports
+  pub floats : config.allow_floats ≡ false → HasNoFloatParts drawn

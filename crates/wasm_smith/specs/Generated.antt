@@ -1,0 +1,49 @@
+-- What each call promises that draws a module: `Module::new_internal`, `new` and `arbitrary`.
+use Rattle.std.specs.Prelude.{◌≡◌, ℕ, Bool, true, false, IsTrue, List, Result, IfOk, IfErr, OnOk, IsErrOf, IsErrAnd}
+use Rattle.smith_bytes.specs.Source.{IsPiece}
+use Rattle.smith_bytes.specs.declared.error.Error.{Error}
+use Rattle.smith_bytes.specs.declared.error.Error.TheVariants.{Memory, Shape}
+use Rattle.smith_bytes.specs.declared.error.ShapeFault.TheVariants.{LeftOut}
+use Rattle.smith_bytes.specs.declared.error.Which.{Which}
+use Rattle.smith_config.specs.declared.config.Config.{Config}
+use Rattle.smith_config.specs.Faults.{Passes}
+use Rattle.smith_config.specs.InUse.{HasNoShapes}
+use Rattle.smith_config.specs.Sanitized.{sanitized}
+use Rattle.wasm_smith.specs.Bounds.{KeepsBounds, MeetsMinimums}
+use Rattle.wasm_smith.specs.Build.{IsGiven}
+use Rattle.wasm_smith.specs.Module.{Parts, IsValid, shown_config}
+use Rattle.wasm_smith.specs.Promises.{HasDistinctImports, HasNoFloats, HasNoFuel, WritesSections}
+use Rattle.wasm_smith.specs.Refusals.{HasNoMinimums}
+use Rattle.wasm_smith.specs.ToCome.{HasNoMore, IsFaulted, IsLeftOut, MayComeOut}
+use Rattle.wasm_smith.specs.declared.module.DuplicateImportsBehavior.{DuplicateImportsBehavior}
+use Rattle.wasm_smith.specs.declared.module.DuplicateImportsBehavior.TheVariants.{Allowed, Disallowed}
+
+-- whether no two imports may have the same pair of names
+abbrev pub is_distinct : DuplicateImportsBehavior → Bool
+is_distinct Allowed = false
+is_distinct Disallowed = true
+
+-- the answer for a configuration that was handed in and the bytes of the source, of which some are left
+pub record IsGenerated (distinct : Bool) (given : Config) (bytes : List ℕ) (answer : Result Parts Error) (left : List ℕ) : Type 0 where
+  -- which module: the one that the configuration and the bytes give
+  pub exact : IsGiven distinct (sanitized given) bytes answer left
+  pub config : IfOk answer (λ m. m.config ≡ shown_config given)
+  -- what every module keeps
+  pub valid : IfOk answer IsValid
+  pub bounds : IfOk answer (KeepsBounds (sanitized given))
+  pub minimums : IfOk answer (MeetsMinimums (sanitized given))
+  pub names : IsTrue distinct → IfOk answer HasDistinctImports
+  pub floats : given.allow_floats ≡ false → IfOk answer HasNoFloats
+  pub sections : IfOk answer WritesSections
+  pub fuel : IfOk answer HasNoFuel
+  pub no_more : IfOk answer HasNoMore
+  -- when there is one, and when there is none
+  pub passes : OnOk answer (Passes (sanitized given))
+  pub no_shapes : OnOk answer (HasNoShapes (sanitized given))
+  pub fault : (Passes (sanitized given) → ⊥) → IsErrAnd answer (IsFaulted (sanitized given))
+  pub refusals : IfErr answer (MayComeOut (sanitized given))
+  pub needless : Passes (sanitized given) → HasNoShapes (sanitized given) → HasNoMinimums (sanitized given) → IfErr answer (λ e. e ≡ Memory)
+  pub shape : (for_use : Which) → Passes (sanitized given) → IsLeftOut (sanitized given) for_use → IsErrOf answer (Shape for_use LeftOut)
+  -- what is left of the source
+  pub undrawn : (for_use : Which) → IsLeftOut (sanitized given) for_use → left ≡ bytes
+  pub source : IsPiece bytes left

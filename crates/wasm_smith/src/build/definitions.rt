@@ -1,0 +1,79 @@
+ghost use Rattle.std.specs.Prelude.{◌≡◌, false, IfOk, IfErr, All};
+ghost use Rattle.smith_bytes.specs.Source.{KeepsPieces};
+ghost use Rattle.smith_types.specs.Floats.{HasNoFloat};
+ghost use Rattle.smith_types.specs.IndexSpaces.{spaces_in};
+ghost use Rattle.wasm_smith.specs.Build.{Gives, definitions_at};
+ghost use Rattle.wasm_smith.specs.Defined.{MayDefine, AreDefined, HaveNoFloats};
+ghost use Rattle.wasm_smith.specs.Imported.{HasNoFloatValue};
+ghost use Rattle.wasm_smith.specs.ToCome.{MayComeOut};
+
+use crate::build::funcs::funcs;
+use crate::build::globals::globals;
+use crate::build::memories::memories;
+use crate::build::standing::standing;
+use crate::build::tables::tables;
+use crate::build::tags::tags;
+use smith_bytes::{Error, Unstructured};
+use smith_config::Config;
+use smith_types::{ConstInstr, IndexSpaces, Items, TypeSpace};
+use std::alloc::Global;
+
+/// What is defined behind imports: how many tags, functions and memories, and the initialisers of tables and globals.
+#[derive(Drop)]
+pub(crate) struct Definitions {
+    pub(crate) num_tags: usize,
+    pub(crate) num_funcs: usize,
+    pub(crate) tables: Items<Option<Items<ConstInstr>>>,
+    pub(crate) num_memories: usize,
+    pub(crate) globals: Items<(u32, Items<ConstInstr>)>,
+}
+
+/// Defines tags, functions, tables, memories and globals, in this order, behind the imported ones of `spaces`.
+#[tactic(auto, unfolding(crate::specs::Build::definitions_at))]
+pub(crate) fn define(
+    alloc: Global,
+    config: &Config,
+    types: &TypeSpace,
+    spaces: &mut IndexSpaces,
+    u: &mut Unstructured<'_>,
+) -> Result<Definitions, Error>
+    requires may { MayDefine config.now types.now (spaces_in spaces.old) }
+    ensures exact { Gives (λ defined. ((spaces_in spaces.new, defined), u.new)) result (definitions_at config.now types.now.types (spaces_in spaces.old) u.old) }
+    ensures defined { IfOk result (AreDefined config.now types.now.types (spaces_in spaces.old) (spaces_in spaces.new)) }
+    ensures floats { config.now.allow_floats ≡ false → All HasNoFloat types.now.types → All HasNoFloatValue spaces.old.globals → IfOk result (HaveNoFloats (spaces_in spaces.new)) }
+    ensures refusal { IfErr result (MayComeOut config.now) }
+    ensures left { KeepsPieces u.old u.new }
+{
+    let imported_tags = spaces.tags.len();
+    let imported_funcs = spaces.funcs.len();
+    let imported_memories = spaces.memories.len();
+    tags(alloc, config, types, &mut spaces.tags, u)?;
+    funcs(alloc, config, types, &mut spaces.funcs, u)?;
+    let func_types = spaces.funcs.as_slice();
+    let imported_globals = spaces.globals.as_slice();
+    let standing = standing(
+        types,
+        func_types,
+        imported_funcs,
+        imported_globals,
+        imported_globals.len(),
+    );
+    let tables = tables(alloc, config, &standing, &mut spaces.tables, u)?;
+    memories(config, &mut spaces.memories, u)?;
+    let globals = globals(
+        alloc,
+        config,
+        types,
+        func_types,
+        imported_funcs,
+        &mut spaces.globals,
+        u,
+    )?;
+    Ok(Definitions {
+        num_tags: spaces.tags.len() - imported_tags,
+        num_funcs: spaces.funcs.len() - imported_funcs,
+        tables,
+        num_memories: spaces.memories.len() - imported_memories,
+        globals,
+    })
+}

@@ -1,0 +1,113 @@
+ghost use Rattle.std.specs.Prelude.{◌≡◌, ℕ, true, false, List, [], map, IfOk, IfErr, OnOk, All};
+ghost use Rattle.smith_bytes.specs.Source.{KeepsPieces};
+ghost use Rattle.smith_bytes.specs.Takes.{Takes};
+ghost use Rattle.smith_types.specs.Entities.{IsGlobalValid};
+ghost use Rattle.smith_types.specs.Expressions.{IsConstExpr};
+ghost use Rattle.smith_types.specs.Floats.{HasNoFloat, IsNoFloat};
+ghost use Rattle.smith_types.specs.declared.const_instr.ConstInstr.{ConstInstr};
+ghost use Rattle.smith_types.specs.declared.entity_type.GlobalType.{GlobalType};
+ghost use Rattle.smith_config.specs.Features.{features_of};
+ghost use Rattle.smith_config.specs.Sanitized.{IsSanitized};
+ghost use Rattle.smith_draw.specs.ConstBounds.{HoldsNonNullableField};
+ghost use Rattle.smith_draw.specs.ConstFloats.{GivesNoFloat};
+ghost use Rattle.smith_draw.specs.ConstScopes.{AreSpacesValid, seen_by};
+ghost use Rattle.smith_draw.specs.Drawing.{Draws};
+ghost use Rattle.wasm_smith.specs.Defined.{IsFilled, MayInitialise, AreGlobalsDefined};
+ghost use Rattle.wasm_smith.specs.Definitions.{standing_over, initialised_at, globals_at};
+ghost use Rattle.wasm_smith.specs.NumberedGlobals.{SpellsGlobals};
+
+use crate::build::past_full::ask_past_full;
+use smith_bytes::{Error, Unstructured, goes_on};
+use smith_config::Config;
+use smith_draw::{Entities, Spaces, arbitrary_const_expr, arbitrary_global_type};
+use smith_types::{ConstInstr, GlobalType, Items, TypeSpace};
+use std::alloc::Global;
+
+/// Draws a global behind those of `spaces`, with its index and its initialiser.
+#[tactic(auto, unfolding(crate::specs::Definitions::initialised_at))]
+fn initialised_global(
+    alloc: Global,
+    config: &Config,
+    spaces: &Spaces<'_>,
+    u: &mut Unstructured<'_>,
+) -> Result<(GlobalType, (u32, Items<ConstInstr>)), Error>
+    requires sanitized { IsSanitized config.now }
+    requires standing { AreSpacesValid config.now spaces.now }
+    requires nullable { HoldsNonNullableField spaces.now.types.now.types → ⊥ }
+    ensures draws { Draws (initialised_at config.now (seen_by config.now spaces.now true) u.old) result u.old u.new }
+    ensures valid { IfOk result (λ drawn. IsGlobalValid (features_of config.now) spaces.now.types.now.types drawn.0) }
+    ensures initialised { IfOk result (λ drawn. IsConstExpr (seen_by config.now spaces.now true) drawn.0.val_type drawn.1.1) }
+    ensures floats { config.now.allow_floats ≡ false → IfOk result (λ drawn. IsNoFloat drawn.0.val_type) }
+    ensures constants { config.now.allow_floats ≡ false → All HasNoFloat spaces.now.types.now.types → IfOk result (λ drawn. All GivesNoFloat drawn.1.1) }
+{
+    let global = arbitrary_global_type(alloc, config, spaces, u)?;
+    let initial = arbitrary_const_expr(alloc, config, spaces, global.val_type, true, u)?;
+    let index = spaces.entities.globals.len() as u32;
+    Ok((global, (index, initial)))
+}
+
+/// Pushes globals behind the imported ones.
+fn push_globals<'a>(
+    alloc: Global,
+    config: &Config,
+    types: &'a TypeSpace,
+    funcs: &'a [u32],
+    imported_funcs: usize,
+    globals: &mut Items<GlobalType>,
+    u: &mut Unstructured<'_>,
+) -> Result<Items<(u32, Items<ConstInstr>)>, Error>
+    requires may { MayInitialise config.now types.now (standing_over types.now.types funcs.now imported_funcs globals.old) }
+    ensures exact { IfOk result (λ initials. globals_at config.now (standing_over types.now.types funcs.now imported_funcs globals.old) u.old ≡ ((globals.new, initials), u.new)) }
+    ensures valid { OnOk result (All (IsGlobalValid (features_of config.now) types.now.types) globals.new) }
+    ensures defined { IfOk result (AreGlobalsDefined config.now (standing_over types.now.types funcs.now imported_funcs globals.old) globals.new) }
+    ensures floats { config.now.allow_floats ≡ false → All (λ (global : GlobalType). IsNoFloat global.val_type) globals.old → OnOk result (All (λ (global : GlobalType). IsNoFloat global.val_type) globals.new) }
+    ensures constants { config.now.allow_floats ≡ false → All HasNoFloat types.now.types → IfOk result (λ initials. All (All GivesNoFloat) (map (λ (one : ℕ × List ConstInstr). one.1) initials)) }
+    ensures memory { IfErr result (λ e. e ≡ Error.Memory) }
+    ensures left { KeepsPieces u.old u.new }
+{
+    let imported = globals.len();
+    let least = config.min_globals.saturating_sub(imported);
+    let mut initials = Items::new(alloc);
+    for made in 0..config.max_globals - imported {
+        if !goes_on(u, made, least) {
+            return Ok(initials);
+        }
+        let entities = Entities {
+            funcs,
+            globals: globals.as_slice(),
+            imported_funcs,
+            imported_globals: imported,
+            ..Entities::none()
+        };
+        let (global, initial) = initialised_global(alloc, config, &Spaces { types, entities }, u)?;
+        globals.push(global)?;
+        initials.push(initial)?;
+    }
+    ask_past_full(imported, u);
+    Ok(initials)
+}
+
+/// Pushes as many globals behind the imported ones as are asked for, and no more than may be, and tells the index and the
+/// initialiser of each.
+pub(crate) fn globals<'a>(
+    alloc: Global,
+    config: &Config,
+    types: &'a TypeSpace,
+    funcs: &'a [u32],
+    imported_funcs: usize,
+    globals: &mut Items<GlobalType>,
+    u: &mut Unstructured<'_>,
+) -> Result<Items<(u32, Items<ConstInstr>)>, Error>
+    requires may { MayInitialise config.now types.now (standing_over types.now.types funcs.now imported_funcs globals.old) }
+    ensures exact { IfOk result (λ initials. globals_at config.now (standing_over types.now.types funcs.now imported_funcs globals.old) u.old ≡ ((globals.new, initials), u.new)) }
+    ensures filled { OnOk result (IsFilled config.now.min_globals config.now.max_globals globals.old globals.new) }
+    ensures valid { OnOk result (All (IsGlobalValid (features_of config.now) types.now.types) globals.new) }
+    ensures defined { IfOk result (AreGlobalsDefined config.now (standing_over types.now.types funcs.now imported_funcs globals.old) globals.new) }
+    ensures floats { config.now.allow_floats ≡ false → All (λ (global : GlobalType). IsNoFloat global.val_type) globals.old → OnOk result (All (λ (global : GlobalType). IsNoFloat global.val_type) globals.new) }
+    ensures constants { config.now.allow_floats ≡ false → All HasNoFloat types.now.types → IfOk result (λ initials. All (All GivesNoFloat) (map (λ (one : ℕ × List ConstInstr). one.1) initials)) }
+    ensures reach { config.now.min_globals ≡ 0 → globals.old ≡ [] → IfOk result (λ initials. Takes (SpellsGlobals config.now) u.old (globals.new, map (λ (one : ℕ × List ConstInstr). one.1) initials) u.new) }
+    ensures memory { IfErr result (λ e. e ≡ Error.Memory) }
+    ensures left { KeepsPieces u.old u.new }
+{
+    push_globals(alloc, config, types, funcs, imported_funcs, globals, u)
+}

@@ -1,0 +1,32 @@
+ghost use Rattle.std.specs.Prelude.{◌≡◌};
+
+use smith_draw::{Entities, Spaces};
+use smith_types::{GlobalType, TypeSpace};
+
+/// What an initialiser may refer to: types, functions, and the globals so far.
+pub(crate) fn standing<'a>(
+    types: &'a TypeSpace,
+    funcs: &'a [u32],
+    imported_funcs: usize,
+    globals: &'a [GlobalType],
+    imported_globals: usize,
+) -> Spaces<'a>
+    ensures types { result.types.now ≡ types.now }
+    ensures funcs { result.entities.funcs.now ≡ funcs.now }
+    ensures imported_funcs { result.entities.imported_funcs ≡ imported_funcs }
+    ensures globals { result.entities.globals.now ≡ globals.now }
+    ensures imported_globals { result.entities.imported_globals ≡ imported_globals }
+{
+    Spaces {
+        types,
+        entities: Entities {
+            tags: &[],
+            funcs,
+            tables: &[],
+            memories: &[],
+            globals,
+            imported_funcs,
+            imported_globals,
+        },
+    }
+}

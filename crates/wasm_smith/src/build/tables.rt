@@ -1,0 +1,97 @@
+ghost use Rattle.std.specs.Prelude.{◌≡◌, ◌<◌, ◌≤◌, [], length, IsTrue, IfOk, IfErr, OnOk, All};
+ghost use Rattle.std.specs.List.{flat_map};
+ghost use Rattle.smith_bytes.specs.Source.{KeepsPieces};
+ghost use Rattle.smith_bytes.specs.Takes.{Takes};
+ghost use Rattle.smith_types.specs.Entities.{IsTableValid};
+ghost use Rattle.smith_types.specs.Floats.{HasNoFloat};
+ghost use Rattle.smith_config.specs.Features.{features_of};
+ghost use Rattle.smith_draw.specs.Bounds.{IsTableWithin};
+ghost use Rattle.smith_draw.specs.ConstFloats.{GivesNoFloat};
+ghost use Rattle.smith_draw.specs.Drawing.{Draws};
+ghost use Rattle.wasm_smith.specs.Defined.{IsFilled, SpellsEmpty, MayInitialise, AreTablesDefined, standing_of};
+ghost use Rattle.wasm_smith.specs.DefinedTables.{IsTableFit, AreTablesDrawn};
+ghost use Rattle.wasm_smith.specs.Definitions.{table_at, tables_at};
+ghost use Rattle.wasm_smith.specs.Promises.{initial_of};
+ghost use Rattle.wasm_smith.specs.Spelling.{SpellsNone};
+
+use crate::build::past_full::ask_past_full;
+use smith_bytes::{Error, Unstructured, goes_on};
+use smith_config::Config;
+use smith_draw::{Spaces, arbitrary_table_init, arbitrary_table_type};
+use smith_types::{ConstInstr, Items, TableType};
+use std::alloc::Global;
+
+/// Draws a table and its initialiser, if it has one.
+fn initialised_table(
+    alloc: Global,
+    config: &Config,
+    spaces: &Spaces<'_>,
+    u: &mut Unstructured<'_>,
+) -> Result<(TableType, Option<Items<ConstInstr>>), Error>
+    requires may { MayInitialise config.now spaces.now.types.now (standing_of spaces.now) }
+    requires imported_globals { spaces.now.entities.imported_globals ≡ length spaces.now.entities.globals.now }
+    ensures draws { Draws (table_at config.now (standing_of spaces.now) u.old) result u.old u.new }
+    ensures fit { IfOk result (IsTableFit config.now (standing_of spaces.now)) }
+{
+    let table = arbitrary_table_type(alloc, config, spaces, u)?;
+    let initial = arbitrary_table_init(alloc, config, spaces, table.element_type, u)?;
+    Ok((table, initial))
+}
+
+/// Draws tables behind the imported ones, and gives their initialisers.
+fn drawn_tables(
+    alloc: Global,
+    config: &Config,
+    spaces: &Spaces<'_>,
+    tables: &mut Items<TableType>,
+    u: &mut Unstructured<'_>,
+) -> Result<Items<Option<Items<ConstInstr>>>, Error>
+    requires may { MayInitialise config.now spaces.now.types.now (standing_of spaces.now) }
+    requires imported_globals { spaces.now.entities.imported_globals ≡ length spaces.now.entities.globals.now }
+    requires imported { length tables.old ≤ config.now.max_tables }
+    ensures exact { IfOk result (λ initials. tables_at config.now (standing_of spaces.now) tables.old u.old ≡ ((tables.new, initials), u.new)) }
+    ensures drawn { IfOk result (AreTablesDrawn config.now (standing_of spaces.now) tables.old tables.new) }
+    ensures memory { IfErr result (λ e. e ≡ Error.Memory) }
+    ensures left { KeepsPieces u.old u.new }
+{
+    let imported = tables.len();
+    let least = (config.min_tables as usize).saturating_sub(imported);
+    let most = config.max_tables - imported;
+    let mut initials = Items::new(alloc);
+    for made in 0..most {
+        if !goes_on(u, made, least) {
+            return Ok(initials);
+        }
+        let (table, initial) = initialised_table(alloc, config, spaces, u)?;
+        tables.push(table)?;
+        initials.push(initial)?;
+    }
+    ask_past_full(imported, u);
+    Ok(initials)
+}
+
+/// Defines as many tables behind the imported ones as are asked for, and no more than may be, and gives the initialiser of
+/// each, if it has one.
+pub(crate) fn tables(
+    alloc: Global,
+    config: &Config,
+    spaces: &Spaces<'_>,
+    tables: &mut Items<TableType>,
+    u: &mut Unstructured<'_>,
+) -> Result<Items<Option<Items<ConstInstr>>>, Error>
+    requires may { MayInitialise config.now spaces.now.types.now (standing_of spaces.now) }
+    requires imported_globals { spaces.now.entities.imported_globals ≡ length spaces.now.entities.globals.now }
+    requires imported { length tables.old ≤ config.now.max_tables }
+    ensures exact { IfOk result (λ initials. tables_at config.now (standing_of spaces.now) tables.old u.old ≡ ((tables.new, initials), u.new)) }
+    ensures filled { OnOk result (IsFilled config.now.min_tables config.now.max_tables tables.old tables.new) }
+    ensures valid { All (IsTableValid (features_of config.now) spaces.now.types.now.types) tables.old → OnOk result (All (IsTableValid (features_of config.now) spaces.now.types.now.types) tables.new) }
+    ensures within { All (IsTableWithin config.now) tables.old → OnOk result (All (IsTableWithin config.now) tables.new) }
+    ensures several { OnOk result (1 < length tables.new → IsTrue (features_of config.now).reference_types) }
+    ensures defined { IfOk result (AreTablesDefined config.now (standing_of spaces.now) tables.old tables.new) }
+    ensures floats { All HasNoFloat spaces.now.types.now.types → IfOk result (λ initials. All (All GivesNoFloat) (flat_map initial_of initials)) }
+    ensures none { config.now.min_tables ≡ 0 → tables.old ≡ [] → OnOk result (Takes (SpellsEmpty (SpellsNone config.now.max_tables)) u.old tables.new u.new) }
+    ensures memory { IfErr result (λ e. e ≡ Error.Memory) }
+    ensures left { KeepsPieces u.old u.new }
+{
+    drawn_tables(alloc, config, spaces, tables, u)
+}
