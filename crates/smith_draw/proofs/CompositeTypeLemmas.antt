@@ -27,7 +27,8 @@ use Rattle.smith_draw.specs.CompositeTypes.{most_results, val_types_at, func_typ
 use Rattle.smith_draw.proofs.ValueTypeLemmas.{MayShare, sharedness_may, IsValTypeDrawn, val_type_drawn, values_valid}
 use Rattle.smith_draw.proofs.FieldTypeLemmas.{IsFieldDrawn, field_type_drawn, fields_until_drawn, fields_until_most, values_of_fields}
 
-val_types_drawn : (config : Config) (types : List SubType) (must_share : Bool) (limit most : ℕ) (bytes : List ℕ) → IsSanitized config → MayShare config must_share
+-- drawn lists of value types
+pub val_types_drawn : (config : Config) (types : List SubType) (must_share : Bool) (limit most : ℕ) (bytes : List ℕ) → IsSanitized config → MayShare config must_share
     → All (IsValTypeDrawn config types must_share limit) (val_types_at config types must_share limit most bytes).0
 unfolding val_types_at
 val_types_drawn config types must_share limit most bytes sanitized may =

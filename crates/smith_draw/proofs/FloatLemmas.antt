@@ -133,9 +133,9 @@ module _ (config : Config) (off : config.allow_floats ≡ false) where
   of_fields : (fields : List FieldType) → All IsNoFloatField fields → All IsNoFloat (values_of (Struct (record { fields = fields })))
   of_fields fields h = values_of_fields IsNoFloat fields (recursion_from_All IsNoFloatField fields h)
 
-  values_drawn : (types : List SubType) (must_share : Bool) (limit most : ℕ) (bytes : List ℕ) → All IsNoFloat (val_types_at config types must_share limit most bytes).0
+  pub values_no_float : (types : List SubType) (must_share : Bool) (limit most : ℕ) (bytes : List ℕ) → All IsNoFloat (val_types_at config types must_share limit most bytes).0
   unfolding val_types_at
-  values_drawn types must_share limit most bytes =
+  values_no_float types must_share limit most bytes =
       grow_all IsNoFloat (λ _. val_type_at config types must_share limit) (λ _ after. val_type_no_float types must_share limit after) 0 most [] bytes (All-nil IsNoFloat)
 
   function_drawn : (types : List SubType) (must_share : Bool) (limit : ℕ) (bytes : List ℕ) → All IsNoFloat (values_of (Func (func_type_at config types must_share limit bytes).0))
@@ -143,7 +143,7 @@ module _ (config : Config) (off : config.allow_floats ≡ false) where
   function_drawn types must_share limit bytes =
       let params = val_types_at config types must_share limit 20 bytes in
       let results = val_types_at config types must_share limit (most_results config) params.1 in
-      All-append IsNoFloat params.0 results.0 (values_drawn types must_share limit 20 bytes) (values_drawn types must_share limit (most_results config) params.1)
+      All-append IsNoFloat params.0 results.0 (values_no_float types must_share limit 20 bytes) (values_no_float types must_share limit (most_results config) params.1)
 
   struct_drawn : (types : List SubType) (must_share : Bool) (limit : ℕ) (bytes : List ℕ) → All IsNoFloat (values_of (Struct (struct_type_at config types must_share limit bytes).0))
   unfolding struct_type_at

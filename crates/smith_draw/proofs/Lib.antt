@@ -31,6 +31,7 @@ pub mod FuncSizeLemmas
 pub mod NullableLemmas
 pub mod SharedHeapTypeLemmas
 pub mod GlobalTypeLemmas
+pub mod LocalLemmas
 pub mod TableTypeLemmas
 pub mod TypeUseLemmas
 pub mod MemoryLemmas

@@ -105,7 +105,7 @@ value_of_class config types must_share limit F64 bytes never = never
 value_of_class config types must_share limit V128 bytes never = never
 value_of_class config types must_share limit Reference bytes never = true≢false (sym (ref_type_nullable config types must_share limit bytes) ∙ never)
 
-val_type_nullable : (config : Config) (types : List SubType) (must_share : Bool) (limit : ℕ) (bytes : List ℕ) → ¬ IsNonNullable (val_type_at config types must_share limit bytes).0
+pub val_type_nullable : (config : Config) (types : List SubType) (must_share : Bool) (limit : ℕ) (bytes : List ℕ) → ¬ IsNonNullable (val_type_at config types must_share limit bytes).0
 unfolding val_type_at
 val_type_nullable config types must_share limit bytes =
     let class = chosen_at I32 (enabled (value_classes config)) bytes in

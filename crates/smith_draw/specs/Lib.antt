@@ -17,6 +17,7 @@ pub mod Bounds
 pub mod Memories
 pub mod SharedHeapTypes
 pub mod GlobalTypes
+pub mod Locals
 pub mod TableTypes
 pub mod TypeUses
 pub mod Spelling

@@ -32,7 +32,7 @@ use std::alloc::Global;
 
 /// Draws at most `most` value types.
 #[tactic(auto, unfolding(crate::specs::CompositeTypes::val_types_at))]
-fn val_types(
+pub(crate) fn val_types(
     alloc: Global,
     config: &Config,
     types: &[SubType],

@@ -9,6 +9,7 @@ mod examples;
 mod field_type;
 mod global_type;
 mod limits;
+mod locals;
 mod matching;
 mod matching_composite;
 mod offered;
@@ -29,6 +30,7 @@ pub use entity_type::arbitrary_memtype;
 pub use field_type::{arbitrary_field_type, arbitrary_storage_type};
 pub use global_type::arbitrary_global_type;
 pub use limits::{arbitrary_limits64, gradually_grow};
+pub use locals::arbitrary_locals;
 pub use matching::{
     arbitrary_matching_field_type, arbitrary_matching_func_type, arbitrary_matching_heap_type,
     arbitrary_matching_ref_type, arbitrary_matching_storage_type, arbitrary_matching_val_type,

@@ -1,4 +1,4 @@
-use crate::repeated::same;
+use crate::repeated::{same, told};
 use smith_bytes::{ConfigFault, Count, Error, Unstructured};
 use smith_config::{Config, MemoryOffsetChoices, OffsetChoicesFault};
 use smith_types::{InstructionKinds, WasmFeatures};
@@ -70,7 +70,7 @@ fn facts_of(config: &Config) -> Facts {
 
 fn drawn_once(input: &[u8]) -> Result<Facts, Error> {
     let config = Config::arbitrary(&mut Unstructured::new(input))?;
-    Ok(facts_of(&config))
+    Ok(told(config, facts_of))
 }
 
 // The configuration that bytes give, drawn twice.
@@ -93,7 +93,7 @@ fn four_bytes_draw_two_numbers(rt: HostRuntime) -> Result<(), Fail> {
 }
 
 fn features_of_the_defaults() -> WasmFeatures {
-    Config::default().features()
+    told(Config::default(), Config::features)
 }
 
 #[test]
@@ -119,15 +119,22 @@ fn default_features(rt: HostRuntime) -> Result<(), Fail> {
     Ok(())
 }
 
-// How many tables there may be without references where five are asked for, and whether garbage collection is on.
-fn without_references() -> (usize, bool) {
-    let mut config = Config {
-        reference_types_enabled: false,
-        max_tables: 5,
-        ..Config::default()
-    };
+// The defaults without references, where five tables are asked for, sanitised.
+fn five_tables() -> Config {
+    let mut config = Config::default();
+    config.reference_types_enabled = false;
+    config.max_tables = 5;
     config.sanitize();
+    config
+}
+
+fn tables_of(config: &Config) -> (usize, bool) {
     (config.max_tables, config.gc_enabled)
+}
+
+// How many tables there may be without references, and whether garbage collection is on.
+fn without_references() -> (usize, bool) {
+    told(five_tables(), tables_of)
 }
 
 #[test]
@@ -137,13 +144,18 @@ fn references_off_leave_one_table(rt: HostRuntime) -> Result<(), Fail> {
     Ok(())
 }
 
-// What the check says of the defaults with these bounds.
-fn checked_once(min_tags: usize, max_tags: usize, max_types: usize) -> Result<(), ConfigFault> {
+// The defaults with these bounds.
+fn with_bounds(min_tags: usize, max_tags: usize, max_types: usize) -> Config {
     let mut config = Config::default();
     config.min_tags = min_tags;
     config.max_tags = max_tags;
     config.max_types = max_types;
-    config.check()
+    config
+}
+
+// What the check says of them.
+fn checked_once(min_tags: usize, max_tags: usize, max_types: usize) -> Result<(), ConfigFault> {
+    told(with_bounds(min_tags, max_tags, max_types), Config::check)
 }
 
 // The same, asked twice.

@@ -1,3 +1,4 @@
+use crate::repeated::told;
 use smith_bytes::{ConfigFault, Count, Error, ShapeFault, Unstructured, Which};
 use smith_config::{Config, Shape};
 use smith_types::{EntityType, ExportKind, Import, Imports, Items, MemoryType, Name};
@@ -55,18 +56,26 @@ fn given(alloc: Global, is_given: bool, text: &str) -> Result<Option<Shape>, Err
     Ok(Some(shape(alloc, text)?))
 }
 
-// The defaults with a shape for each of these uses.
+// The defaults, but for the number of types.
+fn seven_types() -> Config {
+    let mut config = Config::default();
+    config.max_types = 7;
+    config
+}
+
+// Gives a shape for each of these uses.
+fn give_shapes(alloc: Global, config: &mut Config, uses: Uses) -> Result<(), Error> {
+    config.available_imports = given(alloc, uses[0], "a")?;
+    config.exports = given(alloc, uses[1], "b")?;
+    config.module_shape = given(alloc, uses[2], "c")?;
+    Ok(())
+}
+
+// The same with a shape for each of these uses.
 fn with_shapes(alloc: Global, uses: Uses) -> Result<Config, Error> {
-    let available_imports = given(alloc, uses[0], "a")?;
-    let exports = given(alloc, uses[1], "b")?;
-    let module_shape = given(alloc, uses[2], "c")?;
-    Ok(Config {
-        max_types: 7,
-        available_imports,
-        exports,
-        module_shape,
-        ..Config::default()
-    })
+    let mut config = seven_types();
+    give_shapes(alloc, &mut config, uses)?;
+    Ok(config)
 }
 
 fn are_same(one: &Config, other: &Config) -> bool {
@@ -76,8 +85,7 @@ fn are_same(one: &Config, other: &Config) -> bool {
 }
 
 fn is_copied(alloc: Global, config: &Config) -> Result<bool, Error> {
-    let copy = config.clone(alloc)?;
-    Ok(are_same(config, &copy))
+    Ok(told(config.clone(alloc)?, |copy| are_same(config, copy)))
 }
 
 fn text_of(alloc: Global, config: &Config) -> Result<String, Error> {
@@ -85,8 +93,7 @@ fn text_of(alloc: Global, config: &Config) -> Result<String, Error> {
 }
 
 fn text_of_copy(alloc: Global, config: &Config) -> Result<String, Error> {
-    let copy = config.clone(alloc)?;
-    text_of(alloc, &copy)
+    told(config.clone(alloc)?, |copy| text_of(alloc, copy))
 }
 
 // Whether a copy has equal shapes, and the texts of both.
@@ -97,7 +104,7 @@ fn copied(alloc: Global, config: &Config) -> Result<(bool, String, String), Erro
 }
 
 fn copied_with(alloc: Global, uses: Uses) -> Result<(bool, String, String), Error> {
-    copied(alloc, &with_shapes(alloc, uses)?)
+    told(with_shapes(alloc, uses)?, |config| copied(alloc, config))
 }
 
 #[test]
@@ -116,9 +123,7 @@ fn a_copy_holds_the_same(rt: HostRuntime) -> Result<(), Fail> {
     Ok(())
 }
 
-// Which shapes are given once the configuration is sanitised.
-fn uses_of(mut config: Config) -> Uses {
-    config.sanitize();
+fn uses_of(config: &Config) -> Uses {
     [
         config.available_imports.is_some(),
         config.exports.is_some(),
@@ -126,8 +131,14 @@ fn uses_of(mut config: Config) -> Uses {
     ]
 }
 
+fn settled(mut config: Config) -> Config {
+    config.sanitize();
+    config
+}
+
+// Which shapes are given once the configuration is sanitised.
 fn sanitized(alloc: Global, uses: Uses) -> Result<Uses, Error> {
-    Ok(uses_of(with_shapes(alloc, uses)?))
+    Ok(told(settled(with_shapes(alloc, uses)?), uses_of))
 }
 
 #[test]
@@ -143,15 +154,16 @@ fn a_module_shape_takes_the_place_of_others(rt: HostRuntime) -> Result<(), Fail>
     Ok(())
 }
 
-// What the check says where more imports and more exports are asked for than there may be.
-fn fault_of(mut config: Config) -> Result<(), ConfigFault> {
+// The same where more imports and more exports are asked for than there may be.
+fn with_minimums(mut config: Config) -> Config {
     config.min_imports = 101;
     config.min_exports = 101;
-    config.check()
+    config
 }
 
+// What the check says of it.
 fn checked(alloc: Global, uses: Uses) -> Result<Result<(), ConfigFault>, Error> {
-    Ok(fault_of(with_shapes(alloc, uses)?))
+    Ok(told(with_minimums(with_shapes(alloc, uses)?), Config::check))
 }
 
 #[test]
@@ -171,13 +183,13 @@ fn minimums_that_shapes_replace(rt: HostRuntime) -> Result<(), Fail> {
     Ok(())
 }
 
-fn made(alloc: Global, uses: Uses, u: &mut Unstructured<'_>) -> Result<(), Error> {
-    Module::new(alloc, with_shapes(alloc, uses)?, u)?;
-    Ok(())
+// Why no module is made, if none is.
+fn refusal(alloc: Global, uses: Uses, u: &mut Unstructured<'_>) -> Result<Option<Error>, Error> {
+    Ok(Module::new(alloc, with_shapes(alloc, uses)?, u).err())
 }
 
 #[test]
-fn shapes_are_refused_by_name(rt: HostRuntime) {
+fn shapes_are_refused_by_name(rt: HostRuntime) -> Result<(), Fail> {
     let cases = [
         ([true, true, true], Which::ModuleShape),
         ([true, true, false], Which::AvailableImports),
@@ -186,7 +198,8 @@ fn shapes_are_refused_by_name(rt: HostRuntime) {
     for (uses, which) in cases {
         let left_out = Error::Shape(which, ShapeFault::LeftOut);
         let mut u = Unstructured::new(&[1, 2]);
-        assert_eq!(rt; made(rt.alloc(), uses, &mut u), Err(left_out));
+        assert_eq!(rt; refusal(rt.alloc(), uses, &mut u)?, Some(left_out));
         assert_eq!(rt; u.len(), 2, "left");
     }
+    Ok(())
 }

@@ -6,7 +6,7 @@ ghost use Rattle.smith_config.specs.Faults.{Passes};
 ghost use Rattle.smith_config.specs.Features.{features_of};
 ghost use Rattle.smith_config.specs.Sanitized.{IsSanitized};
 
-use crate::repeated::same;
+use crate::repeated::{same, told};
 use crate::type_spaces::{spaces_of, types_from};
 use smith_draw::{arbitrary_const_expr, arbitrary_table_init, globals_for_const_expr};
 use smith_types::{
@@ -77,7 +77,10 @@ fn number_under(alloc: Global, config: &Config, input: &[u8]) -> Result<Answer, 
 }
 
 fn number(alloc: Global, input: &[u8]) -> Result<Answer, Fail> {
-    number_under(alloc, &settled(50, false)?, input)
+    told(
+        settled(50, false)?,
+        |config| number_under(alloc, config, input),
+    )
 }
 
 #[test]
@@ -125,7 +128,10 @@ fn external_under(alloc: Global, config: &Config) -> Result<Answer, Fail>
 }
 
 fn external(alloc: Global, fuel: u32) -> Result<Answer, Fail> {
-    external_under(alloc, &settled(fuel, false)?)
+    told(
+        settled(fuel, false)?,
+        |config| external_under(alloc, config),
+    )
 }
 
 #[test]
@@ -170,7 +176,10 @@ fn of_first_under(
 }
 
 fn of_struct(alloc: Global, fuel: u32, input: &[u8]) -> Result<Answer, Fail> {
-    of_first_under(alloc, &settled(fuel, false)?, &STRUCT, input)
+    told(
+        settled(fuel, false)?,
+        |config| of_first_under(alloc, config, &STRUCT, input),
+    )
 }
 
 #[test]
@@ -195,7 +204,10 @@ fn structs(rt: HostRuntime) -> Result<(), Fail> {
 }
 
 fn of_limited_array(alloc: Global, fuel: u32, input: &[u8]) -> Result<Answer, Fail> {
-    of_first_under(alloc, &settled(fuel, true)?, &ARRAY, input)
+    told(
+        settled(fuel, true)?,
+        |config| of_first_under(alloc, config, &ARRAY, input),
+    )
 }
 
 #[test]
@@ -235,7 +247,10 @@ fn of_functions_under(alloc: Global, config: &Config, input: &[u8]) -> Result<In
 }
 
 fn of_functions(alloc: Global, input: &[u8]) -> Result<Initial, Fail> {
-    of_functions_under(alloc, &settled(50, false)?, input)
+    told(
+        settled(50, false)?,
+        |config| of_functions_under(alloc, config, input),
+    )
 }
 
 // Whether an expression is that of no function.
@@ -275,7 +290,10 @@ fn of_numbers_under(alloc: Global, config: &Config, input: &[u8]) -> Result<Init
 }
 
 fn of_numbers(alloc: Global, input: &[u8]) -> Result<Initial, Fail> {
-    of_numbers_under(alloc, &settled(50, false)?, input)
+    told(
+        settled(50, false)?,
+        |config| of_numbers_under(alloc, config, input),
+    )
 }
 
 fn is_one(expression: &Items<ConstInstr>) -> bool {
@@ -339,7 +357,10 @@ fn readable_under(alloc: Global, config: &Config, allow_defined: bool) -> Result
 }
 
 fn readable(alloc: Global, allow_defined: bool) -> Result<Items<u32>, Fail> {
-    readable_under(alloc, &settled(50, false)?, allow_defined)
+    told(
+        settled(50, false)?,
+        |config| readable_under(alloc, config, allow_defined),
+    )
 }
 
 #[test]

@@ -1,14 +1,14 @@
 ghost use Rattle.smith_config.specs.Sanitized.{IsSanitized};
 
 use crate::function_types::{is_function, takes_and_gives};
-use crate::repeated::same;
+use crate::repeated::{same, told};
 use crate::type_spaces::spaces_of;
 use smith_types::{AbstractHeapType, FuncType, HeapType, RefType, TypeSpace, ValType};
 use std::alloc::Global;
 use std::test::Fail;
 use wasm_smith::{
     Config, Entities, Error, Spaces, Unstructured, arbitrary_func_type, arbitrary_heap_type,
-    arbitrary_rec_group, arbitrary_ref_type, arbitrary_valtype,
+    arbitrary_locals, arbitrary_rec_group, arbitrary_ref_type, arbitrary_valtype,
 };
 
 // The defaults without garbage collection, sanitised, and without exceptions, floats and several results where there are
@@ -52,7 +52,10 @@ fn heap_type_under(alloc: Global, config: &Config, input: &[u8]) -> Result<(Heap
 }
 
 fn heap_type(alloc: Global, fewer: bool, input: &[u8]) -> Result<(HeapType, usize), Fail> {
-    heap_type_under(alloc, &without_gc(fewer), input)
+    told(
+        without_gc(fewer),
+        |config| heap_type_under(alloc, config, input),
+    )
 }
 
 #[test]
@@ -91,7 +94,10 @@ fn ref_type_under(alloc: Global, config: &Config, input: &[u8]) -> Result<(RefTy
 }
 
 fn ref_type(alloc: Global, enabled: bool, input: &[u8]) -> Result<(RefType, usize), Fail> {
-    ref_type_under(alloc, &with_references(enabled), input)
+    told(
+        with_references(enabled),
+        |config| ref_type_under(alloc, config, input),
+    )
 }
 
 #[test]
@@ -117,7 +123,10 @@ fn val_type_under(alloc: Global, config: &Config, input: &[u8]) -> Result<(ValTy
 }
 
 fn val_type(alloc: Global, fewer: bool, input: &[u8]) -> Result<(ValType, usize), Fail> {
-    val_type_under(alloc, &without_gc(fewer), input)
+    told(
+        without_gc(fewer),
+        |config| val_type_under(alloc, config, input),
+    )
 }
 
 #[test]
@@ -143,7 +152,10 @@ fn func_type_under(alloc: Global, config: &Config, input: &[u8]) -> Result<(Func
 }
 
 fn func_type(alloc: Global, fewer: bool, input: &[u8]) -> Result<(FuncType, usize), Fail> {
-    func_type_under(alloc, &without_gc(fewer), input)
+    told(
+        without_gc(fewer),
+        |config| func_type_under(alloc, config, input),
+    )
 }
 
 // Whether a drawn function type takes and gives these, and how many bytes it leaves.
@@ -173,6 +185,17 @@ fn a_function_type(rt: HostRuntime) -> Result<(), Fail> {
 fn a_function_type_of_one_result(rt: HostRuntime) -> Result<(), Fail> {
     let drawn = is_func_type(rt.alloc(), true, &[0, 1, 1, 1, 1], &[], &[ValType::I64])?;
     assert_eq!(rt; drawn, (true, 2));
+    Ok(())
+}
+
+#[test]
+fn locals(rt: HostRuntime) -> Result<(), Fail> {
+    let types = TypeSpace::new(rt.alloc());
+    let spaces = spaces_of(&types);
+    let mut u = Unstructured::new(&[1, 2, 1, 0, 0, 7]);
+    let drawn = arbitrary_locals(rt.alloc(), &without_gc(false), &spaces, &mut u)?;
+    assert!(rt; drawn.as_slice() == [ValType::F32, ValType::I32].as_slice());
+    assert_eq!(rt; u.len(), 1);
     Ok(())
 }
 
@@ -215,7 +238,10 @@ fn two_groups_again(alloc: Global, config: &Config, input: &[u8]) -> Result<(boo
 }
 
 fn two_groups(alloc: Global, input: &[u8]) -> Result<(bool, usize), Fail> {
-    two_groups_again(alloc, &without_gc(false), input)
+    told(
+        without_gc(false),
+        |config| two_groups_again(alloc, config, input),
+    )
 }
 
 #[test]

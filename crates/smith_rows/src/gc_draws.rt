@@ -1,6 +1,6 @@
 ghost use Rattle.smith_config.specs.Sanitized.{IsSanitized};
 
-use crate::repeated::same;
+use crate::repeated::{same, told};
 use crate::type_spaces::spaces_of;
 use smith_types::{
     ArrayType, CompositeInnerType, CompositeType, FieldType, Items, StorageType, StructType,
@@ -47,7 +47,10 @@ fn storage_type_under(
 }
 
 fn storage_type(alloc: Global, input: &[u8]) -> Result<(StorageType, usize), Fail> {
-    storage_type_under(alloc, &defaults(), input)
+    told(
+        defaults(),
+        |config| storage_type_under(alloc, config, input),
+    )
 }
 
 #[test]
@@ -75,7 +78,7 @@ fn field_type_under(
 }
 
 fn field_type(alloc: Global, input: &[u8]) -> Result<(FieldType, usize), Fail> {
-    field_type_under(alloc, &defaults(), input)
+    told(defaults(), |config| field_type_under(alloc, config, input))
 }
 
 #[test]
@@ -103,7 +106,7 @@ fn struct_type_under(
 }
 
 fn struct_type(alloc: Global, input: &[u8]) -> Result<(Items<FieldType>, usize), Fail> {
-    struct_type_under(alloc, &defaults(), input)
+    told(defaults(), |config| struct_type_under(alloc, config, input))
 }
 
 #[test]
@@ -141,7 +144,10 @@ fn composite_type_under(
 }
 
 fn composite_type(alloc: Global, input: &[u8]) -> Result<(CompositeType, usize), Fail> {
-    composite_type_under(alloc, &defaults(), input)
+    told(
+        defaults(),
+        |config| composite_type_under(alloc, config, input),
+    )
 }
 
 #[test]

@@ -1,4 +1,5 @@
 use crate::function_types::is_function;
+use crate::repeated::told;
 use smith_types::{ArrayType, CompositeInnerType, FieldType, StorageType, SubType};
 use std::alloc::Global;
 use std::ops::Range;
@@ -78,7 +79,7 @@ fn types_of(alloc: Global, module: &Module) -> Result<Types, Error> {
 // The types of the module of a configuration on an input.
 fn types_from(alloc: Global, config: Config, input: &[u8]) -> Result<Types, Error> {
     let module = Module::new(alloc, config, &mut Unstructured::new(input))?;
-    types_of(alloc, &module)
+    told(module, |module| types_of(alloc, module))
 }
 
 // An array of constant bytes that is not final.

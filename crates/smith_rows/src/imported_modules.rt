@@ -1,4 +1,4 @@
-use crate::repeated::same;
+use crate::repeated::{same, told};
 use std::alloc::Global;
 use std::test::Fail;
 use wasm_smith::{
@@ -116,7 +116,7 @@ fn made_once(
 ) -> Result<Facts, Error> {
     let mut u = Unstructured::new(input);
     let module = Module::new_internal(alloc, config_of(asked), &mut u, behavior)?;
-    Ok(facts_of(&module))
+    Ok(told(module, facts_of))
 }
 
 // The same, drawn twice.

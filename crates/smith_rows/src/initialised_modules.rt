@@ -1,4 +1,4 @@
-use crate::repeated::same;
+use crate::repeated::{same, told};
 use std::alloc::Global;
 use std::test::Fail;
 use wasm_smith::{
@@ -70,7 +70,7 @@ fn one_table(disallow_traps: bool) -> Config {
 fn tables_once(alloc: Global, disallow_traps: bool, input: &[u8]) -> Result<Tables, Error> {
     let mut u = Unstructured::new(input);
     let module = Module::new(alloc, one_table(disallow_traps), &mut u)?;
-    Ok(tables_of(&module))
+    Ok(told(module, tables_of))
 }
 
 // The same, drawn twice.
@@ -171,7 +171,7 @@ fn three_globals(gc_enabled: bool) -> Config {
 fn globals_once(alloc: Global, gc_enabled: bool) -> Result<Globals, Error> {
     let mut u = Unstructured::new(&[]);
     let module = Module::new(alloc, three_globals(gc_enabled), &mut u)?;
-    Ok(globals_of(&module))
+    Ok(told(module, globals_of))
 }
 
 // The same, drawn twice.

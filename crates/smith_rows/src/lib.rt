@@ -10,6 +10,8 @@ mod configured_shapes;
 #[cfg(test)]
 mod constant_expressions;
 #[cfg(test)]
+mod drawn_entities;
+#[cfg(test)]
 mod drawn_types;
 #[cfg(test)]
 mod first_faults;
@@ -47,6 +49,8 @@ mod shapes;
 mod sizes;
 #[cfg(test)]
 mod subtypes;
+#[cfg(test)]
+mod termination;
 #[cfg(test)]
 mod type_space;
 #[cfg(test)]

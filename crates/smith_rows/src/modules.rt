@@ -1,4 +1,5 @@
 use crate::function_types::is_function;
+use crate::repeated::told;
 use smith_types::{MemoryType, SubType, ValType};
 use std::alloc::Global;
 use std::ops::Range;
@@ -103,7 +104,7 @@ fn facts_of(module: &Module) -> Facts {
 // The module of a configuration on an input, as far as it is compared.
 fn facts_from(alloc: Global, config: Config, input: &[u8]) -> Result<Facts, Error> {
     let module = Module::new(alloc, config, &mut Unstructured::new(input))?;
-    Ok(facts_of(&module))
+    Ok(told(module, facts_of))
 }
 
 #[test]

@@ -1,3 +1,4 @@
+use crate::repeated::told;
 use std::alloc::Global;
 use std::test::Fail;
 use wasm_smith::{Config, Error, Module, Unstructured};
@@ -11,6 +12,7 @@ enum Asked {
     OneMemory,
     OneFunction,
     TooManyBytes,
+    OneImportedGlobal,
 }
 
 fn config_of(asked: Asked) -> Config {
@@ -29,6 +31,10 @@ fn config_of(asked: Asked) -> Config {
         Asked::OneMemory => config.min_memories = 1,
         Asked::OneFunction => config.min_funcs = 1,
         Asked::TooManyBytes => config.max_memory32_bytes = (1 << 32) + 1,
+        Asked::OneImportedGlobal => {
+            config.max_imports = 1;
+            config.max_globals = 1;
+        }
     }
     config
 }
@@ -75,13 +81,13 @@ fn is_made_again(
     input: &[u8],
 ) -> Result<bool, Error> {
     let again = made(alloc, asked, input)?;
-    Ok(are_same(module, &again))
+    Ok(told(again, |again| are_same(module, again)))
 }
 
 // Whether two runs give the same module.
 fn repeats(alloc: Global, asked: Asked, input: &[u8]) -> Result<bool, Error> {
     let module = made(alloc, asked, input)?;
-    is_made_again(alloc, &module, asked, input)
+    told(module, |module| is_made_again(alloc, module, asked, input))
 }
 
 #[test]
@@ -124,4 +130,79 @@ fn the_same_is_refused_again(rt: HostRuntime) {
         assert!(rt; first.is_some(), "at {asked:?}");
         assert_eq!(rt; refusal(rt.alloc(), asked), first, "at {asked:?}");
     }
+}
+
+fn made_by_default(alloc: Global, input: &[u8]) -> Result<Module, Error> {
+    Module::arbitrary(alloc, &mut Unstructured::new(input))
+}
+
+// Whether the module of the default configuration is that which the defaults give.
+fn is_of_defaults(alloc: Global, input: &[u8]) -> Result<bool, Error> {
+    let module = made_by_default(alloc, input)?;
+    told(module, |module| {
+        is_made_again(alloc, module, Asked::Defaults, input)
+    })
+}
+
+#[test]
+fn a_module_of_the_default_configuration(rt: HostRuntime) -> Result<(), Fail> {
+    let cases = [
+        [].as_slice(),
+        [1, 1, 1, 1, 0, 0, 0, 0, 0, 0, 1, 0].as_slice(),
+    ];
+    for input in cases {
+        assert!(rt; is_of_defaults(rt.alloc(), input)?, "at {input:?}");
+    }
+    Ok(())
+}
+
+// One imported global, after which a byte asks for one more, where there may be none: then the flag of types, and a byte that
+// is left.
+const fn imports_a_global(one_more: u8) -> [u8; 16] {
+    [0, 1, 0, 0, 0, 0, 0, 0, 0, 0, 0, one_more, 1, 9, 0, 0]
+}
+
+// How many imports and globals there are, and whether there is a type section.
+fn parts_of(module: &Module) -> (usize, usize, bool) {
+    (
+        module.num_imports(),
+        module.globals().len(),
+        module.should_encode_types(),
+    )
+}
+
+// The parts of a module of one imported global, and how many bytes it leaves.
+fn parts_and_rest(alloc: Global, input: &[u8]) -> Result<((usize, usize, bool), usize), Error> {
+    let mut u = Unstructured::new(input);
+    let module = Module::new(alloc, config_of(Asked::OneImportedGlobal), &mut u)?;
+    Ok((told(module, parts_of), u.len()))
+}
+
+#[test]
+fn a_full_index_space_asks_once_more(rt: HostRuntime) -> Result<(), Fail> {
+    for one_more in [0, 1] {
+        let input = imports_a_global(one_more);
+        let found = parts_and_rest(rt.alloc(), &input)?;
+        assert_eq!(rt; found, ((1, 1, true), 1), "at {one_more}");
+    }
+    Ok(())
+}
+
+// Whether both bytes give the same module.
+fn are_alike(alloc: Global) -> Result<bool, Error> {
+    let module = made(alloc, Asked::OneImportedGlobal, &imports_a_global(0))?;
+    told(module, |module| {
+        is_made_again(
+            alloc,
+            module,
+            Asked::OneImportedGlobal,
+            &imports_a_global(1),
+        )
+    })
+}
+
+#[test]
+fn what_a_full_index_space_asks_changes_nothing(rt: HostRuntime) -> Result<(), Fail> {
+    assert!(rt; are_alike(rt.alloc())?);
+    Ok(())
 }

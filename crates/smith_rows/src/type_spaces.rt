@@ -6,8 +6,8 @@ ghost use Rattle.smith_config.specs.Faults.{Passes};
 ghost use Rattle.smith_config.specs.Features.{features_of};
 ghost use Rattle.smith_config.specs.Sanitized.{IsSanitized};
 
-use crate::shape_parts::empty_struct;
-use smith_types::{SubType, TypeSpace};
+use crate::shape_parts::{empty_struct, function};
+use smith_types::{SubType, TypeSpace, ValType};
 use std::alloc::Global;
 use wasm_smith::{Config, Entities, Error, Spaces, Unstructured, add_type, arbitrary_types};
 
@@ -54,6 +54,17 @@ pub(crate) fn two_structs(alloc: Global) -> Result<TypeSpace, Error> {
     let mut types = TypeSpace::new(alloc);
     add(&mut types, empty_struct(alloc, false, None))?;
     add(&mut types, empty_struct(alloc, false, Some(0)))?;
+    types.push_group()?;
+    Ok(types)
+}
+
+/// A struct type, and three of functions, of which the second alone gives something.
+pub(crate) fn three_functions(alloc: Global) -> Result<TypeSpace, Error> {
+    let mut types = TypeSpace::new(alloc);
+    add(&mut types, empty_struct(alloc, true, None))?;
+    add(&mut types, function(alloc, true, &[], &[])?)?;
+    add(&mut types, function(alloc, true, &[], &[ValType::I32])?)?;
+    add(&mut types, function(alloc, true, &[ValType::I32], &[])?)?;
     types.push_group()?;
     Ok(types)
 }

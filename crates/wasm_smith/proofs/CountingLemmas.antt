@@ -1,6 +1,7 @@
 -- A module with one more global, which counts fuel, is valid where it was.
 use Rattle.std.proofs.Common.{rules, arith, ◌≡◌, ℕ, ◌+◌, ◌≤◌, Bool, true, false, List, [], ◌∷◌, ◌++◌, Some, length, inl, inr, refl, sym, subst, ap, ◌∙◌}
-use Rattle.std.specs.Prelude.{slice_get, if◌then◌else◌}
+use Rattle.std.specs.Prelude.{slice_get, if◌then◌else◌, Result, Ok, Err}
+use Rattle.smith_bytes.specs.declared.error.Error.{Error}
 use Rattle.std.specs.Int.{cast_signed, w32}
 use Rattle.std.specs.List.{All}
 use Rattle.std.proofs.lemmas.List.{length-append, append_assoc}
@@ -21,12 +22,12 @@ use Rattle.smith_types.proofs.ExpressionGrowthLemmas.{IsConstExpr-grown}
 use Rattle.smith_types.proofs.SegmentGrowthLemmas.{IsElementValid-grown, IsDataValid-grown}
 use Rattle.smith_types.proofs.ExportGrowthLemmas.{AreExportsValid-grown}
 use Rattle.wasm_smith.specs.Module.{module_context, Parts, IsValid, IsGlobalDefined, module_features, module_spaces, module_imports, table_context, global_context, segment_context}
-use Rattle.wasm_smith.specs.Termination.{counter}
+use Rattle.wasm_smith.specs.Termination.{counter, AddsFuel, AnswersFuel}
 use Rattle.wasm_smith.proofs.InitialLemmas.{IsTableInitialised-grown}
 use Rattle.wasm_smith.proofs.PartExamples.{number_given}
 
 -- a module with a counter of this index
-abbrev pub counted : ℕ → ℕ → Parts → Parts
+abbrev counted : ℕ → ℕ → Parts → Parts
 counted fuel index m = record m {
   globals = m.globals ++ counter ∷ [];
   defined_globals = m.defined_globals ++ (index, I32Const (cast_signed w32 fuel) ∷ []) ∷ [];
@@ -137,7 +138,7 @@ module _ (fuel : ℕ) (old : Parts) (valid : IsValid old) where
         parts = ap (λ xs. xs ++ counter ∷ []) spaces.parts ∙ append_assoc (module_imports old).globals spaces.defined (counter ∷ []);
       }
 
-  pub counted_valid : IsValid new
+  counted_valid : IsValid new
   counted_valid = record {
     types = valid.types;
     imports = valid.imports;
@@ -163,3 +164,11 @@ module _ (fuel : ℕ) (old : Parts) (valid : IsValid old) where
     data_segments = All-weaker (IsDataValid (segment_context old) old.memories) (IsDataValid (segment_context new) old.memories) data_grown old.segments valid.data_segments;
     bodies = record { each = valid.bodies.each; bodies = valid.bodies.bodies; fuel = fuel_valid };
   }
+
+pub adds_valid : (fuel index : ℕ) (old new : Parts) → AddsFuel fuel index old new → IsValid old → IsValid new
+adds_valid fuel index old after adds valid = subst IsValid (sym adds.added) (subst (λ n. IsValid (counted fuel n old)) (sym adds.last) (counted_valid fuel old valid))
+
+-- what was refused is as it was
+pub answered_valid : (fuel : ℕ) (old new : Parts) (result : Result ℕ Error) → AnswersFuel fuel old new result → IsValid old → IsValid new
+answered_valid fuel old after (Ok index) (no_bytes, adds) valid = adds_valid fuel index old after adds valid
+answered_valid fuel old after (Err error) (reason, kept) valid = subst IsValid (sym kept) valid

@@ -2,6 +2,7 @@ pub mod RefusalLemmas
 pub mod NoShapeLemmas
 pub mod NeedlessLemmas
 pub mod BodyLemmas
+pub mod DrawnBodyLemmas
 pub mod DrawnStepLemmas
 pub mod DrawnModuleLemmas
 pub mod InitialLemmas
@@ -27,9 +28,12 @@ pub mod DefinedLoop
 pub mod DefinedLemmas
 pub mod GivenLemmas
 pub mod TypedLemmas
+pub mod StartLemmas
 pub mod DefinedMemoryLemmas
 pub mod GlobalsLoop
 pub mod GlobalCountLemmas
 pub mod NumberedGlobalLemmas
 pub mod DefinedTablesLoop
 pub mod DefinedTableLemmas
+pub mod ConstantValueLemmas
+pub mod CollectedValueLemmas

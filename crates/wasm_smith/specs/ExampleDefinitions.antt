@@ -58,6 +58,22 @@ one_of_each_kind = record two_of_each {
   gc_enabled = false;
 }
 
+-- one type, and one function, which is imported
+abbrev pub one_import_of_a_function : Config
+one_import_of_a_function = record default_config {
+  min_types = 1;
+  max_types = 1;
+  min_imports = 1;
+  max_imports = 1;
+  max_tags = 0;
+  max_funcs = 1;
+  max_tables = 0;
+  max_memories = 0;
+  max_globals = 0;
+  gc_enabled = false;
+  compact_imports_enabled = false;
+}
+
 -- these globals, which are imported, and nothing else
 abbrev pub beside_globals : List GlobalType → Standing
 beside_globals globals = standing_over [] [] 0 globals

@@ -3,8 +3,10 @@
 
 mod build;
 mod examples;
+mod interesting_values;
 pub mod laws;
 mod module;
+mod termination;
 
 pub use module::{DuplicateImportsBehavior, Module};
 pub use smith_bytes::{
@@ -16,16 +18,18 @@ pub use smith_config::{Config, MemoryOffsetChoices, OffsetChoicesFault, Shape};
 pub use smith_draw::{
     Entities, Spaces, add_type, arbitrary_composite_type, arbitrary_const_expr,
     arbitrary_field_type, arbitrary_func_type, arbitrary_global_type, arbitrary_heap_type,
-    arbitrary_limits64, arbitrary_matching_field_type, arbitrary_matching_func_type,
-    arbitrary_matching_heap_type, arbitrary_matching_ref_type, arbitrary_matching_storage_type,
-    arbitrary_matching_struct_type, arbitrary_matching_val_type, arbitrary_memtype,
-    arbitrary_offset, arbitrary_rec_group, arbitrary_ref_type, arbitrary_storage_type,
-    arbitrary_struct_type, arbitrary_sub_type, arbitrary_sub_type_of_super_type,
-    arbitrary_super_type_of_heap_type, arbitrary_super_type_of_ref_type,
-    arbitrary_super_type_of_val_type, arbitrary_table_init, arbitrary_table_type,
-    arbitrary_tag_type, arbitrary_types, arbitrary_valtype, clone_rec_group,
+    arbitrary_limits64, arbitrary_locals, arbitrary_matching_field_type,
+    arbitrary_matching_func_type, arbitrary_matching_heap_type, arbitrary_matching_ref_type,
+    arbitrary_matching_storage_type, arbitrary_matching_struct_type, arbitrary_matching_val_type,
+    arbitrary_memtype, arbitrary_offset, arbitrary_rec_group, arbitrary_ref_type,
+    arbitrary_storage_type, arbitrary_struct_type, arbitrary_sub_type,
+    arbitrary_sub_type_of_super_type, arbitrary_super_type_of_heap_type,
+    arbitrary_super_type_of_ref_type, arbitrary_super_type_of_val_type, arbitrary_table_init,
+    arbitrary_table_type, arbitrary_tag_type, arbitrary_types, arbitrary_valtype, clone_rec_group,
     globals_for_const_expr, gradually_grow,
 };
+
+// Plain data, and what is decided of it.
 pub use smith_types::{
     AbstractHeapType, ArrayType, Code, CompositeInnerType, CompositeType, ConstInstr, DataSegment,
     DataSegmentKind, ElementKind, ElementSegment, Elements, EntityType, ExportKind, FieldType,

@@ -5,6 +5,7 @@ mod composite_types;
 mod const_exprs;
 mod entity_types;
 mod function_sizes;
+mod locals;
 mod offered;
 mod offered_lists;
 mod offsets;

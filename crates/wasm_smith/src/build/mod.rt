@@ -11,6 +11,7 @@ ghost use Rattle.wasm_smith.specs.Bounds.{KeepsBounds, MeetsMinimums};
 ghost use Rattle.wasm_smith.specs.Promises.{HasDistinctImports, HasNoFloats, WritesSections};
 ghost use Rattle.wasm_smith.specs.ToCome.{HasNoMore, MayComeOut};
 
+mod bodies;
 mod code;
 mod definitions;
 mod drawn;
@@ -27,6 +28,7 @@ mod parts_to_come;
 mod past_full;
 mod section_flag;
 mod standing;
+mod start;
 mod tables;
 mod tags;
 mod typed;

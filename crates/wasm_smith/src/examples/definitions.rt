@@ -5,12 +5,14 @@ ghost use Rattle.smith_types.specs.ExampleTypes.{nullable, plain, shared_type, p
 ghost use Rattle.smith_types.specs.declared.value_type.AbstractHeapType.TheVariants as heap;
 ghost use Rattle.smith_types.specs.declared.value_type.ValType.TheVariants.{I32, Ref};
 ghost use Rattle.smith_types.specs.declared.const_instr.ConstInstr.TheVariants.{I32Const, GlobalGet, RefFunc};
+ghost use Rattle.smith_types.specs.declared.entity_type.EntityType.TheVariants.{Func};
+ghost use Rattle.smith_types.specs.declared.imports.Imports.TheVariants.{Single};
 ghost use Rattle.wasm_smith.specs.Build.{definitions_at, module_at};
 ghost use Rattle.wasm_smith.specs.Definitions.{standing_over, tags_at, funcs_at, tables_at, memories_at, globals_at};
-ghost use Rattle.wasm_smith.specs.ExampleDefinitions.{several_types, two_of_each, one_of_each_kind, two_at_least_of_each, beside_globals, up_to_three, no_imports, one_imported_of_each};
+ghost use Rattle.wasm_smith.specs.ExampleDefinitions.{several_types, two_of_each, one_of_each_kind, two_at_least_of_each, one_import_of_a_function, beside_globals, up_to_three, no_imports, one_imported_of_each};
 ghost use Rattle.wasm_smith.specs.ExampleMembers.{final, giving_two};
-ghost use Rattle.wasm_smith.specs.ExampleModules.{empty_module, plain_function};
-ghost use Rattle.wasm_smith.specs.ExampleParts.{global, memory, no_function, number, table, trapping};
+ghost use Rattle.wasm_smith.specs.ExampleModules.{empty_module, group_of, plain_function};
+ghost use Rattle.wasm_smith.specs.ExampleParts.{global, import_named, memory, no_function, number, table, trapping};
 
 #[tactic(auto, unfolding(crate::specs::Definitions::defined_at, crate::specs::Definitions::typed_at, crate::specs::Definitions::tags_at, crate::specs::Definitions::funcs_at, smith_draw::specs::TypeUses::is_tag_type, smith_draw::specs::TypeUses::is_unshared_function, smith_draw::specs::Choices::chosen_at, smith_bytes::specs::Growth::grow_at, smith_bytes::specs::Draws::bool_at, smith_bytes::specs::Draws::range_at, smith_bytes::specs::Draws::digit_count))]
 fn tags()
@@ -30,6 +32,7 @@ fn funcs()
     ensures behind_an_imported_one { funcs_at (record two_of_each { min_funcs = 2 }) several_types (4 ∷ []) (1 ∷ 0 ∷ 9 ∷ []) ≡ Ok (4 ∷ 2 ∷ [], 9 ∷ []) }
     ensures of_no_type { funcs_at (record two_of_each { min_funcs = 1 }) (shared_type plain_func ∷ []) [] [] ≡ Err counts.Funcs }
     ensures enough_imported { funcs_at (record two_of_each { min_funcs = 1 }) (shared_type plain_func ∷ []) (0 ∷ []) (1 ∷ []) ≡ Ok (0 ∷ [], 1 ∷ []) }
+    ensures full_without_a_type { funcs_at (record two_of_each { max_funcs = 1 }) (shared_type plain_func ∷ []) (0 ∷ []) (1 ∷ []) ≡ Ok (0 ∷ [], 1 ∷ []) }
     ensures too_few_imported { funcs_at (record two_of_each { min_funcs = 2 }) (shared_type plain_func ∷ []) (0 ∷ []) [] ≡ Err counts.Funcs }
 {}
 
@@ -110,6 +113,23 @@ fn modules()
             globals = global I32 true ∷ [];
             defined_globals = (0, I32Const (pos 7) ∷ []) ∷ [];
             encodes_imports = true;
+          },
+          9 ∷ [],
+        ) }
+{}
+
+fn an_imported_function()
+    ensures { module_at false one_import_of_a_function (0 ∷ 0 ∷ 1 ∷ 9 ∷ 0 ∷ 0 ∷ [])
+        ≡ Ok (
+          record (empty_module one_import_of_a_function) {
+            types = final plain_function ∷ [];
+            groups = group_of 0 1 ∷ [];
+            imports = Single (import_named [] (Func 0)) ∷ [];
+            num_imports = 1;
+            funcs = 0 ∷ [];
+            encodes_types = true;
+            encodes_imports = true;
+            type_size = 2;
           },
           9 ∷ [],
         ) }

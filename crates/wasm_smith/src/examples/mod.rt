@@ -3,6 +3,7 @@
 mod bounds;
 mod changed_bytes;
 mod definitions;
+mod drawn_bodies;
 mod family;
 mod func_types;
 mod given_modules;
@@ -19,5 +20,6 @@ mod shapes;
 mod spell_answers;
 mod spelled_types;
 mod spelling;
+mod start;
 mod termination;
 mod to_come;

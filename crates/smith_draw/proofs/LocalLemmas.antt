@@ -1,0 +1,39 @@
+-- Drawn locals are few and valid, without floats none is one, and no reference among them may not be null.
+use Rattle.std.proofs.Common.{◌≡◌, ℕ, ◌≤◌, false, List, [], length, arith}
+use Rattle.std.specs.Prelude.{All}
+use Rattle.std.proofs.lemmas.List.Elements.{All-nil}
+use Rattle.smith_bytes.proofs.GrownLemmas.{grow_most, grow_all}
+use Rattle.smith_types.specs.Floats.{IsNoFloat}
+use Rattle.smith_types.specs.ValidTypes.{IsValTypeValid}
+use Rattle.smith_types.specs.declared.value_type.ValType.{ValType}
+use Rattle.smith_types.specs.declared.composite_type.SubType.{SubType}
+use Rattle.smith_config.specs.declared.config.Config.{Config}
+use Rattle.smith_config.specs.Features.{features_of}
+use Rattle.smith_config.specs.Sanitized.{IsSanitized}
+use Rattle.smith_draw.specs.ConstBounds.{IsNonNullable}
+use Rattle.smith_draw.specs.CompositeTypes.{val_types_at}
+use Rattle.smith_draw.specs.Locals.{locals_at}
+use Rattle.smith_draw.specs.ValueTypes.{val_type_at}
+use Rattle.smith_draw.proofs.CompositeTypeLemmas.{val_types_drawn}
+use Rattle.smith_draw.proofs.FloatLemmas.{values_no_float}
+use Rattle.smith_draw.proofs.NullableLemmas.{val_type_nullable}
+use Rattle.smith_draw.proofs.ValueTypeLemmas.{values_valid}
+
+pub locals_most : (config : Config) (types : List SubType) (bytes : List ℕ) → length (locals_at config types bytes).0 ≤ 100
+unfolding locals_at val_types_at
+locals_most config types bytes = grow_most (λ _. val_type_at config types false (length types)) 0 100 100 [] bytes (omega arith)
+
+pub locals_valid : (config : Config) (types : List SubType) (bytes : List ℕ) → IsSanitized config → All (IsValTypeValid (features_of config) (length types)) (locals_at config types bytes).0
+unfolding locals_at
+locals_valid config types bytes sanitized =
+    values_valid config types false (length types) (locals_at config types bytes).0 (val_types_drawn config types false (length types) 100 bytes sanitized (λ no. cc))
+
+pub locals_no_float : (config : Config) (types : List SubType) (bytes : List ℕ) → config.allow_floats ≡ false → All IsNoFloat (locals_at config types bytes).0
+unfolding locals_at
+locals_no_float config types bytes off = values_no_float config off types false (length types) 100 bytes
+
+pub locals_nullable : (config : Config) (types : List SubType) (bytes : List ℕ) → All (λ (ty : ValType). ¬ IsNonNullable ty) (locals_at config types bytes).0
+unfolding locals_at val_types_at
+locals_nullable config types bytes =
+    let Nullable = λ (ty : ValType). ¬ IsNonNullable ty in
+    grow_all Nullable (λ _. val_type_at config types false (length types)) (λ _ after. val_type_nullable config types false (length types) after) 0 100 [] bytes (All-nil Nullable)

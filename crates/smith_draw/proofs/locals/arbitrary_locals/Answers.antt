@@ -1,0 +1,19 @@
+use Rattle.smith_draw.specs.Drawing.{Draws}
+use Rattle.smith_draw.specs.Locals.{locals_at}
+use Rattle.smith_draw.proofs.DrawingLemmas.{of_drawn}
+use Rattle.smith_draw.proofs.LocalLemmas.{locals_most, locals_valid, locals_no_float, locals_nullable}
+use Rattle.smith_draw.proofs.locals.arbitrary_locals.Goals as goal
+
+pub returns : goal.returns
+unfolding locals_at
+returns c =
+    let config = c.args.config.now in
+    let types = c.args.spaces.now.types.now.types in
+    let draws : Draws (locals_at config types c.args.u.now) c.val_types.result c.args.u.now c.val_types.new.u = rw c.types-types.ensures.value at c.val_types.ensures in
+    record {
+      draws = draws;
+      most = of_drawn _ draws (locals_most config types c.args.u.now);
+      valid = of_drawn _ draws (locals_valid config types c.args.u.now c.requires);
+      floats = λ off. of_drawn _ draws (locals_no_float config types c.args.u.now off);
+      nullable = of_drawn _ draws (locals_nullable config types c.args.u.now);
+    }

@@ -1,0 +1,37 @@
+ghost use Rattle.std.specs.Prelude.{◌≡◌, ◌≤◌, false, length, IfOk, All};
+ghost use Rattle.smith_types.specs.Floats.{IsNoFloat};
+ghost use Rattle.smith_types.specs.ValidTypes.{IsValTypeValid};
+ghost use Rattle.smith_config.specs.Features.{features_of};
+ghost use Rattle.smith_config.specs.Sanitized.{IsSanitized};
+ghost use Rattle.smith_draw.specs.ConstBounds.{IsNonNullable};
+ghost use Rattle.smith_draw.specs.Drawing.{Draws};
+ghost use Rattle.smith_draw.specs.Locals.{locals_at};
+
+use crate::composite_type::val_types;
+use crate::spaces::Spaces;
+use smith_bytes::{Error, Unstructured};
+use smith_config::Config;
+use smith_types::{Items, ValType};
+use std::alloc::Global;
+
+/// Draws the types of the locals of a function, behind its parameters: at most 100 value types over the types of `spaces`. The
+/// standard's section Structure, Functions.
+///
+/// `config` is sanitised.
+#[tactic(auto, unfolding(crate::specs::Locals::locals_at))]
+pub fn arbitrary_locals(
+    alloc: Global,
+    config: &Config,
+    spaces: &Spaces<'_>,
+    u: &mut Unstructured<'_>,
+) -> Result<Items<ValType>, Error>
+    requires { IsSanitized config.now }
+    ensures draws { Draws (locals_at config.now spaces.now.types.now.types u.old) result u.old u.new }
+    ensures most { IfOk result (λ locals. length locals ≤ 100) }
+    ensures valid { IfOk result (All (IsValTypeValid (features_of config.now) (length spaces.now.types.now.types))) }
+    ensures floats { config.now.allow_floats ≡ false → IfOk result (All IsNoFloat) }
+    ensures nullable { IfOk result (All (λ ty. ¬ IsNonNullable ty)) }
+{
+    let types = spaces.types.types();
+    val_types(alloc, config, types, false, types.len() as u32, 100, u)
+}

@@ -1,0 +1,109 @@
+ghost use Rattle.std.specs.Prelude.{◌≡◌, ◌<◌, ◌-◌, ◌^◌, ◌++◌, ◌↔◌, [], ◌∷◌, ℕ, List, Any, length, IsTrue, IfOk, OnOk, OnErr, IfErr};
+ghost use Rattle.std.specs.Int.{cast_signed, w32};
+ghost use Rattle.smith_types.specs.declared.const_instr.ConstInstr.TheVariants.{I32Const as NumberConst};
+ghost use Rattle.smith_types.specs.declared.code.Code.{Code as Body};
+ghost use Rattle.wasm_smith.specs.Module.{IsValid};
+ghost use Rattle.wasm_smith.specs.Termination.{IsRaw, AnswersFuel, counter};
+
+use crate::module::Module;
+use smith_bytes::{Error, Why};
+use smith_types::{Code, ConstInstr, GlobalType, Instructions, Items, ValType};
+use std::alloc::Global;
+use std::mem;
+
+fn is_raw(body: &Code) -> bool
+    ensures { IsTrue result ↔ IsRaw body.now.instructions }
+{
+    match body.instructions {
+        Instructions::Unreachable => false,
+        Instructions::Arbitrary(_) => true,
+    }
+}
+
+fn has_raw_body(code: &[Code]) -> bool
+    ensures { IsTrue result ↔ Any (λ (body : Body). IsRaw body.instructions) code.now }
+{
+    code.iter().any(is_raw)
+}
+
+// Takes back what was pushed last.
+fn take_back<T: Drop>(alloc: Global, items: &mut Items<T>)
+    ensures { (before : List T) (last : T) → items.old ≡ before ++ last ∷ [] → items.new ≡ before }
+{
+    let mut all = mem::replace(items, Items::new(alloc)).into_vec();
+    let _last = all.pop();
+    *items = Items::from_vec(all);
+}
+
+// The definition of a counter.
+fn initial(alloc: Global, index: u32, fuel: u32) -> Result<(u32, Items<ConstInstr>), Error>
+    ensures ok { IfOk result (λ definition. definition ≡ (index, NumberConst (cast_signed w32 fuel) ∷ [])) }
+    ensures memory { IfErr result (λ e. e ≡ Error.Memory) }
+{
+    let mut expression = Items::new(alloc);
+    expression.push(ConstInstr::I32Const(fuel.cast_signed()))?;
+    Ok((index, expression))
+}
+
+// Adds to each of the lists, or to none.
+fn push_counter(
+    alloc: Global,
+    fuel: u32,
+    globals: &mut Items<GlobalType>,
+    defined_globals: &mut Items<(u32, Items<ConstInstr>)>,
+    fuel_globals: &mut Items<u32>,
+) -> Result<u32, Error>
+    requires room { length globals.old < 2 ^ 32 - 1 }
+    ensures index { IfOk result (λ index. index ≡ length globals.old) }
+    ensures globals { OnOk result (globals.new ≡ globals.old ++ counter ∷ []) }
+    ensures definitions { IfOk result (λ index. defined_globals.new ≡ defined_globals.old ++ (index, NumberConst (cast_signed w32 fuel) ∷ []) ∷ []) }
+    ensures fuel { IfOk result (λ index. fuel_globals.new ≡ fuel_globals.old ++ index ∷ []) }
+    ensures globals_kept { OnErr result (globals.new ≡ globals.old) }
+    ensures definitions_kept { OnErr result (defined_globals.new ≡ defined_globals.old) }
+    ensures fuel_kept { OnErr result (fuel_globals.new ≡ fuel_globals.old) }
+    ensures memory { IfErr result (λ e. e ≡ Error.Memory) }
+{
+    let index = globals.len() as u32;
+    let definition = initial(alloc, index, fuel)?;
+    globals.push(GlobalType {
+        val_type: ValType::I32,
+        mutable: true,
+        shared: false,
+    })?;
+    if let Err(error) = fuel_globals.push(index) {
+        take_back(alloc, globals);
+        return Err(error);
+    }
+    if let Err(error) = defined_globals.push(definition) {
+        take_back(alloc, fuel_globals);
+        take_back(alloc, globals);
+        return Err(error);
+    }
+    Ok(index)
+}
+
+impl Module {
+    /// Adds a global that counts calls down from `default_fuel`, and gives its index: each call of a function that the module
+    /// defines takes one off, and traps where none is left.
+    ///
+    /// It comes behind all other globals, also where as many stand as may be drawn, and is not exported. A further call adds one
+    /// more, which bodies check before the earlier ones. `alloc` is where its definition is kept.
+    ///
+    /// A module with a body of raw bytes is refused, since no check can stand before them.
+    pub fn ensure_termination(&mut self, alloc: Global, default_fuel: u32) -> Result<u32, Error>
+        requires room { length self.old.globals < 2 ^ 32 - 1 }
+        ensures answer { AnswersFuel default_fuel self.old self.new result }
+        ensures valid { IsValid self.old → IsValid self.new }
+    {
+        if has_raw_body(self.code.as_slice()) {
+            return Err(Error::IncorrectFormat(Why::RawBody));
+        }
+        push_counter(
+            alloc,
+            default_fuel,
+            &mut self.globals,
+            &mut self.defined_globals,
+            &mut self.fuel_globals,
+        )
+    }
+}
