@@ -1,4 +1,4 @@
-use crate::repeated::same;
+use crate::repeated::{same, told};
 use crate::type_spaces::{spaces_of, two_structs};
 use smith_types::{
     AbstractHeapType, FieldType, FuncType, HeapType, Items, RefType, StorageType, ValType,
@@ -63,12 +63,15 @@ fn above_under(
 }
 
 fn above(alloc: Global, ty: HeapType, input: &[u8]) -> Result<HeapType, Fail> {
-    above_under(alloc, &Config::default(), ty, input)
+    told(
+        Config::default(),
+        |config| above_under(alloc, config, ty, input),
+    )
 }
 
 // A heap type below one by the defaults, with exact references, and without garbage collection.
 fn below_by_default(alloc: Global, ty: HeapType, input: &[u8]) -> Result<(HeapType, usize), Fail> {
-    below(alloc, &Config::default(), ty, input)
+    told(Config::default(), |config| below(alloc, config, ty, input))
 }
 
 fn below_with_descriptors(
@@ -76,11 +79,11 @@ fn below_with_descriptors(
     ty: HeapType,
     input: &[u8],
 ) -> Result<(HeapType, usize), Fail> {
-    below(alloc, &with_descriptors(), ty, input)
+    told(with_descriptors(), |config| below(alloc, config, ty, input))
 }
 
 fn below_without_gc(alloc: Global, ty: HeapType, input: &[u8]) -> Result<(HeapType, usize), Fail> {
-    below(alloc, &without_gc(), ty, input)
+    told(without_gc(), |config| below(alloc, config, ty, input))
 }
 
 #[test]
@@ -180,7 +183,10 @@ fn function_below_under(alloc: Global, config: &Config) -> Result<FuncType, Fail
 }
 
 fn function_below(alloc: Global) -> Result<FuncType, Fail> {
-    function_below_under(alloc, &Config::default())
+    told(
+        Config::default(),
+        |config| function_below_under(alloc, config),
+    )
 }
 
 #[test]
@@ -216,7 +222,10 @@ fn field_below_under(alloc: Global, config: &Config, field: FieldType) -> Result
 }
 
 fn field_below(alloc: Global, field: FieldType) -> Result<FieldType, Fail> {
-    field_below_under(alloc, &Config::default(), field)
+    told(
+        Config::default(),
+        |config| field_below_under(alloc, config, field),
+    )
 }
 
 #[test]
@@ -248,7 +257,7 @@ fn three_below_under(alloc: Global, config: &Config) -> Result<ThreeBelow, Fail>
 }
 
 fn three_below(alloc: Global) -> Result<ThreeBelow, Fail> {
-    three_below_under(alloc, &Config::default())
+    told(Config::default(), |config| three_below_under(alloc, config))
 }
 
 #[test]
@@ -279,7 +288,7 @@ fn two_above_under(alloc: Global, config: &Config) -> Result<(ValType, RefType),
 }
 
 fn two_above(alloc: Global) -> Result<(ValType, RefType), Fail> {
-    two_above_under(alloc, &Config::default())
+    told(Config::default(), |config| two_above_under(alloc, config))
 }
 
 #[test]

@@ -1,4 +1,4 @@
-use crate::repeated::same;
+use crate::repeated::{same, told};
 use std::alloc::Global;
 use std::test::Fail;
 use wasm_smith::{Config, Error, Module, Unstructured};
@@ -25,7 +25,7 @@ type Flags = ((bool, bool), usize);
 fn flags_once(alloc: Global, input: &[u8]) -> Result<Flags, Error> {
     let mut u = Unstructured::new(input);
     let module = Module::new(alloc, few_parts(), &mut u)?;
-    Ok((flags_of(&module), u.len()))
+    Ok((told(module, flags_of), u.len()))
 }
 
 // The same, drawn twice.

@@ -1,4 +1,4 @@
-use crate::repeated::same;
+use crate::repeated::{same, told};
 use smith_config::{Config, Shape};
 use smith_types::{
     CompositeInnerType, CompositeType, FuncType, Items, StructType, SubType, ValType,
@@ -139,6 +139,18 @@ fn fault_under(
     )
 }
 
+fn fault_by(
+    alloc: Global,
+    which: Which,
+    rules: Rules,
+    shape: &Shape,
+) -> Result<Option<ShapeFault>, Fail> {
+    told(
+        config_of(rules),
+        |config| fault_under(alloc, which, config, shape),
+    )
+}
+
 /// The fault of a shape in a use, if it has one, looked for twice.
 pub(crate) fn fault(
     alloc: Global,
@@ -146,7 +158,7 @@ pub(crate) fn fault(
     rules: Rules,
     shape: Shape,
 ) -> Result<Option<ShapeFault>, Fail> {
-    fault_under(alloc, which, &config_of(rules), &shape)
+    told(shape, |shape| fault_by(alloc, which, rules, shape))
 }
 
 /// The fault of a module shape under the defaults, if it has one.

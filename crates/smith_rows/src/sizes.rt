@@ -1,6 +1,6 @@
 ghost use Rattle.smith_config.specs.Faults.{Passes};
 
-use crate::repeated::same;
+use crate::repeated::{same, told};
 use smith_draw::{arbitrary_limits64, arbitrary_memtype, gradually_grow};
 use smith_types::MemoryType;
 use std::test::Fail;
@@ -77,7 +77,7 @@ fn memory_under(config: &Config, input: &[u8]) -> Result<Memory, Fail> {
 }
 
 fn memory(input: &[u8]) -> Result<Memory, Fail> {
-    memory_under(&Config::default(), input)
+    told(Config::default(), |config| memory_under(config, input))
 }
 
 #[test]

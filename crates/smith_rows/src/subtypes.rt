@@ -5,7 +5,7 @@ ghost use Rattle.smith_config.specs.Features.{features_of};
 ghost use Rattle.smith_config.specs.Sanitized.{IsSanitized};
 
 use crate::function_types::is_function;
-use crate::repeated::same;
+use crate::repeated::{same, told};
 use crate::type_spaces::{spaces_of, types_from};
 use smith_types::{FieldType, Items, StorageType, StructType, SubType, TypeSpace, ValType};
 use std::alloc::Global;
@@ -57,7 +57,7 @@ fn takes_a_float_under(alloc: Global, config: &Config) -> Result<bool, Fail>
 }
 
 fn takes_a_float(alloc: Global) -> Result<bool, Fail> {
-    takes_a_float_under(alloc, &settled(false)?)
+    told(settled(false)?, |config| takes_a_float_under(alloc, config))
 }
 
 #[test]
@@ -105,7 +105,10 @@ fn is_below_the_second_under(alloc: Global, config: &Config) -> Result<bool, Fai
 }
 
 fn is_below_the_second(alloc: Global) -> Result<bool, Fail> {
-    is_below_the_second_under(alloc, &settled(true)?)
+    told(
+        settled(true)?,
+        |config| is_below_the_second_under(alloc, config),
+    )
 }
 
 #[test]
@@ -155,7 +158,7 @@ fn counts_of_two_under(alloc: Global, config: &Config) -> Result<Option<(usize, 
 }
 
 fn counts_of_two(alloc: Global) -> Result<Option<(usize, usize)>, Fail> {
-    counts_of_two_under(alloc, &settled(true)?)
+    told(settled(true)?, |config| counts_of_two_under(alloc, config))
 }
 
 #[test]
@@ -201,7 +204,7 @@ fn has_a_byte_under(alloc: Global, config: &Config) -> Result<bool, Fail>
 }
 
 fn has_a_byte(alloc: Global) -> Result<bool, Fail> {
-    has_a_byte_under(alloc, &settled(true)?)
+    told(settled(true)?, |config| has_a_byte_under(alloc, config))
 }
 
 #[test]

@@ -1,6 +1,6 @@
 -- The numbers that are interesting in each module, as a list, and what holds the same numbers as a list.
-use Rattle.std.proofs.Common.{arith, ◌≡◌, ◌⊎◌, inl, inr, ℕ, zero, suc, ◌+◌, ◌≤◌, ◌-◌, ◌*◌, ◌^◌, ◌<◌, Bool, true, false, List, [], ◌∷◌, ◌++◌, refl, sym, subst, ap, ◌∙◌}
-use Rattle.std.specs.Prelude.{nat_eq, nat_lt, ◌&&◌, ◌||◌, slice_index_or, map}
+use Rattle.std.proofs.Common.{arith, ◌≡◌, ◌⊎◌, inl, inr, ℕ, zero, suc, ◌+◌, ◌≤◌, ◌-◌, ◌*◌, ◌^◌, ◌<◌, Bool, true, List, [], ◌∷◌, ◌++◌, refl, sym, subst, ap, ◌∙◌}
+use Rattle.std.specs.Prelude.{nat_eq, nat_lt, slice_index_or, map}
 use Rattle.std.specs.List.{All, Contains, list_all, list_any, range_with_len, flat_map}
 use Rattle.std.proofs.lemmas.Bool.{eqb-true, ltb-true}
 use Rattle.std.proofs.lemmas.List.Elements.{All-nil, All-cons, All-append, All-map, All-contains, All-contains_itself, All-weaker, Contains-append_cases}
@@ -19,15 +19,7 @@ has_contains numbers n found =
     let (k, m, inside, at, same) = Any-from_list_any (λ m. nat_eq m n) numbers found in
     (k, inside, subst (λ x. slice_index_or numbers k x ≡ x) (eqb-true m n same) at)
 
-both : (a b : Bool) → (a && b) ≡ true → (a ≡ true) × (b ≡ true)
-both true b h = (refl, h)
-both false b h = absurd (let never : false ≡ true = h in cc never)
-
-either : (a b : Bool) → (a || b) ≡ true → (a ≡ true) ⊎ (b ≡ true)
-either true b h = inl refl
-either false b h = inr h
-
--- numbers that each have a place in another list
+-- what is found of each in another list is there
 pub members : (xs ys : List ℕ) → list_all (has ys) xs ≡ true → (n : ℕ) → Contains xs n → Contains ys n
 members xs ys all n inside = has_contains ys n (All-contains (λ x. has ys x ≡ true) xs n (AllPass-from_list_all (has ys) xs all) inside)
 

@@ -1,5 +1,5 @@
 -- Interesting values as they are collected: in any order, and maybe more than once. Rules of this project.
-use Rattle.std.specs.Prelude.{◌≡◌, ◌⊎◌, ℕ, ◌+◌, ◌*◌, ◌^◌, ◌<◌, List, ◌++◌}
+use Rattle.std.specs.Prelude.{◌≡◌, ◌⊎◌, ℕ, ◌+◌, ◌*◌, ◌^◌, ◌<◌, List, [], ◌∷◌, ◌++◌}
 use Rattle.std.specs.List.{All, Any, Contains}
 use Rattle.std.specs.List.Sorted.{IsStrictlyIncreasing}
 use Rattle.smith_types.specs.declared.entity_type.TableType.{TableType}
@@ -27,6 +27,21 @@ pub record Adds (Holds : ℕ → Type 0) (old new : List ℕ) : Type 0 where
 -- interesting in each module
 abbrev pub IsConstant : ℕ → Type 0
 IsConstant n = IsNearPower n ⊎ (IsPattern n ⊎ IsFloatEdge n)
+
+-- near a limit of elements: it or one more
+abbrev pub IsNearElements : ℕ → ℕ → Type 0
+IsNearElements limit n = (n ≡ limit) ⊎ (n ≡ limit + 1)
+
+-- so far above or below a limit
+abbrev pub IsBeside : ℕ → ℕ → ℕ → Type 0
+IsBeside limit distance n = (n ≡ limit + distance) ⊎ (n + distance ≡ limit)
+
+abbrev pub distances : List ℕ
+distances = 1 ∷ 2 ∷ 4 ∷ 8 ∷ 16 ∷ []
+
+-- near a limit of bytes: it, or at one of these distances
+abbrev pub IsNearBytes : ℕ → ℕ → Type 0
+IsNearBytes limit n = (n ≡ limit) ⊎ Any (λ distance. IsBeside limit distance n) distances
 
 -- near a limit of one of these
 abbrev pub IsNearLimit : List TableType → List MemoryType → ℕ → Type 0

@@ -8,11 +8,11 @@ ghost use Rattle.smith_types.specs.declared.const_instr.ConstInstr.TheVariants.{
 ghost use Rattle.smith_types.specs.declared.entity_type.EntityType.TheVariants.{Func};
 ghost use Rattle.smith_types.specs.declared.imports.Imports.TheVariants.{Single};
 ghost use Rattle.wasm_smith.specs.Build.{definitions_at, module_at};
-ghost use Rattle.wasm_smith.specs.Definitions.{standing_over, tags_at, funcs_at, tables_at, memories_at, globals_at};
+ghost use Rattle.wasm_smith.specs.Definitions.{tags_at, funcs_at, tables_at, memories_at, globals_at};
 ghost use Rattle.wasm_smith.specs.ExampleDefinitions.{several_types, two_of_each, one_of_each_kind, two_at_least_of_each, one_import_of_a_function, beside_globals, up_to_three, no_imports, one_imported_of_each};
 ghost use Rattle.wasm_smith.specs.ExampleMembers.{final, giving_two};
 ghost use Rattle.wasm_smith.specs.ExampleModules.{empty_module, group_of, plain_function};
-ghost use Rattle.wasm_smith.specs.ExampleParts.{global, import_named, memory, no_function, number, table, trapping};
+ghost use Rattle.wasm_smith.specs.ExampleParts.{global, import_named, memory, no_function, number, table};
 
 #[tactic(auto, unfolding(crate::specs::Definitions::defined_at, crate::specs::Definitions::typed_at, crate::specs::Definitions::tags_at, crate::specs::Definitions::funcs_at, smith_draw::specs::TypeUses::is_tag_type, smith_draw::specs::TypeUses::is_unshared_function, smith_draw::specs::Choices::chosen_at, smith_bytes::specs::Growth::grow_at, smith_bytes::specs::Draws::bool_at, smith_bytes::specs::Draws::range_at, smith_bytes::specs::Draws::digit_count))]
 fn tags()

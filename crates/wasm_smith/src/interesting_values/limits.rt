@@ -1,10 +1,10 @@
 //! The values near the limits of tables and memories.
 
-ghost use Rattle.std.specs.Prelude.{◌≡◌, ◌⊎◌, ◌+◌, ◌≤◌, [], ◌∷◌, Any, All, IfOk, OnOk, IfErr};
+ghost use Rattle.std.specs.Prelude.{◌≡◌, ◌+◌, ◌≤◌, Any, All, IfOk, OnOk, IfErr};
 ghost use Rattle.smith_types.specs.Entities.{page_log2};
 ghost use Rattle.smith_types.specs.declared.entity_type.MemoryType.{MemoryType as Memory};
 ghost use Rattle.wasm_smith.specs.InterestingValues.{IsNearTable, IsNearMemory, bytes_of};
-ghost use Rattle.wasm_smith.specs.CollectedValues.{AreExactly, Adds, Wide, IsNearLimit};
+ghost use Rattle.wasm_smith.specs.CollectedValues.{AreExactly, Adds, Wide, IsNearElements, IsBeside, IsNearBytes, IsNearLimit, distances};
 
 use smith_bytes::Error;
 use smith_types::{Items, MemoryType, TableType};
@@ -31,7 +31,7 @@ fn push_difference(numbers: &mut Items<u64>, limit: u64, distance: u64) -> Resul
 }
 
 fn push_beside(numbers: &mut Items<u64>, limit: u64, distance: u64) -> Result<(), Error>
-    ensures adds { OnOk result (Adds (λ n. (n ≡ limit + distance) ⊎ (n + distance ≡ limit)) numbers.old numbers.new) }
+    ensures adds { OnOk result (Adds (IsBeside limit distance) numbers.old numbers.new) }
     ensures memory { IfErr result (λ e. e ≡ Error.Memory) }
 {
     push_sum(numbers, limit, distance)?;
@@ -39,7 +39,7 @@ fn push_beside(numbers: &mut Items<u64>, limit: u64, distance: u64) -> Result<()
 }
 
 fn push_near_elements(numbers: &mut Items<u64>, limit: u64) -> Result<(), Error>
-    ensures adds { OnOk result (Adds (λ n. (n ≡ limit) ⊎ (n ≡ limit + 1)) numbers.old numbers.new) }
+    ensures adds { OnOk result (Adds (IsNearElements limit) numbers.old numbers.new) }
     ensures memory { IfErr result (λ e. e ≡ Error.Memory) }
 {
     numbers.push(limit)?;
@@ -58,7 +58,7 @@ fn push_near_table(numbers: &mut Items<u64>, table: &TableType) -> Result<(), Er
 }
 
 fn push_distances(numbers: &mut Items<u64>, bytes: u64) -> Result<(), Error>
-    ensures adds { OnOk result (Adds (λ n. Any (λ distance. (n ≡ bytes + distance) ⊎ (n + distance ≡ bytes)) (1 ∷ 2 ∷ 4 ∷ 8 ∷ 16 ∷ [])) numbers.old numbers.new) }
+    ensures adds { OnOk result (Adds (λ n. Any (λ distance. IsBeside bytes distance n) distances) numbers.old numbers.new) }
     ensures memory { IfErr result (λ e. e ≡ Error.Memory) }
 {
     for distance in [1, 2, 4, 8, 16] {
@@ -68,7 +68,7 @@ fn push_distances(numbers: &mut Items<u64>, bytes: u64) -> Result<(), Error>
 }
 
 fn push_near_bytes(numbers: &mut Items<u64>, bytes: u64) -> Result<(), Error>
-    ensures adds { OnOk result (Adds (λ n. (n ≡ bytes) ⊎ Any (λ distance. (n ≡ bytes + distance) ⊎ (n + distance ≡ bytes)) (1 ∷ 2 ∷ 4 ∷ 8 ∷ 16 ∷ [])) numbers.old numbers.new) }
+    ensures adds { OnOk result (Adds (IsNearBytes bytes) numbers.old numbers.new) }
     ensures memory { IfErr result (λ e. e ≡ Error.Memory) }
 {
     numbers.push(bytes)?;

@@ -1,14 +1,10 @@
-use Rattle.std.proofs.Common.{◌≡◌, ◌+◌, ◌⊎◌, [], ◌∷◌}
+use Rattle.wasm_smith.specs.CollectedValues.{IsBeside, distances}
 use Rattle.wasm_smith.proofs.CollectedValueLemmas.{adds_last, adds_next}
 use Rattle.wasm_smith.proofs.interesting_values.limits.push_distances.Goals as goal
 
 pub loop-distance-preserved : goal.loop-distance-preserved
 loop-distance-preserved c =
-    let bytes = c.args.bytes in
-    adds_next (λ distance n. (n ≡ bytes + distance) ⊎ (n + distance ≡ bytes)) (1 ∷ 2 ∷ 4 ∷ 8 ∷ 16 ∷ []) c.loop-distance.distance-index _ c.loop-distance-test.true c.loop-distance.invariant
-    c.in_ok-push_beside.ensures.adds
+    adds_next (IsBeside c.args.bytes) distances c.loop-distance.distance-index _ c.loop-distance-test.true c.loop-distance.invariant c.in_ok-push_beside.ensures.adds
 
 pub returns-clause-adds : goal.returns-clause-adds
-returns-clause-adds c =
-    let bytes = c.args.bytes in
-    adds_last (λ distance n. (n ≡ bytes + distance) ⊎ (n + distance ≡ bytes)) (1 ∷ 2 ∷ 4 ∷ 8 ∷ 16 ∷ []) c.loop-distance.distance-index c.loop-distance-test.false c.loop-distance.invariant
+returns-clause-adds c = adds_last (IsBeside c.args.bytes) distances c.loop-distance.distance-index c.loop-distance-test.false c.loop-distance.invariant

@@ -1,13 +1,12 @@
-use Rattle.std.proofs.Common.{◌≡◌, ◌+◌, ◌⊎◌, [], ◌∷◌, refl}
+use Rattle.std.proofs.Common.{◌≡◌, refl}
 use Rattle.std.specs.List.{Any}
 use Rattle.std.proofs.lemmas.Result.{on_ok_weaker}
+use Rattle.wasm_smith.specs.CollectedValues.{IsBeside, distances}
 use Rattle.wasm_smith.proofs.CollectedValueLemmas.{adds_either, adds_one}
 use Rattle.wasm_smith.proofs.interesting_values.limits.push_near_bytes.Goals as goal
 
 pub returns-clause-adds : goal.returns-clause-adds
 returns-clause-adds c =
     let bytes = c.args.bytes in
-    on_ok_weaker c.push_distances.result
-    (λ others. adds_either (λ n. n ≡ bytes) (λ n. Any (λ distance. (n ≡ bytes + distance) ⊎ (n + distance ≡ bytes)) (1 ∷ 2 ∷ 4 ∷ 8 ∷ 16 ∷ []))
-    (adds_one bytes c.in_ok-push.ensures.ok c.ranges.bytes.fits refl (λ n same. same)) others)
-    c.push_distances.ensures.adds
+    let itself = adds_one {Holds = λ n. n ≡ bytes} bytes c.in_ok-push.ensures.ok c.ranges.bytes.fits refl (λ n same. same) in
+    on_ok_weaker c.push_distances.result (λ others. adds_either (λ n. n ≡ bytes) (λ n. Any (λ distance. IsBeside bytes distance n) distances) itself others) c.push_distances.ensures.adds

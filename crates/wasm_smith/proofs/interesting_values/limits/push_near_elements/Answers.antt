@@ -6,6 +6,5 @@ use Rattle.wasm_smith.proofs.interesting_values.limits.push_near_elements.Goals 
 pub returns-clause-adds : goal.returns-clause-adds
 returns-clause-adds c =
     let limit = c.args.limit in
-    on_ok_weaker c.push_sum.result
-    (λ other. adds_either (λ n. n ≡ limit) (λ n. n ≡ limit + 1) (adds_one limit c.in_ok-push.ensures.ok c.ranges.limit.fits refl (λ n same. same)) other)
-    c.push_sum.ensures.adds
+    let itself = adds_one {Holds = λ n. n ≡ limit} limit c.in_ok-push.ensures.ok c.ranges.limit.fits refl (λ n same. same) in
+    on_ok_weaker c.push_sum.result (λ other. adds_either (λ n. n ≡ limit) (λ n. n ≡ limit + 1) itself other) c.push_sum.ensures.adds

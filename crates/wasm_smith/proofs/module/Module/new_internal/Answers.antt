@@ -6,7 +6,7 @@ use Rattle.smith_bytes.specs.declared.error.ShapeFault.TheVariants.{LeftOut}
 use Rattle.smith_bytes.proofs.PieceLemmas.{piece_same}
 use Rattle.smith_config.specs.Sanitized.{sanitized}
 use Rattle.wasm_smith.specs.Module.{IsValid}
-use Rattle.wasm_smith.specs.ToCome.{IsLeftOut, MayComeOut}
+use Rattle.wasm_smith.specs.ToCome.{HasNoMore, IsLeftOut, MayComeOut}
 use Rattle.wasm_smith.proofs.NoShapeLemmas.{shown_sanitized}
 use Rattle.wasm_smith.proofs.NeedlessLemmas.{memory_alone}
 use Rattle.wasm_smith.proofs.module.Module.new_internal.Goals as goal
@@ -58,15 +58,15 @@ returns-in-Some c = record {
 
 pub returns : goal.returns
 returns c = record {
-  exact = search rules;
+  exact = record { exact = λ passes shapeless. rw (c.sanitize.ensures.exact, c.is_distinct.ensures) at c.build.ensures.exact };
   config = rw (shown_sanitized _ _ c.sanitize.ensures.exact c.in_default-shape_left_out.ensures.none) at c.build.ensures.config;
   valid = c.build.ensures.valid;
-  bounds = search rules;
-  minimums = search rules;
-  names = search rules;
-  floats = search rules;
+  bounds = rw c.sanitize.ensures.exact at c.build.ensures.bounds;
+  minimums = rw c.sanitize.ensures.exact at c.build.ensures.minimums;
+  names = rw c.is_distinct.ensures at c.build.ensures.names;
+  floats = rw c.sanitize.ensures.exact at c.build.ensures.floats;
   sections = c.build.ensures.sections;
-  fuel = search rules;
+  fuel = IfOk-weaker c.build.result HasNoMore _ (λ m none. none.fuel_globals) c.build.ensures.no_more;
   no_more = c.build.ensures.no_more;
   passes = IfOk-weaker c.build.result IsValid _ (λ m valid. search rules) c.build.ensures.valid;
   no_shapes = IfOk-weaker c.build.result IsValid _ (λ m valid. search rules) c.build.ensures.valid;
