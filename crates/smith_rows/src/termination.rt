@@ -46,11 +46,16 @@ fn counted(alloc: Global, module: &mut Module, fuel: u32) -> Result<Counter, Err
 }
 
 // What stands after each of two counters was added.
+fn both(alloc: Global, module: &mut Module) -> Result<[Counter; 2], Error> {
+    let first = counted(alloc, module, u32::MAX)?;
+    let second = counted(alloc, module, 5)?;
+    Ok([first, second])
+}
+
+// The same of the module of a configuration on an input.
 fn counted_twice(alloc: Global, config: Config, input: &[u8]) -> Result<[Counter; 2], Error> {
     let mut module = Module::new(alloc, config, &mut Unstructured::new(input))?;
-    let first = counted(alloc, &mut module, u32::MAX)?;
-    let second = counted(alloc, &mut module, 5)?;
-    Ok([first, second])
+    both(alloc, &mut module)
 }
 
 // What two counters are, where nothing else is global.

@@ -101,17 +101,28 @@ few_copies taken digits text zero most some short needed = omega arith
 few_copies taken digits text (suc n) most some short needed =
     omega (arith, short (with_copies text digits n) (needed n (omega arith)), copies_long text digits n some)
 
--- the name that was made new is the one that the definition makes
+-- a name that was made new is the one that the definition makes, where no name that is taken is longer
+pub new_name_is : (taken : List ℕ → Bool) (digits text name : List ℕ) (longest : ℕ) → ((other : List ℕ) → taken other ≡ true → length other ≤ longest) → IsNewName taken digits text name → new_name taken digits (longest + 1) text ≡ name
+new_name_is taken digits text name longest short made =
+    let fresh : taken (with_copies text digits made.copies) ≡ false = rw made.made at made.fresh in
+    let few = few_copies taken digits text made.copies longest made.some short made.needed in
+    new_from taken digits text made.copies (longest + 1) 0 fresh made.needed (omega arith) (omega arith) ∙ sym made.made
+
+-- the same by another test that tells the same
+pub new_by : {taken : List ℕ → Bool} {digits text name : List ℕ} (other : List ℕ → Bool) → ((any : List ℕ) → taken any ≡ other any) → IsNewName taken digits text name → IsNewName other digits text name
+new_by {digits = digits} {text = text} {name = name} other same made = record {
+  copies = made.copies;
+  made = made.made;
+  fresh = sym (same name) ∙ made.fresh;
+  some = made.some;
+  needed = λ n below. sym (same (with_copies text digits n)) ∙ made.needed n below;
+}
+
+-- the name of an import that was made new is the one that the definition makes
 pub name_made : (imports : List Import) (from text name : List ℕ) (taken : List ℕ → Bool) (count : ℕ) → ((other : List ℕ) → taken other ≡ is_taken imports from other) → count ≡ length imports → IsNewName taken (decimal count) text name
     → new_name (is_taken imports from) (decimal (length imports)) (longest_name imports + 1) text ≡ name
 name_made imports from text name taken count same size made =
-    let digits = decimal (length imports) in
-    let some : 0 < length digits = rw size at made.some in
-    let made_so : name ≡ with_copies text digits made.copies = rw size at made.made in
-    let needed : (n : ℕ) → n < made.copies → is_taken imports from (with_copies text digits n) ≡ true = λ n below. sym (same (with_copies text digits n)) ∙ (rw size at (made.needed n below)) in
-    let fresh : is_taken imports from (with_copies text digits made.copies) ≡ false = sym (same (with_copies text digits made.copies)) ∙ (rw made_so at made.fresh) in
-    let few = few_copies (is_taken imports from) digits text made.copies (longest_name imports) some (λ other there. taken_short from other imports there) needed in
-    new_from (is_taken imports from) digits text made.copies (longest_name imports + 1) 0 fresh needed (omega arith) (omega arith) ∙ sym made_so
+    new_name_is (is_taken imports from) (decimal (length imports)) text name (longest_name imports) (λ other there. taken_short from other imports there) (new_by (is_taken imports from) same (rw size at made))
 
 or_flip : (a b : Bool) → (a || b) ≡ (b || (a || false))
 or_flip true true = refl

@@ -2,7 +2,7 @@
 use Rattle.std.proofs.Common.{◌≡◌, ℕ, zero, suc, ◌+◌, ◌-◌, ◌<◌, ◌≤◌, Bool, true, false, ◌&&◌, List, [], ◌∷◌, length, drop, add-one, refl, sym, subst, arith, ◌∙◌}
 use Rattle.std.proofs.Math.Seq.{drop-cons}
 use Rattle.std.proofs.lemmas.Option.{slice_get_within, get_or_from_slice_get}
-use Rattle.std.specs.Prelude.{slice_get, get_or, IsTrue, Some}
+use Rattle.std.specs.Prelude.{slice_get, get_or, IsTrue, Some, All}
 use Rattle.std.specs.List.{filter, count_by, AllByRecursion as ByRecursion}
 use Rattle.std.proofs.lemmas.List.{length-map}
 use Rattle.std.proofs.lemmas.List.Sums.{length-filter}
@@ -72,6 +72,12 @@ few_values (inners.Func function) small = let params = small.params in let resul
 few_values (inners.Array array) small = omega arith
 few_values (inners.Struct structure) small = omega arith
 
+-- a function of a small type has a size of at most 41
+pub small_at : (types : List SubType) → All IsSmall types → (index : ℕ) (t : SubType) → slice_get types index ≡ Some t → size_in types (entity.Func index) ≤ 41
+small_at types all index t at =
+    let small : IsSmall t = rw (get_or_from_slice_get types index t t at) at (all index t (slice_get_within types index t at)) in
+    rw at (omega (arith, few_values t.composite_type.inner small))
+
 module _ (config : Config) (space : Space) (may : MayImport config space) where
   pub tag_fit : (index : ℕ) → IsTrue config.exceptions_enabled → IsTagValid space.types index → IsEntityFit config space.types (entity.Tag index)
   tag_fit index on valid = record {
@@ -90,11 +96,6 @@ module _ (config : Config) (space : Space) (may : MayImport config space) where
     typed = tt;
   }
 
-  small_at : (index : ℕ) (t : SubType) → slice_get space.types index ≡ Some t → size_in space.types (entity.Func index) ≤ 41
-  small_at index t at =
-      let small : IsSmall t = rw (get_or_from_slice_get space.types index t t at) at (may.small index t (slice_get_within space.types index t at)) in
-      rw at (omega (arith, few_values t.composite_type.inner small))
-
   pub func_fit : (index : ℕ) → IsFuncValid space.types index → IsEntityFit config space.types (entity.Func index)
   func_fit index (function, (t, at, is)) = record {
     valid = record {
@@ -108,7 +109,7 @@ module _ (config : Config) (space : Space) (may : MayImport config space) where
     tables = All-nil (IsTableWithin config);
     memories = All-nil (IsMemoryWithin config);
     floats = λ off. All-nil HasNoFloatValue;
-    small = small_at index t at;
+    small = small_at space.types may.small index t at;
     typed = slice_get_within space.types index t at;
   }
 

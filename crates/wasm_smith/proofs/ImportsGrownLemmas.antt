@@ -104,7 +104,7 @@ tags_on config xs ys old new some = elim (some_or xs ys some) [ inl first ↦ ol
 abbrev pub pair_of : Import → List ℕ × List ℕ
 pair_of one = (one.«module», one.name)
 
-mapped_at : {A B : Type 0} {f : A → B} (xs : List A) (i : ℕ) (y : B) → slice_get (map f xs) i ≡ Some y → (x : A) × (slice_get xs i ≡ Some x) × (f x ≡ y)
+pub mapped_at : {A B : Type 0} {f : A → B} (xs : List A) (i : ℕ) (y : B) → slice_get (map f xs) i ≡ Some y → (x : A) × (slice_get xs i ≡ Some x) × (f x ≡ y)
 mapped_at [] i y at = absurd cc
 mapped_at {f = f} (x ∷ xs) zero y at = (x, refl, cc)
 mapped_at {f = f} (x ∷ xs) (suc i) y at = mapped_at xs i y at
@@ -123,7 +123,7 @@ both_places xs x i j item old apart (inl at_i) (inr (is_j, same)) = absurd (apar
 both_places xs x i j item old apart (inr (is_i, same)) (inl at_j) = absurd (apart j (rw same at_j))
 both_places xs x i j item old apart (inr (is_i, same)) (inr (is_j, other)) = is_i ∙ sym is_j
 
-distinct_push : {A : Type 0} (xs : List A) (x : A) → AreDistinct xs → ((i : ℕ) → slice_get xs i ≡ Some x → ⊥) → AreDistinct (xs ++ x ∷ [])
+pub distinct_push : {A : Type 0} (xs : List A) (x : A) → AreDistinct xs → ((i : ℕ) → slice_get xs i ≡ Some x → ⊥) → AreDistinct (xs ++ x ∷ [])
 distinct_push xs x old apart = record { once = λ i j item at_i at_j. both_places xs x i j item old apart (slice_get-push xs x i item at_i) (slice_get-push xs x j item at_j) }
 
 pub fit_more : (config : Config) (types : List SubType) (distinct : Bool) (imports : List Import) (one : Import) → AreImportsFit config types distinct imports → IsNext config types (imported_spaces imports) (sizes types imports) one.entity_type → length imports < config.max_imports

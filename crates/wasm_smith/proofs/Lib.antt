@@ -3,6 +3,9 @@ pub mod NoShapeLemmas
 pub mod NeedlessLemmas
 pub mod BodyLemmas
 pub mod DrawnBodyLemmas
+pub mod DataTargetsLoop
+pub mod DataSegmentLemmas
+pub mod PassiveDataLemmas
 pub mod DrawnStepLemmas
 pub mod DrawnModuleLemmas
 pub mod InitialLemmas
@@ -19,8 +22,12 @@ pub mod NearNumberLemmas
 pub mod NoFloatLemmas
 pub mod SpellExamples
 pub mod ImportNameLemmas
+pub mod ExportNameLemmas
 pub mod ImportedEntityLemmas
+pub mod CandidateLemmas
 pub mod ImportsGrownLemmas
+pub mod ExportsLoop
+pub mod ExportRefusalLemmas
 pub mod FilledGroupLoop
 pub mod ImportGroupsLoop
 pub mod NoImportLemmas
@@ -37,3 +44,6 @@ pub mod DefinedTablesLoop
 pub mod DefinedTableLemmas
 pub mod ConstantValueLemmas
 pub mod CollectedValueLemmas
+pub mod ElementKindLemmas
+pub mod ElementItemLemmas
+pub mod ElementsLoop

@@ -46,13 +46,14 @@ fn kind_row(
     (kind, offered)
 }
 
-fn count_enabled(table: &[(ExportKind, bool)]) -> usize
+/// Counts the kinds of a table that are offered.
+pub(crate) fn count_enabled(table: &[(ExportKind, bool)]) -> usize
     ensures { result ≡ count_by (λ row. row.1) table.now }
 {
     table.iter().filter(|row| row.1).count()
 }
 
-/// The kind at a place among those of a table that may be imported.
+/// The kind at a place among those of a table that are offered.
 fn enabled_at(table: &[(ExportKind, bool)], mut place: usize) -> ExportKind
     ensures { result ≡ slice_index_or (enabled table.now) place ExportKind.Memory }
 {
@@ -68,9 +69,9 @@ fn enabled_at(table: &[(ExportKind, bool)], mut place: usize) -> ExportKind
     ExportKind::Memory
 }
 
-/// Chooses a kind among those of a table that may be imported.
+/// Chooses a kind among those of a table that are offered.
 #[tactic(auto, using(crate::proofs::ImportedEntityLemmas::length_enabled), unfolding(smith_draw::specs::Choices::chosen_at))]
-fn choose_enabled(table: &[(ExportKind, bool)], u: &mut Unstructured<'_>) -> ExportKind
+pub(crate) fn choose_enabled(table: &[(ExportKind, bool)], u: &mut Unstructured<'_>) -> ExportKind
     requires { 0 < length (enabled table.now) }
     ensures { AlwaysDraws (chosen_at ExportKind.Memory (enabled table.now) u.old) result u.old u.new }
 {

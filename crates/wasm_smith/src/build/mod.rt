@@ -13,8 +13,16 @@ ghost use Rattle.wasm_smith.specs.ToCome.{HasNoMore, MayComeOut};
 
 mod bodies;
 mod code;
+mod data;
 mod definitions;
 mod drawn;
+mod element_items;
+mod element_kinds;
+mod element_offsets;
+mod elements;
+mod export_kinds;
+mod export_names;
+mod exports;
 mod funcs;
 mod globals;
 mod import_entities;

@@ -2,8 +2,11 @@
 
 mod bounds;
 mod changed_bytes;
+mod data_segments;
 mod definitions;
 mod drawn_bodies;
+mod element_segments;
+mod exports;
 mod family;
 mod func_types;
 mod given_modules;

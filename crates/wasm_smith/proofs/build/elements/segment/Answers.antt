@@ -1,0 +1,16 @@
+use Rattle.smith_draw.proofs.SupertypeLemmas.{chosen_of}
+use Rattle.smith_draw.proofs.ValueTypeLemmas.{drawn_is}
+use Rattle.wasm_smith.specs.DrawnElements.{IsOffered}
+use Rattle.wasm_smith.specs.declared.build.element_kinds.KindChoice.TheVariants.{Passive}
+use Rattle.wasm_smith.proofs.ElementItemLemmas.{fits_addresses}
+use Rattle.wasm_smith.proofs.build.elements.segment.Goals as goal
+
+pub item_type-requires-clause-offered : goal.item_type-requires-clause-offered
+item_type-requires-clause-offered c =
+    let Offered = IsOffered c.args.config.now c.args.spaces.now.types.now.types c.args.spaces.now.entities.tables.now in
+    drawn_is Offered _ (chosen_of Offered Passive c.args.kinds.now c.args.u.now c.requires.some c.requires.offered) (c.choose-choice.ensures.exact Passive)
+
+pub kind-requires-clause-fits : goal.kind-requires-clause-fits
+kind-requires-clause-fits c =
+    let Offered = IsOffered c.args.config.now c.args.spaces.now.types.now.types c.args.spaces.now.entities.tables.now in
+    fits_addresses c.args.config.now c.args.spaces.now _ (drawn_is Offered _ (chosen_of Offered Passive c.args.kinds.now c.args.u.now c.requires.some c.requires.offered) (c.choose-choice.ensures.exact Passive))

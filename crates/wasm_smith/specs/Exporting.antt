@@ -1,0 +1,110 @@
+-- Which exports are drawn. Rules of this project.
+use Rattle.std.specs.Prelude.{◌≡◌, ℕ, zero, suc, ◌+◌, ◌-◌, Bool, ◌&&◌, max, nat_lt, List, [], ◌∷◌, ◌++◌, length, slice_get, sum_by, Result, Ok, Err, if◌then◌else◌}
+use Rattle.std.specs.Fmt.{decimal}
+use Rattle.std.specs.HashSet.{HashSet, contains_text, hash_set_len}
+use Rattle.std.specs.List.{list_any}
+use Rattle.std.specs.Option.{option_map, unwrap_or}
+use Rattle.std.specs.Str.{bytes_eq}
+use Rattle.std.specs.declared.alloc.Global.{Global}
+use Rattle.std.specs.declared.string.String.{String}
+use Rattle.smith_bytes.specs.declared.error.Count.{Count}
+use Rattle.smith_bytes.specs.declared.error.Count.TheVariants as counts
+use Rattle.smith_bytes.specs.Growth.{goes_at}
+use Rattle.smith_bytes.specs.Names.{text_at}
+use Rattle.smith_types.specs.Imports.{IndexSpaces}
+use Rattle.smith_types.specs.Sizes.{size_in}
+use Rattle.smith_types.specs.declared.composite_type.SubType.{SubType}
+use Rattle.smith_types.specs.declared.entity_type.EntityType.TheVariants as entity
+use Rattle.smith_types.specs.declared.entity_type.ExportKind.{ExportKind}
+use Rattle.smith_types.specs.declared.entity_type.ExportKind.TheVariants as kind
+use Rattle.smith_config.specs.declared.config.Config.{Config}
+use Rattle.smith_draw.specs.Choices.{enabled, chosen_at}
+use Rattle.smith_draw.specs.TypeUses.{places_from}
+use Rattle.wasm_smith.specs.ImportNames.{new_name}
+
+-- an export: its name, and the kind and the index of its item
+abbrev pub Export : Type 0
+Export = List ℕ × ExportKind × ℕ
+
+-- whether an export has this name
+abbrev pub is_exported : List Export → List ℕ → Bool
+is_exported exports name = list_any (λ (one : Export). bytes_eq one.0 name) exports
+
+module _ {S : Type 0} where
+  -- a set has the names of exports, each once
+  pub record HasNames (names : HashSet (String Global) S) (exports : List Export) : Type 0 where
+    pub has : (name : List ℕ) → contains_text names name ≡ is_exported exports name
+    pub size : hash_set_len names ≡ length exports
+
+-- the length of the longest name of an export
+abbrev pub longest_export : List Export → ℕ
+longest_export [] = 0
+longest_export (one ∷ exports) = max (length one.0) (longest_export exports)
+
+-- the name of an export beside others: a text of at most 1000 bytes, and behind it the number of these exports as often as it
+-- takes until no export has the name
+unfoldable pub export_name_at : List Export → List ℕ → List ℕ × List ℕ
+export_name_at exports bytes =
+    let text = text_at 1000 bytes in
+    (new_name (is_exported exports) (decimal (length exports)) (longest_export exports + 1) text.0, text.1)
+
+-- whether the size of a function of a type, and one more, is below what is left of the type size
+abbrev pub is_func_below : List SubType → ℕ → ℕ → Bool
+is_func_below types left func = nat_lt (size_in types (entity.Func func) + 1) left
+
+-- the indices of the items of a kind whose size, and one more, is below what is left of the type size; tags are not offered
+abbrev pub candidates : List SubType → IndexSpaces → ℕ → ExportKind → List ℕ
+candidates types spaces left kind.Func = places_from (is_func_below types left) 0 spaces.funcs
+candidates types spaces left kind.Table = places_from (λ table. nat_lt 2 left) 0 spaces.tables
+candidates types spaces left kind.Memory = places_from (λ memory. nat_lt 2 left) 0 spaces.memories
+candidates types spaces left kind.Global = places_from (λ global. nat_lt 2 left) 0 spaces.globals
+candidates types spaces left kind.Tag = []
+
+-- a kind, with whether it has a candidate
+abbrev pub candidate_row : List SubType → IndexSpaces → ℕ → ExportKind → ExportKind × Bool
+candidate_row types spaces left of_kind = (of_kind, nat_lt 0 (length (candidates types spaces left of_kind)))
+
+-- the kinds in the order in which they are counted
+abbrev pub candidate_rows : List SubType → IndexSpaces → ℕ → List (ExportKind × Bool)
+candidate_rows types spaces left =
+    candidate_row types spaces left kind.Func
+    ∷ (candidate_row types spaces left kind.Table ∷ (candidate_row types spaces left kind.Memory ∷ (candidate_row types spaces left kind.Global ∷ [])))
+
+-- the kinds that have a candidate
+abbrev pub offered_kinds : List SubType → IndexSpaces → ℕ → List ExportKind
+offered_kinds types spaces left = enabled (candidate_rows types spaces left)
+
+-- an export beside others: its name, its kind among those that have a candidate, and one of these
+unfoldable pub export_at : List SubType → IndexSpaces → ℕ → List Export → List ℕ → Export × List ℕ
+export_at types spaces left exports bytes =
+    let name = export_name_at exports bytes in
+    let of_kind = chosen_at kind.Memory (offered_kinds types spaces left) name.1 in
+    let index = chosen_at 0 (candidates types spaces left of_kind.0) of_kind.1 in
+    ((name.0, of_kind.0, index.0), index.1)
+
+-- the size of an item: of a function that of its type
+abbrev pub item_size : List SubType → IndexSpaces → ExportKind → ℕ → ℕ
+item_size types spaces kind.Func index = unwrap_or (option_map (λ func. size_in types (entity.Func func)) (slice_get spaces.funcs index)) 1
+item_size types spaces _ index = 1
+
+-- what exports add to the type size: the sizes of their items, and one more each
+abbrev pub exported_size : List SubType → IndexSpaces → List Export → ℕ
+exported_size types spaces exports = sum_by (λ (one : Export). item_size types spaces one.1 one.2 + 1) exports
+
+-- at most that many exports more, behind others, beside what the imports add to the type size: without asking while there are
+-- too few, and while there is a candidate
+unfoldable pub exports_from : Config → List SubType → IndexSpaces → ℕ → ℕ → List Export → List ℕ → List Export × List ℕ
+exports_from config types spaces imports zero exports bytes = (exports, bytes)
+exports_from config types spaces imports (suc most) exports bytes =
+    let go = goes_at (nat_lt (length exports) config.min_exports) bytes in
+    let left = config.max_type_size - (imports + exported_size types spaces exports) in
+    let one = export_at types spaces left exports go.1 in
+    if go.0 && nat_lt 0 (length (offered_kinds types spaces left))
+    then exports_from config types spaces imports most (exports ++ one.0 ∷ []) one.1
+    else (exports, go.1)
+
+-- the exports that are drawn freely; where they end before there are as many as are asked for, none
+unfoldable pub free_exports_at : Config → List SubType → IndexSpaces → ℕ → List ℕ → Result (List Export × List ℕ) Count
+free_exports_at config types spaces imports bytes =
+    let drawn = exports_from config types spaces imports config.max_exports [] bytes in
+    if nat_lt (length drawn.0) config.min_exports then Err counts.Exports else Ok drawn

@@ -1,0 +1,127 @@
+ghost use Rattle.std.specs.Prelude.{◌≡◌, ◌+◌, ◌<◌, ◌≤◌, true, [], length, IfOk, IfErr, All};
+ghost use Rattle.smith_bytes.specs.Source.{KeepsPieces};
+ghost use Rattle.smith_types.specs.Segments.{item_count};
+ghost use Rattle.smith_draw.specs.ConstScopes.{seen_by};
+ghost use Rattle.wasm_smith.specs.Build.{Gives};
+ghost use Rattle.wasm_smith.specs.DrawnElements.{IsOffered, MayDrawElements, MayRefuseElements};
+ghost use Rattle.wasm_smith.specs.ElementSegments.{most_items, items_in, segment_at, segments_at, elements_at, MayRefuseItems};
+
+use crate::build::element_items::{item_type, items};
+use crate::build::element_kinds::{KindChoice, kinds};
+use crate::build::element_offsets::kind;
+use smith_bytes::{Count, Error, Unstructured, Why, goes_on};
+use smith_config::Config;
+use smith_draw::{Spaces, choose};
+use smith_types::{ElementSegment, Elements, Items};
+use std::alloc::Global;
+
+/// The most items of a segment, behind `total` in all segments before it.
+fn most_items(config: &Config, hint: Option<u64>, total: usize) -> usize
+    requires { total ≤ config.now.max_elements }
+    ensures exact { result ≡ most_items config.now hint total }
+    ensures within { total + result ≤ config.now.max_elements }
+{
+    let left = config.max_elements - total;
+    match hint {
+        Some(hint) => hint.min(left as u64) as usize,
+        None => config.max_elements.min(left),
+    }
+}
+
+/// Draws a segment of one of these kinds, behind `total` items in all segments before it.
+#[tactic(auto, unfolding(crate::specs::ElementSegments::segment_at))]
+fn segment(
+    alloc: Global,
+    config: &Config,
+    spaces: &Spaces<'_>,
+    kinds: &[KindChoice],
+    total: usize,
+    u: &mut Unstructured<'_>,
+) -> Result<ElementSegment, Error>
+    requires may { MayDrawElements config.now spaces.now }
+    requires some { 0 < length kinds.now }
+    requires offered { All (IsOffered config.now spaces.now.types.now.types spaces.now.entities.tables.now) kinds.now }
+    requires total { total ≤ config.now.max_elements }
+    ensures within { IfOk result (λ segment. total + item_count segment.items ≤ config.now.max_elements) }
+    ensures exact { Gives (λ segment. (segment, u.new)) result (segment_at config.now (seen_by config.now spaces.now true) kinds.now total u.old) }
+    ensures refusal { IfErr result (MayRefuseItems config.now) }
+    ensures left { KeepsPieces u.old u.new }
+{
+    let choice = choose(kinds, u);
+    let (kind, hint) = kind(alloc, config, spaces, choice, u)?;
+    let ty = item_type(alloc, config, spaces, choice, u)?;
+    let most = most_items(config, hint, total);
+    let items = items(alloc, config, spaces, ty, most, u)?;
+    Ok(ElementSegment { kind, ty, items })
+}
+
+/// How many items a segment has.
+fn item_count(items: &Elements) -> usize
+    ensures { result ≡ item_count items.now }
+{
+    match items {
+        Elements::Functions(functions) => functions.len(),
+        Elements::Expressions(expressions) => expressions.len(),
+    }
+}
+
+/// Draws segments of these kinds.
+fn segments(
+    alloc: Global,
+    config: &Config,
+    spaces: &Spaces<'_>,
+    kinds: &[KindChoice],
+    u: &mut Unstructured<'_>,
+) -> Result<Items<ElementSegment>, Error>
+    requires may { MayDrawElements config.now spaces.now }
+    requires some { 0 < length kinds.now }
+    requires offered { All (IsOffered config.now spaces.now.types.now.types spaces.now.entities.tables.now) kinds.now }
+    ensures exact { Gives (λ segments. (segments, u.new)) result (segments_at config.now (seen_by config.now spaces.now true) kinds.now config.now.max_element_segments [] u.old) }
+    ensures most { IfOk result (λ segments. (length segments ≤ config.now.max_element_segments) × (items_in segments ≤ config.now.max_elements)) }
+    ensures refusal { IfErr result (MayRefuseItems config.now) }
+    ensures left { KeepsPieces u.old u.new }
+{
+    let mut segments = Items::new(alloc);
+    let mut total = 0;
+    for made in 0..config.max_element_segments {
+        if !goes_on(u, made, config.min_element_segments) {
+            return Ok(segments);
+        }
+        let segment = segment(alloc, config, spaces, kinds, total, u)?;
+        total += item_count(&segment.items);
+        segments.push(segment)?;
+    }
+    Ok(segments)
+}
+
+/// Refuses to give no segment where some are asked for.
+fn none(alloc: Global, config: &Config) -> Result<Items<ElementSegment>, Error>
+    ensures none { IfOk result (λ segments. (segments ≡ []) × (config.now.min_element_segments ≡ 0)) }
+    ensures unmet { IfErr result (λ e. (e ≡ Error.IncorrectFormat (Why.Unmet Count.ElementSegments)) × (0 < config.now.min_element_segments)) }
+{
+    if config.min_element_segments > 0 {
+        return Err(Error::IncorrectFormat(Why::Unmet(Count::ElementSegments)));
+    }
+    Ok(Items::new(alloc))
+}
+
+/// Draws the element segments beside the tables of `spaces`.
+#[tactic(auto, unfolding(crate::specs::ElementSegments::elements_at))]
+pub(crate) fn elements(
+    alloc: Global,
+    config: &Config,
+    spaces: &Spaces<'_>,
+    u: &mut Unstructured<'_>,
+) -> Result<Items<ElementSegment>, Error>
+    requires may { MayDrawElements config.now spaces.now }
+    ensures exact { Gives (λ segments. (segments, u.new)) result (elements_at config.now (seen_by config.now spaces.now true) spaces.now.entities.tables.now u.old) }
+    ensures most { IfOk result (λ segments. (length segments ≤ config.now.max_element_segments) × (items_in segments ≤ config.now.max_elements)) }
+    ensures refusal { IfErr result (MayRefuseElements config.now) }
+    ensures left { KeepsPieces u.old u.new }
+{
+    let kinds = kinds(alloc, config, spaces, u)?;
+    if kinds.is_empty() {
+        return none(alloc, config);
+    }
+    segments(alloc, config, spaces, kinds.as_slice(), u)
+}

@@ -1,0 +1,61 @@
+// Drawn element segments. The clauses are proved; nothing calls these functions.
+
+ghost use Rattle.std.specs.Prelude.{◌≡◌, [], ◌∷◌, true, false, pos, None, Some, Ok, Err};
+ghost use Rattle.smith_bytes.specs.declared.error.Count.TheVariants as counts;
+ghost use Rattle.smith_types.specs.Flags.{funcref};
+ghost use Rattle.smith_types.specs.ExampleTypes.{nullable, plain, shared_type, plain_func};
+ghost use Rattle.smith_types.specs.declared.segments.Offset.TheVariants.{Const32};
+ghost use Rattle.smith_types.specs.declared.segments.Elements.TheVariants.{Functions, Expressions};
+ghost use Rattle.smith_types.specs.declared.value_type.AbstractHeapType.TheVariants as heap;
+ghost use Rattle.smith_config.specs.Config.{default_config};
+ghost use Rattle.wasm_smith.specs.Definitions.{table_scope};
+ghost use Rattle.wasm_smith.specs.ExampleDefinitions.{beside_globals};
+ghost use Rattle.wasm_smith.specs.ElementSegments.{elements_at, kinds_at, constant_offset_at, are_functions_at, most_items, unshared_funcs};
+ghost use Rattle.wasm_smith.specs.ExampleMembers.{final};
+ghost use Rattle.wasm_smith.specs.ExampleModules.{plain_function};
+ghost use Rattle.wasm_smith.specs.ExampleParts.{passive_elements, table};
+ghost use Rattle.wasm_smith.specs.declared.build.element_kinds.KindChoice.TheVariants.{Passive, Declared, Active};
+
+// A table with a minimum is offered without a draw, another one in one of eleven cases.
+#[tactic(auto, unfolding(crate::specs::ElementSegments::kinds_at, crate::specs::ElementSegments::table_kinds_at, crate::specs::ElementSegments::is_offered_at, smith_bytes::specs::Draws::range_at, smith_bytes::specs::Draws::digit_count))]
+fn kinds()
+    ensures without_tables { kinds_at default_config [] (9 ∷ []) ≡ (Passive ∷ Declared ∷ [], 9 ∷ []) }
+    ensures of_functions { kinds_at default_config (table funcref 1 None ∷ []) (9 ∷ [])
+        ≡ (Passive ∷ Declared ∷ Active None (table funcref 1 None) ∷ Active (Some 0) (table funcref 1 None) ∷ [], 9 ∷ []) }
+    ensures of_others { kinds_at default_config (table (nullable (plain heap.Extern)) 1 None ∷ []) (9 ∷ [])
+        ≡ (Passive ∷ Declared ∷ Active (Some 0) (table (nullable (plain heap.Extern)) 1 None) ∷ [], 9 ∷ []) }
+    ensures empty_ones { kinds_at default_config (table funcref 0 None ∷ table funcref 0 None ∷ []) (10 ∷ 11 ∷ 9 ∷ [])
+        ≡ (Passive ∷ Declared ∷ Active (Some 1) (table funcref 0 None) ∷ [], 9 ∷ []) }
+    ensures without_bulk_memory { kinds_at (record default_config { bulk_memory_enabled = false }) (table funcref 1 None ∷ []) [] ≡ (Active None (table funcref 1 None) ∷ [], []) }
+    ensures none { kinds_at (record default_config { bulk_memory_enabled = false }) (table (nullable (plain heap.Extern)) 1 None ∷ []) [] ≡ ([], []) }
+{}
+
+#[tactic(auto, unfolding(crate::specs::ElementSegments::constant_offset_at, crate::specs::ElementSegments::hint_at, smith_draw::specs::Offsets::offset_at, smith_draw::specs::Limits::gradually_at, smith_draw::specs::Limits::gradual, smith_draw::specs::Limits::sixth_power, smith_draw::specs::Limits::scaled, smith_bytes::specs::Draws::whole_at, smith_bytes::specs::Draws::range_at, smith_bytes::specs::Draws::digit_count))]
+fn offsets()
+    ensures not_to_fit { constant_offset_at default_config (table funcref 5 None) (0 ∷ 0 ∷ 0 ∷ 0 ∷ 0 ∷ 9 ∷ []) ≡ ((Const32 (pos 0), None), 9 ∷ []) }
+    ensures to_fit { constant_offset_at default_config (table funcref 5 None) (0 ∷ 0 ∷ 0 ∷ 0 ∷ 1 ∷ 9 ∷ []) ≡ ((Const32 (pos 0), Some 5), 9 ∷ []) }
+    ensures without_traps { constant_offset_at (record default_config { disallow_traps = true }) (table funcref 5 None) (255 ∷ 255 ∷ 255 ∷ 255 ∷ 9 ∷ []) ≡ ((Const32 (pos 5), Some 0), 9 ∷ []) }
+{}
+
+#[tactic(auto, unfolding(crate::specs::ElementSegments::are_functions_at, smith_bytes::specs::Draws::bool_at))]
+fn items()
+    ensures as_functions { are_functions_at default_config funcref (1 ∷ 9 ∷ []) ≡ (true, 9 ∷ []) }
+    ensures as_expressions { are_functions_at default_config funcref (0 ∷ 9 ∷ []) ≡ (false, 9 ∷ []) }
+    ensures of_others { are_functions_at default_config (nullable (plain heap.Extern)) (1 ∷ []) ≡ (false, 1 ∷ []) }
+    ensures without_reference_types { are_functions_at (record default_config { reference_types_enabled = false }) funcref (0 ∷ []) ≡ (true, 0 ∷ []) }
+    ensures unshared { unshared_funcs (final plain_function ∷ shared_type plain_func ∷ []) (1 ∷ 0 ∷ 1 ∷ 0 ∷ []) ≡ 1 ∷ 3 ∷ [] }
+    ensures by_the_hint { most_items default_config (Some 5) 10 ≡ 5 }
+    ensures by_what_is_left { most_items default_config (Some 5) 97 ≡ 3 }
+    ensures without_a_hint { most_items default_config None 10 ≡ 90 }
+{}
+
+// Of no type, function, table and global.
+#[tactic(auto, unfolding(crate::specs::ElementSegments::elements_at, crate::specs::ElementSegments::segments_at, crate::specs::ElementSegments::segment_at, crate::specs::ElementSegments::kind_at, crate::specs::ElementSegments::item_type_at, crate::specs::ElementSegments::items_at, crate::specs::ElementSegments::functions_at, crate::specs::ElementSegments::expressions_at, crate::specs::ElementSegments::drawn_expressions_at, crate::specs::ElementSegments::kinds_at, crate::specs::ElementSegments::table_kinds_at, crate::specs::ElementSegments::are_functions_at, smith_draw::specs::ValueTypes::ref_type_at, smith_draw::specs::ValueTypes::heap_type_at, smith_draw::specs::ValueTypes::type_index_at, smith_draw::specs::ValueTypes::abstract_heap_type_at, smith_draw::specs::ValueTypes::sharedness_at, smith_draw::specs::Choices::chosen_at, smith_bytes::specs::Growth::grow_at, smith_bytes::specs::Draws::bool_at, smith_bytes::specs::Draws::range_at, smith_bytes::specs::Draws::digit_count))]
+fn segments()
+    ensures none { elements_at default_config (table_scope default_config (beside_globals [])) [] (0 ∷ 9 ∷ []) ≡ Ok ([], 9 ∷ []) }
+    ensures one { elements_at default_config (table_scope default_config (beside_globals [])) [] (1 ∷ 0 ∷ 0 ∷ 0 ∷ 0 ∷ 0 ∷ 9 ∷ []) ≡ Ok (passive_elements (Expressions []) ∷ [], 9 ∷ []) }
+    ensures of_no_function { elements_at (record default_config { min_elements = 60; max_element_segments = 1 }) (table_scope default_config (beside_globals [])) [] (1 ∷ 0 ∷ 0 ∷ 1 ∷ 9 ∷ []) ≡ Ok (passive_elements (Functions []) ∷ [], 9 ∷ []) }
+    ensures more_than_may_be { elements_at (record default_config { min_elements = 60; max_elements = 50 }) (table_scope default_config (beside_globals [])) [] (1 ∷ 0 ∷ 0 ∷ 0 ∷ []) ≡ Err counts.Elements }
+    ensures of_no_kind { elements_at (record default_config { bulk_memory_enabled = false }) (table_scope default_config (beside_globals [])) [] (1 ∷ []) ≡ Ok ([], 1 ∷ []) }
+    ensures asked_for_of_no_kind { elements_at (record default_config { bulk_memory_enabled = false; min_element_segments = 1 }) (table_scope default_config (beside_globals [])) [] [] ≡ Err counts.ElementSegments }
+{}
