@@ -50,6 +50,8 @@ mod sizes;
 #[cfg(test)]
 mod subtypes;
 #[cfg(test)]
+mod tagged_modules;
+#[cfg(test)]
 mod termination;
 #[cfg(test)]
 mod type_space;
