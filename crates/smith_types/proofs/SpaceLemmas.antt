@@ -45,28 +45,6 @@ HasDepth-le types orderly (deeper {i = i} {s = s} {t = t} at up above) =
     let deep = HasDepth-le types orderly above in
     omega (arith, below, deep)
 
-less_or_same : (i n : ℕ) → i < n + 1 → (i < n) ⊎ (i ≡ n)
-less_or_same i zero h = inr (omega arith)
-less_or_same zero (suc n) h = inl (omega arith)
-less_or_same (suc i) (suc n) h = elim (less_or_same i n (omega arith)) [ inl less ↦ inl (omega arith) | inr same ↦ inr (ap suc same) ]
-
-pub AreDepths-push : (types : List SubType) (t : SubType) (depths : List ℕ) (d : ℕ) → AreDepths types depths → HasDepth (types ++ t ∷ []) (length types) d → AreDepths (types ++ t ∷ []) (depths ++ d ∷ [])
-AreDepths-push types t depths d before last = record {
-  long = simp length-append (ap (λ n. n + 1) before.long);
-  each = λ i inside.
-      let most : i < length types + 1 = simp length-append at inside in
-      elim (less_or_same i (length types) most) [
-        | inl below ↦
-            subst (λ n. HasDepth (types ++ t ∷ []) i n) (sym (get_or_append_left depths (d ∷ []) 0 i (omega (arith, before.long))))
-            (HasDepth-grown types (t ∷ []) (before.each i below))
-        | inr same ↦
-            let end : i ≡ length depths = same ∙ sym before.long in
-            subst (λ n. HasDepth (types ++ t ∷ []) n (slice_index (depths ++ d ∷ []) n)) (sym end)
-            (subst (λ n. HasDepth (types ++ t ∷ []) (length depths) n) (sym (get_or-append_seam depths d [] 0))
-            (subst (λ n. HasDepth (types ++ t ∷ []) n d) (sym before.long) last))
-      ];
-}
-
 end_from-push : (start : ℕ) (groups : List (Range ℕ)) (group : Range ℕ) → end_from start (groups ++ group ∷ []) ≡ group.end
 end_from-push start [] group = refl
 end_from-push start (g ∷ groups) group = end_from-push g.end groups group
@@ -109,29 +87,6 @@ end_from-last start (g ∷ []) some = refl
 end_from-last start (g ∷ h ∷ groups) some =
     let fewer : length (g ∷ h ∷ groups) - 1 ≡ suc (length (h ∷ groups) - 1) = omega arith in
     rw fewer (end_from-last g.end (h ∷ groups) (omega arith))
-
--- the supertype of a type that follows has a depth
-supertype_depth : (types : List SubType) (depths : List ℕ) (t : SubType) (s : ℕ) → AreDepths types depths → MayFollow types t → t.supertype ≡ Some s → (s < length types) × HasDepth types s (slice_index depths s)
-supertype_depth types depths t s known follows up =
-    let (u, at, alike) = follows.below s up in
-    let inside : s < length types = slice_get_within types s u at in
-    (inside, known.each s inside)
-
--- one more than the depth of a type is below the number of types that a space holds
-pub depth_room : (types : List SubType) (depths : List ℕ) (t : SubType) (s : ℕ) → IsOrderly types → AreDepths types depths → MayFollow types t → t.supertype ≡ Some s → slice_index depths s + 1 < 2 ^ 32
-depth_room types depths t s orderly known follows up =
-    let (inside, deep) = supertype_depth types depths t s known follows up in
-    let few : length types + 1 < 2 ^ 32 = follows.room in
-    let least : slice_index depths s ≤ s + 1 = HasDepth-le types orderly deep in
-    omega (arith, inside, few, least)
-
-pub depth_below : (types : List SubType) (depths : List ℕ) (t : SubType) (s : ℕ) → AreDepths types depths → MayFollow types t → t.supertype ≡ Some s → HasDepth (types ++ t ∷ []) (length types) (slice_index depths s + 1)
-depth_below types depths t s known follows up =
-    let (inside, deep) = supertype_depth types depths t s known follows up in
-    rw add-one (deeper {t = t} (slice_get-last types t) up (HasDepth-grown types (t ∷ []) deep))
-
-pub depth_alone : (types : List SubType) (t : SubType) → t.supertype ≡ None → HasDepth (types ++ t ∷ []) (length types) 1
-depth_alone types t none = root {t = t} (slice_get-last types t) none
 
 added_behind : (b : Bool) (i : ℕ) (xs ys more : List ℕ) → ys ≡ xs ++ more → (if b then i ∷ ys else ys) ≡ (if b then i ∷ xs else xs) ++ more
 added_behind true i xs ys more e = ap (λ (l : List ℕ). i ∷ l) e

@@ -18,6 +18,7 @@ mod instruction_kind;
 pub mod laws;
 mod list;
 mod matching;
+mod place;
 mod predicate;
 mod segments;
 mod standing_exports;

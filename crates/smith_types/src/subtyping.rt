@@ -2,6 +2,7 @@ ghost use Rattle.std.specs.Prelude.{◌≡◌, ◌<◌, length, IsTrue, ◌↔�
 ghost use Rattle.smith_types.specs.declared.value_type.HeapType.TheVariants.{Abstract, Concrete};
 ghost use Rattle.smith_types.specs.Kinds.{kind, bottom, shared};
 ghost use Rattle.smith_types.specs.Types.{IsOrderly};
+ghost use Rattle.smith_types.specs.Places.{ArePlaces};
 ghost use Rattle.smith_types.specs.Subtyping.{
   is_abstract_below,
   IsBelow,
@@ -12,14 +13,15 @@ ghost use Rattle.smith_types.specs.Subtyping.{
 };
 
 use crate::composite_type::SubType;
+use crate::place::Place;
+use crate::type_space::TypeSpace;
 use crate::value_type::{AbstractHeapType, HeapType, RefType, ValType};
 
 // Whether one value type is below another.
-pub(crate) fn val_type_is_below(types: &[SubType], a: ValType, b: ValType) -> bool
-    requires orderly { IsOrderly types.now }
-    requires lower { IsValInRange types.now a }
-    requires upper { IsValInRange types.now b }
-    ensures { IsTrue result ↔ IsValBelow types.now a b }
+pub(crate) fn val_type_is_below(space: &TypeSpace, a: ValType, b: ValType) -> bool
+    requires lower { IsValInRange space.now.types a }
+    requires upper { IsValInRange space.now.types b }
+    ensures { IsTrue result ↔ IsValBelow space.now.types a b }
 {
     match a {
         ValType::I32 => matches!(b, ValType::I32),
@@ -28,29 +30,28 @@ pub(crate) fn val_type_is_below(types: &[SubType], a: ValType, b: ValType) -> bo
         ValType::F64 => matches!(b, ValType::F64),
         ValType::V128 => matches!(b, ValType::V128),
         ValType::Ref(a) => match b {
-            ValType::Ref(b) => ref_type_is_below(types, a, b),
+            ValType::Ref(b) => ref_type_is_below(space, a, b),
             _ => false,
         },
     }
 }
 
 // Whether one reference type is below another.
-pub(crate) fn ref_type_is_below(types: &[SubType], a: RefType, b: RefType) -> bool
-    requires orderly { IsOrderly types.now }
-    requires lower { IsInRange types.now a.heap_type }
-    requires upper { IsInRange types.now b.heap_type }
-    ensures { IsTrue result ↔ IsRefBelow types.now a b }
+pub(crate) fn ref_type_is_below(space: &TypeSpace, a: RefType, b: RefType) -> bool
+    requires lower { IsInRange space.now.types a.heap_type }
+    requires upper { IsInRange space.now.types b.heap_type }
+    ensures { IsTrue result ↔ IsRefBelow space.now.types a b }
 {
-    (!a.nullable || b.nullable) && heap_type_is_below(types, a.heap_type, b.heap_type)
+    (!a.nullable || b.nullable) && heap_type_is_below(space, a.heap_type, b.heap_type)
 }
 
 // Whether one heap type is below another.
-pub(crate) fn heap_type_is_below(types: &[SubType], a: HeapType, b: HeapType) -> bool
-    requires orderly { IsOrderly types.now }
-    requires lower { IsInRange types.now a }
-    requires upper { IsInRange types.now b }
-    ensures { IsTrue result ↔ IsBelow types.now a b }
+pub(crate) fn heap_type_is_below(space: &TypeSpace, a: HeapType, b: HeapType) -> bool
+    requires lower { IsInRange space.now.types a }
+    requires upper { IsInRange space.now.types b }
+    ensures { IsTrue result ↔ IsBelow space.now.types a b }
 {
+    let types = space.types();
     match a {
         HeapType::Abstract { shared, ty } => match b {
             HeapType::Abstract {
@@ -62,31 +63,36 @@ pub(crate) fn heap_type_is_below(types: &[SubType], a: HeapType, b: HeapType) ->
         },
         HeapType::Concrete(i) => match b {
             HeapType::Abstract { shared, ty } => is_under(&types[i as usize], shared, ty),
-            HeapType::Concrete(j) => reaches(types, i, j),
+            HeapType::Concrete(j) => reaches(types, space.places(), i, j),
             HeapType::Exact(_) => false,
         },
         HeapType::Exact(own) => match b {
             HeapType::Abstract { shared, ty } => is_under(&types[own as usize], shared, ty),
-            HeapType::Concrete(j) => reaches(types, own, j),
+            HeapType::Concrete(j) => reaches(types, space.places(), own, j),
             HeapType::Exact(j) => own == j,
         },
     }
 }
 
-// Whether a type is another one, or some declared supertype of it is.
-fn reaches(types: &[SubType], from: u32, to: u32) -> bool
+// Whether a type is another one, or some declared supertype of it is. A supertype has a smaller index, so no jump that ends
+// at the other or behind it passes it.
+fn reaches(types: &[SubType], places: &[Place], from: u32, to: u32) -> bool
     requires orderly { IsOrderly types.now }
+    requires places { ArePlaces types.now places.now }
     requires lower { from < length types.now }
     ensures { IsTrue result ↔ IsBelow types.now (Concrete from) (Concrete to) }
 {
     let mut at = from;
-    while at != to {
+    while to < at {
         match types[at as usize].supertype {
-            Some(supertype) => at = supertype,
+            Some(supertype) => {
+                let jump = places[at as usize].jump;
+                at = if to <= jump { jump } else { supertype };
+            }
             None => return false,
         }
     }
-    true
+    at == to
 }
 
 // Whether a type is below an abstract type of this sharedness.

@@ -23,8 +23,8 @@ ghost use Rattle.std.specs.Prelude.{
   if◌then◌else◌,
 };
 ghost use Rattle.std.specs.declared.ops.Range.{Range};
-ghost use Rattle.smith_types.specs.Types.{IsAlike, IsOrderly, next_start, next_group};
-ghost use Rattle.smith_types.specs.Space.{AreDepths, AreExtensible, HasDepth, MayFollow};
+ghost use Rattle.smith_types.specs.Types.{IsAlike, next_start, next_group};
+ghost use Rattle.smith_types.specs.Space.{AreExtensible, HasDepth, MayFollow};
 ghost use Rattle.smith_types.specs.Sizes.{value_count};
 ghost use Rattle.smith_types.specs.Matching.{IsCompositeMatch, IsInnerInRange};
 ghost use Rattle.smith_types.specs.Subtyping.{IsBelow, IsRefBelow, IsValBelow, IsInRange, IsValInRange};
@@ -32,6 +32,7 @@ ghost use Rattle.smith_types.specs.Subtyping.{IsBelow, IsRefBelow, IsValBelow, I
 use crate::composite_type::{CompositeInnerType, CompositeType, SubType};
 use crate::entity_type::EntityType;
 use crate::matching::composite_type_is_match;
+use crate::place::{Place, place_after};
 use crate::subtyping::{heap_type_is_below, ref_type_is_below, val_type_is_below};
 use crate::value_type::{HeapType, RefType, ValType};
 use smith_bytes::Error;
@@ -48,22 +49,23 @@ const DEPTH_LIMIT: u32 = 60;
 #[derive(Drop)]
 pub struct TypeSpace {
     types: Vec<SubType>,
-    depths: Vec<u32>,
+    places: Vec<Place>,
     extensible: Vec<u32>,
     groups: Vec<Range<usize>>,
 }
 
 impl Model for TypeSpace {
     ghost use Rattle.std.specs.Prelude.{◌≡◌};
-    ghost use Rattle.smith_types.specs.Space.{Space, IsSound, AreDepths, extensible_from};
+    ghost use Rattle.smith_types.specs.Space.{Space, IsSound, extensible_from};
+    ghost use Rattle.smith_types.specs.Places.{ArePlaces, depths_in};
 
     ghost Value = { Space };
 
     ghost view = { λ a. record { types = a.types.items; groups = a.groups.items } };
 
     ghost invariant = { λ a. IsSound (record { types = a.types.items; groups = a.groups.items })
-        × AreDepths a.types.items a.depths.items
-        × (a.extensible.items ≡ extensible_from 0 a.types.items a.depths.items) };
+        × ArePlaces a.types.items a.places.items
+        × (a.extensible.items ≡ extensible_from 0 a.types.items (depths_in a.places.items)) };
 }
 
 /// Prints the types and the groups.
@@ -78,6 +80,7 @@ impl fmt::Debug for TypeSpace {
 
 impl TypeSpace {
     ghost use Rattle.smith_types.specs.Space.{IsSound};
+    ghost use Rattle.smith_types.specs.Places.{ArePlaces};
     ghost use Rattle.smith_types.specs.Types.{next_group, AreCovered};
     ghost use Rattle.smith_types.specs.Sizes.{size_in, IsTyped};
 
@@ -87,7 +90,7 @@ impl TypeSpace {
     {
         TypeSpace {
             types: Vec::new(alloc),
-            depths: Vec::new(alloc),
+            places: Vec::new(alloc),
             extensible: Vec::new(alloc),
             groups: Vec::new(alloc),
         }
@@ -98,10 +101,10 @@ impl TypeSpace {
         ensures ok { IfOk result (λ space. space ≡ record { types = []; groups = [] }) }
         ensures memory { IfErr result (λ e. e ≡ Error.Memory) }
     {
-        let depths = Vec::with_capacity(alloc, types)?;
+        let places = Vec::with_capacity(alloc, types)?;
         Ok(TypeSpace {
             types: Vec::with_capacity(alloc, types)?,
-            depths,
+            places,
             extensible: Vec::new(alloc),
             groups: Vec::new(alloc),
         })
@@ -113,6 +116,13 @@ impl TypeSpace {
         ensures sound { IsSound self.now }
     {
         self.types.as_slice()
+    }
+
+    // The places of the types, in the order of their indices.
+    pub(crate) fn places(&self) -> &[Place]
+        ensures { ArePlaces self.now.types result.now }
+    {
+        self.places.as_slice()
     }
 
     /// The groups so far, each as the indices of its types. Types behind them await `push_group`.
@@ -128,7 +138,7 @@ impl TypeSpace {
         requires { index < length self.now.types }
         ensures { HasDepth self.now.types index result }
     {
-        self.depths[index as usize]
+        self.places[index as usize].depth
     }
 
     /// The indices of the types that may have subtypes, in order: those that are not final, and of a depth below 60.
@@ -160,18 +170,18 @@ impl TypeSpace {
         ensures memory { IfErr result (λ e. e ≡ Error.Memory) }
     {
         let index = self.types.len() as u32;
-        let depth = depth_after(self.types.as_slice(), self.depths.as_slice(), &added);
+        let place = place_after(self.types.as_slice(), self.places.as_slice(), &added);
         let count = self.extensible.len();
-        let is_extensible = may_have_subtypes(&added, depth);
-        self.depths.push(depth)?;
+        let is_extensible = may_have_subtypes(&added, place.depth);
+        self.places.push(place)?;
         if push_where(is_extensible, &mut self.extensible, index).is_err() {
-            self.depths.pop();
+            self.places.pop();
             return Err(Error::Memory);
         }
         match self.types.push(added) {
             Ok(()) => Ok(index),
             Err(_) => {
-                self.depths.pop();
+                self.places.pop();
                 self.extensible.truncate(count);
                 Err(Error::Memory)
             }
@@ -199,7 +209,7 @@ impl TypeSpace {
         requires upper { IsInRange self.now.types b }
         ensures { IsTrue result ↔ IsBelow self.now.types a b }
     {
-        heap_type_is_below(self.types.as_slice(), a, b)
+        heap_type_is_below(self, a, b)
     }
 
     /// Whether the reference type `a` is below `b`: Validation, Matching, Reference Types, over heap types as in
@@ -209,7 +219,7 @@ impl TypeSpace {
         requires upper { IsInRange self.now.types b.heap_type }
         ensures { IsTrue result ↔ IsRefBelow self.now.types a b }
     {
-        ref_type_is_below(self.types.as_slice(), a, b)
+        ref_type_is_below(self, a, b)
     }
 
     /// Whether the value type `a` is below `b`: Validation, Matching, Value Types, over heap types as in
@@ -219,7 +229,7 @@ impl TypeSpace {
         requires upper { IsValInRange self.now.types b }
         ensures { IsTrue result ↔ IsValBelow self.now.types a b }
     {
-        val_type_is_below(self.types.as_slice(), a, b)
+        val_type_is_below(self, a, b)
     }
 
     /// Whether the composite type `a` matches `b`: Validation, Matching, Composite Types, over heap types as in
@@ -229,7 +239,7 @@ impl TypeSpace {
         requires upper { IsInnerInRange self.now.types b.now.inner }
         ensures { IsTrue result ↔ IsCompositeMatch self.now.types a.now b.now }
     {
-        composite_type_is_match(self.types.as_slice(), a, b)
+        composite_type_is_match(self, a, b)
     }
 
     /// The size of `entity`, which counts towards the type size of a module. The type of a function stands and is a function
@@ -282,19 +292,6 @@ pub(crate) fn start_after(groups: &[Range<usize>]) -> usize
     match groups {
         [.., last] => last.end,
         [] => 0,
-    }
-}
-
-// The depth of a type that is to be added.
-fn depth_after(types: &[SubType], depths: &[u32], added: &SubType) -> u32
-    requires orderly { IsOrderly types.now }
-    requires depths { AreDepths types.now depths.now }
-    requires follows { MayFollow types.now added.now }
-    ensures { HasDepth (types.now ++ added.now ∷ []) (length types.now) result }
-{
-    match added.supertype {
-        Some(supertype) => depths[supertype as usize] + 1,
-        None => 1,
     }
 }
 

@@ -1,7 +1,7 @@
 ghost use Rattle.std.specs.Prelude.{◌≡◌, ◌↔◌, ◌≤◌, ◌+◌, ℕ, IsTrue, All, false, length, Some, slice_get};
 ghost use Rattle.smith_types.specs.FeatureBits.{features_in};
 ghost use Rattle.smith_types.specs.Flags.{IsInnerEnabled, IsSubTypeEnabled};
-ghost use Rattle.smith_types.specs.Types.{IsOrderly, AreConsecutive, next_start};
+ghost use Rattle.smith_types.specs.Types.{AreConsecutive, next_start};
 ghost use Rattle.smith_types.specs.Subtyping.{IsValInRange};
 ghost use Rattle.smith_types.specs.Matching.{IsInnerInRange};
 ghost use Rattle.smith_types.specs.ValidTypes.{
@@ -26,21 +26,15 @@ use std::ops::Range;
 pub fn are_types_valid(features: WasmFeatures, space: &TypeSpace) -> bool
     ensures { IsTrue result ↔ AreTypesValid (features_in features) space.now }
 {
-    are_listed_valid(features, space.types(), space.rec_groups())
-}
-
-fn are_listed_valid(features: WasmFeatures, types: &[SubType], groups: &[Range<usize>]) -> bool
-    requires orderly { IsOrderly types.now }
-    requires consecutive { AreConsecutive 0 groups.now }
-    ensures { IsTrue result ↔ AreTypesValid (features_in features) (record { types = types.now; groups = groups.now }) }
-{
+    let types = space.types();
+    let groups = space.rec_groups();
     if start_after(groups) != types.len() {
         return false;
     }
     if !are_in_range(types) {
         return false;
     }
-    are_groups_valid(features, types, groups)
+    are_groups_valid(features, space, groups)
 }
 
 // Whether each type refers to types that stand.
@@ -50,39 +44,37 @@ fn are_in_range(types: &[SubType]) -> bool
     types.iter().all(|ty| all_values_hold(&StandingValue { types }, &ty.composite_type.inner))
 }
 
-fn are_groups_valid(features: WasmFeatures, types: &[SubType], groups: &[Range<usize>]) -> bool
-    requires orderly { IsOrderly types.now }
-    requires in_range { AreInRange types.now }
+fn are_groups_valid(features: WasmFeatures, space: &TypeSpace, groups: &[Range<usize>]) -> bool
+    requires in_range { AreInRange space.now.types }
     requires consecutive { AreConsecutive 0 groups.now }
-    requires whole { next_start groups.now ≡ length types.now }
-    ensures { IsTrue result ↔ All (IsGroupValid (features_in features) types.now) groups.now }
+    requires whole { next_start groups.now ≡ length space.now.types }
+    ensures { IsTrue result ↔ All (IsGroupValid (features_in features) space.now.types) groups.now }
 {
     for group in groups {
-        if !is_group_valid(features, types, group) {
+        if !is_group_valid(features, space, group) {
             return false;
         }
     }
     true
 }
 
-fn is_group_valid(features: WasmFeatures, types: &[SubType], group: &Range<usize>) -> bool
-    requires orderly { IsOrderly types.now }
-    requires in_range { AreInRange types.now }
+fn is_group_valid(features: WasmFeatures, space: &TypeSpace, group: &Range<usize>) -> bool
+    requires in_range { AreInRange space.now.types }
     requires ordered { group.now.start ≤ group.now.end }
-    requires inside { group.now.end ≤ length types.now }
-    ensures { IsTrue result ↔ IsGroupValid (features_in features) types.now group.now }
+    requires inside { group.now.end ≤ length space.now.types }
+    ensures { IsTrue result ↔ IsGroupValid (features_in features) space.now.types group.now }
 {
-    are_members_valid(features, types, group) && is_size_enabled(features, group)
+    are_members_valid(features, space, group) && is_size_enabled(features, group)
 }
 
-fn are_members_valid(features: WasmFeatures, types: &[SubType], group: &Range<usize>) -> bool
-    requires orderly { IsOrderly types.now }
-    requires in_range { AreInRange types.now }
-    requires inside { group.now.end ≤ length types.now }
-    ensures { IsTrue result ↔ AreMembersValid (features_in features) types.now group.now }
+fn are_members_valid(features: WasmFeatures, space: &TypeSpace, group: &Range<usize>) -> bool
+    requires in_range { AreInRange space.now.types }
+    requires inside { group.now.end ≤ length space.now.types }
+    ensures { IsTrue result ↔ AreMembersValid (features_in features) space.now.types group.now }
 {
+    let types = space.types();
     for i in group.start..group.end {
-        if !is_type_valid(features, types, group.end, &types[i]) {
+        if !is_type_valid(features, space, group.end, &types[i]) {
             return false;
         }
     }
@@ -98,18 +90,22 @@ fn is_size_enabled(features: WasmFeatures, group: &Range<usize>) -> bool
 }
 
 // Whether a type is valid in a group that ends at `end`.
-fn is_type_valid(features: WasmFeatures, types: &[SubType], end: usize, ty: &SubType) -> bool
-    requires orderly { IsOrderly types.now }
-    requires in_range { AreInRange types.now }
-    requires stands { IsInnerInRange types.now ty.now.composite_type.inner }
-    ensures { IsTrue result ↔ IsTypeValid (features_in features) types.now end ty.now }
+fn is_type_valid(features: WasmFeatures, space: &TypeSpace, end: usize, ty: &SubType) -> bool
+    requires in_range { AreInRange space.now.types }
+    requires stands { IsInnerInRange space.now.types ty.now.composite_type.inner }
+    ensures { IsTrue result ↔ IsTypeValid (features_in features) space.now.types end ty.now }
 {
     let composite_type = &ty.composite_type;
     is_sub_type_enabled(features, ty)
         && all_values_hold(&ValidValue { features, end }, &composite_type.inner)
-        && is_supertype_valid(types, ty)
+        && is_supertype_valid(space, ty)
         && (!composite_type.shared
-            || all_values_hold(&ShareableValue { types }, &composite_type.inner))
+            || all_values_hold(
+                &ShareableValue {
+                    types: space.types(),
+                },
+                &composite_type.inner,
+            ))
 }
 
 fn is_sub_type_enabled(features: WasmFeatures, ty: &SubType) -> bool
@@ -133,28 +129,26 @@ fn is_inner_enabled(features: WasmFeatures, inner: &CompositeInnerType) -> bool
 }
 
 // Whether the declared supertype, if there is one, stands, is not final and is matched.
-fn is_supertype_valid(types: &[SubType], ty: &SubType) -> bool
-    requires orderly { IsOrderly types.now }
-    requires in_range { AreInRange types.now }
-    requires stands { IsInnerInRange types.now ty.now.composite_type.inner }
+fn is_supertype_valid(space: &TypeSpace, ty: &SubType) -> bool
+    requires in_range { AreInRange space.now.types }
+    requires stands { IsInnerInRange space.now.types ty.now.composite_type.inner }
     ensures { IsTrue result ↔ ((s : ℕ) → ty.now.supertype ≡ Some s →
-        (u : SubType) × (slice_get types.now s ≡ Some u) × IsSupertypeValid types.now ty.now u) }
+        (u : SubType) × (slice_get space.now.types s ≡ Some u) × IsSupertypeValid space.now.types ty.now u) }
 {
     match ty.supertype {
-        Some(index) => match types.get(index as usize) {
-            Some(supertype) => may_be_below(types, ty, supertype),
+        Some(index) => match space.types().get(index as usize) {
+            Some(supertype) => may_be_below(space, ty, supertype),
             None => false,
         },
         None => true,
     }
 }
 
-fn may_be_below(types: &[SubType], ty: &SubType, supertype: &SubType) -> bool
-    requires orderly { IsOrderly types.now }
-    requires stands { IsInnerInRange types.now ty.now.composite_type.inner }
-    requires upper { IsInnerInRange types.now supertype.now.composite_type.inner }
-    ensures { IsTrue result ↔ IsSupertypeValid types.now ty.now supertype.now }
+fn may_be_below(space: &TypeSpace, ty: &SubType, supertype: &SubType) -> bool
+    requires stands { IsInnerInRange space.now.types ty.now.composite_type.inner }
+    requires upper { IsInnerInRange space.now.types supertype.now.composite_type.inner }
+    ensures { IsTrue result ↔ IsSupertypeValid space.now.types ty.now supertype.now }
 {
     !supertype.is_final
-        && composite_type_is_match(types, &ty.composite_type, &supertype.composite_type)
+        && composite_type_is_match(space, &ty.composite_type, &supertype.composite_type)
 }

@@ -32,8 +32,8 @@ use types::are_types_sound;
 
 impl Shape {
     /// Looks for what keeps the shape from being handed in for the use `which`, with the configuration `config`: the first fault in the
-    /// order of [`ShapeFault`]. Takes time linear in the shape, but for names, which go through a set, and for walks over declared
-    /// supertypes.
+    /// order of [`ShapeFault`]. Takes time linear in the shape, but for names, which go through a set, and for supertypes: each is
+    /// looked for in steps that grow with the logarithm of a type's depth.
     pub fn check(&self, alloc: Global, which: Which, config: &Config) -> Result<(), Error>
         ensures passes { OnOk result (IsShapeValid which config.now self.now) }
         ensures refused { IfErr result (IsRefused which config.now self.now) }

@@ -1,8 +1,12 @@
 use Rattle.std.proofs.Common.{◌≡◌, ◌∙◌, sym, false, Result, Ok, Err, ap, arith, ◌++◌, ◌∷◌, [], length}
 use Rattle.std.specs.Prelude.{is_err, OnOk}
-use Rattle.smith_types.specs.Space.{MayFollow, HasDepth, extensible_from}
+use Rattle.std.proofs.lemmas.List.{map-append}
+use Rattle.smith_types.specs.Space.{MayFollow, extensible_from}
+use Rattle.smith_types.specs.Places.{IsPlace, depths_in}
+use Rattle.smith_types.specs.declared.place.Place.{Place}
 use Rattle.smith_types.proofs.ListLemmas.{slice_get-last}
-use Rattle.smith_types.proofs.SpaceLemmas.{IsSound-type, AreDepths-push, extensible-push}
+use Rattle.smith_types.proofs.SpaceLemmas.{IsSound-type, extensible-push}
+use Rattle.smith_types.proofs.PlaceLemmas.{ArePlaces-push, depths_known}
 use Rattle.smith_types.proofs.type_space.TypeSpace.push_type.Goals as goal
 use Rattle.smith_types.proofs.type_space.TypeSpace.push_type.Goals.{in-Ok, in-Err}
 
@@ -13,14 +17,17 @@ ok_of (Err e) none h = cc
 pub invariant_of-self-in-Ok : goal.invariant_of-self-in-Ok
 invariant_of-self-in-Ok c =
     let types = c.self.inside.types.items in
+    let places = c.self.inside.places.items in
     let follows : MayFollow types c.args.added = rw (ap (λ s. s.types) c.self.view_is) c.requires in
-    let depth : HasDepth (types ++ c.args.added ∷ []) (length types) c.depth_after-depth.result = rw (← c.as_slice.ensures.value) c.depth_after-depth.ensures in
+    let place : IsPlace (types ++ c.args.added ∷ []) (length types) c.place_after-place.result = rw (← c.as_slice.ensures.value) c.place_after-place.ensures in
     let added = ok_of c.push_where.result (sym c.is_err.ensures.value ∙ c.if-is_err.false) c.push_where.ensures.ok in
-    let longer = extensible-push 0 (length types) types c.args.added c.self.inside.depths.items c.depth_after-depth.result c.self.invariant.1.long (omega arith) in
-    let extended : c.push_where.new.indices.items ≡ extensible_from 0 (types ++ c.args.added ∷ []) (c.self.inside.depths.items ++ c.depth_after-depth.result ∷ []) =
+    let depths = depths_known types places c.self.invariant.1 in
+    let longer = extensible-push 0 (length types) types c.args.added (depths_in places) c.place_after-place.result.depth depths.long (omega arith) in
+    let extended : c.push_where.new.indices.items ≡ extensible_from 0 (types ++ c.args.added ∷ []) (depths_in places ++ c.place_after-place.result.depth ∷ []) =
     added ∙ rw (c.may_have_subtypes-is_extensible.ensures, c.len-index.ensures, c.self.inside.types.ok.0, c.self.invariant.2) (sym longer) in
+    let appended = map-append (λ (p : Place). p.depth) places (c.place_after-place.result ∷ []) in
     rw (c.in-Ok.ensures.items, c.in_ok-push.ensures.items)
-    (IsSound-type _ _ _ c.self.invariant.0 follows, AreDepths-push _ _ _ _ c.self.invariant.1 depth, extended)
+    (IsSound-type _ _ _ c.self.invariant.0 follows, ArePlaces-push _ _ _ _ c.self.invariant.1 place, extended ∙ ap (extensible_from 0 (types ++ c.args.added ∷ [])) (sym appended))
 
 pub returns-clause-stands : goal.returns-clause-stands
 returns-clause-stands c = elim c.match-push.branch [
