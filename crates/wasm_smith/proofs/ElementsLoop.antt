@@ -12,7 +12,7 @@ use Rattle.smith_types.specs.Expressions.{Context}
 use Rattle.smith_types.specs.Segments.{item_count}
 use Rattle.smith_types.specs.declared.segments.ElementSegment.{ElementSegment}
 use Rattle.smith_config.specs.declared.config.Config.{Config}
-use Rattle.wasm_smith.specs.Build.{◌>>=◌, Gives}
+use Rattle.wasm_smith.specs.Steps.{◌>>=◌, Gives}
 use Rattle.wasm_smith.specs.ElementSegments.{KindChoice, items_in, segment_at, segments_at}
 
 -- n segments are made, with as many items in all, and what is drawn from here on completes the whole

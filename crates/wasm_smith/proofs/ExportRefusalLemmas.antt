@@ -13,7 +13,7 @@ use Rattle.smith_types.specs.declared.entity_type.ExportKind.TheVariants as kind
 use Rattle.smith_config.specs.declared.config.Config.{Config}
 use Rattle.smith_draw.specs.Choices.{enabled}
 use Rattle.smith_draw.specs.TypeUses.{places_from}
-use Rattle.wasm_smith.specs.Build.{Gives}
+use Rattle.wasm_smith.specs.Steps.{Gives}
 use Rattle.wasm_smith.specs.Defined.{SpellsEmpty}
 use Rattle.wasm_smith.specs.Spelling.{SpellsNone}
 use Rattle.wasm_smith.specs.Exporting.{Export, candidates, candidate_row, offered_kinds, exports_from, free_exports_at}

@@ -4,7 +4,7 @@ use Rattle.std.specs.Prelude.{Result, Ok, Err, IfOk}
 use Rattle.smith_bytes.specs.Takes.{Takes}
 use Rattle.smith_bytes.specs.declared.error.Count.{Count}
 use Rattle.smith_bytes.specs.declared.error.Error.{Error}
-use Rattle.wasm_smith.specs.Build.{Gives}
+use Rattle.wasm_smith.specs.Steps.{Gives}
 
 -- what holds of whatever is read holds of what a step gives
 pub given_is : {X A : Type 0} (P : A → Type 0) (view : X → A) (read : Result (A × List ℕ) Count) (after : List ℕ) (result : Result X Error) → IfOk read (λ drawn. P drawn.0) → Gives (λ x. (view x, after)) result read → IfOk result (λ x. P (view x))

@@ -8,7 +8,7 @@ use Rattle.smith_bytes.specs.declared.error.Error.{Error}
 use Rattle.smith_bytes.proofs.SpelledLemmas.{bool_read}
 use Rattle.smith_types.specs.declared.composite_type.SubType.{SubType}
 use Rattle.smith_config.specs.declared.config.Config.{Config}
-use Rattle.wasm_smith.specs.Build.{Gives}
+use Rattle.wasm_smith.specs.Steps.{Gives}
 use Rattle.wasm_smith.specs.Spelling.{SpellsNone}
 use Rattle.wasm_smith.specs.Importing.{groups_at, imports_at}
 use Rattle.wasm_smith.specs.Imported.{SpellsNoImport}

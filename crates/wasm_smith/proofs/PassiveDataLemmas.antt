@@ -13,7 +13,7 @@ use Rattle.smith_types.specs.Expressions.{Context}
 use Rattle.smith_types.specs.declared.entity_type.MemoryType.{MemoryType}
 use Rattle.smith_types.specs.declared.segments.DataSegment.{DataSegment}
 use Rattle.smith_config.specs.declared.config.Config.{Config}
-use Rattle.wasm_smith.specs.Build.{Gives}
+use Rattle.wasm_smith.specs.Steps.{Gives}
 use Rattle.wasm_smith.specs.DataSegments.{counting_at, targets_of, passive_at, segment_at, segments_at, data_at}
 use Rattle.wasm_smith.specs.PassiveData.{passive_data, SpellsPassive}
 use Rattle.wasm_smith.specs.Spelling.{SpellsBytes}

@@ -18,7 +18,7 @@ use Rattle.smith_draw.specs.declared.type_use.TypeUse.TheVariants.{Tag, DefinedF
 use Rattle.smith_draw.proofs.SpelledValueLemmas.{chosen_read}
 use Rattle.smith_draw.proofs.SupertypeLemmas.{chosen_of}
 use Rattle.smith_draw.proofs.TypeUseLemmas.{types_usable}
-use Rattle.wasm_smith.specs.Build.{Gives}
+use Rattle.wasm_smith.specs.Steps.{Gives}
 use Rattle.wasm_smith.specs.Defined.{IsFilled, SpellsEmpty}
 use Rattle.wasm_smith.specs.Definitions.{defined_at, typed_at, tag_types, tags_at, funcs_at}
 use Rattle.wasm_smith.specs.FuncTypes.{func_types}

@@ -1,9 +1,7 @@
 -- Which module the bytes give, step by step, and what each step leaves: what `exact` of `Module::new` speaks of. What a module
 -- keeps is said apart, and can be believed without it.
-use Rattle.std.specs.Prelude.{◌≡◌, ℕ, ◌-◌, Bool, true, None, Option, List, [], length, replicate, Result, Ok, Err, ◌==◌, if◌then◌else◌}
+use Rattle.std.specs.Prelude.{ℕ, ◌-◌, Bool, true, None, Option, List, [], length, replicate, Result, Ok, Err, ◌==◌, if◌then◌else◌}
 use Rattle.smith_bytes.specs.declared.error.Error.{Error}
-use Rattle.smith_bytes.specs.declared.error.Error.TheVariants as errors
-use Rattle.smith_bytes.specs.declared.error.Why.TheVariants.{Unmet}
 use Rattle.smith_bytes.specs.declared.error.Count.{Count}
 use Rattle.smith_bytes.specs.declared.error.Count.TheVariants as counts
 use Rattle.smith_bytes.specs.Draws.{bool_at}
@@ -23,15 +21,9 @@ use Rattle.wasm_smith.specs.Definitions.{standing_over, tags_at, funcs_at, table
 use Rattle.wasm_smith.specs.ImportedEntities.{sizes}
 use Rattle.wasm_smith.specs.Importing.{imports_at}
 use Rattle.wasm_smith.specs.Module.{Parts}
+use Rattle.wasm_smith.specs.Steps.{Gives, ◌>>=◌}
 use Rattle.wasm_smith.specs.declared.build.definitions.Definitions.{Definitions}
 use Rattle.wasm_smith.specs.declared.build.drawn.Drawn.{Drawn}
-
--- What a step gave, with what it left, is what reading gives, unless memory ran out.
-abbrev pub Gives : {X Y : Type 0} → (X → Y) → Result X Error → Result Y Count → Type 0
-Gives view (Ok x) read = read ≡ Ok (view x)
-Gives view (Err errors.Memory) read = Unit {0}
-Gives view (Err (errors.IncorrectFormat (Unmet count))) read = read ≡ Err count
-Gives view (Err _) read = ⊥
 
 -- a part that is not drawn yet takes no byte, and its minimum can't be met
 unfoldable pub passed_at : Count → ℕ → Result (Unit {0}) Count
@@ -44,11 +36,6 @@ section_flag_at count bytes = if count == 0 then bool_at bytes else (true, bytes
 -- a body that only traps
 abbrev pub trap : Code
 trap = record { locals = []; instructions = Unreachable }
-
-infixl 10 ◌>>=◌
-abbrev pub ◌>>=◌ : {A B : Type 0} → Result A Count → (A → Result B Count) → Result B Count
-(Ok x) >>= f = f x
-(Err count) >>= f = Err count
 
 -- segments are not drawn yet
 unfoldable pub segments_at : Config → Result (Unit {0}) Count

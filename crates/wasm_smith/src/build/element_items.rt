@@ -4,7 +4,7 @@ ghost use Rattle.smith_types.specs.Segments.{item_count};
 ghost use Rattle.smith_config.specs.Sanitized.{IsSanitized};
 ghost use Rattle.smith_draw.specs.ConstScopes.{seen_by};
 ghost use Rattle.smith_draw.specs.Drawing.{AlwaysDraws, Draws};
-ghost use Rattle.wasm_smith.specs.Build.{Gives};
+ghost use Rattle.wasm_smith.specs.Steps.{Gives};
 ghost use Rattle.wasm_smith.specs.DrawnElements.{IsOffered, MayDrawElements};
 ghost use Rattle.wasm_smith.specs.ElementSegments.{
   item_type_at,

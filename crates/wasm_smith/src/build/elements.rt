@@ -2,7 +2,7 @@ ghost use Rattle.std.specs.Prelude.{◌≡◌, ◌+◌, ◌<◌, ◌≤◌, true
 ghost use Rattle.smith_bytes.specs.Source.{KeepsPieces};
 ghost use Rattle.smith_types.specs.Segments.{item_count};
 ghost use Rattle.smith_draw.specs.ConstScopes.{seen_by};
-ghost use Rattle.wasm_smith.specs.Build.{Gives};
+ghost use Rattle.wasm_smith.specs.Steps.{Gives};
 ghost use Rattle.wasm_smith.specs.DrawnElements.{IsOffered, MayDrawElements, MayRefuseElements};
 ghost use Rattle.wasm_smith.specs.ElementSegments.{most_items, items_in, segment_at, segments_at, elements_at, MayRefuseItems};
 

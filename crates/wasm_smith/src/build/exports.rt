@@ -3,7 +3,7 @@ ghost use Rattle.smith_bytes.specs.Source.{KeepsPieces};
 ghost use Rattle.smith_bytes.specs.Takes.{Takes};
 ghost use Rattle.smith_types.specs.Exports.{AreExportsValid};
 ghost use Rattle.smith_types.specs.IndexSpaces.{spaces_in};
-ghost use Rattle.wasm_smith.specs.Build.{Gives};
+ghost use Rattle.wasm_smith.specs.Steps.{Gives};
 ghost use Rattle.wasm_smith.specs.Defined.{SpellsEmpty};
 ghost use Rattle.wasm_smith.specs.Spelling.{SpellsNone};
 ghost use Rattle.wasm_smith.specs.Exporting.{Export, is_exported, HasNames, item_size, exported_size, export_at, offered_kinds, exports_from, free_exports_at};

@@ -3,7 +3,7 @@ ghost use Rattle.smith_bytes.specs.Source.{KeepsPieces};
 ghost use Rattle.smith_bytes.specs.Takes.{Takes};
 ghost use Rattle.smith_types.specs.Imports.{imports_of, flattened};
 ghost use Rattle.smith_draw.specs.Drawing.{Draws};
-ghost use Rattle.wasm_smith.specs.Build.{Gives};
+ghost use Rattle.wasm_smith.specs.Steps.{Gives};
 ghost use Rattle.wasm_smith.specs.Imported.{
   MayImport,
   Counts,

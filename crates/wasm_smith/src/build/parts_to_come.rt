@@ -2,7 +2,8 @@
 
 ghost use Rattle.std.specs.Prelude.{◌≡◌, ◌<◌, Some, OnOk, IfErr, IfSome, IfNone};
 ghost use Rattle.smith_config.specs.InUse.{HasNoShapes};
-ghost use Rattle.wasm_smith.specs.Build.{Gives, passed_at, segments_at};
+ghost use Rattle.wasm_smith.specs.Build.{passed_at, segments_at};
+ghost use Rattle.wasm_smith.specs.Steps.{Gives};
 ghost use Rattle.wasm_smith.specs.ToCome.{AsksForNoSegments, IsLeftOut, MayComeOut};
 
 use smith_bytes::{Count, Error, Which, Why};
