@@ -13,7 +13,7 @@ use Rattle.smith_types.specs.Segments.{item_count}
 use Rattle.smith_types.specs.declared.segments.ElementSegment.{ElementSegment}
 use Rattle.smith_config.specs.declared.config.Config.{Config}
 use Rattle.wasm_smith.specs.Steps.{◌>>=◌, Gives}
-use Rattle.wasm_smith.specs.ElementSegments.{KindChoice, items_in, segment_at, segments_at}
+use Rattle.wasm_smith.specs.ElementSegments.{KindChoice, items_in, element_segment_at, element_segments_at}
 
 -- n segments are made, with as many items in all, and what is drawn from here on completes the whole
 pub record AreSegmentsMade (config : Config) (context : Context) (kinds : List KindChoice) (n : ℕ) (made : List ElementSegment) (total : ℕ) (start bytes : List ℕ) (whole : Result (List ElementSegment × List ℕ) Count) : Type 0 where
@@ -21,38 +21,38 @@ pub record AreSegmentsMade (config : Config) (context : Context) (kinds : List K
   pub total_is : total ≡ items_in made
   pub within : total ≤ config.max_elements
   pub few : n ≤ config.max_element_segments
-  pub so_far : segments_at config context kinds (config.max_element_segments - n) made bytes ≡ whole
+  pub so_far : element_segments_at config context kinds (config.max_element_segments - n) made bytes ≡ whole
   pub left : KeepsPieces start bytes
 
 module _ {config : Config} {context : Context} {kinds : List KindChoice} {n total : ℕ} {made : List ElementSegment} {start bytes mid : List ℕ} {b : Bool} {whole : Result (List ElementSegment × List ℕ) Count} where
   -- no segment was asked for
   pub segments_stop : AreSegmentsMade config context kinds n made total start bytes whole → n < config.max_element_segments → goes_at (nat_lt n config.min_element_segments) bytes ≡ (b, mid) → b ≡ false → whole ≡ Ok (made, mid)
-  unfolding segments_at
+  unfolding element_segments_at
   segments_stop now lt go off =
       let k : config.max_element_segments - n ≡ suc (config.max_element_segments - suc n) = omega arith in
-      let one : segments_at config context kinds (config.max_element_segments - n) made bytes ≡ Ok (made, mid) = rw (k, now.len, go, off) refl in
+      let one : element_segments_at config context kinds (config.max_element_segments - n) made bytes ≡ Ok (made, mid) = rw (k, now.len, go, off) refl in
       sym now.so_far ∙ one
 
   -- a segment was asked for, and drawn or refused
   segments_turn : AreSegmentsMade config context kinds n made total start bytes whole → n < config.max_element_segments → goes_at (nat_lt n config.min_element_segments) bytes ≡ (b, mid) → b ≡ true
-      → whole ≡ (segment_at config context kinds total mid >>= (λ segment. segments_at config context kinds (config.max_element_segments - (n + 1)) (made ++ segment.0 ∷ []) segment.1))
-  unfolding segments_at
+      → whole ≡ (element_segment_at config context kinds total mid >>= (λ segment. element_segments_at config context kinds (config.max_element_segments - (n + 1)) (made ++ segment.0 ∷ []) segment.1))
+  unfolding element_segments_at
   segments_turn now lt go on =
       let k : config.max_element_segments - n ≡ suc (config.max_element_segments - (n + 1)) = omega arith in
-      let one : segments_at config context kinds (config.max_element_segments - n) made bytes ≡ (segment_at config context kinds total mid >>= (λ segment. segments_at config context kinds (config.max_element_segments - (n + 1)) (made ++ segment.0 ∷ []) segment.1)) = rw (k, now.len, go, on, now.total_is) refl in
+      let one : element_segments_at config context kinds (config.max_element_segments - n) made bytes ≡ (element_segment_at config context kinds total mid >>= (λ segment. element_segments_at config context kinds (config.max_element_segments - (n + 1)) (made ++ segment.0 ∷ []) segment.1)) = rw (k, now.len, go, on, now.total_is) refl in
       sym now.so_far ∙ one
 
   -- a segment was refused
   pub segments_refused : {count : Count} → AreSegmentsMade config context kinds n made total start bytes whole → n < config.max_element_segments → goes_at (nat_lt n config.min_element_segments) bytes ≡ (b, mid) → b ≡ true
-      → segment_at config context kinds total mid ≡ Err count → whole ≡ Err count
+      → element_segment_at config context kinds total mid ≡ Err count → whole ≡ Err count
   segments_refused now lt go on drawn = segments_turn now lt go on ∙ rw drawn refl
 
   -- one more segment was drawn
   pub segments_go : {more : List ElementSegment} {grown : ℕ} {segment : ElementSegment} {after : List ℕ} → AreSegmentsMade config context kinds n made total start bytes whole → n < config.max_element_segments
-      → goes_at (nat_lt n config.min_element_segments) bytes ≡ (b, mid) → b ≡ true → segment_at config context kinds total mid ≡ Ok (segment, after) → more ≡ made ++ segment ∷ [] → grown ≡ total + item_count segment.items → grown ≤ config.max_elements
+      → goes_at (nat_lt n config.min_element_segments) bytes ≡ (b, mid) → b ≡ true → element_segment_at config context kinds total mid ≡ Ok (segment, after) → more ≡ made ++ segment ∷ [] → grown ≡ total + item_count segment.items → grown ≤ config.max_elements
       → KeepsPieces bytes mid → KeepsPieces mid after → AreSegmentsMade config context kinds (n + 1) more grown start after whole
   segments_go {segment = segment} now lt go on drawn longer counted within p q =
-      let turned : segment_at config context kinds total mid >>= (λ segment. segments_at config context kinds (config.max_element_segments - (n + 1)) (made ++ segment.0 ∷ []) segment.1) ≡ whole = sym (segments_turn now lt go on) in
+      let turned : element_segment_at config context kinds total mid >>= (λ segment. element_segments_at config context kinds (config.max_element_segments - (n + 1)) (made ++ segment.0 ∷ []) segment.1) ≡ whole = sym (segments_turn now lt go on) in
       rw longer (record {
         len = rw length-append (omega (arith, now.len));
         total_is = counted ∙ (ap (λ (sum : ℕ). sum + item_count segment.items) now.total_is ∙ sym (sum_by_push (λ (one : ElementSegment). item_count one.items) made segment));
@@ -65,10 +65,10 @@ module _ {config : Config} {context : Context} {kinds : List KindChoice} {n tota
 -- no more segments may be drawn
 pub segments_full : {config : Config} {context : Context} {kinds : List KindChoice} {n total : ℕ} {made : List ElementSegment} {start bytes : List ℕ} {whole : Result (List ElementSegment × List ℕ) Count}
     → AreSegmentsMade config context kinds n made total start bytes whole → config.max_element_segments ≤ n → whole ≡ Ok (made, bytes)
-unfolding segments_at
+unfolding element_segments_at
 segments_full {config = config} {context = context} {kinds = kinds} {n = n} {made = made} {bytes = bytes} now le =
     let k : config.max_element_segments - n ≡ 0 = omega arith in
-    let one : segments_at config context kinds (config.max_element_segments - n) made bytes ≡ Ok (made, bytes) = rw k refl in
+    let one : element_segments_at config context kinds (config.max_element_segments - n) made bytes ≡ Ok (made, bytes) = rw k refl in
     sym now.so_far ∙ one
 
 -- what refuses a part refuses the whole

@@ -45,5 +45,9 @@ pub mod DefinedTableLemmas
 pub mod ConstantValueLemmas
 pub mod CollectedValueLemmas
 pub mod ElementKindLemmas
+pub mod ElementOffsetLemmas
 pub mod ElementItemLemmas
+pub mod ElementFunctionLemmas
+pub mod ElementFitLemmas
+pub mod ElementCountLemmas
 pub mod ElementsLoop

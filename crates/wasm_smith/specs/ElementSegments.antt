@@ -1,18 +1,14 @@
 -- Which element segments the bytes give. Rules of this project.
-use Rattle.std.specs.Prelude.{ℕ, zero, suc, ◌≡◌, ◌⊎◌, ◌-◌, ◌<◌, ◌≤◌, min, Bool, true, false, not, ◌&&◌, ◌==◌, nat_lt, Option, Some, None, option_to_list, unwrap_or, List, [], ◌∷◌, ◌++◌, length, slice_get, sum_by, Result, Ok, Err, if◌then◌else◌}
+use Rattle.std.specs.Prelude.{ℕ, zero, suc, ◌-◌, min, Bool, true, false, not, ◌&&◌, ◌==◌, nat_lt, Option, Some, None, option_to_list, unwrap_or, List, [], ◌∷◌, ◌++◌, length, slice_get, sum_by, Result, Ok, Err, if◌then◌else◌}
 use Rattle.std.specs.Int.{cast_signed, w32, w64}
 use Rattle.std.specs.List.{list_any}
 use Rattle.smith_bytes.specs.declared.error.Count.{Count}
 use Rattle.smith_bytes.specs.declared.error.Count.TheVariants as counts
-use Rattle.smith_bytes.specs.declared.error.Error.{Error}
-use Rattle.smith_bytes.specs.declared.error.Error.TheVariants.{IncorrectFormat, Memory}
-use Rattle.smith_bytes.specs.declared.error.Why.TheVariants.{Unmet}
 use Rattle.smith_bytes.specs.Draws.{bool_at, range_at}
 use Rattle.smith_bytes.specs.Growth.{goes_at, grow_at}
 use Rattle.smith_types.specs.Entities.{most_elements}
 use Rattle.smith_types.specs.Expressions.{Context}
 use Rattle.smith_types.specs.Segments.{address_type, item_count}
-use Rattle.smith_types.specs.ValidTypes.{IsRefTypeValid}
 use Rattle.smith_types.specs.declared.composite_type.SubType.{SubType}
 use Rattle.smith_types.specs.declared.const_instr.ConstInstr.{ConstInstr}
 use Rattle.smith_types.specs.declared.entity_type.TableType.{TableType}
@@ -29,16 +25,12 @@ use Rattle.smith_types.specs.declared.value_type.HeapType.TheVariants.{Abstract}
 use Rattle.smith_types.specs.declared.value_type.RefType.{RefType}
 use Rattle.smith_types.specs.declared.value_type.ValType.TheVariants.{Ref}
 use Rattle.smith_config.specs.declared.config.Config.{Config}
-use Rattle.smith_config.specs.Features.{features_of}
 use Rattle.smith_draw.specs.Choices.{chosen_at}
-use Rattle.smith_draw.specs.ConstBounds.{HoldsNonNullableField}
 use Rattle.smith_draw.specs.ConstExprs.{const_expr_at}
 use Rattle.smith_draw.specs.ConstOffers.{readable_globals}
-use Rattle.smith_draw.specs.ConstScopes.{AreSpacesValid}
 use Rattle.smith_draw.specs.MatchingTypes.{matching_ref_type_at}
 use Rattle.smith_draw.specs.Offsets.{offset_at}
 use Rattle.smith_draw.specs.TypeUses.{places_from}
-use Rattle.smith_draw.specs.declared.spaces.Spaces.{Spaces}
 use Rattle.smith_draw.specs.ValueTypes.{ref_type_at}
 use Rattle.wasm_smith.specs.Steps.{◌>>=◌}
 pub use Rattle.wasm_smith.specs.declared.build.element_kinds.KindChoice.{KindChoice}
@@ -82,11 +74,6 @@ kept_kinds config = if config.bulk_memory_enabled then choice.Passive ∷ choice
 -- the kinds of segments that are offered, in order
 unfoldable pub kinds_at : Config → List TableType → List ℕ → List KindChoice × List ℕ
 kinds_at config tables bytes = table_kinds_at config (kept_kinds config) 0 tables bytes
-
--- the minimum of the table, if a segment is copied into one, is not above what its addresses reach
-abbrev pub FitsAddresses : KindChoice → Type 0
-FitsAddresses (choice.Active index table) = table.minimum ≤ most_elements table.table64
-FitsAddresses _ = Unit {0}
 
 -- the globals that an offset may be read from: none where nothing may trap
 abbrev pub offset_globals : Config → Context → TableType → List ℕ
@@ -184,17 +171,6 @@ unfoldable pub expressions_at : Config → Context → RefType → ℕ → List 
 expressions_at config context ty most bytes =
     if nat_lt most config.min_elements then Err counts.Elements else Ok (drawn_expressions_at config context ty most bytes)
 
--- items of a type may be drawn over spaces: both are valid, and no reference that is needed may not be null
-pub record MayHoldItems (config : Config) (spaces : Spaces) (ty : RefType) : Type 0 where
-  pub standing : AreSpacesValid config spaces
-  pub valid : IsRefTypeValid (features_of config) (length spaces.types.now.types) ty
-  pub not_needed : ty.nullable ≡ true
-  pub nullable : HoldsNonNullableField spaces.types.now.types → ⊥
-
--- when items are refused: memory runs out, or more are asked for than may be
-abbrev pub MayRefuseItems : Config → Error → Type 0
-MayRefuseItems config e = (e ≡ Memory) ⊎ ((e ≡ IncorrectFormat (Unmet counts.Elements)) × (0 < config.min_elements))
-
 -- the items of a segment of a type, at most that many
 unfoldable pub items_at : Config → Context → RefType → ℕ → List ℕ → Result (Elements × List ℕ) Count
 items_at config context ty most bytes =
@@ -211,8 +187,8 @@ abbrev pub items_in : List ElementSegment → ℕ
 items_in segments = sum_by (λ (segment : ElementSegment). item_count segment.items) segments
 
 -- a segment of one of these kinds, behind as many items in all segments before it
-unfoldable pub segment_at : Config → Context → List KindChoice → ℕ → List ℕ → Result (ElementSegment × List ℕ) Count
-segment_at config context kinds total bytes = do
+unfoldable pub element_segment_at : Config → Context → List KindChoice → ℕ → List ℕ → Result (ElementSegment × List ℕ) Count
+element_segment_at config context kinds total bytes = do
   let chosen = chosen_at choice.Passive kinds bytes
   let kind = kind_at config context chosen.0 chosen.1
   let ty = item_type_at config context.types chosen.0 kind.1
@@ -220,13 +196,13 @@ segment_at config context kinds total bytes = do
   Ok (record { kind = kind.0.0; ty = ty.0; items = items.0 }, items.1)
 
 -- segments of these kinds, at most that many behind those that are made
-unfoldable pub segments_at : Config → Context → List KindChoice → ℕ → List ElementSegment → List ℕ → Result (List ElementSegment × List ℕ) Count
-segments_at config context kinds zero made bytes = Ok (made, bytes)
-segments_at config context kinds (suc most) made bytes =
+unfoldable pub element_segments_at : Config → Context → List KindChoice → ℕ → List ElementSegment → List ℕ → Result (List ElementSegment × List ℕ) Count
+element_segments_at config context kinds zero made bytes = Ok (made, bytes)
+element_segments_at config context kinds (suc most) made bytes =
     let go = goes_at (nat_lt (length made) config.min_element_segments) bytes in
     if go.0 then (do
-      segment ← segment_at config context kinds (items_in made) go.1
-      segments_at config context kinds most (made ++ segment.0 ∷ []) segment.1)
+      segment ← element_segment_at config context kinds (items_in made) go.1
+      element_segments_at config context kinds most (made ++ segment.0 ∷ []) segment.1)
     else Ok (made, go.1)
 
 -- the element segments of a module with these tables; where no kind is offered, none, and too few are refused
@@ -234,4 +210,4 @@ unfoldable pub elements_at : Config → Context → List TableType → List ℕ 
 elements_at config context tables bytes =
     let kinds = kinds_at config tables bytes in
     if length kinds.0 == 0 then (if config.min_element_segments == 0 then Ok ([], kinds.1) else Err counts.ElementSegments)
-    else segments_at config context kinds.0 config.max_element_segments [] kinds.1
+    else element_segments_at config context kinds.0 config.max_element_segments [] kinds.1

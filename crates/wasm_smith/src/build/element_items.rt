@@ -1,13 +1,20 @@
-ghost use Rattle.std.specs.Prelude.{◌≡◌, ◌<◌, ◌≤◌, ◌^◌, true, false, length, IsTrue, OnOk, IfOk, IfErr};
+ghost use Rattle.std.specs.Prelude.{◌≡◌, ◌<◌, ◌≤◌, ◌^◌, true, false, length, IsTrue, OnOk, IfOk, IfErr, All};
 ghost use Rattle.smith_bytes.specs.Source.{KeepsPieces};
+ghost use Rattle.smith_types.specs.Expressions.{IsConstExpr};
+ghost use Rattle.smith_types.specs.Floats.{HasNoFloat};
 ghost use Rattle.smith_types.specs.Segments.{item_count};
+ghost use Rattle.smith_types.specs.declared.segments.Elements.TheVariants as listed;
+ghost use Rattle.smith_types.specs.declared.value_type.RefType.{RefType};
+ghost use Rattle.smith_types.specs.declared.value_type.ValType.TheVariants.{Ref};
 ghost use Rattle.smith_config.specs.Sanitized.{IsSanitized};
-ghost use Rattle.smith_draw.specs.ConstScopes.{seen_by};
+ghost use Rattle.smith_draw.specs.ConstFloats.{GivesNoFloat};
+ghost use Rattle.smith_draw.specs.ConstScopes.{AreSpacesValid, seen_by};
 ghost use Rattle.smith_draw.specs.Drawing.{AlwaysDraws, Draws};
 ghost use Rattle.wasm_smith.specs.Steps.{Gives};
-ghost use Rattle.wasm_smith.specs.DrawnElements.{IsOffered, MayDrawElements};
+ghost use Rattle.wasm_smith.specs.DrawnElements.{IsOffered, FitsTable, AreItemsFit, MayDrawElements, MayHoldItems, MayRefuseItems};
 ghost use Rattle.wasm_smith.specs.ElementSegments.{
   item_type_at,
+  is_funcref,
   is_unshared_type,
   unshared_funcs,
   are_functions_at,
@@ -17,8 +24,6 @@ ghost use Rattle.wasm_smith.specs.ElementSegments.{
   drawn_expressions_at,
   expressions_at,
   items_at,
-  MayHoldItems,
-  MayRefuseItems,
 };
 
 use crate::build::element_kinds::{KindChoice, is_funcref};
@@ -62,6 +67,7 @@ pub(crate) fn item_type(
     requires offered { IsOffered config.now spaces.now.types.now.types spaces.now.entities.tables.now choice }
     ensures draws { Draws (item_type_at config.now spaces.now.types.now.types choice u.old) result u.old u.new }
     ensures may { IfOk result (MayHoldItems config.now spaces.now) }
+    ensures fits { IfOk result (FitsTable spaces.now.types.now.types choice) }
 {
     drawn_item_type(alloc, config, spaces, choice, u)
 }
@@ -140,7 +146,7 @@ fn chosen_functions(
 }
 
 #[tactic(auto, unfolding(crate::specs::ElementSegments::functions_at))]
-fn functions(
+fn drawn_functions(
     alloc: Global,
     config: &Config,
     spaces: &Spaces<'_>,
@@ -161,6 +167,24 @@ fn functions(
     chosen_functions(alloc, config, funcs.as_slice(), most, u)
 }
 
+/// Draws items that are functions, at most `most`.
+fn functions(
+    alloc: Global,
+    config: &Config,
+    spaces: &Spaces<'_>,
+    most: usize,
+    u: &mut Unstructured<'_>,
+) -> Result<Items<u32>, Error>
+    requires { AreSpacesValid config.now spaces.now }
+    ensures exact { Gives (λ items. (items, u.new)) result (functions_at config.now (seen_by config.now spaces.now true) most u.old) }
+    ensures few { IfOk result (λ items. length items ≤ most) }
+    ensures fit { (ty : RefType) → IsTrue (is_funcref ty) → IfOk result (λ items. AreItemsFit config.now (seen_by config.now spaces.now true) ty (listed.Functions items)) }
+    ensures refusal { IfErr result (MayRefuseItems config.now) }
+    ensures left { KeepsPieces u.old u.new }
+{
+    drawn_functions(alloc, config, spaces, most, u)
+}
+
 /// Draws an item as an expression.
 #[tactic(auto, unfolding(crate::specs::ElementSegments::expression_item_at))]
 fn expression_item(
@@ -172,7 +196,9 @@ fn expression_item(
 ) -> Result<Items<ConstInstr>, Error>
     requires references { IsTrue config.now.reference_types_enabled }
     requires may { MayHoldItems config.now spaces.now ty }
-    ensures { Draws (expression_item_at config.now (seen_by config.now spaces.now true) ty u.old) result u.old u.new }
+    ensures draws { Draws (expression_item_at config.now (seen_by config.now spaces.now true) ty u.old) result u.old u.new }
+    ensures typed { IfOk result (IsConstExpr (seen_by config.now spaces.now true) (Ref ty)) }
+    ensures floats { All HasNoFloat spaces.now.types.now.types → IfOk result (All GivesNoFloat) }
 {
     arbitrary_const_expr(alloc, config, spaces, ValType::Ref(ty), true, u)
 }
@@ -188,7 +214,9 @@ fn drawn_expressions(
 ) -> Result<Items<Items<ConstInstr>>, Error>
     requires references { IsTrue config.now.reference_types_enabled }
     requires may { MayHoldItems config.now spaces.now ty }
-    ensures { Draws (drawn_expressions_at config.now (seen_by config.now spaces.now true) ty most u.old) result u.old u.new }
+    ensures draws { Draws (drawn_expressions_at config.now (seen_by config.now spaces.now true) ty most u.old) result u.old u.new }
+    ensures typed { IfOk result (All (IsConstExpr (seen_by config.now spaces.now true) (Ref ty))) }
+    ensures floats { All HasNoFloat spaces.now.types.now.types → IfOk result (All (All GivesNoFloat)) }
 {
     let mut items = Items::new(alloc);
     for made in 0..most {
@@ -213,6 +241,7 @@ fn expressions(
     requires may { MayHoldItems config.now spaces.now ty }
     ensures exact { Gives (λ items. (items, u.new)) result (expressions_at config.now (seen_by config.now spaces.now true) ty most u.old) }
     ensures few { IfOk result (λ items. length items ≤ most) }
+    ensures fit { IfOk result (λ items. AreItemsFit config.now (seen_by config.now spaces.now true) ty (listed.Expressions items)) }
     ensures refusal { IfErr result (MayRefuseItems config.now) }
     ensures left { KeepsPieces u.old u.new }
 {
@@ -233,6 +262,7 @@ pub(crate) fn items(
     requires may { MayHoldItems config.now spaces.now ty }
     ensures exact { Gives (λ items. (items, u.new)) result (items_at config.now (seen_by config.now spaces.now true) ty most u.old) }
     ensures few { IfOk result (λ items. item_count items ≤ most) }
+    ensures fit { IfOk result (AreItemsFit config.now (seen_by config.now spaces.now true) ty) }
     ensures refusal { IfErr result (MayRefuseItems config.now) }
     ensures left { KeepsPieces u.old u.new }
 {

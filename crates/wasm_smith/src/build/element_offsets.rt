@@ -1,11 +1,14 @@
-ghost use Rattle.std.specs.Prelude.{◌≡◌, ◌<◌, ◌≤◌, ℕ, true, IsTrue, IfOk, IfErr};
+ghost use Rattle.std.specs.Prelude.{◌≡◌, ◌+◌, ◌-◌, ◌<◌, ◌≤◌, ℕ, true, [], Some, IsTrue, IfOk, IfErr};
 ghost use Rattle.smith_types.specs.Entities.{most_elements};
+ghost use Rattle.smith_types.specs.Expressions.{Context};
 ghost use Rattle.smith_types.specs.Features.{Features};
-ghost use Rattle.smith_types.specs.Segments.{address_type};
+ghost use Rattle.smith_types.specs.Segments.{address_type, IsOffsetValid, IsOffsetInside};
 ghost use Rattle.smith_types.specs.ValidTypes.{IsValTypeValid};
 ghost use Rattle.smith_draw.specs.ConstScopes.{AreSpacesValid, seen_by};
 ghost use Rattle.smith_draw.specs.Drawing.{AlwaysDraws, Draws};
-ghost use Rattle.wasm_smith.specs.ElementSegments.{offset_globals, most_offset, constant_offset, hint_at, constant_offset_at, is_global_wanted_at, table_offset_at, kind_at, FitsAddresses};
+ghost use Rattle.wasm_smith.specs.DataTargets.{TellOffsets};
+ghost use Rattle.wasm_smith.specs.DrawnElements.{FitsAddresses, IsPlaced, IsKindDrawn};
+ghost use Rattle.wasm_smith.specs.ElementSegments.{offset_globals, most_offset, constant_offset, hint_at, constant_offset_at, is_global_wanted_at, table_offset_at, kind_at};
 
 use crate::build::element_kinds::KindChoice;
 use smith_bytes::{Error, Unstructured};
@@ -31,6 +34,8 @@ fn offset_globals(
 ) -> Result<Items<u32>, Error>
     requires { AreSpacesValid config.now spaces.now }
     ensures exact { IfOk result (λ globals. globals ≡ offset_globals config.now (seen_by config.now spaces.now true) table.now) }
+    ensures tell { IfOk result (TellOffsets (seen_by config.now spaces.now true) table.now.table64) }
+    ensures none { IsTrue config.now.disallow_traps → IfOk result (λ globals. globals ≡ []) }
     ensures memory { IfErr result (λ e. e ≡ Error.Memory) }
 {
     if config.disallow_traps {
@@ -60,7 +65,9 @@ fn most_offset(config: &Config, table: &TableType) -> u64
 /// A constant of the address type of `table`.
 fn constant_offset(table: &TableType, offset: u64) -> Offset
     requires { offset ≤ most_elements table.now.table64 }
-    ensures { result ≡ constant_offset table.now offset }
+    ensures exact { result ≡ constant_offset table.now offset }
+    ensures valid { (context : Context) → IsOffsetValid context table.now.table64 result }
+    ensures inside { (count most : ℕ) → offset + count ≤ most → IsOffsetInside result count most }
 {
     if table.table64 {
         return Offset::Const64(offset.cast_signed());
@@ -72,7 +79,8 @@ fn constant_offset(table: &TableType, offset: u64) -> Offset
 #[tactic(auto, unfolding(crate::specs::ElementSegments::hint_at))]
 fn hint(config: &Config, table: &TableType, offset: u64, u: &mut Unstructured<'_>) -> Option<u64>
     requires { offset ≤ most_offset config.now table.now }
-    ensures { AlwaysDraws (hint_at config.now table.now offset u.old) result u.old u.new }
+    ensures draws { AlwaysDraws (hint_at config.now table.now offset u.old) result u.old u.new }
+    ensures inside { IsTrue config.now.disallow_traps → result ≡ Some (table.now.minimum - offset) }
 {
     if config.disallow_traps {
         return Some(table.minimum - offset);
@@ -95,7 +103,8 @@ fn drawn_constant(
     u: &mut Unstructured<'_>,
 ) -> (Offset, Option<u64>)
     requires { table.now.minimum ≤ most_elements table.now.table64 }
-    ensures { AlwaysDraws (constant_offset_at config.now table.now u.old) result u.old u.new }
+    ensures draws { AlwaysDraws (constant_offset_at config.now table.now u.old) result u.old u.new }
+    ensures placed { (context : Context) → IsPlaced config.now context table.now result.0 result.1 }
 {
     let most = most_offset(config, table);
     let offset = arbitrary_offset(table.minimum, most, 0, u);
@@ -125,7 +134,8 @@ fn table_offset(
 ) -> Result<(Offset, Option<u64>), Error>
     requires standing { AreSpacesValid config.now spaces.now }
     requires fits { table.now.minimum ≤ most_elements table.now.table64 }
-    ensures { Draws (table_offset_at config.now (seen_by config.now spaces.now true) table.now u.old) result u.old u.new }
+    ensures draws { Draws (table_offset_at config.now (seen_by config.now spaces.now true) table.now u.old) result u.old u.new }
+    ensures placed { IfOk result (λ drawn. IsPlaced config.now (seen_by config.now spaces.now true) table.now drawn.0 drawn.1) }
 {
     let globals = offset_globals(alloc, config, spaces, table)?;
     if !is_global_wanted(globals.len(), u) {
@@ -146,7 +156,8 @@ pub(crate) fn kind(
 ) -> Result<(ElementKind, Option<u64>), Error>
     requires standing { AreSpacesValid config.now spaces.now }
     requires fits { FitsAddresses choice }
-    ensures { Draws (kind_at config.now (seen_by config.now spaces.now true) choice u.old) result u.old u.new }
+    ensures draws { Draws (kind_at config.now (seen_by config.now spaces.now true) choice u.old) result u.old u.new }
+    ensures placed { IfOk result (IsKindDrawn config.now (seen_by config.now spaces.now true) choice) }
 {
     match choice {
         KindChoice::Passive => Ok((ElementKind::Passive, None)),

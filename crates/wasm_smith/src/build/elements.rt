@@ -1,10 +1,18 @@
-ghost use Rattle.std.specs.Prelude.{◌≡◌, ◌+◌, ◌<◌, ◌≤◌, true, [], length, IfOk, IfErr, All};
+ghost use Rattle.std.specs.Prelude.{◌≡◌, ◌+◌, ◌<◌, ◌≤◌, true, [], length, IsTrue, IfOk, IfErr, All, if◌then◌else◌};
+ghost use Rattle.std.specs.List.{flat_map};
 ghost use Rattle.smith_bytes.specs.Source.{KeepsPieces};
-ghost use Rattle.smith_types.specs.Segments.{item_count};
+ghost use Rattle.smith_bytes.specs.Takes.{Takes};
+ghost use Rattle.smith_types.specs.Floats.{HasNoFloat};
+ghost use Rattle.smith_types.specs.Segments.{item_count, IsElementValid, IsElementInside};
+ghost use Rattle.smith_types.specs.declared.segments.ElementSegment.{ElementSegment};
+ghost use Rattle.smith_draw.specs.ConstFloats.{GivesNoFloat};
 ghost use Rattle.smith_draw.specs.ConstScopes.{seen_by};
+ghost use Rattle.wasm_smith.specs.Defined.{SpellsEmpty};
 ghost use Rattle.wasm_smith.specs.Steps.{Gives};
-ghost use Rattle.wasm_smith.specs.DrawnElements.{IsOffered, MayDrawElements, MayRefuseElements};
-ghost use Rattle.wasm_smith.specs.ElementSegments.{most_items, items_in, segment_at, segments_at, elements_at, MayRefuseItems};
+ghost use Rattle.wasm_smith.specs.DrawnElements.{IsOffered, HasItems, IsElementFit, MayDrawElements, MayRefuseItems, MayRefuseElements};
+ghost use Rattle.wasm_smith.specs.ElementSegments.{most_items, items_in, element_segment_at, element_segments_at, elements_at};
+ghost use Rattle.wasm_smith.specs.Promises.{expressions_of};
+ghost use Rattle.wasm_smith.specs.Spelling.{SpellsNone};
 
 use crate::build::element_items::{item_type, items};
 use crate::build::element_kinds::{KindChoice, kinds};
@@ -29,7 +37,7 @@ fn most_items(config: &Config, hint: Option<u64>, total: usize) -> usize
 }
 
 /// Draws a segment of one of these kinds, behind `total` items in all segments before it.
-#[tactic(auto, unfolding(crate::specs::ElementSegments::segment_at))]
+#[tactic(auto, unfolding(crate::specs::ElementSegments::element_segment_at))]
 fn segment(
     alloc: Global,
     config: &Config,
@@ -43,7 +51,8 @@ fn segment(
     requires offered { All (IsOffered config.now spaces.now.types.now.types spaces.now.entities.tables.now) kinds.now }
     requires total { total ≤ config.now.max_elements }
     ensures within { IfOk result (λ segment. total + item_count segment.items ≤ config.now.max_elements) }
-    ensures exact { Gives (λ segment. (segment, u.new)) result (segment_at config.now (seen_by config.now spaces.now true) kinds.now total u.old) }
+    ensures exact { Gives (λ segment. (segment, u.new)) result (element_segment_at config.now (seen_by config.now spaces.now true) kinds.now total u.old) }
+    ensures fit { IfOk result (IsElementFit config.now (seen_by config.now spaces.now true) spaces.now.entities.tables.now) }
     ensures refusal { IfErr result (MayRefuseItems config.now) }
     ensures left { KeepsPieces u.old u.new }
 {
@@ -76,7 +85,8 @@ fn segments(
     requires may { MayDrawElements config.now spaces.now }
     requires some { 0 < length kinds.now }
     requires offered { All (IsOffered config.now spaces.now.types.now.types spaces.now.entities.tables.now) kinds.now }
-    ensures exact { Gives (λ segments. (segments, u.new)) result (segments_at config.now (seen_by config.now spaces.now true) kinds.now config.now.max_element_segments [] u.old) }
+    ensures exact { Gives (λ segments. (segments, u.new)) result (element_segments_at config.now (seen_by config.now spaces.now true) kinds.now config.now.max_element_segments [] u.old) }
+    ensures fit { IfOk result (All (IsElementFit config.now (seen_by config.now spaces.now true) spaces.now.entities.tables.now)) }
     ensures most { IfOk result (λ segments. (length segments ≤ config.now.max_element_segments) × (items_in segments ≤ config.now.max_elements)) }
     ensures refusal { IfErr result (MayRefuseItems config.now) }
     ensures left { KeepsPieces u.old u.new }
@@ -105,9 +115,8 @@ fn none(alloc: Global, config: &Config) -> Result<Items<ElementSegment>, Error>
     Ok(Items::new(alloc))
 }
 
-/// Draws the element segments beside the tables of `spaces`.
 #[tactic(auto, unfolding(crate::specs::ElementSegments::elements_at))]
-pub(crate) fn elements(
+fn drawn_elements(
     alloc: Global,
     config: &Config,
     spaces: &Spaces<'_>,
@@ -115,6 +124,7 @@ pub(crate) fn elements(
 ) -> Result<Items<ElementSegment>, Error>
     requires may { MayDrawElements config.now spaces.now }
     ensures exact { Gives (λ segments. (segments, u.new)) result (elements_at config.now (seen_by config.now spaces.now true) spaces.now.entities.tables.now u.old) }
+    ensures fit { IfOk result (All (IsElementFit config.now (seen_by config.now spaces.now true) spaces.now.entities.tables.now)) }
     ensures most { IfOk result (λ segments. (length segments ≤ config.now.max_element_segments) × (items_in segments ≤ config.now.max_elements)) }
     ensures refusal { IfErr result (MayRefuseElements config.now) }
     ensures left { KeepsPieces u.old u.new }
@@ -124,4 +134,33 @@ pub(crate) fn elements(
         return none(alloc, config);
     }
     segments(alloc, config, spaces, kinds.as_slice(), u)
+}
+
+/// Draws the element segments beside the tables of `spaces`: as many as are asked for, and no more than may be, each with as
+/// many items as are asked for, unless it lists functions and there is none that is not shared.
+///
+/// # Errors
+///
+/// `Unmet(ElementSegments)` where some are asked for, there is no bulk memory, and no table is offered; `Unmet(Elements)` where
+/// a segment may not have as many items as are asked for.
+pub(crate) fn elements(
+    alloc: Global,
+    config: &Config,
+    spaces: &Spaces<'_>,
+    u: &mut Unstructured<'_>,
+) -> Result<Items<ElementSegment>, Error>
+    requires may { MayDrawElements config.now spaces.now }
+    ensures exact { Gives (λ segments. (segments, u.new)) result (elements_at config.now (seen_by config.now spaces.now true) spaces.now.entities.tables.now u.old) }
+    ensures valid { IfOk result (All (IsElementValid (seen_by config.now spaces.now true) spaces.now.entities.tables.now)) }
+    ensures inside { IsTrue config.now.disallow_traps → IfOk result (All (IsElementInside spaces.now.entities.tables.now)) }
+    ensures most { IfOk result (λ segments. (length segments ≤ config.now.max_element_segments) × (items_in segments ≤ config.now.max_elements)) }
+    ensures least { IfOk result (λ segments. config.now.min_element_segments ≤ length segments) }
+    ensures enough { IfOk result (All (λ (segment : ElementSegment). HasItems config.now spaces.now.types.now.types spaces.now.entities.funcs.now segment.items)) }
+    ensures floats { All HasNoFloat spaces.now.types.now.types → IfOk result (λ segments. All (All GivesNoFloat) (flat_map (λ (segment : ElementSegment). expressions_of segment.items) segments)) }
+    ensures none { config.now.min_element_segments ≡ 0 → spaces.now.entities.tables.now ≡ []
+        → IfOk result (λ segments. Takes (SpellsEmpty (SpellsNone (if config.now.bulk_memory_enabled then config.now.max_element_segments else 0))) u.old segments u.new) }
+    ensures refusal { IfErr result (MayRefuseElements config.now) }
+    ensures left { KeepsPieces u.old u.new }
+{
+    drawn_elements(alloc, config, spaces, u)
 }

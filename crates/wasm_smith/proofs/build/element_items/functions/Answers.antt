@@ -1,7 +1,15 @@
-use Rattle.std.proofs.Common.{ℕ, ◌≤◌, List, length}
-use Rattle.smith_draw.proofs.DrawingLemmas.{of_drawn}
-use Rattle.wasm_smith.proofs.ElementItemLemmas.{functions_few}
+use Rattle.std.proofs.Common.{ℕ, List, true}
+use Rattle.smith_types.specs.declared.segments.Elements.TheVariants.{Functions}
+use Rattle.smith_draw.specs.ConstScopes.{seen_by}
+use Rattle.wasm_smith.specs.DrawnElements.{AreItemsFit}
+use Rattle.wasm_smith.specs.ElementSegments.{functions_at}
+use Rattle.wasm_smith.proofs.ElementFunctionLemmas.{functions_fit}
+use Rattle.wasm_smith.proofs.GivenLemmas.{given_is}
 use Rattle.wasm_smith.proofs.build.element_items.functions.Goals as goal
 
-pub returns-clause-few : goal.returns-clause-few
-returns-clause-few c = of_drawn (λ (items : List ℕ). length items ≤ c.args.most) c.chosen_functions.ensures (functions_few c.args.config.now _ c.args.most _)
+pub returns-clause-fit : goal.returns-clause-fit
+returns-clause-fit c = λ ty plain.
+    let config = c.args.config.now in
+    let context = seen_by config c.args.spaces.now true in
+    given_is (λ (items : List ℕ). AreItemsFit config context ty (Functions items)) (λ items. items) (functions_at config context c.args.most c.args.u.now) _ c.drawn_functions.result
+    (functions_fit config context ty c.args.most c.args.u.now c.requires.funcs plain) c.drawn_functions.ensures.exact
