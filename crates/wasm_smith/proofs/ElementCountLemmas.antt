@@ -14,7 +14,7 @@ use Rattle.smith_types.specs.declared.entity_type.TableType.{TableType}
 use Rattle.smith_types.specs.declared.segments.ElementSegment.{ElementSegment}
 use Rattle.smith_config.specs.declared.config.Config.{Config}
 use Rattle.wasm_smith.specs.Defined.{SpellsEmpty}
-use Rattle.wasm_smith.specs.ElementSegments.{KindChoice, table_kinds_at, kept_kinds, kinds_at, element_segment_at, element_segments_at, elements_at}
+use Rattle.wasm_smith.specs.ElementSegments.{KindChoice, table_kinds_at, kinds_at, element_segments_at, elements_at}
 use Rattle.wasm_smith.specs.Spelling.{SpellsNone}
 use Rattle.wasm_smith.specs.Steps.{Gives, ◌>>=◌}
 use Rattle.wasm_smith.specs.declared.build.element_kinds.KindChoice.TheVariants.{Passive, Declared}

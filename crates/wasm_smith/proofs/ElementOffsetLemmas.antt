@@ -1,6 +1,6 @@
 -- Offsets of element segments are placed: of the addresses of their table, and where nothing may trap, with a limit.
-use Rattle.std.proofs.Common.{◌≡◌, ℕ, ◌+◌, ◌-◌, ◌<◌, ◌≤◌, true, Option, Some, None, List, [], length, refl, ap, arith}
-use Rattle.std.specs.Prelude.{IsTrue, IsSomeAnd}
+use Rattle.std.proofs.Common.{◌≡◌, ℕ, ◌+◌, ◌-◌, ◌<◌, ◌≤◌, Option, Some, None, List, [], length, refl, ap, arith}
+use Rattle.std.specs.Prelude.{IsTrue}
 use Rattle.smith_types.specs.Expressions.{Context, IsVisible}
 use Rattle.smith_types.specs.Segments.{address_type, IsOffsetValid, IsOffsetInside}
 use Rattle.smith_types.specs.declared.entity_type.TableType.{TableType}

@@ -1,4 +1,4 @@
-use Rattle.std.proofs.Common.{true, refl}
+use Rattle.std.proofs.Common.{true}
 use Rattle.smith_draw.specs.ConstScopes.{seen_by}
 use Rattle.wasm_smith.proofs.ElementOffsetLemmas.{global_placed}
 use Rattle.wasm_smith.proofs.build.element_offsets.table_offset.Goals as goal

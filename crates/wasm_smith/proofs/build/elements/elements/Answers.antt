@@ -1,5 +1,4 @@
 use Rattle.std.proofs.Common.{◌≤◌, List, length, true}
-use Rattle.std.specs.Prelude.{All}
 use Rattle.std.proofs.lemmas.List.Elements.{All-weaker}
 use Rattle.std.proofs.lemmas.Result.{IfOk-weaker}
 use Rattle.smith_bytes.specs.declared.error.Count.TheVariants as counts
