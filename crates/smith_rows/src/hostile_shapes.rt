@@ -36,32 +36,75 @@ fn a_cycle_of_supertypes(rt: HostRuntime) -> Result<(), Fail> {
     Ok(())
 }
 
-// A struct type of many fields that refer to it.
-fn wide_struct(alloc: Global) -> Result<SubType, Error> {
-    let mut fields = Items::new(alloc);
-    for _ in 0..MANY {
-        fields.push(FieldType {
-            element_type: StorageType::Val(ValType::Ref(RefType {
-                nullable: true,
-                heap_type: HeapType::Concrete(0),
-            })),
-            mutable: false,
-        })?;
+// A constant field that refers to the type of this index.
+fn field_of(index: u32) -> FieldType {
+    FieldType {
+        element_type: StorageType::Val(ValType::Ref(RefType {
+            nullable: true,
+            heap_type: HeapType::Concrete(index),
+        })),
+        mutable: false,
     }
-    Ok(SubType {
-        is_final: true,
-        supertype: None,
+}
+
+// A struct type of these fields.
+fn struct_of(is_final: bool, supertype: Option<u32>, fields: Items<FieldType>) -> SubType {
+    SubType {
+        is_final,
+        supertype,
         composite_type: CompositeType {
             inner: CompositeInnerType::Struct(StructType { fields }),
             shared: false,
         },
-    })
+    }
+}
+
+// A struct type of many fields that refer to it.
+fn wide_struct(alloc: Global) -> Result<SubType, Error> {
+    let mut fields = Items::new(alloc);
+    for _ in 0..MANY {
+        fields.push(field_of(0))?;
+    }
+    Ok(struct_of(true, None, fields))
 }
 
 #[test]
 fn a_struct_of_many_fields(rt: HostRuntime) -> Result<(), Fail> {
     let shape = of_type(rt.alloc(), wide_struct(rt.alloc())?)?;
     assert_eq!(rt; module_fault(rt.alloc(), shape)?, None);
+    Ok(())
+}
+
+// A struct type below another, of one field.
+fn referring(alloc: Global, to: u32, supertype: Option<u32>) -> Result<SubType, Error> {
+    let mut fields = Items::new(alloc);
+    fields.push(field_of(to))?;
+    Ok(struct_of(false, supertype, fields))
+}
+
+// Struct types each of which is below the one before, and refers to the first.
+fn referring_chain(alloc: Global) -> Result<Items<SubType>, Error> {
+    let mut types = Items::new(alloc);
+    types.push(referring(alloc, 0, None)?)?;
+    for index in 1..MANY {
+        types.push(referring(alloc, 0, Some(index - 1))?)?;
+    }
+    Ok(types)
+}
+
+// Below the last of them as many that refer to it, so that each is matched along the whole chain.
+fn fan_below_a_chain(alloc: Global) -> Result<Items<SubType>, Error> {
+    let mut types = referring_chain(alloc)?;
+    for _ in 0..MANY {
+        types.push(referring(alloc, MANY - 1, Some(MANY - 1))?)?;
+    }
+    Ok(types)
+}
+
+#[test]
+fn a_fan_below_a_chain_of_supertypes(rt: HostRuntime) -> Result<(), Fail> {
+    let shape = of_types(rt.alloc(), fan_below_a_chain(rt.alloc())?)?;
+    assert_eq!(rt; module_fault(rt.alloc(), shape)?, Some(ShapeFault::Limit));
     Ok(())
 }
 

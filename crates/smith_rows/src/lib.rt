@@ -10,9 +10,15 @@ mod configured_shapes;
 #[cfg(test)]
 mod constant_expressions;
 #[cfg(test)]
+mod data_segments;
+#[cfg(test)]
 mod drawn_entities;
 #[cfg(test)]
 mod drawn_types;
+#[cfg(test)]
+mod element_segments;
+#[cfg(test)]
+mod exported_modules;
 #[cfg(test)]
 mod first_faults;
 #[cfg(test)]
@@ -35,6 +41,8 @@ mod library_example;
 mod matching_types;
 #[cfg(test)]
 mod modules;
+#[cfg(test)]
+mod raw_bodies;
 #[cfg(test)]
 mod repeated;
 #[cfg(test)]

@@ -112,7 +112,7 @@ fn no_bytes_give_the_empty_module(rt: HostRuntime) -> Result<(), Fail> {
     let made = facts_from(rt.alloc(), Config::default(), &[])?;
     assert_eq!(rt; made.index_spaces, [0; 7]);
     assert_eq!(rt; made.definitions, [0; 7]);
-    assert_eq!(rt; made.other_parts, [0; 7]);
+    assert_eq!(rt; made.other_parts, [0, 0, 0, 0, 0, 135, 270]);
     assert!(rt; !made.encodes_types);
     assert!(rt; !made.encodes_imports);
     assert_eq!(rt; made.start, None);
@@ -130,7 +130,7 @@ fn nine_bytes_give_a_type_and_a_function(rt: HostRuntime) -> Result<(), Fail> {
     let made = facts_from(rt.alloc(), config, &[1, 1, 0, 0, 0, 0, 0, 0, 1])?;
     assert_eq!(rt; made.index_spaces, [1, 1, 0, 1, 0, 0, 0]);
     assert_eq!(rt; made.definitions, [0, 0, 0, 1, 0, 0, 0]);
-    assert_eq!(rt; made.other_parts, [0, 0, 0, 1, 0, 0, 0]);
+    assert_eq!(rt; made.other_parts, [0, 0, 0, 1, 0, 135, 270]);
     assert_eq!(rt; made.group, Some((0, 1)));
     assert!(rt; made.takes_i32);
     assert_eq!(rt; made.func, Some(0));

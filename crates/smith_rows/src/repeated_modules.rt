@@ -34,6 +34,9 @@ fn config_of(asked: Asked) -> Config {
         Asked::OneImportedGlobal => {
             config.max_imports = 1;
             config.max_globals = 1;
+            config.max_exports = 0;
+            config.max_element_segments = 0;
+            config.max_data_segments = 0;
         }
     }
     config
@@ -57,6 +60,24 @@ fn have_same_definitions(a: &Module, b: &Module) -> bool {
         && a.defined_globals() == b.defined_globals()
 }
 
+// How many element segments, data segments and bodies there are.
+fn lengths_of(module: &Module) -> [usize; 3] {
+    [
+        module.elems().len(),
+        module.data().len(),
+        module.code().len(),
+    ]
+}
+
+fn have_same_contents(a: &Module, b: &Module) -> bool {
+    a.exports() == b.exports() && a.start() == b.start() && lengths_of(a) == lengths_of(b)
+}
+
+fn have_same_values(a: &Module, b: &Module) -> bool {
+    a.interesting_values32() == b.interesting_values32()
+        && a.interesting_values64() == b.interesting_values64()
+}
+
 fn have_same_flags(a: &Module, b: &Module) -> bool {
     a.should_encode_types() == b.should_encode_types()
         && a.should_encode_imports() == b.should_encode_imports()
@@ -66,6 +87,8 @@ fn are_same(a: &Module, b: &Module) -> bool {
     have_same_types(a, b)
         && have_same_entities(a, b)
         && have_same_definitions(a, b)
+        && have_same_contents(a, b)
+        && have_same_values(a, b)
         && have_same_flags(a, b)
 }
 

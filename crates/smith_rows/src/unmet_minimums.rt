@@ -37,15 +37,7 @@ fn refusal_of(alloc: Global, count: Count) -> Result<Option<Error>, Fail> {
 
 #[test]
 fn minimums_that_are_not_met(rt: HostRuntime) -> Result<(), Fail> {
-    let unmet = [
-        Count::Tags,
-        Count::Funcs,
-        Count::Exports,
-        Count::ElementSegments,
-        Count::Elements,
-        Count::DataSegments,
-    ];
-    for count in unmet {
+    for count in [Count::Tags, Count::Funcs, Count::Exports] {
         let found = refusal_of(rt.alloc(), count)?;
         assert_eq!(rt; found, Some(Error::IncorrectFormat(Why::Unmet(count))));
     }
@@ -58,12 +50,50 @@ fn minimums_that_are_met(rt: HostRuntime) -> Result<(), Fail> {
         Count::Types,
         Count::Imports,
         Count::Globals,
+        Count::ElementSegments,
+        Count::Elements,
+        Count::DataSegments,
         Count::Memories,
         Count::Tables,
     ];
     for count in met {
         assert_eq!(rt; refusal_of(rt.alloc(), count)?, None, "at {count}");
     }
+    Ok(())
+}
+
+// The defaults without bulk memory, with one thing of this kind at least.
+fn without_bulk_memory(count: Count) -> Config {
+    let mut config = at_least_one(count);
+    config.bulk_memory_enabled = false;
+    config
+}
+
+#[test]
+fn segments_without_bulk_memory(rt: HostRuntime) -> Result<(), Fail> {
+    for count in [Count::ElementSegments, Count::DataSegments] {
+        let first = refusal(rt.alloc(), without_bulk_memory(count));
+        let second = refusal(rt.alloc(), without_bulk_memory(count));
+        let unmet = Error::IncorrectFormat(Why::Unmet(count));
+        assert_eq!(rt; same(first, second)?, Some(unmet));
+    }
+    Ok(())
+}
+
+// Two element segments of one item, where there may be one item in all.
+fn two_items_of_one() -> Config {
+    let mut config = at_least_one(Count::Elements);
+    config.min_element_segments = 2;
+    config.max_elements = 1;
+    config
+}
+
+#[test]
+fn items_that_are_used_up(rt: HostRuntime) -> Result<(), Fail> {
+    let unmet = Error::IncorrectFormat(Why::Unmet(Count::Elements));
+    let first = refusal(rt.alloc(), two_items_of_one());
+    let second = refusal(rt.alloc(), two_items_of_one());
+    assert_eq!(rt; same(first, second)?, Some(unmet));
     Ok(())
 }
 
@@ -76,10 +106,9 @@ fn everything_exported() -> Config {
 
 #[test]
 fn exports_where_everything_is_exported(rt: HostRuntime) -> Result<(), Fail> {
-    let unmet = Error::IncorrectFormat(Why::Unmet(Count::Exports));
     let first = refusal(rt.alloc(), everything_exported());
     let second = refusal(rt.alloc(), everything_exported());
-    assert_eq!(rt; same(first, second)?, Some(unmet));
+    assert_eq!(rt; same(first, second)?, None);
     Ok(())
 }
 

@@ -79,9 +79,9 @@ own_place false xs place few below = absurd (omega (arith, length_alike false 0 
 -- of tables, memories and globals each is a candidate where one is
 pub other_place : (types : List SubType) (spaces : IndexSpaces) (left : ℕ) (of_kind : ExportKind) (place : ℕ) → MayExport types spaces → (of_kind ≡ kind.Func → ⊥) → place < length (candidates types spaces left of_kind) → IsOwnPlace (candidates types spaces left of_kind) place
 other_place types spaces left kind.Func place may other below = absurd (other refl)
-other_place types spaces left kind.Table place may other below = own_place (nat_lt 2 left) spaces.tables place may.few_tables below
-other_place types spaces left kind.Memory place may other below = own_place (nat_lt 2 left) spaces.memories place may.few_memories below
-other_place types spaces left kind.Global place may other below = own_place (nat_lt 2 left) spaces.globals place may.few_globals below
+other_place types spaces left kind.Table place may other below = own_place (nat_lt 2 left) spaces.tables place may.few.tables below
+other_place types spaces left kind.Memory place may other below = own_place (nat_lt 2 left) spaces.memories place may.few.memories below
+other_place types spaces left kind.Global place may other below = own_place (nat_lt 2 left) spaces.globals place may.few.globals below
 other_place types spaces left kind.Tag place may other below = absurd (omega arith)
 
 -- the type of a function that stands is right

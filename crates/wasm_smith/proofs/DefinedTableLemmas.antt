@@ -31,7 +31,7 @@ use Rattle.smith_draw.specs.TableTypes.{table_type_at}
 use Rattle.smith_draw.specs.declared.spaces.Spaces.{Spaces}
 use Rattle.wasm_smith.specs.Defined.{IsFilled, SpellsEmpty, MayInitialise, AreTablesDefined, standing_of}
 use Rattle.wasm_smith.specs.DefinedTables.{IsTableFit, AreTablesDrawn}
-use Rattle.wasm_smith.specs.Definitions.{Standing, Table, defined_at, table_at, tables_at, table_scope}
+use Rattle.wasm_smith.specs.Definitions.{Standing, Table, table_at, tables_at, table_scope}
 use Rattle.wasm_smith.specs.Module.{IsTableInitialised}
 use Rattle.wasm_smith.specs.Promises.{initial_of}
 use Rattle.wasm_smith.specs.Spelling.{SpellsNone}
@@ -65,10 +65,11 @@ pub table_fit : (config : Config) (spaces : Spaces) (table : TableType) (initial
     → IsTableValid (features_of config) spaces.types.now.types table → IsTableWithin config table → table.element_type.nullable ≡ true
     → IfSome initial (IsConstExpr (seen_by config spaces false) (Ref table.element_type)) → (IsSome initial → IsTrue config.gc_enabled) → (All HasNoFloat spaces.types.now.types → IfSome initial (All GivesNoFloat))
     → IsTableFit config (standing_of spaces) (table, initial)
-table_fit config spaces table None all valid within nullable typed gc floats = record { valid = valid; within = within; initialised = nullable; floats = λ calm. All-nil (All GivesNoFloat) }
+table_fit config spaces table None all valid within nullable typed gc floats = record { valid = valid; within = within; nullable = nullable; initialised = nullable; floats = λ calm. All-nil (All GivesNoFloat) }
 table_fit config spaces table (Some expression) all valid within nullable typed gc floats = record {
   valid = valid;
   within = within;
+  nullable = nullable;
   initialised = (gc refl, rw (seen_by_table config spaces all) at typed);
   floats = λ calm. All-cons (All GivesNoFloat) expression [] (floats calm) (All-nil (All GivesNoFloat));
 }

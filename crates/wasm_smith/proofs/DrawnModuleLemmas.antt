@@ -1,22 +1,19 @@
 -- A module that is put together of drawn parts is valid.
 use Rattle.std.proofs.Common.{rules, ◌≡◌, ◌∙◌, ℕ, ◌+◌, Bool, List, [], Some, length, refl, ap, arith, length-append}
-use Rattle.std.proofs.lemmas.List.{length-replicate}
 use Rattle.std.specs.Prelude.{slice_get, Option}
 use Rattle.std.proofs.lemmas.List.Elements.{All-nil}
 use Rattle.smith_types.specs.Grown.{Extends, IsContextGrown}
 use Rattle.smith_types.specs.Imports.{Defines, IndexSpaces, flattened, imported_spaces}
 use Rattle.smith_types.specs.IndexSpaces.{spaces_in}
-use Rattle.smith_types.specs.Segments.{IsElementValid, IsDataValid}
 use Rattle.smith_types.specs.Bodies.{IsFuel}
 use Rattle.smith_types.specs.declared.const_instr.ConstInstr.{ConstInstr}
 use Rattle.smith_config.specs.declared.config.Config.{Config}
-use Rattle.wasm_smith.specs.Build.{parts_of, trap}
+use Rattle.wasm_smith.specs.Build.{parts_of}
 use Rattle.wasm_smith.specs.Defined.{standing_in}
 use Rattle.wasm_smith.specs.Definitions.{table_scope}
 use Rattle.wasm_smith.specs.DrawnParts.{IsDrawnFor}
-use Rattle.wasm_smith.specs.Module.{Parts, IsValid, AreSpacesMade, IsTableDefined, IsGlobalDefined, module_features, module_imports, table_context, segment_context}
+use Rattle.wasm_smith.specs.Module.{Parts, IsValid, AreSpacesMade, IsTableDefined, IsGlobalDefined, module_imports, table_context}
 use Rattle.wasm_smith.specs.declared.build.drawn.Drawn.{Drawn}
-use Rattle.wasm_smith.proofs.BodyLemmas.{traps_valid}
 use Rattle.wasm_smith.proofs.InitialLemmas.{IsTableInitialised-grown}
 
 -- what is defined stands behind what is imported
@@ -73,9 +70,6 @@ module _ (distinct : Bool) (config : Config) (drawn : Drawn) (h : IsDrawnFor dis
       let one = h.defined.initial_globals.each place index initial at in
       record { in_order = one.in_order; global = one.global; stands = one.stands; initialised = one.initialised }
 
-  each_body : length m.code ≡ drawn.definitions.num_funcs
-  each_body = ap length h.code ∙ length-replicate drawn.definitions.num_funcs trap
-
   pub drawn_valid : IsValid m
   drawn_valid = record {
     types = h.types;
@@ -84,13 +78,13 @@ module _ (distinct : Bool) (config : Config) (drawn : Drawn) (h : IsDrawnFor dis
     entities = h.defined.entities;
     counts = h.defined.counts;
     definitions = record { tables = tables_defined; globals = globals_defined };
-    exports = record { stand = All-nil _; distinct = record { once = λ i j item at also. cc } };
-    start = tt;
-    elements = All-nil (IsElementValid (segment_context m) m.tables);
-    data_segments = All-nil (IsDataValid (segment_context m) m.memories);
+    exports = h.contents.exports;
+    start = h.contents.start;
+    elements = h.contents.segments.elements;
+    data_segments = h.contents.segments.data_segments;
     bodies = record {
-      each = each_body;
-      bodies = rw h.code (traps_valid (module_features m) (length m.types) config.allow_invalid_funcs drawn.definitions.num_funcs);
+      each = omega (arith, h.contents.each_body, h.defined.num_funcs);
+      bodies = h.contents.bodies;
       fuel = All-nil (IsFuel m.globals (length (module_imports m).globals));
     };
   }

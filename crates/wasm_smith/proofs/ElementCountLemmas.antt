@@ -2,8 +2,9 @@
 use Rattle.std.proofs.Common.{◌≡◌, ℕ, zero, suc, ◌+◌, ◌≤◌, Bool, true, false, cond, List, [], ◌∷◌, ◌++◌, length, ltb, eqb, refl, arith, length-append}
 use Rattle.std.specs.Prelude.{◌==◌, Result, Ok, Err, IfOk, if◌then◌else◌}
 use Rattle.std.proofs.lemmas.Bool.{cond_both, eqb-true, ltb-false, lt-ltb}
-use Rattle.smith_bytes.specs.declared.error.Count.{Count}
 use Rattle.smith_bytes.specs.declared.error.Count.TheVariants as counts
+use Rattle.smith_bytes.specs.declared.error.Why.{Why}
+use Rattle.smith_bytes.specs.declared.error.Why.TheVariants.{Unmet}
 use Rattle.smith_bytes.specs.declared.error.Error.{Error}
 use Rattle.smith_bytes.specs.Growth.{goes_at}
 use Rattle.smith_bytes.specs.Spelling.{SpellsBool}
@@ -21,9 +22,9 @@ use Rattle.wasm_smith.specs.declared.build.element_kinds.KindChoice.TheVariants.
 use Rattle.wasm_smith.proofs.GivenLemmas.{given_takes}
 
 -- what holds behind whatever a step gives holds behind the step
-behind : {A B : Type 0} (P : B → Type 0) (first : Result A Count) (next : A → Result B Count) → ((x : A) → IfOk (next x) P) → IfOk (first >>= next) P
+behind : {A B : Type 0} (P : B → Type 0) (first : Result A Why) (next : A → Result B Why) → ((x : A) → IfOk (next x) P) → IfOk (first >>= next) P
 behind P (Ok x) next each = each x
-behind P (Err count) next each = tt
+behind P (Err why) next each = tt
 
 stops_by : (b : Bool) (bytes : List ℕ) → (goes_at b bytes).0 ≡ false → b ≡ false
 stops_by true bytes off = cc
@@ -36,7 +37,7 @@ segments_least config context kinds zero made bytes enough = omega arith
 segments_least config context kinds (suc most) made bytes enough =
     let go = goes_at (ltb (length made) config.min_element_segments) bytes in
     let Least = λ (drawn : List ElementSegment × List ℕ). config.min_element_segments ≤ length drawn.0 in
-    cond_both go.0 _ _ (λ (r : Result (List ElementSegment × List ℕ) Count). IfOk r Least)
+    cond_both go.0 _ _ (λ (r : Result (List ElementSegment × List ℕ) Why). IfOk r Least)
     (λ on. behind Least _ _ (λ segment. segments_least config context kinds most (made ++ segment.0 ∷ []) segment.1 (omega (arith, length-append made (segment.0 ∷ [])))))
     (λ off. ltb-false (length made) config.min_element_segments (stops_by (ltb (length made) config.min_element_segments) bytes off))
 
@@ -46,7 +47,7 @@ unfolding elements_at
 elements_least config context tables bytes ordered =
     let kinds = kinds_at config tables bytes in
     let Least = λ (drawn : List ElementSegment × List ℕ). config.min_element_segments ≤ length drawn.0 in
-    let Given = λ (r : Result (List ElementSegment × List ℕ) Count). IfOk r Least in
+    let Given = λ (r : Result (List ElementSegment × List ℕ) Why). IfOk r Least in
     cond_both (eqb (length kinds.0) 0) _ _ Given
     (λ none. cond_both (eqb config.min_element_segments 0) _ _ Given (λ asked. let zero_asked = eqb-true config.min_element_segments 0 asked in omega arith) (λ some. tt))
     (λ some. segments_least config context kinds.0 config.max_element_segments [] kinds.1 (omega arith))
@@ -60,7 +61,7 @@ segments_none config context kinds (suc most) piece after none spelled =
     rw (none, bool_read false piece after stop) refl
 
 none_by : (config : Config) (context : Context) (bulk : Bool) (piece after : List ℕ) → config.min_element_segments ≡ 0 → SpellsNone (if bulk then config.max_element_segments else 0) piece
-    → cond (length (cond bulk (Passive ∷ Declared ∷ []) []) == 0) (cond (config.min_element_segments == 0) (Ok ([], piece ++ after)) (Err counts.ElementSegments)) (element_segments_at config context (cond bulk (Passive ∷ Declared ∷ []) []) config.max_element_segments [] (piece ++ after))
+    → cond (length (cond bulk (Passive ∷ Declared ∷ []) []) == 0) (cond (config.min_element_segments == 0) (Ok ([], piece ++ after)) (Err (Unmet counts.ElementSegments))) (element_segments_at config context (cond bulk (Passive ∷ Declared ∷ []) []) config.max_element_segments [] (piece ++ after))
     ≡ Ok ([], after)
 none_by config context true piece after none spelled = segments_none config context (Passive ∷ Declared ∷ []) config.max_element_segments piece after none spelled
 none_by config context false piece after none spelled = rw (none, spelled) refl

@@ -2,10 +2,9 @@
 use Rattle.std.proofs.Common.{◌≡◌, ◌∙◌, ℕ, suc, ◌+◌, ◌-◌, ◌≤◌, ◌<◌, Bool, true, false, Result, Ok, Err, List, [], ◌∷◌, ◌++◌, length, nat_lt, refl, sym, subst, ap, arith, length-append}
 use Rattle.std.specs.Prelude.{IsErrAnd}
 use Rattle.std.proofs.lemmas.List.Sums.{sum_by_push}
-use Rattle.smith_bytes.specs.declared.error.Count.{Count}
+use Rattle.smith_bytes.specs.declared.error.Why.{Why}
 use Rattle.smith_bytes.specs.declared.error.Error.{Error}
 use Rattle.smith_bytes.specs.declared.error.Error.TheVariants as errors
-use Rattle.smith_bytes.specs.declared.error.Why.TheVariants.{Unmet, TypeSize, SeveralMemories, SeveralTables, Loop, RawBody}
 use Rattle.smith_bytes.specs.Growth.{goes_at}
 use Rattle.smith_bytes.specs.Source.{KeepsPieces}
 use Rattle.smith_types.specs.Expressions.{Context}
@@ -16,7 +15,7 @@ use Rattle.wasm_smith.specs.Steps.{◌>>=◌, Gives}
 use Rattle.wasm_smith.specs.ElementSegments.{KindChoice, items_in, element_segment_at, element_segments_at}
 
 -- n segments are made, with as many items in all, and what is drawn from here on completes the whole
-pub record AreSegmentsMade (config : Config) (context : Context) (kinds : List KindChoice) (n : ℕ) (made : List ElementSegment) (total : ℕ) (start bytes : List ℕ) (whole : Result (List ElementSegment × List ℕ) Count) : Type 0 where
+pub record AreSegmentsMade (config : Config) (context : Context) (kinds : List KindChoice) (n : ℕ) (made : List ElementSegment) (total : ℕ) (start bytes : List ℕ) (whole : Result (List ElementSegment × List ℕ) Why) : Type 0 where
   pub len : length made ≡ n
   pub total_is : total ≡ items_in made
   pub within : total ≤ config.max_elements
@@ -24,7 +23,7 @@ pub record AreSegmentsMade (config : Config) (context : Context) (kinds : List K
   pub so_far : element_segments_at config context kinds (config.max_element_segments - n) made bytes ≡ whole
   pub left : KeepsPieces start bytes
 
-module _ {config : Config} {context : Context} {kinds : List KindChoice} {n total : ℕ} {made : List ElementSegment} {start bytes mid : List ℕ} {b : Bool} {whole : Result (List ElementSegment × List ℕ) Count} where
+module _ {config : Config} {context : Context} {kinds : List KindChoice} {n total : ℕ} {made : List ElementSegment} {start bytes mid : List ℕ} {b : Bool} {whole : Result (List ElementSegment × List ℕ) Why} where
   -- no segment was asked for
   pub segments_stop : AreSegmentsMade config context kinds n made total start bytes whole → n < config.max_element_segments → goes_at (nat_lt n config.min_element_segments) bytes ≡ (b, mid) → b ≡ false → whole ≡ Ok (made, mid)
   unfolding element_segments_at
@@ -43,8 +42,8 @@ module _ {config : Config} {context : Context} {kinds : List KindChoice} {n tota
       sym now.so_far ∙ one
 
   -- a segment was refused
-  pub segments_refused : {count : Count} → AreSegmentsMade config context kinds n made total start bytes whole → n < config.max_element_segments → goes_at (nat_lt n config.min_element_segments) bytes ≡ (b, mid) → b ≡ true
-      → element_segment_at config context kinds total mid ≡ Err count → whole ≡ Err count
+  pub segments_refused : {why : Why} → AreSegmentsMade config context kinds n made total start bytes whole → n < config.max_element_segments → goes_at (nat_lt n config.min_element_segments) bytes ≡ (b, mid) → b ≡ true
+      → element_segment_at config context kinds total mid ≡ Err why → whole ≡ Err why
   segments_refused now lt go on drawn = segments_turn now lt go on ∙ rw drawn refl
 
   -- one more segment was drawn
@@ -63,7 +62,7 @@ module _ {config : Config} {context : Context} {kinds : List KindChoice} {n tota
       })
 
 -- no more segments may be drawn
-pub segments_full : {config : Config} {context : Context} {kinds : List KindChoice} {n total : ℕ} {made : List ElementSegment} {start bytes : List ℕ} {whole : Result (List ElementSegment × List ℕ) Count}
+pub segments_full : {config : Config} {context : Context} {kinds : List KindChoice} {n total : ℕ} {made : List ElementSegment} {start bytes : List ℕ} {whole : Result (List ElementSegment × List ℕ) Why}
     → AreSegmentsMade config context kinds n made total start bytes whole → config.max_element_segments ≤ n → whole ≡ Ok (made, bytes)
 unfolding element_segments_at
 segments_full {config = config} {context = context} {kinds = kinds} {n = n} {made = made} {bytes = bytes} now le =
@@ -72,20 +71,15 @@ segments_full {config = config} {context = context} {kinds = kinds} {n = n} {mad
     sym now.so_far ∙ one
 
 -- what refuses a part refuses the whole
-refused_part : {X Y A B : Type 0} (of_part : X → A) (of_whole : Y → B) (e : Error) (part : Result A Count) (whole : Result B Count) → Gives of_part (Err e) part → ((count : Count) → part ≡ Err count → whole ≡ Err count) → Gives of_whole (Err e) whole
+refused_part : {X Y A B : Type 0} (of_part : X → A) (of_whole : Y → B) (e : Error) (part : Result A Why) (whole : Result B Why) → Gives of_part (Err e) part → ((why : Why) → part ≡ Err why → whole ≡ Err why) → Gives of_whole (Err e) whole
 refused_part of_part of_whole errors.Memory part whole given passes = tt
 refused_part of_part of_whole errors.EmptyChoose part whole given passes = given
 refused_part of_part of_whole errors.NotEnoughData part whole given passes = given
 refused_part of_part of_whole (errors.Config fault) part whole given passes = given
 refused_part of_part of_whole (errors.Shape which fault) part whole given passes = given
-refused_part of_part of_whole (errors.IncorrectFormat (Unmet count)) part whole given passes = passes count given
-refused_part of_part of_whole (errors.IncorrectFormat TypeSize) part whole given passes = given
-refused_part of_part of_whole (errors.IncorrectFormat SeveralMemories) part whole given passes = given
-refused_part of_part of_whole (errors.IncorrectFormat SeveralTables) part whole given passes = given
-refused_part of_part of_whole (errors.IncorrectFormat Loop) part whole given passes = given
-refused_part of_part of_whole (errors.IncorrectFormat RawBody) part whole given passes = given
+refused_part of_part of_whole (errors.IncorrectFormat why) part whole given passes = passes why given
 
-pub refused_by : {X Y A B : Type 0} (of_part : X → A) (of_whole : Y → B) (e : Error) (part : Result A Count) (whole : Result B Count) (result : Result Y Error) → Gives of_part (Err e) part → ((count : Count) → part ≡ Err count → whole ≡ Err count)
+pub refused_by : {X Y A B : Type 0} (of_part : X → A) (of_whole : Y → B) (e : Error) (part : Result A Why) (whole : Result B Why) (result : Result Y Error) → Gives of_part (Err e) part → ((why : Why) → part ≡ Err why → whole ≡ Err why)
     → IsErrAnd result (λ y. y ≡ e) → Gives of_whole result whole
 refused_by of_part of_whole e part whole (Ok y) given passes h = absurd h
 refused_by {X = X} of_part of_whole e part whole (Err own) given passes h = refused_part of_part of_whole own part whole (subst (λ (one : Error). Gives of_part (Err one) part) (sym h) given) passes

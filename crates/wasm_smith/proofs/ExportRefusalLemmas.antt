@@ -1,6 +1,6 @@
--- Where exports run out, and which bytes none takes.
-use Rattle.std.proofs.Common.{◌≡◌, ℕ, zero, suc, ◌-◌, ◌<◌, Bool, true, false, List, [], ◌∷◌, ◌++◌, length, refl, arith, nat_lt, lt-ltb, inl, inr, ◌∙◌}
-use Rattle.std.specs.Prelude.{Result, Ok, IfOk}
+-- Where exports run out, when they are refused, and which bytes none takes.
+use Rattle.std.proofs.Common.{◌≡◌, ℕ, zero, suc, ◌-◌, ◌<◌, Bool, true, false, List, [], ◌∷◌, ◌++◌, length, refl, ap, arith, nat_lt, lt-ltb, inl, inr, ◌∙◌}
+use Rattle.std.specs.Prelude.{Result, Ok, IfOk, if◌then◌else◌}
 use Rattle.std.proofs.lemmas.Bool.{ltb-true, ltb-false}
 use Rattle.smith_bytes.specs.Spelling.{SpellsBool}
 use Rattle.smith_bytes.specs.Takes.{Takes}
@@ -11,14 +11,16 @@ use Rattle.smith_types.specs.declared.composite_type.SubType.{SubType}
 use Rattle.smith_types.specs.declared.entity_type.ExportKind.{ExportKind}
 use Rattle.smith_types.specs.declared.entity_type.ExportKind.TheVariants as kind
 use Rattle.smith_config.specs.declared.config.Config.{Config}
+use Rattle.smith_config.specs.InUse.{FixesExports}
 use Rattle.smith_draw.specs.Choices.{enabled}
 use Rattle.smith_draw.specs.TypeUses.{places_from}
 use Rattle.wasm_smith.specs.Steps.{Gives}
 use Rattle.wasm_smith.specs.Defined.{SpellsEmpty}
 use Rattle.wasm_smith.specs.Spelling.{SpellsNone}
 use Rattle.wasm_smith.specs.Exporting.{Export, candidates, candidate_row, offered_kinds, exports_from, free_exports_at}
-use Rattle.wasm_smith.specs.Exported.{MayExportFreely, AreExported, MayRunOut}
-use Rattle.wasm_smith.specs.declared.build.exports.Exports.{Exports}
+use Rattle.wasm_smith.specs.Exported.{MayExportFreely, AreExported, MayRunOut, MayRefuseFree, MayRefuseAll, MayRefuseExports}
+use Rattle.wasm_smith.specs.AllExports.{everything_at, exports_at}
+use Rattle.wasm_smith.specs.declared.build.exported.Exports.{Exports}
 use Rattle.wasm_smith.proofs.CandidateLemmas.{length_alike}
 use Rattle.wasm_smith.proofs.GivenLemmas.{given_takes}
 
@@ -39,7 +41,7 @@ run_out_by : (config : Config) (types : List SubType) (spaces : IndexSpaces) (im
     → nat_lt 0 (length (offered_kinds types spaces (config.max_type_size - size))) ≡ false → MayRunOut config
 run_out_by config types spaces imports exports size false much may kept few none =
     let little = ltb-false 42 (config.max_type_size - size) much in
-    inl (omega (arith, little, kept.type_size, kept.small, may.small))
+    inl (omega (arith, little, kept.fit.type_size, kept.small, may.small))
 run_out_by config types spaces imports exports size true much may kept few none =
     let left = config.max_type_size - size in
     let more = ltb-true 42 left much in
@@ -82,3 +84,23 @@ pub no_export_taken : (config : Config) (types : List SubType) (spaces : IndexSp
 no_export_taken config types spaces imports old new result none given =
     given_takes (SpellsEmpty (SpellsNone config.max_exports)) (λ (made : Exports). made.exports) (free_exports_at config types spaces imports) old new result
     (λ exports piece after h. no_export_read config types spaces imports exports piece after none h) given
+
+-- every item is exported where that is asked for
+pub exports_all : (config : Config) (types : List SubType) (spaces : IndexSpaces) (imports : ℕ) (bytes : List ℕ) → config.export_everything ≡ true → exports_at config types spaces imports bytes ≡ everything_at config types spaces imports bytes
+unfolding exports_at
+exports_all config types spaces imports bytes on = ap (λ (all : Bool). if all then everything_at config types spaces imports bytes else free_exports_at config types spaces imports bytes) on
+
+-- and else exports are drawn freely
+pub exports_free : (config : Config) (types : List SubType) (spaces : IndexSpaces) (imports : ℕ) (bytes : List ℕ) → config.export_everything ≡ false → exports_at config types spaces imports bytes ≡ free_exports_at config types spaces imports bytes
+unfolding exports_at
+exports_free config types spaces imports bytes off = ap (λ (all : Bool). if all then everything_at config types spaces imports bytes else free_exports_at config types spaces imports bytes) off
+
+-- where no shape fixes them, exports of every item are refused where exports may be
+pub all_refused : (config : Config) (e : Error) → (FixesExports config → ⊥) → config.export_everything ≡ true → MayRefuseAll e → MayRefuseExports config e
+all_refused config e not_fixed on (inl memory) = inl memory
+all_refused config e not_fixed on (inr large) = inr (inr (large, (on, not_fixed)))
+
+-- so are those that are drawn freely
+pub free_refused : (config : Config) (e : Error) → (FixesExports config → ⊥) → config.export_everything ≡ false → MayRefuseFree config e → MayRefuseExports config e
+free_refused config e not_fixed off (inl memory) = inl memory
+free_refused config e not_fixed off (inr (unmet, some, out)) = inr (inl (unmet, ((not_fixed, off), (some, inr out))))

@@ -1,25 +1,17 @@
 -- One turn of the loop that draws exports.
-use Rattle.std.proofs.Common.{◌≡◌, ℕ, suc, ◌+◌, ◌-◌, ◌<◌, ◌≤◌, Bool, true, false, List, [], ◌∷◌, ◌++◌, length, map, refl, sym, ap, arith, length-append, nat_lt, ◌∙◌}
-use Rattle.std.specs.Prelude.{slice_get, Some}
-use Rattle.std.specs.Str.{bytes_eq}
+use Rattle.std.proofs.Common.{◌≡◌, ℕ, suc, ◌+◌, ◌-◌, ◌<◌, ◌≤◌, Bool, true, false, List, [], ◌∷◌, ◌++◌, length, refl, sym, ap, arith, length-append, nat_lt, ◌∙◌}
 use Rattle.std.specs.HashSet.{HashSet, IsEmpty}
 use Rattle.std.specs.declared.string.String.{String}
 use Rattle.std.specs.declared.alloc.Global.{Global}
-use Rattle.std.proofs.lemmas.List.{map-append}
-use Rattle.std.proofs.lemmas.List.Elements.{All-nil, All-cons, All-append}
 use Rattle.std.proofs.lemmas.List.Sums.{sum_by-append}
-use Rattle.std.proofs.lemmas.Map.Keys.{any_passes_from_place}
-use Rattle.std.proofs.lemmas.Slice.Eq.{bytes_eq-Decides}
 use Rattle.smith_bytes.specs.Growth.{goes_at}
 use Rattle.smith_bytes.specs.Source.{KeepsPieces}
-use Rattle.smith_types.specs.Exports.{IsEntityAt}
 use Rattle.smith_types.specs.Imports.{IndexSpaces}
 use Rattle.smith_types.specs.declared.composite_type.SubType.{SubType}
-use Rattle.smith_types.specs.declared.entity_type.EntityType.{EntityType}
 use Rattle.smith_config.specs.declared.config.Config.{Config}
 use Rattle.wasm_smith.specs.Exporting.{Export, is_exported, HasNames, item_size, exported_size, offered_kinds, export_at, exports_from}
 use Rattle.wasm_smith.specs.Exported.{IsCandidate, AreExported}
-use Rattle.wasm_smith.proofs.ImportsGrownLemmas.{mapped_at, distinct_push}
+use Rattle.wasm_smith.proofs.ExportsFitLemmas.{none_fit, fit_push}
 
 -- so many exports are drawn, and what is drawn from here on completes the whole
 pub record IsExporting {S : Type 0} (config : Config) (types : List SubType) (spaces : IndexSpaces) (imports count : ℕ) (exports : List Export) (size : ℕ) (names : HashSet (String Global) S) (start bytes : List ℕ) : Type 0 where
@@ -35,41 +27,22 @@ none_exported {names = names} config types spaces imports start within empty =
     let all : config.max_exports - 0 ≡ config.max_exports = omega arith in
     record {
       count_is = refl;
-      kept = record {
-        valid = record { stand = All-nil (λ (one : Export). (ty : EntityType) × IsEntityAt spaces one.1 one.2 ty); distinct = record { once = λ i j item at there. absurd cc } };
-        most = omega arith;
-        type_size = omega arith;
-        within = within;
-        small = omega arith;
-      };
+      kept = record { fit = none_fit config types spaces imports within; most = omega arith; small = omega arith };
       names_are = record { has = λ name. rw empty refl; size = rw empty refl };
       so_far = rw all refl;
       left = λ whole h. h;
     }
 
-not_there : (exports : List Export) (name : List ℕ) → is_exported exports name ≡ false → (i : ℕ) → slice_get (map (λ (one : Export). one.0) exports) i ≡ Some name → ⊥
-not_there exports name fresh i there =
-    let (other, at, alike) = mapped_at exports i name there in
-    let same : bytes_eq other.0 name ≡ true = (bytes_eq-Decides other.0 name).1 alike in
-    let taken : is_exported exports name ≡ true = any_passes_from_place (λ (one : Export). bytes_eq one.0 name) exports i other at same in
-    absurd (cc (sym fresh ∙ taken))
-
 -- exports with one more
 kept_more : {config : Config} {types : List SubType} {spaces : IndexSpaces} {imports : ℕ} {exports : List Export} {size left : ℕ} (one : Export) → AreExported config types spaces imports exports size → length exports < config.max_exports → left ≡ config.max_type_size - size → is_exported exports one.0 ≡ false
     → IsCandidate types spaces left one.1 one.2 → AreExported config types spaces imports (exports ++ one ∷ []) (size + (item_size types spaces one.1 one.2 + 1))
-kept_more {types = types} {spaces = spaces} {exports = exports} one kept room left_is fresh fit =
-    let P = λ (each : Export). (ty : EntityType) × IsEntityAt spaces each.1 each.2 ty in
+kept_more {types = types} {spaces = spaces} {exports = exports} one kept room left_is fresh candidate =
     let longer = length-append exports (one ∷ []) in
     let more = sum_by-append (λ (each : Export). item_size types spaces each.1 each.2 + 1) exports (one ∷ []) in
     record {
-      valid = record {
-        stand = All-append P exports (one ∷ []) kept.valid.stand (All-cons P one [] fit.stands (All-nil P));
-        distinct = rw map-append (distinct_push (map (λ (each : Export). each.0) exports) one.0 kept.valid.distinct (not_there exports one.0 fresh));
-      };
+      fit = fit_push one kept.fit fresh candidate.stands (omega (arith, kept.fit.within, candidate.fits));
       most = omega (arith, longer);
-      type_size = omega (arith, more, kept.type_size);
-      within = omega (arith, kept.within, fit.fits);
-      small = omega (arith, more, longer, fit.small, kept.small);
+      small = omega (arith, more, longer, candidate.small, kept.small);
     }
 
 module _ {S : Type 0} {config : Config} {types : List SubType} {spaces : IndexSpaces} {imports count : ℕ} {exports : List Export} {size : ℕ} {names : HashSet (String Global) S} {start bytes : List ℕ} where
@@ -90,7 +63,7 @@ module _ {S : Type 0} {config : Config} {types : List SubType} {spaces : IndexSp
   export_end {left = left} {after = after} now room go on left_is offers none =
       let k : config.max_exports - count ≡ suc (config.max_exports - (count + 1)) = omega arith in
       let len = now.count_is in
-      let same : config.max_type_size - (imports + exported_size types spaces exports) ≡ left = sym (left_is ∙ ap (λ s. config.max_type_size - s) now.kept.type_size) in
+      let same : config.max_type_size - (imports + exported_size types spaces exports) ≡ left = sym (left_is ∙ ap (λ s. config.max_type_size - s) now.kept.fit.type_size) in
       let no_more : nat_lt 0 (length (offered_kinds types spaces left)) ≡ false = sym offers ∙ none in
       let one : exports_from config types spaces imports (config.max_exports - count) exports bytes ≡ (exports, after) = rw (k, len, go, on, same, no_more) refl in
       sym now.so_far ∙ one
@@ -111,7 +84,7 @@ module _ {S : Type 0} {config : Config} {types : List SubType} {spaces : IndexSp
   export_more {left = left} {after = after} {one = one} now room go on left_is offers some drawn fresh known fit longer larger p q =
       let k : config.max_exports - count ≡ suc (config.max_exports - (count + 1)) = omega arith in
       let len = now.count_is in
-      let same : config.max_type_size - (imports + exported_size types spaces exports) ≡ left = sym (left_is ∙ ap (λ s. config.max_type_size - s) now.kept.type_size) in
+      let same : config.max_type_size - (imports + exported_size types spaces exports) ≡ left = sym (left_is ∙ ap (λ s. config.max_type_size - s) now.kept.fit.type_size) in
       let there : nat_lt 0 (length (offered_kinds types spaces left)) ≡ true = sym offers ∙ some in
       let turn : exports_from config types spaces imports (config.max_exports - count) exports bytes ≡ exports_from config types spaces imports (config.max_exports - (count + 1)) (exports ++ one ∷ []) after = rw (k, len, go, on, same, there, drawn) refl in
       rw (longer, larger) (record {

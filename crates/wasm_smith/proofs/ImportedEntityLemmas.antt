@@ -27,7 +27,7 @@ use Rattle.smith_draw.specs.Choices.{enabled, chosen_at}
 use Rattle.smith_draw.specs.FuncSizes.{IsSmall, IsSmallInner}
 use Rattle.smith_draw.proofs.EnabledLemmas.{enabled_all}
 use Rattle.smith_draw.proofs.SupertypeLemmas.{chosen_of}
-use Rattle.wasm_smith.specs.Imported.{MayImport, HasNoFloatValue, IsEntityFit, IsOffered}
+use Rattle.wasm_smith.specs.Imported.{MayImport, HasNoFloatValue, HasNullableElements, IsEntityFit, IsOffered}
 use Rattle.wasm_smith.specs.ImportedEntities.{kind_rows}
 
 pub length_enabled : {A : Type 0} (table : List (A × Bool)) → length (enabled table) ≡ count_by (λ row. row.1) table
@@ -91,6 +91,7 @@ module _ (config : Config) (space : Space) (may : MayImport config space) where
     tag = λ _. on;
     tables = All-nil (IsTableWithin config);
     memories = All-nil (IsMemoryWithin config);
+    nullable_tables = All-nil HasNullableElements;
     floats = λ off. All-nil HasNoFloatValue;
     small = omega arith;
     typed = tt;
@@ -108,6 +109,7 @@ module _ (config : Config) (space : Space) (may : MayImport config space) where
     tag = λ some. absurd (omega arith);
     tables = All-nil (IsTableWithin config);
     memories = All-nil (IsMemoryWithin config);
+    nullable_tables = All-nil HasNullableElements;
     floats = λ off. All-nil HasNoFloatValue;
     small = small_at space.types may.small index t at;
     typed = slice_get_within space.types index t at;
@@ -125,6 +127,7 @@ module _ (config : Config) (space : Space) (may : MayImport config space) where
     tag = λ some. absurd (omega arith);
     tables = All-nil (IsTableWithin config);
     memories = All-nil (IsMemoryWithin config);
+    nullable_tables = All-nil HasNullableElements;
     floats = λ off. All-cons HasNoFloatValue global [] (floats off) (All-nil HasNoFloatValue);
     small = omega arith;
     typed = tt;
@@ -142,13 +145,14 @@ module _ (config : Config) (space : Space) (may : MayImport config space) where
     tag = λ some. absurd (omega arith);
     tables = All-nil (IsTableWithin config);
     memories = All-cons (IsMemoryWithin config) memory [] within (All-nil (IsMemoryWithin config));
+    nullable_tables = All-nil HasNullableElements;
     floats = λ off. All-nil HasNoFloatValue;
     small = omega arith;
     typed = tt;
   }
 
-  pub table_fit : (table : TableType) → IsTableValid (features_of config) space.types table → IsTableWithin config table → IsEntityFit config space.types (entity.Table table)
-  table_fit table valid within = record {
+  pub table_fit : (table : TableType) → IsTableValid (features_of config) space.types table → IsTableWithin config table → HasNullableElements table → IsEntityFit config space.types (entity.Table table)
+  table_fit table valid within nullable = record {
     valid = record {
       tags = All-nil (IsTagValid space.types);
       funcs = All-nil (IsFuncValid space.types);
@@ -159,6 +163,7 @@ module _ (config : Config) (space : Space) (may : MayImport config space) where
     tag = λ some. absurd (omega arith);
     tables = All-cons (IsTableWithin config) table [] within (All-nil (IsTableWithin config));
     memories = All-nil (IsMemoryWithin config);
+    nullable_tables = All-cons HasNullableElements table [] nullable (All-nil HasNullableElements);
     floats = λ off. All-nil HasNoFloatValue;
     small = omega arith;
     typed = tt;

@@ -32,7 +32,7 @@ use Rattle.smith_draw.specs.Bounds.{IsTableWithin, IsMemoryWithin}
 use Rattle.wasm_smith.specs.ImportNames.{has_names, is_taken, KnowsPairs}
 use Rattle.wasm_smith.specs.ImportedEntities.{has_room, kind_of, sizes}
 use Rattle.wasm_smith.specs.Importing.{module_name, with_import}
-use Rattle.wasm_smith.specs.Imported.{Counts, IsCounted, AreSpacesWithin, HasNoFloatValue, AreImportsFit, IsEntityFit, IsNext, IsOpen, IsOfGroup, IsCompact, IsImported, MayEnd, MayEndAt, spaces_of, entity_spaces}
+use Rattle.wasm_smith.specs.Imported.{Counts, IsCounted, AreSpacesWithin, HasNoFloatValue, HasNullableElements, AreImportsFit, IsEntityFit, IsNext, IsOpen, IsOfGroup, IsCompact, IsImported, MayEnd, MayEndAt, spaces_of, entity_spaces}
 use Rattle.wasm_smith.specs.declared.build.imported.Imported.{Imported}
 
 -- what is imported of a kind, with one import more
@@ -139,6 +139,7 @@ fit_more config types distinct imports one fit next room fresh =
       most = omega (arith, longer);
       type_size = omega (arith, more, next.fits);
       small = omega (arith, more, longer, next.fit.small, fit.small);
+      nullable_tables = rw (imported_more table_of imports one) (All-append HasNullableElements (imported table_of imports) (table_of one.entity_type) fit.nullable_tables next.fit.nullable_tables);
       floats = λ off. rw (imported_more global_of imports one) (All-append HasNoFloatValue (imported global_of imports) (global_of one.entity_type) (fit.floats off) (next.fit.floats off));
       apart = λ on. rw map-append (distinct_push (map pair_of imports) (pair_of one) (fit.apart on) (not_there imports one (fresh on)));
     }

@@ -1,5 +1,5 @@
 -- A module is without floats where the parts that were drawn are.
-use Rattle.std.proofs.Common.{◌≡◌, ℕ, zero, suc, List, [], ◌∷◌, ◌++◌, map, replicate, refl}
+use Rattle.std.proofs.Common.{ℕ, List, [], ◌∷◌, ◌++◌, map}
 use Rattle.std.specs.Prelude.{All}
 use Rattle.std.specs.List.{flat_map, AllByRecursion as Each}
 use Rattle.std.proofs.lemmas.List.Elements.{All-nil, All-append, All-map, recursion_from_All}
@@ -8,12 +8,13 @@ use Rattle.smith_types.specs.ValidTypes.{values_of}
 use Rattle.smith_types.specs.declared.composite_type.SubType.{SubType}
 use Rattle.smith_types.specs.declared.entity_type.GlobalType.{GlobalType}
 use Rattle.smith_types.specs.declared.const_instr.ConstInstr.{ConstInstr}
+use Rattle.smith_types.specs.declared.segments.ElementSegment.{ElementSegment}
 use Rattle.smith_types.specs.declared.code.Code.{Code}
 use Rattle.smith_config.specs.declared.config.Config.{Config}
 use Rattle.smith_draw.specs.ConstFloats.{GivesNoFloat}
-use Rattle.wasm_smith.specs.Build.{parts_of, trap}
+use Rattle.wasm_smith.specs.Build.{parts_of}
 use Rattle.wasm_smith.specs.DrawnParts.{HasNoFloatParts}
-use Rattle.wasm_smith.specs.Promises.{HasNoFloats, initial_of}
+use Rattle.wasm_smith.specs.Promises.{HasNoFloats, initial_of, expressions_of}
 use Rattle.wasm_smith.specs.declared.build.drawn.Drawn.{Drawn}
 
 of_types : (types : List SubType) → Each HasNoFloat types → All IsNoFloat (flat_map (λ (t : SubType). values_of t.composite_type.inner) types)
@@ -21,22 +22,16 @@ of_types [] each = All-nil IsNoFloat
 of_types (t ∷ types) each =
     All-append IsNoFloat (values_of t.composite_type.inner) (flat_map (λ (t : SubType). values_of t.composite_type.inner) types) each.0 (of_types types each.1)
 
-no_locals : (count : ℕ) → flat_map (λ (body : Code). body.locals) (replicate count trap) ≡ []
-no_locals zero = refl
-no_locals (suc count) = no_locals count
-
-no_locals_float : (count : ℕ) → All IsNoFloat (flat_map (λ (body : Code). body.locals) (replicate count trap))
-no_locals_float count = rw (no_locals count) (All-nil IsNoFloat)
-
-pub no_floats_drawn : (config : Config) (drawn : Drawn) → drawn.code ≡ replicate drawn.definitions.num_funcs trap → HasNoFloatParts drawn → HasNoFloats (parts_of config drawn)
-no_floats_drawn config drawn code h =
+pub no_floats_drawn : (config : Config) (drawn : Drawn) → HasNoFloatParts drawn → HasNoFloats (parts_of config drawn)
+no_floats_drawn config drawn h =
     let types = flat_map (λ (t : SubType). values_of t.composite_type.inner) drawn.types.types in
     let globals = map (λ (global : GlobalType). global.val_type) drawn.imported.spaces.globals in
-    let locals = flat_map (λ (body : Code). body.locals) drawn.code in
+    let locals = flat_map (λ (body : Code). body.locals) drawn.contents.code in
     let tables = flat_map initial_of drawn.definitions.tables in
     let initials = map (λ (one : ℕ × List ConstInstr). one.1) drawn.definitions.globals in
+    let items = flat_map (λ (segment : ElementSegment). expressions_of segment.items) drawn.contents.segments.elements in
     record {
       values = All-append IsNoFloat types (globals ++ locals) (of_types drawn.types.types (recursion_from_All HasNoFloat drawn.types.types h.types))
-          (All-append IsNoFloat globals locals (All-map IsNoFloat (λ (global : GlobalType). global.val_type) drawn.imported.spaces.globals h.defined.globals) (rw code (no_locals_float drawn.definitions.num_funcs)));
-      constants = All-append (All GivesNoFloat) tables (initials ++ []) h.defined.tables (All-append (All GivesNoFloat) initials [] h.defined.initials (All-nil (All GivesNoFloat)));
+          (All-append IsNoFloat globals locals (All-map IsNoFloat (λ (global : GlobalType). global.val_type) drawn.imported.spaces.globals h.defined.globals) h.contents.locals);
+      constants = All-append (All GivesNoFloat) tables (initials ++ items) h.defined.tables (All-append (All GivesNoFloat) initials items h.defined.initials h.contents.items);
     }

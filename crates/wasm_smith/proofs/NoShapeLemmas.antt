@@ -1,11 +1,17 @@
 -- Configurations without shapes.
-use Rattle.std.proofs.Common.{rules, ◌≡◌, None, subst}
+use Rattle.std.proofs.Common.{rules, ◌≡◌, ◌<◌, ◌⊎◌, None, Option, ap, subst, arith, inl, inr}
+use Rattle.std.specs.Prelude.{IsSomeAnd}
+use Rattle.smith_bytes.specs.declared.error.Count.{Count}
 use Rattle.smith_bytes.specs.declared.error.Which.{Which}
 use Rattle.smith_bytes.specs.declared.error.Which.TheVariants as which
 use Rattle.smith_config.specs.declared.config.Config.{Config}
-use Rattle.smith_config.specs.InUse.{HasNoShapes}
+use Rattle.smith_config.specs.declared.shape.Shape.{Shape}
+use Rattle.smith_config.specs.InUse.{HasNoShapes, shapes_of}
+use Rattle.smith_config.specs.Shapes.{Shapes, in_use, no_shapes}
 use Rattle.smith_config.specs.Sanitized.{sanitized}
+use Rattle.wasm_smith.specs.Bounds.{where_given, exported_of, brought_by_module}
 use Rattle.wasm_smith.specs.Module.{shown_config}
+use Rattle.wasm_smith.specs.Refusals.{Brings, shape_for}
 use Rattle.wasm_smith.specs.ToCome.{IsLeftOut}
 
 -- none is left out
@@ -19,3 +25,24 @@ pub shown_sanitized : (config sane : Config) → sane ≡ sanitized config → H
 shown_sanitized config sane same none =
     let shown : sane ≡ record sane { available_imports = None } = λ i. record sane { available_imports = none.available_imports i } in
     subst (λ (x : Config). sane ≡ record x { available_imports = None }) same shown
+
+none_in_use : (config : Config) → HasNoShapes config → shapes_of config ≡ no_shapes
+none_in_use config none = λ i. in_use (record { available_imports = none.available_imports i; exports = none.exports i; module_shape = none.module_shape i })
+
+none_for : (config : Config) (for_use : Which) → HasNoShapes config → shape_for config for_use ≡ None
+none_for config which.ModuleShape none = ap (λ (used : Shapes). used.module_shape) (none_in_use config none)
+none_for config which.AvailableImports none = ap (λ (used : Shapes). used.available_imports) (none_in_use config none)
+none_for config which.Exports none = ap (λ (used : Shapes). used.exports) (none_in_use config none)
+
+-- no shape that is used has a property
+pub none_used : (P : Shape → Type 0) (config : Config) (for_use : Which) → HasNoShapes config → IsSomeAnd (shape_for config for_use) P → ⊥
+none_used P config for_use none h = subst (λ (given : Option Shape). IsSomeAnd given P) (none_for config for_use none) h
+
+-- and none brings an item
+pub none_brought : (config : Config) (count : Count) → HasNoShapes config → Brings config count → ⊥
+none_brought config count none h =
+    let brings = λ (used : Shapes). (0 < where_given (exported_of count) used.exports) ⊎ (0 < where_given (brought_by_module count) used.module_shape) in
+    elim (subst brings (none_in_use config none) h) [
+      | inl some ↦ omega (arith, some)
+      | inr some ↦ omega (arith, some)
+    ]

@@ -17,7 +17,7 @@ use Rattle.smith_bytes.specs.declared.error.Error.TheVariants as errors
 use Rattle.smith_bytes.specs.declared.error.Why.TheVariants.{Unmet}
 use Rattle.smith_bytes.specs.declared.error.Count.TheVariants as counts
 use Rattle.wasm_smith.specs.Imported.{MayRefuseImports}
-use Rattle.wasm_smith.specs.ToCome.{MayComeOut}
+use Rattle.wasm_smith.specs.Refusals.{MayRefuse}
 use Rattle.smith_draw.specs.TypeUses.{is_function, places_from, is_unshared_function}
 use Rattle.wasm_smith.specs.FuncTypes.{func_types}
 
@@ -69,12 +69,12 @@ no_type_asked config space sanitized off valid le none =
 
 -- functions are refused for want of memory, or of a type that they may have
 pub funcs_refuse : {X : Type 0} (config : Config) (space : Space) (r : Result X Error) → IsSanitized config → AreTypesValid (features_of config) space → config.min_types ≤ length space.types
-    → IfErr r (λ e. (e ≡ errors.Memory) ⊎ ((e ≡ errors.IncorrectFormat (Unmet counts.Funcs)) × (0 < config.min_funcs) × (length (func_types space.types) ≡ 0))) → IfErr r (MayComeOut config)
+    → IfErr r (λ e. (e ≡ errors.Memory) ⊎ ((e ≡ errors.IncorrectFormat (Unmet counts.Funcs)) × (0 < config.min_funcs) × (length (func_types space.types) ≡ 0))) → IfErr r (MayRefuse config)
 funcs_refuse config space (Ok funcs) sanitized valid le h = tt
-funcs_refuse config space (Err e) sanitized valid le (inl memory) = subst (MayComeOut config) (sym memory) tt
-funcs_refuse config space (Err e) sanitized valid le (inr (unmet, some, none)) = subst (MayComeOut config) (sym unmet) (tt, (some, λ off. no_type_asked config space sanitized off valid le none))
+funcs_refuse config space (Err e) sanitized valid le (inl memory) = subst (MayRefuse config) (sym memory) tt
+funcs_refuse config space (Err e) sanitized valid le (inr (unmet, some, none)) = subst (MayRefuse config) (sym unmet) (tt, (some, λ off. no_type_asked config space sanitized off valid le none))
 
 -- without a shape for them, imports are refused where a module may be
-pub imports_refuse : (config : Config) (e : Error) → (FixesImports config → ⊥) → MayRefuseImports config e → MayComeOut config e
-imports_refuse config e free (inl memory) = subst (MayComeOut config) (sym memory) tt
-imports_refuse config e free (inr (unmet, some, lacks)) = subst (MayComeOut config) (sym unmet) (free, (some, lacks))
+pub imports_refuse : (config : Config) (e : Error) → (FixesImports config → ⊥) → MayRefuseImports config e → MayRefuse config e
+imports_refuse config e free (inl memory) = subst (MayRefuse config) (sym memory) tt
+imports_refuse config e free (inr (unmet, some, lacks)) = subst (MayRefuse config) (sym unmet) (free, (some, lacks))

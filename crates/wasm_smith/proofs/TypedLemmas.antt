@@ -6,6 +6,7 @@ use Rattle.std.proofs.lemmas.Bool.{cond_both, ltb-false, eqb-false, and_right, n
 use Rattle.std.proofs.lemmas.List.Elements.{All-nil, All-append}
 use Rattle.smith_bytes.specs.Spelling.{SpellsBool, Where, Listed}
 use Rattle.smith_bytes.specs.declared.error.Count.{Count}
+use Rattle.smith_bytes.specs.declared.error.Why.{Why}
 use Rattle.smith_bytes.specs.declared.error.Count.TheVariants as counts
 use Rattle.smith_bytes.specs.declared.error.Error.{Error}
 use Rattle.smith_types.specs.Entities.{IsTagValid, IsFuncValid}
@@ -47,7 +48,7 @@ module _ (Holds : ℕ → Type 0) (count : Count) (choices : List ℕ) (least mo
   typed_are : (bytes : List ℕ) → least ≤ most → All Holds choices → IfOk (typed_at count choices least most imported bytes) (λ drawn. AreTyped Holds choices least most imported drawn.0)
   unfolding typed_at
   typed_are bytes le each =
-      let Are = λ (r : Result (List ℕ × List ℕ) Count). IfOk r (λ drawn. AreTyped Holds choices least most imported drawn.0) in
+      let Are = λ (r : Result (List ℕ × List ℕ) Why). IfOk r (λ drawn. AreTyped Holds choices least most imported drawn.0) in
       cond_both (eqb (length choices) 0) _ _ Are
       (λ none. cond_both (ltb (length imported) least) _ _ Are (λ lacks. tt) (λ enough. none_typed (ltb-false (length imported) least enough)))
       (λ off. let apart = eqb-false (length choices) 0 off in some_typed bytes le each (omega arith))

@@ -1,8 +1,9 @@
 -- Which data segments the bytes give. Rules of this project.
 use Rattle.std.specs.Prelude.{ℕ, ◌+◌, ◌-◌, ◌*◌, ◌^◌, ◌≤◌, ◌==◌, ◌&&◌, not, min, nat_lt, Bool, true, false, List, [], ◌∷◌, ◌++◌, None, length, take, slice_index, Result, Ok, Err, if◌then◌else◌}
 use Rattle.std.specs.Int.{cast_signed, w32, w64}
-use Rattle.smith_bytes.specs.declared.error.Count.{Count}
 use Rattle.smith_bytes.specs.declared.error.Count.TheVariants as counts
+use Rattle.smith_bytes.specs.declared.error.Why.{Why}
+use Rattle.smith_bytes.specs.declared.error.Why.TheVariants.{Unmet}
 use Rattle.smith_bytes.specs.ByteLists.{byte_list_at}
 use Rattle.smith_bytes.specs.Draws.{bool_at, range_at}
 use Rattle.smith_bytes.specs.Growth.{grow_at}
@@ -117,9 +118,9 @@ segments_at config targets bytes = grow_at (λ _. segment_at config targets) con
 
 -- the data segments beside these memories, in a context that tells the visible globals; none where there is no bulk memory and
 -- no memory counts
-unfoldable pub data_at : Config → Context → List MemoryType → List ℕ → Result (List DataSegment × List ℕ) Count
+unfoldable pub data_at : Config → Context → List MemoryType → List ℕ → Result (List DataSegment × List ℕ) Why
 data_at config context memories bytes =
     let counting = counting_at [] 0 memories bytes in
     if not config.bulk_memory_enabled && (length counting.0 == 0)
-    then (if config.min_data_segments == 0 then Ok ([], counting.1) else Err counts.DataSegments)
+    then (if config.min_data_segments == 0 then Ok ([], counting.1) else Err (Unmet counts.DataSegments))
     else Ok (segments_at config (targets_of config context counting.0) counting.1)

@@ -20,7 +20,7 @@ use Rattle.smith_draw.specs.ConstBounds.{HoldsNonNullableField}
 use Rattle.smith_draw.specs.ConstFloats.{GivesNoFloat}
 use Rattle.smith_draw.specs.declared.spaces.Spaces.{Spaces}
 use Rattle.wasm_smith.specs.Definitions.{Standing, standing_over, context_at, table_scope}
-use Rattle.wasm_smith.specs.Imported.{AreSpacesWithin, HasNoFloatValue}
+use Rattle.wasm_smith.specs.Imported.{AreSpacesWithin, HasNoFloatValue, HasNullableElements}
 use Rattle.wasm_smith.specs.Module.{IsTableInitialised}
 use Rattle.wasm_smith.specs.Promises.{initial_of}
 use Rattle.wasm_smith.specs.declared.build.definitions.Definitions.{Definitions}
@@ -86,6 +86,7 @@ pub record MayDefine (config : Config) (space : Space) (imported : IndexSpaces) 
   pub entities : AreEntitiesValid (features_of config) space.types imported
   pub tags : 0 < length imported.tags → IsTrue config.exceptions_enabled
   pub within : AreSpacesWithin config imported
+  pub nullable_tables : All HasNullableElements imported.tables
 
 -- what initialisers refer to, once functions are defined
 abbrev pub standing_in : List SubType → IndexSpaces → IndexSpaces → Standing
@@ -103,6 +104,7 @@ pub record AreDefined (config : Config) (types : List SubType) (imported spaces 
   pub counts : AreCountsEnabled (features_of config) spaces
   pub each_table : All (IsTableWithin config) spaces.tables
   pub each_memory : All (IsMemoryWithin config) spaces.memories
+  pub nullable_tables : All HasNullableElements spaces.tables
   pub initial_tables : AreTablesDefined config (standing_in types imported spaces) imported.tables spaces.tables defined.tables
   pub initial_globals : AreGlobalsDefined config (standing_in types imported spaces) spaces.globals defined.globals
   pub num_tags : defined.num_tags + length imported.tags ≡ length spaces.tags

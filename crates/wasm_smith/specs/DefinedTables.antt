@@ -9,6 +9,7 @@ use Rattle.smith_config.specs.Features.{features_of}
 use Rattle.smith_draw.specs.Bounds.{IsTableWithin}
 use Rattle.smith_draw.specs.ConstFloats.{GivesNoFloat}
 use Rattle.wasm_smith.specs.Definitions.{Standing, Table, table_scope}
+use Rattle.wasm_smith.specs.Imported.{HasNullableElements}
 use Rattle.wasm_smith.specs.Module.{IsTableInitialised}
 use Rattle.wasm_smith.specs.Promises.{initial_of}
 
@@ -16,6 +17,7 @@ use Rattle.wasm_smith.specs.Promises.{initial_of}
 pub record IsTableFit (config : Config) (standing : Standing) (one : Table) : Type 0 where
   pub valid : IsTableValid (features_of config) standing.types one.0
   pub within : IsTableWithin config one.0
+  pub nullable : HasNullableElements one.0
   pub initialised : IsTableInitialised (table_scope config standing) one.0 one.1
   pub floats : All HasNoFloat standing.types → All (All GivesNoFloat) (initial_of one.1)
 

@@ -2,6 +2,8 @@
 use Rattle.std.specs.Prelude.{ℕ, ◌+◌, ◌-◌, ◌&&◌, ◌==◌, nat_lt, Option, None, List, [], ◌++◌, map, length, Result, Ok, Err, if◌then◌else◌, unwrap_or}
 use Rattle.smith_bytes.specs.declared.error.Count.{Count}
 use Rattle.smith_bytes.specs.declared.error.Count.TheVariants as counts
+use Rattle.smith_bytes.specs.declared.error.Why.{Why}
+use Rattle.smith_bytes.specs.declared.error.Why.TheVariants.{Unmet}
 use Rattle.smith_bytes.specs.Draws.{bool_at}
 use Rattle.smith_bytes.specs.Growth.{grow_at}
 use Rattle.smith_types.specs.Expressions.{Context}
@@ -33,20 +35,20 @@ behind imported drawn = (imported ++ drawn.0, drawn.1)
 
 -- tags or functions behind imported ones, each by the index of its type, which is chosen among these; where there is none to
 -- choose, none is defined, and too few are refused
-unfoldable pub typed_at : Count → List ℕ → ℕ → ℕ → List ℕ → List ℕ → Result (List ℕ × List ℕ) Count
+unfoldable pub typed_at : Count → List ℕ → ℕ → ℕ → List ℕ → List ℕ → Result (List ℕ × List ℕ) Why
 typed_at count choices least most imported bytes =
-    if length choices == 0 then (if nat_lt (length imported) least then Err count else Ok (imported, bytes))
+    if length choices == 0 then (if nat_lt (length imported) least then Err (Unmet count) else Ok (imported, bytes))
     else Ok (behind imported (defined_at (λ _. chosen_at 0 choices) least most (length imported) bytes))
 
 -- the types that tags may have: function types without results, where exceptions are enabled
 abbrev pub tag_types : Config → List SubType → List ℕ
 tag_types config types = if config.exceptions_enabled then types_for uses.Tag types else []
 
-unfoldable pub tags_at : Config → List SubType → List ℕ → List ℕ → Result (List ℕ × List ℕ) Count
+unfoldable pub tags_at : Config → List SubType → List ℕ → List ℕ → Result (List ℕ × List ℕ) Why
 tags_at config types imported bytes = typed_at counts.Tags (tag_types config types) config.min_tags config.max_tags imported bytes
 
 -- functions have types of functions that are not shared
-unfoldable pub funcs_at : Config → List SubType → List ℕ → List ℕ → Result (List ℕ × List ℕ) Count
+unfoldable pub funcs_at : Config → List SubType → List ℕ → List ℕ → Result (List ℕ × List ℕ) Why
 funcs_at config types imported bytes = typed_at counts.Funcs (types_for uses.DefinedFunc types) config.min_funcs config.max_funcs imported bytes
 
 unfoldable pub memories_at : Config → List MemoryType → List ℕ → List MemoryType × List ℕ

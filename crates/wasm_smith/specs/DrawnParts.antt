@@ -1,5 +1,5 @@
 -- What holds of the parts that are drawn, of which a module is put together.
-use Rattle.std.specs.Prelude.{◌≡◌, ◌<◌, ◌≤◌, Bool, false, IsTrue, length, replicate, All}
+use Rattle.std.specs.Prelude.{◌≡◌, ◌<◌, ◌≤◌, Bool, false, IsTrue, length, All}
 use Rattle.smith_types.specs.Floats.{HasNoFloat}
 use Rattle.smith_types.specs.Imports.{IsImportsValid, flattened, imported_spaces}
 use Rattle.smith_types.specs.IndexSpaces.{spaces_in}
@@ -7,17 +7,18 @@ use Rattle.smith_types.specs.ValidTypes.{AreTypesValid}
 use Rattle.smith_config.specs.declared.config.Config.{Config}
 use Rattle.smith_config.specs.Features.{features_of}
 use Rattle.smith_config.specs.InUse.{HasNoShapes}
-use Rattle.wasm_smith.specs.Build.{trap}
 use Rattle.wasm_smith.specs.Defined.{AreDefined, HaveNoFloats}
+use Rattle.wasm_smith.specs.DrawnContents.{AreContents, HasNoFloatContents, imported_in}
 use Rattle.wasm_smith.specs.Imported.{AreImportsFit}
 use Rattle.wasm_smith.specs.ImportedEntities.{sizes}
-use Rattle.wasm_smith.specs.ToCome.{AsksForNoSegments}
+use Rattle.wasm_smith.specs.InterestingValues.{AreAll, IsInteresting32, IsInteresting64}
 use Rattle.wasm_smith.specs.declared.build.drawn.Drawn.{Drawn}
 
 -- no part that is drawn holds a float
 pub record HasNoFloatParts (drawn : Drawn) : Type 0 where
   pub types : All HasNoFloat drawn.types.types
   pub defined : HaveNoFloats (spaces_in drawn.imported.spaces) drawn.definitions
+  pub contents : HasNoFloatContents drawn.contents
 
 -- the parts were drawn for a configuration, by one step after another
 pub record IsDrawnFor (distinct : Bool) (config : Config) (drawn : Drawn) : Type 0 where
@@ -31,9 +32,8 @@ pub record IsDrawnFor (distinct : Bool) (config : Config) (drawn : Drawn) : Type
   pub count : drawn.imported.count ≡ length (flattened drawn.imported.groups)
   pub type_size : drawn.imported.type_size ≡ sizes drawn.types.types (flattened drawn.imported.groups)
   pub defined : AreDefined config drawn.types.types (imported_spaces (flattened drawn.imported.groups)) (spaces_in drawn.imported.spaces) drawn.definitions
-  pub exports : config.min_exports ≡ 0
-  pub segments : AsksForNoSegments config
-  pub code : drawn.code ≡ replicate drawn.definitions.num_funcs trap
-  pub encodes_types : 0 < length drawn.types.types → IsTrue drawn.encodes_types
+  pub contents : AreContents config drawn.types.types (imported_in drawn.imported) (spaces_in drawn.imported.spaces) drawn.imported.type_size drawn.contents
+  pub interesting64 : AreAll (IsInteresting64 drawn.imported.spaces.tables drawn.imported.spaces.memories) drawn.interesting_values64
+  pub interesting32 : AreAll (IsInteresting32 drawn.imported.spaces.tables drawn.imported.spaces.memories) drawn.interesting_values32
   pub encodes_imports : 0 < length drawn.imported.groups → IsTrue drawn.encodes_imports
   pub floats : config.allow_floats ≡ false → HasNoFloatParts drawn

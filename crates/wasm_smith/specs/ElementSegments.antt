@@ -2,8 +2,9 @@
 use Rattle.std.specs.Prelude.{ℕ, zero, suc, ◌-◌, min, Bool, true, false, not, ◌&&◌, ◌==◌, nat_lt, Option, Some, None, option_to_list, unwrap_or, List, [], ◌∷◌, ◌++◌, length, slice_get, sum_by, Result, Ok, Err, if◌then◌else◌}
 use Rattle.std.specs.Int.{cast_signed, w32, w64}
 use Rattle.std.specs.List.{list_any}
-use Rattle.smith_bytes.specs.declared.error.Count.{Count}
 use Rattle.smith_bytes.specs.declared.error.Count.TheVariants as counts
+use Rattle.smith_bytes.specs.declared.error.Why.{Why}
+use Rattle.smith_bytes.specs.declared.error.Why.TheVariants.{Unmet}
 use Rattle.smith_bytes.specs.Draws.{bool_at, range_at}
 use Rattle.smith_bytes.specs.Growth.{goes_at, grow_at}
 use Rattle.smith_types.specs.Entities.{most_elements}
@@ -151,11 +152,11 @@ unfoldable pub chosen_functions_at : Config → List ℕ → ℕ → List ℕ �
 chosen_functions_at config funcs most bytes = grow_at (λ _. chosen_at 0 funcs) config.min_elements most [] bytes
 
 -- functions that are not shared; none, however many are asked for, where there is none
-unfoldable pub functions_at : Config → Context → ℕ → List ℕ → Result (List ℕ × List ℕ) Count
+unfoldable pub functions_at : Config → Context → ℕ → List ℕ → Result (List ℕ × List ℕ) Why
 functions_at config context most bytes =
     let funcs = unshared_funcs context.types context.funcs in
     if length funcs == 0 then Ok ([], bytes)
-    else if nat_lt most config.min_elements then Err counts.Elements
+    else if nat_lt most config.min_elements then Err (Unmet counts.Elements)
     else Ok (chosen_functions_at config funcs most bytes)
 
 -- an item as an expression
@@ -167,12 +168,12 @@ unfoldable pub drawn_expressions_at : Config → Context → RefType → ℕ →
 drawn_expressions_at config context ty most bytes = grow_at (λ _. expression_item_at config context ty) config.min_elements most [] bytes
 
 -- the same where as many may be as are asked for
-unfoldable pub expressions_at : Config → Context → RefType → ℕ → List ℕ → Result (List (List ConstInstr) × List ℕ) Count
+unfoldable pub expressions_at : Config → Context → RefType → ℕ → List ℕ → Result (List (List ConstInstr) × List ℕ) Why
 expressions_at config context ty most bytes =
-    if nat_lt most config.min_elements then Err counts.Elements else Ok (drawn_expressions_at config context ty most bytes)
+    if nat_lt most config.min_elements then Err (Unmet counts.Elements) else Ok (drawn_expressions_at config context ty most bytes)
 
 -- the items of a segment of a type, at most that many
-unfoldable pub items_at : Config → Context → RefType → ℕ → List ℕ → Result (Elements × List ℕ) Count
+unfoldable pub items_at : Config → Context → RefType → ℕ → List ℕ → Result (Elements × List ℕ) Why
 items_at config context ty most bytes =
     let listed = are_functions_at config ty bytes in
     if listed.0 then (do
@@ -187,7 +188,7 @@ abbrev pub items_in : List ElementSegment → ℕ
 items_in segments = sum_by (λ (segment : ElementSegment). item_count segment.items) segments
 
 -- a segment of one of these kinds, behind as many items in all segments before it
-unfoldable pub element_segment_at : Config → Context → List KindChoice → ℕ → List ℕ → Result (ElementSegment × List ℕ) Count
+unfoldable pub element_segment_at : Config → Context → List KindChoice → ℕ → List ℕ → Result (ElementSegment × List ℕ) Why
 element_segment_at config context kinds total bytes = do
   let chosen = chosen_at choice.Passive kinds bytes
   let kind = kind_at config context chosen.0 chosen.1
@@ -196,7 +197,7 @@ element_segment_at config context kinds total bytes = do
   Ok (record { kind = kind.0.0; ty = ty.0; items = items.0 }, items.1)
 
 -- segments of these kinds, at most that many behind those that are made
-unfoldable pub element_segments_at : Config → Context → List KindChoice → ℕ → List ElementSegment → List ℕ → Result (List ElementSegment × List ℕ) Count
+unfoldable pub element_segments_at : Config → Context → List KindChoice → ℕ → List ElementSegment → List ℕ → Result (List ElementSegment × List ℕ) Why
 element_segments_at config context kinds zero made bytes = Ok (made, bytes)
 element_segments_at config context kinds (suc most) made bytes =
     let go = goes_at (nat_lt (length made) config.min_element_segments) bytes in
@@ -206,8 +207,8 @@ element_segments_at config context kinds (suc most) made bytes =
     else Ok (made, go.1)
 
 -- the element segments of a module with these tables; where no kind is offered, none, and too few are refused
-unfoldable pub elements_at : Config → Context → List TableType → List ℕ → Result (List ElementSegment × List ℕ) Count
+unfoldable pub elements_at : Config → Context → List TableType → List ℕ → Result (List ElementSegment × List ℕ) Why
 elements_at config context tables bytes =
     let kinds = kinds_at config tables bytes in
-    if length kinds.0 == 0 then (if config.min_element_segments == 0 then Ok ([], kinds.1) else Err counts.ElementSegments)
+    if length kinds.0 == 0 then (if config.min_element_segments == 0 then Ok ([], kinds.1) else Err (Unmet counts.ElementSegments))
     else element_segments_at config context kinds.0 config.max_element_segments [] kinds.1

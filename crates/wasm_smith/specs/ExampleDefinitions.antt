@@ -58,7 +58,7 @@ one_of_each_kind = record two_of_each {
   gc_enabled = false;
 }
 
--- one type, and one function, which is imported
+-- one type, and one function, which is imported; no export, start function or segment
 abbrev pub one_import_of_a_function : Config
 one_import_of_a_function = record default_config {
   min_types = 1;
@@ -67,6 +67,10 @@ one_import_of_a_function = record default_config {
   max_imports = 1;
   max_tags = 0;
   max_funcs = 1;
+  max_exports = 0;
+  max_element_segments = 0;
+  max_data_segments = 0;
+  allow_start_export = false;
   max_tables = 0;
   max_memories = 0;
   max_globals = 0;

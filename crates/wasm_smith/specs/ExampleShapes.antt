@@ -1,11 +1,8 @@
 -- Shapes that the examples speak of, and modules that have them or not.
-use Rattle.std.specs.Prelude.{ℕ, ◌<◌, true, false, List, [], ◌∷◌, Some, None, IsSome, codes, map}
+use Rattle.std.specs.Prelude.{ℕ, true, false, List, [], ◌∷◌, Some, None, IsSome, codes, map}
 use Rattle.smith_bytes.specs.declared.error.Error.{Error}
-use Rattle.smith_bytes.specs.declared.error.Error.TheVariants.{IncorrectFormat, Shape as Misshapen}
-use Rattle.smith_bytes.specs.declared.error.Why.TheVariants.{Unmet}
+use Rattle.smith_bytes.specs.declared.error.Error.TheVariants.{Shape as Misshapen}
 use Rattle.smith_bytes.specs.declared.error.ShapeFault.TheVariants.{LeftOut}
-use Rattle.smith_bytes.specs.declared.error.Count.{Count}
-use Rattle.smith_bytes.specs.declared.error.Count.TheVariants as counts
 use Rattle.smith_types.specs.Flags.{funcref}
 use Rattle.smith_types.specs.ExampleTypes.{plain, nullable, not_null}
 use Rattle.smith_types.specs.declared.value_type.AbstractHeapType.TheVariants as heap
@@ -17,7 +14,6 @@ use Rattle.smith_types.specs.declared.imports.Import.{Import}
 use Rattle.smith_types.specs.declared.imports.Imports.TheVariants.{Single, Compact1, Compact2}
 use Rattle.smith_config.specs.declared.config.Config.{Config}
 use Rattle.smith_config.specs.Config.{default_config}
-use Rattle.smith_config.specs.Faults.{minimum_of}
 pub use Rattle.smith_config.specs.ExampleShapes.{empty_shape}
 use Rattle.smith_config.specs.declared.shape.Shape.{Shape}
 use Rattle.wasm_smith.specs.Module.{Parts}
@@ -162,15 +158,7 @@ memory_available = record empty_shape { imports = Single shared_bytes ∷ [] }
 abbrev pub room_for_two : Config
 room_for_two = record default_config { min_imports = 2; max_memories = 2; max_tables = 2 }
 
--- a part that is not drawn yet, whose minimum may stay unmet where it may not when all is drawn
-abbrev pub IsToCome : Count → Type 0
-IsToCome counts.Exports = Unit {0}
-IsToCome counts.ElementSegments = Unit {0}
-IsToCome counts.DataSegments = Unit {0}
-IsToCome _ = ⊥
-
--- a refusal that comes until all is drawn: the minimum of such a part is unmet, or a shape is used
+-- a refusal that comes until shapes are used
 abbrev pub IsRefusalToCome : Config → Error → Type 0
-IsRefusalToCome config (IncorrectFormat (Unmet count)) = IsToCome count × (0 < minimum_of config count)
 IsRefusalToCome config (Misshapen for_use LeftOut) = IsSome (shape_for config for_use)
 IsRefusalToCome config _ = ⊥

@@ -7,8 +7,9 @@ use Rattle.std.specs.Option.{option_map, unwrap_or}
 use Rattle.std.specs.Str.{bytes_eq}
 use Rattle.std.specs.declared.alloc.Global.{Global}
 use Rattle.std.specs.declared.string.String.{String}
-use Rattle.smith_bytes.specs.declared.error.Count.{Count}
 use Rattle.smith_bytes.specs.declared.error.Count.TheVariants as counts
+use Rattle.smith_bytes.specs.declared.error.Why.{Why}
+use Rattle.smith_bytes.specs.declared.error.Why.TheVariants.{Unmet}
 use Rattle.smith_bytes.specs.Growth.{goes_at}
 use Rattle.smith_bytes.specs.Names.{text_at}
 use Rattle.smith_types.specs.Imports.{IndexSpaces}
@@ -104,7 +105,7 @@ exports_from config types spaces imports (suc most) exports bytes =
     else (exports, go.1)
 
 -- the exports that are drawn freely; where they end before there are as many as are asked for, none
-unfoldable pub free_exports_at : Config → List SubType → IndexSpaces → ℕ → List ℕ → Result (List Export × List ℕ) Count
+unfoldable pub free_exports_at : Config → List SubType → IndexSpaces → ℕ → List ℕ → Result (List Export × List ℕ) Why
 free_exports_at config types spaces imports bytes =
     let drawn = exports_from config types spaces imports config.max_exports [] bytes in
-    if nat_lt (length drawn.0) config.min_exports then Err counts.Exports else Ok drawn
+    if nat_lt (length drawn.0) config.min_exports then Err (Unmet counts.Exports) else Ok drawn

@@ -1,5 +1,5 @@
 -- What each call promises that draws a module: `Module::new_internal`, `new` and `arbitrary`.
-use Rattle.std.specs.Prelude.{◌≡◌, ℕ, Bool, true, false, IsTrue, List, Result, IfOk, IfErr, OnOk, IsErrOf, IsErrAnd}
+use Rattle.std.specs.Prelude.{◌≡◌, ℕ, Bool, true, false, List, Result, IfOk, IfErr, OnOk, IsErrOf, IsErrAnd}
 use Rattle.smith_bytes.specs.Source.{IsPiece}
 use Rattle.smith_bytes.specs.declared.error.Error.{Error}
 use Rattle.smith_bytes.specs.declared.error.Error.TheVariants.{Memory, Shape}
@@ -11,10 +11,11 @@ use Rattle.smith_config.specs.InUse.{HasNoShapes}
 use Rattle.smith_config.specs.Sanitized.{sanitized}
 use Rattle.wasm_smith.specs.Bounds.{KeepsBounds, MeetsMinimums}
 use Rattle.wasm_smith.specs.Build.{IsGiven}
+use Rattle.wasm_smith.specs.InterestingValues.{HasInterestingValues}
 use Rattle.wasm_smith.specs.Module.{Parts, IsValid, shown_config}
-use Rattle.wasm_smith.specs.Promises.{HasDistinctImports, HasNoFloats, HasNoFuel, WritesSections}
+use Rattle.wasm_smith.specs.Promises.{KeepsPromises}
 use Rattle.wasm_smith.specs.Refusals.{HasNoMinimums}
-use Rattle.wasm_smith.specs.ToCome.{HasNoMore, IsFaulted, IsLeftOut, MayComeOut}
+use Rattle.wasm_smith.specs.ToCome.{IsFaulted, IsLeftOut, MayComeOut}
 use Rattle.wasm_smith.specs.declared.module.DuplicateImportsBehavior.{DuplicateImportsBehavior}
 use Rattle.wasm_smith.specs.declared.module.DuplicateImportsBehavior.TheVariants.{Allowed, Disallowed}
 
@@ -32,17 +33,14 @@ pub record IsGenerated (distinct : Bool) (given : Config) (bytes : List ℕ) (an
   pub valid : IfOk answer IsValid
   pub bounds : IfOk answer (KeepsBounds (sanitized given))
   pub minimums : IfOk answer (MeetsMinimums (sanitized given))
-  pub names : IsTrue distinct → IfOk answer HasDistinctImports
-  pub floats : given.allow_floats ≡ false → IfOk answer HasNoFloats
-  pub sections : IfOk answer WritesSections
-  pub fuel : IfOk answer HasNoFuel
-  pub no_more : IfOk answer HasNoMore
+  pub promises : IfOk answer (KeepsPromises distinct (sanitized given))
+  pub interesting : IfOk answer HasInterestingValues
   -- when there is one, and when there is none
   pub passes : OnOk answer (Passes (sanitized given))
   pub no_shapes : OnOk answer (HasNoShapes (sanitized given))
   pub fault : (Passes (sanitized given) → ⊥) → IsErrAnd answer (IsFaulted (sanitized given))
   pub refusals : IfErr answer (MayComeOut (sanitized given))
-  pub needless : Passes (sanitized given) → HasNoShapes (sanitized given) → HasNoMinimums (sanitized given) → IfErr answer (λ e. e ≡ Memory)
+  pub needless : Passes (sanitized given) → HasNoShapes (sanitized given) → HasNoMinimums (sanitized given) → given.export_everything ≡ false → IfErr answer (λ e. e ≡ Memory)
   pub shape : (for_use : Which) → Passes (sanitized given) → IsLeftOut (sanitized given) for_use → IsErrOf answer (Shape for_use LeftOut)
   -- what is left of the source
   pub undrawn : (for_use : Which) → IsLeftOut (sanitized given) for_use → left ≡ bytes

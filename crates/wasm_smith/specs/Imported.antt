@@ -17,6 +17,7 @@ use Rattle.smith_types.specs.declared.composite_type.SubType.{SubType}
 use Rattle.smith_types.specs.declared.entity_type.EntityType.{EntityType}
 use Rattle.smith_types.specs.declared.entity_type.ExportKind.{ExportKind}
 use Rattle.smith_types.specs.declared.entity_type.GlobalType.{GlobalType}
+use Rattle.smith_types.specs.declared.entity_type.TableType.{TableType}
 use Rattle.smith_types.specs.declared.imports.Import.{Import}
 use Rattle.smith_types.specs.declared.imports.Imports.{Imports}
 use Rattle.smith_types.specs.declared.imports.Imports.TheVariants.{Single, Compact2}
@@ -79,6 +80,10 @@ pub record AreSpacesWithin (config : Config) (spaces : IndexSpaces) : Type 0 whe
 abbrev pub HasNoFloatValue : GlobalType → Type 0
 HasNoFloatValue global = IsNoFloat global.val_type
 
+-- the elements of a table may be null
+abbrev pub HasNullableElements : TableType → Type 0
+HasNullableElements table = table.element_type.nullable ≡ true
+
 -- imports are valid and within the bounds; each adds at most 42 to the type size; their pairs of names are distinct where
 -- they must be
 pub record AreImportsFit (config : Config) (types : List SubType) (distinct : Bool) (imports : List Import) : Type 0 where
@@ -88,6 +93,7 @@ pub record AreImportsFit (config : Config) (types : List SubType) (distinct : Bo
   pub most : length imports ≤ config.max_imports
   pub type_size : sizes types imports ≤ config.max_type_size
   pub small : sizes types imports ≤ 42 * length imports
+  pub nullable_tables : All HasNullableElements (imported_spaces imports).tables
   pub floats : config.allow_floats ≡ false → All HasNoFloatValue (imported_spaces imports).globals
   pub apart : IsTrue distinct → AreDistinct {A = List ℕ × List ℕ} (map (λ (one : Import). (one.«module», one.name)) imports)
 
@@ -97,6 +103,7 @@ pub record IsEntityFit (config : Config) (types : List SubType) (added : EntityT
   pub tag : 0 < length (tag_of added) → IsTrue config.exceptions_enabled
   pub tables : All (IsTableWithin config) (table_of added)
   pub memories : All (IsMemoryWithin config) (memory_of added)
+  pub nullable_tables : All HasNullableElements (table_of added)
   pub floats : config.allow_floats ≡ false → All HasNoFloatValue (global_of added)
   pub small : size_in types added ≤ 41
   pub typed : IsTyped types added

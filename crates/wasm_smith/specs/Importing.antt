@@ -2,8 +2,9 @@
 -- size and the names that are taken so far are read off the imports that were drawn.
 use Rattle.std.specs.Prelude.{ℕ, zero, suc, ◌+◌, ◌-◌, Bool, true, false, nat_lt, ◌==◌, Option, List, [], ◌∷◌, ◌++◌, length, Result, Ok, Err, if◌then◌else◌}
 use Rattle.std.specs.Option.{option_map_or}
-use Rattle.smith_bytes.specs.declared.error.Count.{Count}
 use Rattle.smith_bytes.specs.declared.error.Count.TheVariants as counts
+use Rattle.smith_bytes.specs.declared.error.Why.{Why}
+use Rattle.smith_bytes.specs.declared.error.Why.TheVariants.{Unmet}
 use Rattle.smith_bytes.specs.Draws.{bool_at}
 use Rattle.smith_bytes.specs.Growth.{goes_at}
 use Rattle.smith_bytes.specs.Names.{text_at}
@@ -90,7 +91,7 @@ groups_at config types distinct (suc turns) made bytes =
     else (made, bytes)
 
 -- the imports; where they end before there are as many as are asked for, none. A turn adds an import or takes a byte
-unfoldable pub imports_at : Config → List SubType → Bool → List ℕ → Result (List Imports × List ℕ) Count
+unfoldable pub imports_at : Config → List SubType → Bool → List ℕ → Result (List Imports × List ℕ) Why
 imports_at config types distinct bytes =
     let drawn = groups_at config types distinct (config.max_imports + length bytes + 1) [] bytes in
-    if nat_lt (length (flattened drawn.0)) config.min_imports then Err counts.Imports else Ok drawn
+    if nat_lt (length (flattened drawn.0)) config.min_imports then Err (Unmet counts.Imports) else Ok drawn

@@ -1,19 +1,23 @@
--- What a step of a module gives that may refuse. Rules of this project.
-use Rattle.std.specs.Prelude.{◌≡◌, Result, Ok, Err}
-use Rattle.smith_bytes.specs.declared.error.Count.{Count}
+-- What a step of a module gives that may refuse, and what steps have in common. Rules of this project.
+use Rattle.std.specs.Prelude.{◌≡◌, ℕ, Bool, true, List, Result, Ok, Err, ◌==◌, if◌then◌else◌}
+use Rattle.smith_bytes.specs.Draws.{bool_at}
 use Rattle.smith_bytes.specs.declared.error.Error.{Error}
 use Rattle.smith_bytes.specs.declared.error.Error.TheVariants as errors
-use Rattle.smith_bytes.specs.declared.error.Why.TheVariants.{Unmet}
+use Rattle.smith_bytes.specs.declared.error.Why.{Why}
 
 -- What a step gave, with what it left, is what reading gives, unless memory ran out.
-abbrev pub Gives : {X Y : Type 0} → (X → Y) → Result X Error → Result Y Count → Type 0
+abbrev pub Gives : {X Y : Type 0} → (X → Y) → Result X Error → Result Y Why → Type 0
 Gives view (Ok x) read = read ≡ Ok (view x)
 Gives view (Err errors.Memory) read = Unit {0}
-Gives view (Err (errors.IncorrectFormat (Unmet count))) read = read ≡ Err count
+Gives view (Err (errors.IncorrectFormat why)) read = read ≡ Err why
 Gives view (Err _) read = ⊥
 
 -- a step behind another
 infixl 10 ◌>>=◌
-abbrev pub ◌>>=◌ : {A B : Type 0} → Result A Count → (A → Result B Count) → Result B Count
+abbrev pub ◌>>=◌ : {A B : Type 0} → Result A Why → (A → Result B Why) → Result B Why
 (Ok x) >>= f = f x
-(Err count) >>= f = Err count
+(Err why) >>= f = Err why
+
+-- a section of types or of imports is written where there are some, else where a bool says so
+unfoldable pub section_flag_at : ℕ → List ℕ → Bool × List ℕ
+section_flag_at count bytes = if count == 0 then bool_at bytes else (true, bytes)

@@ -114,9 +114,9 @@ impl Module {
 
     /// Draws a module from the bytes. The configuration is sanitised and checked first.
     ///
-    /// A configuration that fails its check is refused, a minimum that can't be met, and want of memory. Until shapes
-    /// are used, a configuration with a shape is refused before anything is drawn, for the shape that is left out: the module
-    /// shape, else the available imports, else the exports.
+    /// A configuration that fails its check is refused, a minimum that can't be met, exports of everything that pass the type
+    /// size, and want of memory. Until shapes are used, a configuration with a shape is refused before anything is drawn, for the
+    /// shape that is left out: the module shape, else the available imports, else the exports.
     pub fn new(alloc: Global, config: Config, u: &mut Unstructured<'_>) -> Result<Module, Error>
         ensures { IsGenerated false config u.old result u.new }
     {
@@ -311,14 +311,14 @@ impl Module {
         self.type_size
     }
 
-    /// Numbers of 32 bits that tests of this module should try. Until they are collected there are none.
+    /// Numbers of 32 bits that tests of this module should try, in ascending order.
     pub fn interesting_values32(&self) -> &[u32]
         ensures { result.now ≡ self.now.interesting_values32 }
     {
         self.interesting_values32.as_slice()
     }
 
-    /// Numbers of 64 bits that tests of this module should try. Until they are collected there are none.
+    /// Numbers of 64 bits that tests of this module should try, in ascending order.
     pub fn interesting_values64(&self) -> &[u64]
         ensures { result.now ≡ self.now.interesting_values64 }
     {

@@ -6,7 +6,7 @@ ghost use Rattle.wasm_smith.specs.Build.{definitions_at};
 ghost use Rattle.wasm_smith.specs.Steps.{Gives};
 ghost use Rattle.wasm_smith.specs.Defined.{MayDefine, AreDefined, HaveNoFloats};
 ghost use Rattle.wasm_smith.specs.Imported.{HasNoFloatValue};
-ghost use Rattle.wasm_smith.specs.ToCome.{MayComeOut};
+ghost use Rattle.wasm_smith.specs.Refusals.{MayRefuse};
 
 use crate::build::funcs::funcs;
 use crate::build::globals::globals;
@@ -42,7 +42,7 @@ pub(crate) fn define(
     ensures exact { Gives (λ defined. ((spaces_in spaces.new, defined), u.new)) result (definitions_at config.now types.now.types (spaces_in spaces.old) u.old) }
     ensures defined { IfOk result (AreDefined config.now types.now.types (spaces_in spaces.old) (spaces_in spaces.new)) }
     ensures floats { config.now.allow_floats ≡ false → All HasNoFloat types.now.types → All HasNoFloatValue spaces.old.globals → IfOk result (HaveNoFloats (spaces_in spaces.new)) }
-    ensures refusal { IfErr result (MayComeOut config.now) }
+    ensures refusal { IfErr result (MayRefuse config.now) }
     ensures left { KeepsPieces u.old u.new }
 {
     let imported_tags = spaces.tags.len();

@@ -1,40 +1,43 @@
-ghost use Rattle.std.specs.Prelude.{◌≡◌, false, IsTrue, IfOk, IfErr};
+ghost use Rattle.std.specs.Prelude.{◌≡◌, IfOk, IfErr};
 ghost use Rattle.smith_bytes.specs.Source.{KeepsPieces};
 ghost use Rattle.smith_config.specs.Faults.{Passes};
 ghost use Rattle.smith_config.specs.InUse.{HasNoShapes};
 ghost use Rattle.smith_config.specs.Sanitized.{IsSanitized};
-ghost use Rattle.wasm_smith.specs.Build.{parts_of, module_at};
-ghost use Rattle.wasm_smith.specs.Steps.{Gives};
-ghost use Rattle.wasm_smith.specs.DrawnParts.{IsDrawnFor};
-ghost use Rattle.wasm_smith.specs.Module.{IsValid};
 ghost use Rattle.wasm_smith.specs.Bounds.{KeepsBounds, MeetsMinimums};
-ghost use Rattle.wasm_smith.specs.Promises.{HasDistinctImports, HasNoFloats, WritesSections};
-ghost use Rattle.wasm_smith.specs.ToCome.{HasNoMore, MayComeOut};
+ghost use Rattle.wasm_smith.specs.Build.{parts_of, as_drawn, module_at};
+ghost use Rattle.wasm_smith.specs.DrawnParts.{IsDrawnFor};
+ghost use Rattle.wasm_smith.specs.InterestingValues.{HasInterestingValues};
+ghost use Rattle.wasm_smith.specs.Module.{IsValid};
+ghost use Rattle.wasm_smith.specs.Promises.{KeepsPromises};
+ghost use Rattle.wasm_smith.specs.Refusals.{MayRefuse};
+ghost use Rattle.wasm_smith.specs.Steps.{Gives};
 
-use crate::build::code::code;
+use crate::build::contents::{Contents, draw_contents};
 use crate::build::definitions::{Definitions, define};
 use crate::build::imported::Imported;
 use crate::build::imports::imports;
 use crate::build::section_flag::section_flag;
-use crate::build::{parts_to_come, types};
+use crate::build::types;
+use crate::interesting_values::interesting_values;
 use smith_bytes::{Error, Unstructured};
 use smith_config::Config;
-use smith_types::{Code, Items, TypeSpace};
+use smith_types::{Items, TypeSpace};
 use std::alloc::Global;
 
-/// The parts of a module that are drawn.
+/// The parts of a module.
 #[derive(Drop)]
 pub(crate) struct Drawn {
     pub(crate) types: TypeSpace,
     /// The imports, and the index spaces that they begin, to their ends.
     pub(crate) imported: Imported,
     pub(crate) definitions: Definitions,
-    pub(crate) code: Items<Code>,
-    pub(crate) encodes_types: bool,
+    pub(crate) contents: Contents,
     pub(crate) encodes_imports: bool,
+    pub(crate) interesting_values32: Items<u32>,
+    pub(crate) interesting_values64: Items<u64>,
 }
 
-/// Draws the parts, in the order of the steps.
+/// Draws the parts, in the order of the steps, and collects the interesting values.
 #[tactic(auto, unfolding(crate::specs::Build::module_at))]
 fn parts(
     alloc: Global,
@@ -45,25 +48,29 @@ fn parts(
     requires passes { Passes config.now }
     requires sanitized { IsSanitized config.now }
     requires no_shapes { HasNoShapes config.now }
-    ensures exact { Gives (λ drawn. (parts_of config.now drawn, u.new)) result (module_at distinct config.now u.old) }
+    ensures exact { Gives (λ drawn. (as_drawn (parts_of config.now drawn), u.new)) result (module_at distinct config.now u.old) }
     ensures drawn { IfOk result (IsDrawnFor distinct config.now) }
-    ensures refusal { IfErr result (MayComeOut config.now) }
+    ensures refusal { IfErr result (MayRefuse config.now) }
     ensures left { KeepsPieces u.old u.new }
 {
     let types = types::types(alloc, config, u)?;
     let mut imported = imports(alloc, config, distinct, &types, u)?;
     let encodes_imports = section_flag(imported.groups.len(), u);
     let definitions = define(alloc, config, &types, &mut imported.spaces, u)?;
-    parts_to_come::exports(config)?;
-    let encodes_types = section_flag(types.types().len(), u);
-    parts_to_come::segments(config)?;
+    let contents = draw_contents(alloc, config, &types, &imported, &definitions, u)?;
+    let (interesting_values32, interesting_values64) = interesting_values(
+        alloc,
+        imported.spaces.tables.as_slice(),
+        imported.spaces.memories.as_slice(),
+    )?;
     Ok(Drawn {
-        code: code(alloc, definitions.num_funcs)?,
         types,
         imported,
         definitions,
-        encodes_types,
+        contents,
         encodes_imports,
+        interesting_values32,
+        interesting_values64,
     })
 }
 
@@ -77,15 +84,13 @@ pub(crate) fn draw(
     requires passes { Passes config.now }
     requires sanitized { IsSanitized config.now }
     requires no_shapes { HasNoShapes config.now }
-    ensures exact { Gives (λ drawn. (parts_of config.now drawn, u.new)) result (module_at distinct config.now u.old) }
+    ensures exact { Gives (λ drawn. (as_drawn (parts_of config.now drawn), u.new)) result (module_at distinct config.now u.old) }
     ensures valid { IfOk result (λ drawn. IsValid (parts_of config.now drawn)) }
     ensures bounds { IfOk result (λ drawn. KeepsBounds config.now (parts_of config.now drawn)) }
     ensures minimums { IfOk result (λ drawn. MeetsMinimums config.now (parts_of config.now drawn)) }
-    ensures names { IsTrue distinct → IfOk result (λ drawn. HasDistinctImports (parts_of config.now drawn)) }
-    ensures floats { config.now.allow_floats ≡ false → IfOk result (λ drawn. HasNoFloats (parts_of config.now drawn)) }
-    ensures sections { IfOk result (λ drawn. WritesSections (parts_of config.now drawn)) }
-    ensures no_more { IfOk result (λ drawn. HasNoMore (parts_of config.now drawn)) }
-    ensures refusal { IfErr result (MayComeOut config.now) }
+    ensures promises { IfOk result (λ drawn. KeepsPromises distinct config.now (parts_of config.now drawn)) }
+    ensures interesting { IfOk result (λ drawn. HasInterestingValues (parts_of config.now drawn)) }
+    ensures refusal { IfErr result (MayRefuse config.now) }
     ensures left { KeepsPieces u.old u.new }
 {
     parts(alloc, config, distinct, u)

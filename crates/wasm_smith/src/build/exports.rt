@@ -1,4 +1,4 @@
-ghost use Rattle.std.specs.Prelude.{◌≡◌, ◌<◌, ◌≤◌, ◌+◌, ◌-◌, ◌^◌, ◌++◌, ◌∷◌, [], false, nat_lt, length, List, IfOk, IfErr};
+ghost use Rattle.std.specs.Prelude.{◌≡◌, ◌<◌, ◌≤◌, ◌+◌, ◌-◌, ◌^◌, ◌++◌, ◌∷◌, [], false, nat_lt, length, List, IsTrue, IfOk, IfErr};
 ghost use Rattle.smith_bytes.specs.Source.{KeepsPieces};
 ghost use Rattle.smith_bytes.specs.Takes.{Takes};
 ghost use Rattle.smith_types.specs.Exports.{AreExportsValid};
@@ -6,39 +6,19 @@ ghost use Rattle.smith_types.specs.IndexSpaces.{spaces_in};
 ghost use Rattle.wasm_smith.specs.Steps.{Gives};
 ghost use Rattle.wasm_smith.specs.Defined.{SpellsEmpty};
 ghost use Rattle.wasm_smith.specs.Spelling.{SpellsNone};
-ghost use Rattle.wasm_smith.specs.Exporting.{Export, is_exported, HasNames, item_size, exported_size, export_at, offered_kinds, exports_from, free_exports_at};
-ghost use Rattle.wasm_smith.specs.Exported.{MayExport, MayExportFreely, IsCandidate, AreExported, MayRefuseExports};
+ghost use Rattle.wasm_smith.specs.Exporting.{Export, is_exported, HasNames, exported_size, export_at, offered_kinds, exports_from, free_exports_at};
+ghost use Rattle.wasm_smith.specs.Exported.{MayExport, MayExportFreely, MayDrawExports, IsCandidate, AreExported, MayRefuseFree, MayRefuseExports};
+ghost use Rattle.wasm_smith.specs.AllExports.{AreAllExported, exports_at};
 
+use crate::build::all_exports::export_everything;
 use crate::build::export_kinds::{choose_candidate, export_kind, has_candidates};
 use crate::build::export_names::export_name;
+use crate::build::exported::{Exports, item_size};
 use smith_bytes::{Count, Error, Unstructured, Why, goes_on};
 use smith_config::Config;
-use smith_types::{EntityType, ExportKind, IndexSpaces, Items, Name, TypeSpace};
+use smith_types::{ExportKind, IndexSpaces, Items, Name, TypeSpace};
 use std::alloc::Global;
 use std::collections::HashSet;
-
-/// The exports of a module.
-#[derive(Drop)]
-pub(crate) struct Exports {
-    /// The name of each export, and the kind and the index of its item.
-    pub(crate) exports: Items<(Name, ExportKind, u32)>,
-    /// What the imports and the exports add to the type size of the module.
-    pub(crate) type_size: u32,
-}
-
-/// The size of an item: of a function that of its type.
-fn item_size(types: &TypeSpace, spaces: &IndexSpaces, kind: ExportKind, index: u32) -> u32
-    requires { MayExport types.now.types (spaces_in spaces.now) }
-    ensures { result ≡ item_size types.now.types (spaces_in spaces.now) kind index }
-{
-    let ExportKind::Func = kind else {
-        return 1;
-    };
-    match spaces.funcs.as_slice().get(index as usize) {
-        Some(func) => types.size_of(&EntityType::Func(*func)),
-        None => 1,
-    }
-}
 
 /// Draws an export of an item that may be exported where that much of the type size is left.
 #[tactic(auto, unfolding(crate::specs::Exporting::export_at))]
@@ -114,7 +94,7 @@ fn drawn_exports(
     ensures exact { Gives (λ made. (made.exports, u.new)) result (free_exports_at config.now types.now.types (spaces_in spaces.now) imports_size u.old) }
     ensures kept { IfOk result (λ made. AreExported config.now types.now.types (spaces_in spaces.now) imports_size made.exports made.type_size) }
     ensures least { IfOk result (λ made. config.now.min_exports ≤ length made.exports) }
-    ensures refusal { IfErr result (MayRefuseExports config.now) }
+    ensures refusal { IfErr result (MayRefuseFree config.now) }
     ensures left { KeepsPieces u.old u.new }
 {
     let drawn = push_exports(alloc, config, types, spaces, imports_size, u)?;
@@ -126,7 +106,7 @@ fn drawn_exports(
 
 /// As many exports as are asked for, and no more than may be, of the items in `spaces`, where the imports add `imports_size` to
 /// the type size.
-pub(crate) fn free_exports(
+fn free_exports(
     alloc: Global,
     config: &Config,
     types: &TypeSpace,
@@ -141,9 +121,38 @@ pub(crate) fn free_exports(
     ensures least { IfOk result (λ made. config.now.min_exports ≤ length made.exports) }
     ensures type_size { IfOk result (λ made. made.type_size ≡ imports_size + exported_size types.now.types (spaces_in spaces.now) made.exports) }
     ensures within { IfOk result (λ made. made.type_size ≤ config.now.max_type_size) }
-    ensures refusal { IfErr result (MayRefuseExports config.now) }
+    ensures refusal { IfErr result (MayRefuseFree config.now) }
     ensures none { config.now.min_exports ≡ 0 → IfOk result (λ made. Takes (SpellsEmpty (SpellsNone config.now.max_exports)) u.old made.exports u.new) }
     ensures left { KeepsPieces u.old u.new }
 {
     drawn_exports(alloc, config, types, spaces, imports_size, u)
+}
+
+/// The exports of a module: of every item in `spaces` where that is asked for, else drawn freely. The imports add `imports_size` to
+/// the type size.
+pub(crate) fn exports(
+    alloc: Global,
+    config: &Config,
+    types: &TypeSpace,
+    spaces: &IndexSpaces,
+    imports_size: u32,
+    u: &mut Unstructured<'_>,
+) -> Result<Exports, Error>
+    requires may { MayDrawExports config.now types.now.types (spaces_in spaces.now) imports_size }
+    ensures exact { Gives (λ made. (made.exports, u.new)) result (exports_at config.now types.now.types (spaces_in spaces.now) imports_size u.old) }
+    ensures valid { IfOk result (λ made. AreExportsValid (spaces_in spaces.now) made.exports) }
+    ensures most { config.now.export_everything ≡ false → IfOk result (λ made. length made.exports ≤ config.now.max_exports) }
+    ensures least { config.now.export_everything ≡ false → IfOk result (λ made. config.now.min_exports ≤ length made.exports) }
+    ensures everything { IsTrue config.now.export_everything → IfOk result (λ made. AreAllExported (spaces_in spaces.now) made.exports) }
+    ensures type_size { IfOk result (λ made. made.type_size ≡ imports_size + exported_size types.now.types (spaces_in spaces.now) made.exports) }
+    ensures within { IfOk result (λ made. made.type_size ≤ config.now.max_type_size) }
+    ensures refusal { IfErr result (MayRefuseExports config.now) }
+    ensures none { config.now.export_everything ≡ false → config.now.min_exports ≡ 0
+        → IfOk result (λ made. Takes (SpellsEmpty (SpellsNone config.now.max_exports)) u.old made.exports u.new) }
+    ensures left { KeepsPieces u.old u.new }
+{
+    if config.export_everything {
+        return export_everything(alloc, config, types, spaces, imports_size, u);
+    }
+    free_exports(alloc, config, types, spaces, imports_size, u)
 }

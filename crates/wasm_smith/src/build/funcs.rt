@@ -11,7 +11,7 @@ ghost use Rattle.wasm_smith.specs.Defined.{IsFilled};
 ghost use Rattle.wasm_smith.specs.Definitions.{funcs_at};
 ghost use Rattle.wasm_smith.specs.FuncTypes.{func_types};
 ghost use Rattle.wasm_smith.specs.Spelling.{SpellsFuncs};
-ghost use Rattle.wasm_smith.specs.ToCome.{MayComeOut};
+ghost use Rattle.wasm_smith.specs.Refusals.{MayRefuse};
 
 use crate::build::typed::define_typed;
 use smith_bytes::{Count, Error, Unstructured, Why};
@@ -64,7 +64,7 @@ pub(crate) fn funcs(
     ensures exact { Gives (λ _. (funcs.new, u.new)) result (funcs_at config.now types.now.types funcs.old u.old) }
     ensures filled { OnOk result (IsFilled config.now.min_funcs config.now.max_funcs funcs.old funcs.new) }
     ensures valid { All (IsFuncValid types.now.types) funcs.old → OnOk result (All (IsFuncValid types.now.types) funcs.new) }
-    ensures refusal { IfErr result (MayComeOut config.now) }
+    ensures refusal { IfErr result (MayRefuse config.now) }
     ensures reach { config.now.min_funcs ≡ 0 → funcs.old ≡ [] → OnOk result (Takes (SpellsFuncs config.now types.now.types) u.old funcs.new u.new) }
     ensures left { KeepsPieces u.old u.new }
 {

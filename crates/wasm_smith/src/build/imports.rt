@@ -18,7 +18,7 @@ ghost use Rattle.wasm_smith.specs.Imported.{
   SpellsNoImport,
   spaces_of,
 };
-ghost use Rattle.wasm_smith.specs.ToCome.{MayComeOut};
+ghost use Rattle.wasm_smith.specs.Refusals.{MayRefuse};
 ghost use Rattle.wasm_smith.specs.Importing.{next_entity_at, fill_at, filled_at, group_of_kind_at, group_at, groups_at, imports_at};
 
 use crate::build::import_entities::{again, entity};
@@ -308,7 +308,7 @@ pub(crate) fn imports(
     ensures exact { Gives (λ imported. (imported.groups, u.new)) result (imports_at config.now types.now.types distinct u.old) }
     ensures so_far { IfOk result (IsImported config.now types.now.types distinct) }
     ensures least { IfOk result (λ imported. config.now.min_imports ≤ imported.count) }
-    ensures refusal { IfErr result (MayComeOut config.now) }
+    ensures refusal { IfErr result (MayRefuse config.now) }
     ensures none { config.now.min_imports ≡ 0 → IfOk result (λ imported. Takes (SpellsNoImport config.now) u.old imported.groups u.new) }
     ensures left { KeepsPieces u.old u.new }
 {

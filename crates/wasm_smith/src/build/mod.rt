@@ -1,19 +1,21 @@
 //! The steps of building a module.
 
-ghost use Rattle.std.specs.Prelude.{◌≡◌, false, IsTrue, IfOk, IfErr};
+ghost use Rattle.std.specs.Prelude.{◌≡◌, IfOk, IfErr};
 ghost use Rattle.smith_bytes.specs.Source.{KeepsPieces};
 ghost use Rattle.smith_config.specs.Faults.{Passes};
 ghost use Rattle.smith_config.specs.InUse.{HasNoShapes};
 ghost use Rattle.smith_config.specs.Sanitized.{IsSanitized};
-ghost use Rattle.wasm_smith.specs.Build.{module_at};
-ghost use Rattle.wasm_smith.specs.Steps.{Gives};
-ghost use Rattle.wasm_smith.specs.Module.{IsValid};
 ghost use Rattle.wasm_smith.specs.Bounds.{KeepsBounds, MeetsMinimums};
-ghost use Rattle.wasm_smith.specs.Promises.{HasDistinctImports, HasNoFloats, WritesSections};
-ghost use Rattle.wasm_smith.specs.ToCome.{HasNoMore, MayComeOut};
+ghost use Rattle.wasm_smith.specs.Build.{as_drawn, module_at};
+ghost use Rattle.wasm_smith.specs.InterestingValues.{HasInterestingValues};
+ghost use Rattle.wasm_smith.specs.Module.{IsValid};
+ghost use Rattle.wasm_smith.specs.Promises.{KeepsPromises};
+ghost use Rattle.wasm_smith.specs.Refusals.{MayRefuse};
+ghost use Rattle.wasm_smith.specs.Steps.{Gives};
 
+mod all_exports;
 mod bodies;
-mod code;
+mod contents;
 mod data;
 mod definitions;
 mod drawn;
@@ -23,6 +25,7 @@ mod element_offsets;
 mod elements;
 mod export_kinds;
 mod export_names;
+mod exported;
 mod exports;
 mod funcs;
 mod globals;
@@ -33,9 +36,11 @@ mod import_names;
 mod imported;
 mod imports;
 mod memories;
-mod parts_to_come;
 mod past_full;
 mod section_flag;
+mod segment_spaces;
+mod segments;
+mod shapes_to_come;
 mod standing;
 mod start;
 mod tables;
@@ -44,7 +49,7 @@ mod typed;
 mod types;
 
 use crate::module::Module;
-pub(crate) use parts_to_come::shape_left_out;
+pub(crate) use shapes_to_come::shape_left_out;
 use smith_bytes::{Error, Unstructured};
 use smith_config::Config;
 use smith_types::Items;
@@ -61,22 +66,21 @@ pub(crate) fn build(
     requires passes { Passes config }
     requires sanitized { IsSanitized config }
     requires no_shapes { HasNoShapes config }
-    ensures exact { Gives (λ m. (m, u.new)) result (module_at distinct config u.old) }
+    ensures exact { Gives (λ m. (as_drawn m, u.new)) result (module_at distinct config u.old) }
     ensures config { IfOk result (λ m. m.config ≡ config) }
     ensures valid { IfOk result IsValid }
     ensures bounds { IfOk result (KeepsBounds config) }
     ensures minimums { IfOk result (MeetsMinimums config) }
-    ensures names { IsTrue distinct → IfOk result HasDistinctImports }
-    ensures floats { config.allow_floats ≡ false → IfOk result HasNoFloats }
-    ensures sections { IfOk result WritesSections }
-    ensures no_more { IfOk result HasNoMore }
-    ensures refusal { IfErr result (MayComeOut config) }
+    ensures promises { IfOk result (KeepsPromises distinct config) }
+    ensures interesting { IfOk result HasInterestingValues }
+    ensures refusal { IfErr result (MayRefuse config) }
     ensures left { KeepsPieces u.old u.new }
 {
     let drawn = drawn::draw(alloc, &config, distinct, u)?;
     let imported = drawn.imported;
     let spaces = imported.spaces;
     let definitions = drawn.definitions;
+    let contents = drawn.contents;
     Ok(Module {
         config,
         types: drawn.types,
@@ -92,16 +96,16 @@ pub(crate) fn build(
         num_defined_tags: definitions.num_tags,
         num_defined_funcs: definitions.num_funcs,
         num_defined_memories: definitions.num_memories,
-        exports: Items::new(alloc),
-        start: None,
-        elems: Items::new(alloc),
-        segments: Items::new(alloc),
-        code: drawn.code,
+        exports: contents.exports,
+        start: contents.start,
+        elems: contents.segments.elements,
+        segments: contents.segments.data_segments,
+        code: contents.code,
         fuel_globals: Items::new(alloc),
-        type_size: imported.type_size,
-        interesting_values32: Items::new(alloc),
-        interesting_values64: Items::new(alloc),
-        encodes_types: drawn.encodes_types,
+        type_size: contents.type_size,
+        interesting_values32: drawn.interesting_values32,
+        interesting_values64: drawn.interesting_values64,
+        encodes_types: contents.encodes_types,
         encodes_imports: drawn.encodes_imports,
     })
 }

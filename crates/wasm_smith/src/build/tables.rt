@@ -11,6 +11,7 @@ ghost use Rattle.smith_draw.specs.Drawing.{Draws};
 ghost use Rattle.wasm_smith.specs.Defined.{IsFilled, SpellsEmpty, MayInitialise, AreTablesDefined, standing_of};
 ghost use Rattle.wasm_smith.specs.DefinedTables.{IsTableFit, AreTablesDrawn};
 ghost use Rattle.wasm_smith.specs.Definitions.{table_at, tables_at};
+ghost use Rattle.wasm_smith.specs.Imported.{HasNullableElements};
 ghost use Rattle.wasm_smith.specs.Promises.{initial_of};
 ghost use Rattle.wasm_smith.specs.Spelling.{SpellsNone};
 
@@ -86,6 +87,7 @@ pub(crate) fn tables(
     ensures filled { OnOk result (IsFilled config.now.min_tables config.now.max_tables tables.old tables.new) }
     ensures valid { All (IsTableValid (features_of config.now) spaces.now.types.now.types) tables.old → OnOk result (All (IsTableValid (features_of config.now) spaces.now.types.now.types) tables.new) }
     ensures within { All (IsTableWithin config.now) tables.old → OnOk result (All (IsTableWithin config.now) tables.new) }
+    ensures nullable { All HasNullableElements tables.old → OnOk result (All HasNullableElements tables.new) }
     ensures several { OnOk result (1 < length tables.new → IsTrue (features_of config.now).reference_types) }
     ensures defined { IfOk result (AreTablesDefined config.now (standing_of spaces.now) tables.old tables.new) }
     ensures floats { All HasNoFloat spaces.now.types.now.types → IfOk result (λ initials. All (All GivesNoFloat) (flat_map initial_of initials)) }

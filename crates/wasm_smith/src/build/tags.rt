@@ -7,7 +7,7 @@ ghost use Rattle.wasm_smith.specs.Steps.{Gives};
 ghost use Rattle.wasm_smith.specs.Defined.{IsFilled, SpellsEmpty};
 ghost use Rattle.wasm_smith.specs.Definitions.{tag_types, tags_at};
 ghost use Rattle.wasm_smith.specs.Spelling.{SpellsNoTag};
-ghost use Rattle.wasm_smith.specs.ToCome.{MayComeOut};
+ghost use Rattle.wasm_smith.specs.Refusals.{MayRefuse};
 
 use crate::build::typed::define_typed;
 use smith_bytes::{Count, Error, Unstructured};
@@ -40,7 +40,7 @@ fn drawn_tags(
     requires few_types { length types.now.types < 2 ^ 32 }
     requires imported { length tags.old ≤ config.now.max_tags }
     ensures exact { Gives (λ _. (tags.new, u.new)) result (tags_at config.now types.now.types tags.old u.old) }
-    ensures refusal { IfErr result (MayComeOut config.now) }
+    ensures refusal { IfErr result (MayRefuse config.now) }
     ensures left { KeepsPieces u.old u.new }
 {
     let choices = tag_types(alloc, config, types.types())?;
@@ -69,7 +69,7 @@ pub(crate) fn tags(
     ensures filled { OnOk result (IsFilled config.now.min_tags config.now.max_tags tags.old tags.new) }
     ensures valid { All (IsTagValid types.now.types) tags.old → OnOk result (All (IsTagValid types.now.types) tags.new) }
     ensures enabled { (0 < length tags.old → IsTrue config.now.exceptions_enabled) → OnOk result (0 < length tags.new → IsTrue config.now.exceptions_enabled) }
-    ensures refusal { IfErr result (MayComeOut config.now) }
+    ensures refusal { IfErr result (MayRefuse config.now) }
     ensures none { config.now.min_tags ≡ 0 → tags.old ≡ [] → OnOk result (Takes (SpellsEmpty (SpellsNoTag config.now types.now.types)) u.old tags.new u.new) }
     ensures left { KeepsPieces u.old u.new }
 {

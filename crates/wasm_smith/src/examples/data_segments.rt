@@ -2,6 +2,7 @@
 
 ghost use Rattle.std.specs.Prelude.{◌≡◌, ◌^◌, [], ◌∷◌, true, false, pos, negsuc, None, Some, Ok, Err};
 ghost use Rattle.smith_bytes.specs.declared.error.Count.TheVariants as counts;
+ghost use Rattle.smith_bytes.specs.declared.error.Why.TheVariants.{Unmet};
 ghost use Rattle.smith_types.specs.ExampleEntities.{all_addresses};
 ghost use Rattle.smith_types.specs.declared.segments.DataSegmentKind.TheVariants.{Passive, Active};
 ghost use Rattle.smith_types.specs.declared.segments.Offset.TheVariants.{Const32, Const64, Global};
@@ -24,7 +25,7 @@ fn segments()
     ensures without_a_memory { data_at default_config (global_scope default_config (beside_globals []) []) [] (1 ∷ 1 ∷ 42 ∷ 0 ∷ 0 ∷ 9 ∷ [])
         ≡ Ok (record { kind = Passive; init = 42 ∷ [] } ∷ [], 9 ∷ []) }
     ensures without_bulk_memory { data_at (record default_config { bulk_memory_enabled = false }) (global_scope default_config (beside_globals []) []) [] (1 ∷ []) ≡ Ok ([], 1 ∷ []) }
-    ensures asked_for_without_bulk_memory { data_at (record default_config { bulk_memory_enabled = false; min_data_segments = 1 }) (global_scope default_config (beside_globals []) []) [] [] ≡ Err counts.DataSegments }
+    ensures asked_for_without_bulk_memory { data_at (record default_config { bulk_memory_enabled = false; min_data_segments = 1 }) (global_scope default_config (beside_globals []) []) [] [] ≡ Err (Unmet counts.DataSegments) }
     ensures asked_for { data_at (record default_config { min_data_segments = 1; max_data_segments = 1 }) (global_scope default_config (beside_globals []) []) [] (0 ∷ 9 ∷ [])
         ≡ Ok (record { kind = Passive; init = [] } ∷ [], 9 ∷ []) }
     ensures beside_a_memory { data_at default_config (global_scope default_config (beside_globals []) []) (memory 1 None ∷ []) (1 ∷ 0 ∷ 1 ∷ 0 ∷ 9 ∷ [])

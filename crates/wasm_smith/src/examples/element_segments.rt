@@ -2,6 +2,7 @@
 
 ghost use Rattle.std.specs.Prelude.{◌≡◌, [], ◌∷◌, true, false, pos, None, Some, Ok, Err};
 ghost use Rattle.smith_bytes.specs.declared.error.Count.TheVariants as counts;
+ghost use Rattle.smith_bytes.specs.declared.error.Why.TheVariants.{Unmet};
 ghost use Rattle.smith_types.specs.Flags.{funcref};
 ghost use Rattle.smith_types.specs.ExampleTypes.{nullable, plain, shared_type, plain_func};
 ghost use Rattle.smith_types.specs.declared.segments.Offset.TheVariants.{Const32};
@@ -57,9 +58,9 @@ fn segments()
     ensures none { elements_at default_config (table_scope default_config (beside_globals [])) [] (0 ∷ 9 ∷ []) ≡ Ok ([], 9 ∷ []) }
     ensures one { elements_at default_config (table_scope default_config (beside_globals [])) [] (1 ∷ 0 ∷ 0 ∷ 0 ∷ 0 ∷ 0 ∷ 9 ∷ []) ≡ Ok (passive_elements (Expressions []) ∷ [], 9 ∷ []) }
     ensures of_no_function { elements_at (record default_config { min_elements = 60; max_element_segments = 1 }) (table_scope default_config (beside_globals [])) [] (1 ∷ 0 ∷ 0 ∷ 1 ∷ 9 ∷ []) ≡ Ok (passive_elements (Functions []) ∷ [], 9 ∷ []) }
-    ensures more_than_may_be { elements_at (record default_config { min_elements = 60; max_elements = 50 }) (table_scope default_config (beside_globals [])) [] (1 ∷ 0 ∷ 0 ∷ 0 ∷ []) ≡ Err counts.Elements }
+    ensures more_than_may_be { elements_at (record default_config { min_elements = 60; max_elements = 50 }) (table_scope default_config (beside_globals [])) [] (1 ∷ 0 ∷ 0 ∷ 0 ∷ []) ≡ Err (Unmet counts.Elements) }
     ensures of_no_kind { elements_at (record default_config { bulk_memory_enabled = false }) (table_scope default_config (beside_globals [])) [] (1 ∷ []) ≡ Ok ([], 1 ∷ []) }
-    ensures asked_for_of_no_kind { elements_at (record default_config { bulk_memory_enabled = false; min_element_segments = 1 }) (table_scope default_config (beside_globals [])) [] [] ≡ Err counts.ElementSegments }
+    ensures asked_for_of_no_kind { elements_at (record default_config { bulk_memory_enabled = false; min_element_segments = 1 }) (table_scope default_config (beside_globals [])) [] [] ≡ Err (Unmet counts.ElementSegments) }
 {}
 
 // The kind, the offset, no byte for items of a table's only type, and no function that may be one.

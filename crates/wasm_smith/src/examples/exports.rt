@@ -1,13 +1,15 @@
-ghost use Rattle.std.specs.Prelude.{◌≡◌, [], ◌∷◌, true, false, Ok, Err, codes};
+ghost use Rattle.std.specs.Prelude.{◌≡◌, [], ◌∷◌, true, false, None, Ok, Err, codes};
 ghost use Rattle.smith_bytes.specs.declared.error.Count.TheVariants as counts;
+ghost use Rattle.smith_bytes.specs.declared.error.Why.TheVariants.{Unmet, TypeSize};
 ghost use Rattle.smith_types.specs.Imports.{imported_spaces};
 ghost use Rattle.smith_types.specs.declared.entity_type.EntityType.TheVariants as entity;
-ghost use Rattle.smith_types.specs.declared.entity_type.ExportKind.TheVariants.{Func, Global};
+ghost use Rattle.smith_types.specs.declared.entity_type.ExportKind.TheVariants.{Func, Memory, Global, Tag};
 ghost use Rattle.smith_config.specs.Config.{default_config};
 ghost use Rattle.wasm_smith.specs.ExampleMembers.{final, taking_a_number};
 ghost use Rattle.wasm_smith.specs.ExampleModules.{plain_function};
-ghost use Rattle.wasm_smith.specs.ExampleParts.{number, import_named};
+ghost use Rattle.wasm_smith.specs.ExampleParts.{memory, number, import_named};
 ghost use Rattle.wasm_smith.specs.Exporting.{is_exported, export_name_at, candidates, offered_kinds, exported_size, free_exports_at};
+ghost use Rattle.wasm_smith.specs.AllExports.{exports_at};
 
 fn drawn_exports()
     ensures by_kind_and_index { free_exports_at default_config (final plain_function ∷ []) (imported_spaces (import_named [] (entity.Func 0) ∷ import_named [] (entity.Func 0) ∷ import_named [] (entity.Global number) ∷ [])) 0
@@ -20,11 +22,24 @@ fn drawn_exports()
 {}
 
 fn ends()
-    ensures without_items { free_exports_at (record default_config { min_exports = 1 }) [] (imported_spaces []) 0 [] ≡ Err counts.Exports }
-    ensures too_large { free_exports_at (record default_config { min_exports = 1; max_type_size = 2 }) [] (imported_spaces (import_named [] (entity.Global number) ∷ [])) 0 [] ≡ Err counts.Exports }
+    ensures without_items { free_exports_at (record default_config { min_exports = 1 }) [] (imported_spaces []) 0 [] ≡ Err (Unmet counts.Exports) }
+    ensures too_large { free_exports_at (record default_config { min_exports = 1; max_type_size = 2 }) [] (imported_spaces (import_named [] (entity.Global number) ∷ [])) 0 [] ≡ Err (Unmet counts.Exports) }
     ensures just_small_enough { free_exports_at (record default_config { min_exports = 1; max_type_size = 3 }) [] (imported_spaces (import_named [] (entity.Global number) ∷ [])) 0 [] ≡ Ok (([], Global, 0) ∷ [], []) }
-    ensures too_large_beside_imports { free_exports_at (record default_config { min_exports = 1; max_type_size = 4 }) [] (imported_spaces (import_named [] (entity.Global number) ∷ [])) 2 [] ≡ Err counts.Exports }
-    ensures too_large_together { free_exports_at (record default_config { min_exports = 2; max_type_size = 4 }) [] (imported_spaces (import_named [] (entity.Global number) ∷ [])) 0 [] ≡ Err counts.Exports }
+    ensures too_large_beside_imports { free_exports_at (record default_config { min_exports = 1; max_type_size = 4 }) [] (imported_spaces (import_named [] (entity.Global number) ∷ [])) 2 [] ≡ Err (Unmet counts.Exports) }
+    ensures too_large_together { free_exports_at (record default_config { min_exports = 2; max_type_size = 4 }) [] (imported_spaces (import_named [] (entity.Global number) ∷ [])) 0 [] ≡ Err (Unmet counts.Exports) }
+{}
+
+// Of everything.
+fn every_export()
+    ensures by_kind_and_index { exports_at (record default_config { export_everything = true }) (final plain_function ∷ []) (imported_spaces (import_named [] (entity.Global number) ∷ import_named [] (entity.Func 0) ∷ [])) 0
+        (98 ∷ 98 ∷ 1 ∷ 1 ∷ []) ≡ Ok ((codes "b", Func, 0) ∷ (codes "b1", Global, 0) ∷ [], []) }
+    ensures tags_last { exports_at (record default_config { export_everything = true }) (final plain_function ∷ []) (imported_spaces (import_named [] (entity.Tag 0) ∷ import_named [] (entity.Memory (memory 1 None)) ∷ import_named [] (entity.Func 0) ∷ import_named [] (entity.Func 0) ∷ [])) 0
+        [] ≡ Ok (([], Func, 0) ∷ (codes "1", Func, 1) ∷ (codes "2", Memory, 0) ∷ (codes "3", Tag, 0) ∷ [], []) }
+    ensures more_than_may_be { exports_at (record default_config { export_everything = true; max_exports = 0 }) [] (imported_spaces (import_named [] (entity.Global number) ∷ [])) 0 (9 ∷ []) ≡ Ok (([], Global, 0) ∷ [], []) }
+    ensures of_no_item { exports_at (record default_config { export_everything = true; min_exports = 1 }) [] (imported_spaces []) 0 (1 ∷ 9 ∷ []) ≡ Ok ([], 1 ∷ 9 ∷ []) }
+    ensures just_small_enough { exports_at (record default_config { export_everything = true; max_type_size = 6 }) (final plain_function ∷ []) (imported_spaces (import_named [] (entity.Global number) ∷ import_named [] (entity.Func 0) ∷ [])) 2 [] ≡ Ok (([], Func, 0) ∷ (codes "1", Global, 0) ∷ [], []) }
+    ensures too_large { exports_at (record default_config { export_everything = true; max_type_size = 5 }) (final plain_function ∷ []) (imported_spaces (import_named [] (entity.Global number) ∷ import_named [] (entity.Func 0) ∷ [])) 2 [] ≡ Err TypeSize }
+    ensures freely_where_that_is_off { exports_at default_config [] (imported_spaces (import_named [] (entity.Global number) ∷ [])) 0 (0 ∷ 9 ∷ []) ≡ Ok ([], 9 ∷ []) }
 {}
 
 fn exported_items()

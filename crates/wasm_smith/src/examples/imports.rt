@@ -1,5 +1,6 @@
 ghost use Rattle.std.specs.Prelude.{◌≡◌, [], ◌∷◌, true, false, None, Some, Ok, Err, codes};
 ghost use Rattle.smith_bytes.specs.declared.error.Count.TheVariants as counts;
+ghost use Rattle.smith_bytes.specs.declared.error.Why.TheVariants.{Unmet};
 ghost use Rattle.smith_types.specs.Imports.{import_of, imported_spaces};
 ghost use Rattle.smith_types.specs.declared.entity_type.EntityType.TheVariants.{Global, Memory, Func};
 ghost use Rattle.smith_types.specs.declared.entity_type.ExportKind.TheVariants as kind;
@@ -27,7 +28,7 @@ fn drawn_imports()
     ensures by_itself { imports_at (record default_config { max_imports = 1; compact_imports_enabled = false }) [] false (1 ∷ 0 ∷ []) ≡ Ok (Single (import_named [] (Global number)) ∷ [], []) }
     ensures none_asked_for { imports_at default_config [] false (0 ∷ 9 ∷ []) ≡ Ok ([], 9 ∷ []) }
     ensures none_allowed { imports_at (record default_config { max_imports = 0 }) [] false (1 ∷ []) ≡ Ok ([], 1 ∷ []) }
-    ensures too_large_together { imports_at (record default_config { min_imports = 2; max_imports = 2; max_type_size = 3 }) [] false [] ≡ Err counts.Imports }
+    ensures too_large_together { imports_at (record default_config { min_imports = 2; max_imports = 2; max_type_size = 3 }) [] false [] ≡ Err (Unmet counts.Imports) }
     ensures just_small_enough { imports_at (record default_config { min_imports = 2; max_imports = 2; max_type_size = 4 }) [] false []
         ≡ Ok (Single (import_named [] (Global number)) ∷ Single (import_named [] (Global number)) ∷ [], []) }
 {}

@@ -1,4 +1,4 @@
-ghost use Rattle.std.specs.Prelude.{◌⊎◌, true, false, [], ◌∷◌, pos, Some, Ok, Err};
+ghost use Rattle.std.specs.Prelude.{◌⊎◌, true, false, [], ◌∷◌, Some, Ok, Err};
 ghost use Rattle.smith_bytes.specs.declared.error.Error.{Error};
 ghost use Rattle.smith_bytes.specs.declared.error.Error.TheVariants.{EmptyChoose, IncorrectFormat, Memory, Config as Faulty, Shape as Misshapen};
 ghost use Rattle.smith_bytes.specs.declared.error.Which.TheVariants.{AvailableImports, Exports, ModuleShape};
@@ -6,29 +6,23 @@ ghost use Rattle.smith_bytes.specs.declared.error.ShapeFault.TheVariants.{Duplic
 ghost use Rattle.smith_bytes.specs.declared.error.ConfigFault.TheVariants.{MinAboveMax};
 ghost use Rattle.smith_bytes.specs.declared.error.Count.TheVariants as counts;
 ghost use Rattle.smith_bytes.specs.declared.error.Why.TheVariants.{Unmet, TypeSize};
-ghost use Rattle.smith_types.specs.declared.segments.Elements.TheVariants.{Functions};
-ghost use Rattle.smith_types.specs.declared.entity_type.ExportKind.TheVariants as kind;
 ghost use Rattle.smith_config.specs.Config.{default_config};
 ghost use Rattle.smith_config.specs.declared.config.Config.{Config};
 ghost use Rattle.wasm_smith.specs.Refusals.{MayRefuse};
-ghost use Rattle.wasm_smith.specs.ToCome.{MayComeOut, HasNoMore, IsDrawn, Allows};
-ghost use Rattle.wasm_smith.specs.ExampleParts.{passive_elements, active_data};
+ghost use Rattle.wasm_smith.specs.ToCome.{MayComeOut, IsDrawn, Allows};
 ghost use Rattle.wasm_smith.specs.ExampleModules.{one_function, empty_module};
 ghost use Rattle.wasm_smith.specs.ExampleShapes.{for_module, for_imports, for_exports, environment, five_exports, IsRefusalToCome};
 
 fn refusals()
     ensures allowed_later { (config : Config) (e : Error) → MayComeOut config e → MayRefuse config e ⊎ IsRefusalToCome config e }
-    ensures exports_are_refused { MayComeOut (record default_config { min_exports = 1 }) (IncorrectFormat (Unmet counts.Exports)) }
+    ensures exports_may_be { MayComeOut (record default_config { min_exports = 1 }) (IncorrectFormat (Unmet counts.Exports)) }
+    ensures exports_of_a_table_are_not { ¬ MayComeOut (record default_config { min_exports = 1; max_imports = 0; min_tables = 1 }) (IncorrectFormat (Unmet counts.Exports)) }
     ensures tables_are_not { ¬ MayComeOut (record default_config { min_tables = 1 }) (IncorrectFormat (Unmet counts.Tables)) }
-    ensures globals_are_not { ¬ MayComeOut (record default_config { min_globals = 1 }) (IncorrectFormat (Unmet counts.Globals)) }
-    ensures an_import_that_fits { ¬ MayComeOut (record default_config { min_imports = 1 }) (IncorrectFormat (Unmet counts.Imports)) }
-    ensures imports_of_too_many_memories { MayComeOut (record default_config { min_imports = 2 }) (IncorrectFormat (Unmet counts.Imports)) }
-    ensures tags_may_be { MayComeOut (record default_config { min_tags = 1 }) (IncorrectFormat (Unmet counts.Tags)) }
-    ensures types_are_not { ¬ MayComeOut (record default_config { min_types = 1 }) (IncorrectFormat (Unmet counts.Types)) }
-    ensures memories_are_not { ¬ MayComeOut (record default_config { min_memories = 1 }) (IncorrectFormat (Unmet counts.Memories)) }
-    ensures functions_of_no_type { MayComeOut (record default_config { min_funcs = 1; gc_enabled = false }) (IncorrectFormat (Unmet counts.Funcs)) }
-    ensures functions_of_some_type { ¬ MayComeOut (record default_config { min_funcs = 1; min_types = 1; gc_enabled = false }) (IncorrectFormat (Unmet counts.Funcs)) }
+    ensures data_segments_are_not { ¬ MayComeOut (record default_config { min_data_segments = 1 }) (IncorrectFormat (Unmet counts.DataSegments)) }
+    ensures data_segments_without_bulk_memory { MayComeOut (record default_config { min_data_segments = 1; bulk_memory_enabled = false }) (IncorrectFormat (Unmet counts.DataSegments)) }
     ensures nothing_asked_for { ¬ MayComeOut default_config (IncorrectFormat (Unmet counts.Tags)) }
+    ensures everything_exported { MayComeOut (record default_config { export_everything = true }) (IncorrectFormat TypeSize) }
+    ensures not_everything_exported { ¬ MayComeOut default_config (IncorrectFormat TypeSize) }
     ensures crossed_bounds { MayComeOut (record default_config { min_types = 101 }) (Faulty (MinAboveMax counts.Types)) }
     ensures no_crossed_bounds { ¬ MayComeOut default_config (Faulty (MinAboveMax counts.Types)) }
     ensures a_shape { MayComeOut (for_exports five_exports default_config) (Misshapen Exports LeftOut) }
@@ -41,17 +35,6 @@ fn refusals()
     ensures no_shape { ¬ MayComeOut default_config (Misshapen ModuleShape LeftOut) }
     ensures memory { MayComeOut default_config Memory }
     ensures choice { ¬ MayComeOut default_config EmptyChoose }
-    ensures type_size { ¬ MayComeOut (record default_config { export_everything = true }) (IncorrectFormat TypeSize) }
-{}
-
-fn parts()
-    ensures a_function { HasNoMore one_function }
-    ensures an_export { ¬ HasNoMore (record one_function { exports = ([], kind.Func, 0) ∷ [] }) }
-    ensures a_start { ¬ HasNoMore (record one_function { start = Some 0 }) }
-    ensures elements { ¬ HasNoMore (record one_function { elems = passive_elements (Functions []) ∷ [] }) }
-    ensures bytes { ¬ HasNoMore (record one_function { segments = active_data (pos 0) [] ∷ [] }) }
-    ensures a_number_to_try { ¬ HasNoMore (record one_function { interesting_values32 = 0 ∷ [] }) }
-    ensures a_counter_of_fuel { ¬ HasNoMore (record one_function { fuel_globals = 0 ∷ [] }) }
 {}
 
 fn drawn()
@@ -63,7 +46,8 @@ fn drawn()
     ensures too_many { ¬ IsDrawn (record default_config { max_funcs = 0 }) (record one_function { config = record default_config { max_funcs = 0 } }) }
     ensures too_few { ¬ IsDrawn (record default_config { min_funcs = 2 }) (record one_function { config = record default_config { min_funcs = 2 } }) }
     ensures types_that_are_not_written { ¬ IsDrawn default_config (record one_function { encodes_types = false }) }
-    ensures a_start { ¬ IsDrawn default_config (record one_function { start = Some 0 }) }
+    ensures no_start { ¬ IsDrawn (record default_config { allow_start_export = false }) (record one_function { config = record default_config { allow_start_export = false }; start = Some 0 }) }
+    ensures a_counter_of_fuel { ¬ IsDrawn default_config (record one_function { fuel_globals = 0 ∷ [] }) }
     ensures beside_a_shape { ¬ IsDrawn (for_exports five_exports default_config) (record one_function { config = for_exports five_exports default_config }) }
     ensures a_module { Allows default_config (Ok one_function) }
     ensures another_module { ¬ Allows default_config (Ok (record one_function { groups = [] })) }

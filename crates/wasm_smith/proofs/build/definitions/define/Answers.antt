@@ -42,6 +42,7 @@ returns-clause-defined c =
       };
       each_table = c.in_ok-tables.ensures.within c.requires.may.within.each_table;
       each_memory = c.in_ok-memories.ensures.within c.requires.may.within.each_memory;
+      nullable_tables = c.in_ok-tables.ensures.nullable c.requires.may.nullable_tables;
       initial_tables = rw (over.types, over.funcs, over.imported_funcs, over.globals, c.as_slice-func_types.ensures, c.as_slice-imported_globals.ensures, c.len-imported_funcs.ensures) at c.in_ok-tables.ensures.defined;
       initial_globals = rw (c.as_slice-func_types.ensures, c.len-imported_funcs.ensures) at c.in_ok-globals.ensures.defined;
       num_tags = rw (c.len.ensures, c.len-imported_tags.ensures) (counted _ _ c.in_ok-tags.ensures.filled.extends);

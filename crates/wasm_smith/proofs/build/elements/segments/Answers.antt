@@ -13,7 +13,7 @@ returns-then-not-goes_on-clause-exact c = segments_stop c.loop-made.invariant.gr
 pub returns-in_err-segment-clause-exact : goal.returns-in_err-segment-clause-exact
 returns-in_err-segment-clause-exact c =
     refused_by {X = ElementSegment} (λ segment. (segment, c.segment.new.u)) _ c.in_err-segment.field-0.0 _ _ c.from_residual.result c.in_err-segment.ensures.exact
-    (λ count drawn. segments_refused c.loop-made.invariant.growing c.loop-made-test.true c.goes_on.ensures.exact c.if-not-goes_on.false drawn)
+    (λ why drawn. segments_refused c.loop-made.invariant.growing c.loop-made-test.true c.goes_on.ensures.exact c.if-not-goes_on.false drawn)
     c.from_residual.ensures.1
 
 pub overflow_add-total : goal.overflow_add-total

@@ -22,4 +22,4 @@ loop-made-preserved c =
     let drawn = c.in_ok-one.ensures in
     export_more now c.loop-made-test.true c.goes_on.ensures.exact c.if-not-goes_on.false refl c.has_candidates.ensures c.if-not-has_candidates.false
     (drawn.exact c.loop-made.exports now.names_are (omega (arith, now.count_is))) (drawn.fresh c.loop-made.exports now.names_are) (drawn.names c.loop-made.exports now.names_are) drawn.candidate
-    c.in_ok-push.ensures.ok (rw c.item_size.ensures refl) c.goes_on.ensures.left drawn.left
+    c.in_ok-push.ensures.ok (rw c.item_size.ensures.exact refl) c.goes_on.ensures.left drawn.left

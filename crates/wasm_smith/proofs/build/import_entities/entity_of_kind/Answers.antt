@@ -24,4 +24,4 @@ returns-in_ok-arbitrary_memtype-in-Memory-clause-fit c =
     memory_fit c.args.config.now c.args.types.now c.requires.may _ (c.in_ok-arbitrary_memtype-in-Memory.ensures.valid (passes_but_imports c.args.config.now c.requires.may.passes)) c.in_ok-arbitrary_memtype-in-Memory.ensures.within
 
 pub returns-in_ok-arbitrary_table_type-in-Table-clause-fit : goal.returns-in_ok-arbitrary_table_type-in-Table-clause-fit
-returns-in_ok-arbitrary_table_type-in-Table-clause-fit c = table_fit c.args.config.now c.args.types.now c.requires.may _ (c.in_ok-arbitrary_table_type-in-Table.ensures.valid c.requires.may.valid) c.in_ok-arbitrary_table_type-in-Table.ensures.within
+returns-in_ok-arbitrary_table_type-in-Table-clause-fit c = table_fit c.args.config.now c.args.types.now c.requires.may _ (c.in_ok-arbitrary_table_type-in-Table.ensures.valid c.requires.may.valid) c.in_ok-arbitrary_table_type-in-Table.ensures.within c.in_ok-arbitrary_table_type-in-Table.ensures.nullable

@@ -4,6 +4,7 @@ use Rattle.smith_types.specs.Entities.{IsTableValid}
 use Rattle.smith_config.specs.Features.{features_of}
 use Rattle.smith_draw.specs.Bounds.{IsTableWithin}
 use Rattle.wasm_smith.specs.Defined.{standing_of}
+use Rattle.wasm_smith.specs.Imported.{HasNullableElements}
 use Rattle.wasm_smith.proofs.DefinedTableLemmas.{tables_fill, several_tables, tables_all, tables_defined, tables_no_float, no_table_taken}
 use Rattle.wasm_smith.proofs.build.tables.tables.Goals as goal
 
@@ -23,6 +24,9 @@ returns-clause-valid c = λ all.
 
 pub returns-clause-within : goal.returns-clause-within
 returns-clause-within c = λ all. IfOk-weaker c.drawn_tables.result _ _ (λ initials drawn. tables_all (IsTableWithin c.args.config.now) (λ one fit. fit.within) drawn all) c.drawn_tables.ensures.drawn
+
+pub returns-clause-nullable : goal.returns-clause-nullable
+returns-clause-nullable c = λ all. IfOk-weaker c.drawn_tables.result _ _ (λ initials drawn. tables_all HasNullableElements (λ one fit. fit.nullable) drawn all) c.drawn_tables.ensures.drawn
 
 pub returns-clause-defined : goal.returns-clause-defined
 returns-clause-defined c = IfOk-weaker c.drawn_tables.result _ _ (λ initials drawn. tables_defined drawn) c.drawn_tables.ensures.drawn

@@ -14,8 +14,7 @@ function_drawn = record {
   valid = one_function_valid;
   bounds = search rules;
   minimums = search rules;
-  sections = search rules;
-  no_more = search rules;
+  promises = search rules;
 }
 
 pub returns-clause-a_function : goal.returns-clause-a_function

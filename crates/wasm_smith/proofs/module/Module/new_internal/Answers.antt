@@ -6,9 +6,10 @@ use Rattle.smith_bytes.specs.declared.error.ShapeFault.TheVariants.{LeftOut}
 use Rattle.smith_bytes.proofs.PieceLemmas.{piece_same}
 use Rattle.smith_config.specs.Sanitized.{sanitized}
 use Rattle.wasm_smith.specs.Module.{IsValid}
-use Rattle.wasm_smith.specs.ToCome.{HasNoMore, IsLeftOut, MayComeOut}
+use Rattle.wasm_smith.specs.Refusals.{MayRefuse}
+use Rattle.wasm_smith.specs.ToCome.{IsLeftOut, MayComeOut}
 use Rattle.wasm_smith.proofs.NoShapeLemmas.{shown_sanitized}
-use Rattle.wasm_smith.proofs.NeedlessLemmas.{memory_alone}
+use Rattle.wasm_smith.proofs.NeedlessLemmas.{memory_alone, may_come_out}
 use Rattle.wasm_smith.proofs.module.Module.new_internal.Goals as goal
 
 pub returns-in-Err : goal.returns-in-Err
@@ -18,11 +19,8 @@ returns-in-Err c = record {
   valid = tt;
   bounds = tt;
   minimums = tt;
-  names = λ distinct. tt;
-  floats = λ off. tt;
-  sections = tt;
-  fuel = tt;
-  no_more = tt;
+  promises = tt;
+  interesting = tt;
   passes = tt;
   no_shapes = tt;
   fault = search rules;
@@ -40,11 +38,8 @@ returns-in-Some c = record {
   valid = tt;
   bounds = tt;
   minimums = tt;
-  names = λ distinct. tt;
-  floats = λ off. tt;
-  sections = tt;
-  fuel = tt;
-  no_more = tt;
+  promises = tt;
+  interesting = tt;
   passes = tt;
   no_shapes = tt;
   fault = search rules;
@@ -57,23 +52,23 @@ returns-in-Some c = record {
 }
 
 pub returns : goal.returns
-returns c = record {
-  exact = record { exact = λ passes shapeless. rw (c.sanitize.ensures.exact, c.is_distinct.ensures) at c.build.ensures.exact };
-  config = rw (shown_sanitized _ _ c.sanitize.ensures.exact c.in_default-shape_left_out.ensures.none) at c.build.ensures.config;
-  valid = c.build.ensures.valid;
-  bounds = rw c.sanitize.ensures.exact at c.build.ensures.bounds;
-  minimums = rw c.sanitize.ensures.exact at c.build.ensures.minimums;
-  names = rw c.is_distinct.ensures at c.build.ensures.names;
-  floats = rw c.sanitize.ensures.exact at c.build.ensures.floats;
-  sections = c.build.ensures.sections;
-  fuel = IfOk-weaker c.build.result HasNoMore _ (λ m none. none.fuel_globals) c.build.ensures.no_more;
-  no_more = c.build.ensures.no_more;
-  passes = IfOk-weaker c.build.result IsValid _ (λ m valid. search rules) c.build.ensures.valid;
-  no_shapes = IfOk-weaker c.build.result IsValid _ (λ m valid. search rules) c.build.ensures.valid;
-  fault = search rules;
-  refusals = rw c.sanitize.ensures.exact at c.build.ensures.refusal;
-  needless = λ passes shapeless none. IfErr-weaker c.build.result (MayComeOut (sanitized c.args.config)) _ (λ e h. memory_alone (sanitized c.args.config) e passes shapeless none h) (rw c.sanitize.ensures.exact at c.build.ensures.refusal);
-  shape = search rules;
-  undrawn = search rules;
-  source = c.build.ensures.left _ (piece_same _);
-}
+returns c =
+    let none = rw c.sanitize.ensures.exact at c.in_default-shape_left_out.ensures.none in
+    let refused = rw c.sanitize.ensures.exact at c.build.ensures.refusal in
+    record {
+      exact = record { exact = λ passes shapeless. rw (c.sanitize.ensures.exact, c.is_distinct.ensures) at c.build.ensures.exact };
+      config = rw (shown_sanitized _ _ c.sanitize.ensures.exact c.in_default-shape_left_out.ensures.none) at c.build.ensures.config;
+      valid = c.build.ensures.valid;
+      bounds = rw c.sanitize.ensures.exact at c.build.ensures.bounds;
+      minimums = rw c.sanitize.ensures.exact at c.build.ensures.minimums;
+      promises = rw (c.sanitize.ensures.exact, c.is_distinct.ensures) at c.build.ensures.promises;
+      interesting = c.build.ensures.interesting;
+      passes = IfOk-weaker c.build.result IsValid _ (λ m valid. search rules) c.build.ensures.valid;
+      no_shapes = IfOk-weaker c.build.result IsValid _ (λ m valid. search rules) c.build.ensures.valid;
+      fault = search rules;
+      refusals = IfErr-weaker c.build.result (MayRefuse (sanitized c.args.config)) (MayComeOut (sanitized c.args.config)) (λ e h. may_come_out (sanitized c.args.config) e none h) refused;
+      needless = λ passes shapeless least some. IfErr-weaker c.build.result (MayRefuse (sanitized c.args.config)) _ (λ e h. memory_alone (sanitized c.args.config) e passes shapeless least some h) refused;
+      shape = search rules;
+      undrawn = search rules;
+      source = c.build.ensures.left _ (piece_same _);
+    }

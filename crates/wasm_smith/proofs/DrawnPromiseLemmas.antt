@@ -1,0 +1,23 @@
+-- A module that is put together of drawn parts keeps what is promised of it.
+use Rattle.std.proofs.Common.{refl, Bool}
+use Rattle.smith_config.specs.declared.config.Config.{Config}
+use Rattle.wasm_smith.specs.Build.{parts_of}
+use Rattle.wasm_smith.specs.DrawnParts.{IsDrawnFor}
+use Rattle.wasm_smith.specs.InterestingValues.{HasInterestingValues}
+use Rattle.wasm_smith.specs.Promises.{KeepsPromises}
+use Rattle.wasm_smith.specs.declared.build.drawn.Drawn.{Drawn}
+use Rattle.wasm_smith.proofs.NoFloatLemmas.{no_floats_drawn}
+
+pub drawn_promises : (distinct : Bool) (config : Config) (drawn : Drawn) → IsDrawnFor distinct config drawn → KeepsPromises distinct config (parts_of config drawn)
+drawn_promises distinct config drawn h = record {
+  names = λ asked free. h.imports.apart asked;
+  no_floats = λ off none. no_floats_drawn config drawn (h.floats off);
+  everything = λ all free. h.contents.everything all;
+  no_start = h.contents.no_start;
+  inside = λ on. record { elements = h.contents.segments.elements_inside on; data_segments = h.contents.segments.data_inside on };
+  sections = record { types = h.contents.encodes_types; imports = h.encodes_imports };
+  no_fuel = refl;
+}
+
+pub drawn_interesting : (distinct : Bool) (config : Config) (drawn : Drawn) → IsDrawnFor distinct config drawn → HasInterestingValues (parts_of config drawn)
+drawn_interesting distinct config drawn h = record { wide = h.interesting64; narrow = h.interesting32 }

@@ -1,0 +1,110 @@
+-- What is drawn behind all definitions: exports, a start function, segments and bodies. Rules of this project.
+use Rattle.std.specs.Prelude.{◌≡◌, ℕ, ◌+◌, ◌-◌, ◌<◌, ◌≤◌, false, IsTrue, None, List, length, Result, Ok, All}
+use Rattle.std.specs.List.{flat_map}
+use Rattle.smith_bytes.specs.declared.error.Why.{Why}
+use Rattle.smith_types.specs.Bodies.{IsBodyValid}
+use Rattle.smith_types.specs.Exports.{AreExportsValid, IsStartValid}
+use Rattle.smith_types.specs.Expressions.{Context}
+use Rattle.smith_types.specs.Floats.{IsNoFloat}
+use Rattle.smith_types.specs.Imports.{IndexSpaces, flattened, imported_spaces}
+use Rattle.smith_types.specs.Segments.{IsElementValid, IsElementInside, IsDataValid, IsDataInside}
+use Rattle.smith_types.specs.declared.composite_type.SubType.{SubType}
+use Rattle.smith_types.specs.declared.segments.ElementSegment.{ElementSegment}
+use Rattle.smith_types.specs.declared.code.Code.{Code}
+use Rattle.smith_config.specs.declared.config.Config.{Config}
+use Rattle.smith_config.specs.Features.{features_of}
+use Rattle.smith_draw.specs.ConstFloats.{GivesNoFloat}
+use Rattle.wasm_smith.specs.AllExports.{AreAllExported, exports_at}
+use Rattle.wasm_smith.specs.DataSegments.{data_at}
+use Rattle.wasm_smith.specs.Defined.{standing_in}
+use Rattle.wasm_smith.specs.Definitions.{global_scope}
+use Rattle.wasm_smith.specs.DrawnBodies.{bodies_at}
+use Rattle.wasm_smith.specs.DrawnElements.{HasItems}
+use Rattle.wasm_smith.specs.ElementSegments.{elements_at, items_in}
+use Rattle.wasm_smith.specs.Exporting.{exported_size}
+use Rattle.wasm_smith.specs.Promises.{expressions_of}
+use Rattle.wasm_smith.specs.Start.{start_at}
+use Rattle.wasm_smith.specs.Steps.{◌>>=◌, section_flag_at}
+use Rattle.wasm_smith.specs.declared.build.contents.Contents.{Contents}
+use Rattle.wasm_smith.specs.declared.build.definitions.Definitions.{Definitions}
+use Rattle.wasm_smith.specs.declared.build.imported.Imported.{Imported}
+use Rattle.wasm_smith.specs.declared.build.segments.Segments.{Segments}
+
+-- what is imported of index spaces
+abbrev pub imported_in : Imported → IndexSpaces
+imported_in imported = imported_spaces (flattened imported.groups)
+
+-- definitions tell how many functions and globals of index spaces are imported
+pub record TellsImported (imported spaces : IndexSpaces) (defined : Definitions) : Type 0 where
+  pub funcs : defined.num_funcs + length imported.funcs ≡ length spaces.funcs
+  pub globals : length spaces.globals ≡ length imported.globals + length defined.globals
+
+-- what a segment may refer to
+abbrev pub segment_scope : Config → List SubType → IndexSpaces → IndexSpaces → Context
+segment_scope config types imported spaces = global_scope config (standing_in types imported spaces) spaces.globals
+
+-- the element segments, then the data segments
+unfoldable pub all_segments_at : Config → List SubType → IndexSpaces → IndexSpaces → List ℕ → Result (Segments × List ℕ) Why
+all_segments_at config types imported spaces bytes = do
+  elements ← elements_at config (segment_scope config types imported spaces) spaces.tables bytes
+  data_segments ← data_at config (segment_scope config types imported spaces) spaces.memories elements.1
+  Ok (record { elements = elements.0; data_segments = data_segments.0 }, data_segments.1)
+
+-- what the bytes give over types and index spaces, of which some is imported, beside what the imports add to the type size:
+-- exports, whether a section of types is written, a start function, segments and bodies
+unfoldable pub contents_at : Config → List SubType → IndexSpaces → IndexSpaces → ℕ → List ℕ → Result (Contents × List ℕ) Why
+contents_at config types imported spaces imports_size bytes = do
+  exports ← exports_at config types spaces imports_size bytes
+  let type_flag = section_flag_at (length types) exports.1
+  let start = start_at config types spaces.funcs type_flag.1
+  segments ← all_segments_at config types imported spaces start.1
+  let code = bodies_at config types (length spaces.funcs - length imported.funcs) segments.1
+  Ok (
+    record {
+      exports = exports.0;
+      type_size = imports_size + exported_size types spaces exports.0;
+      encodes_types = type_flag.0;
+      start = start.0;
+      segments = segments.0;
+      code = code.0;
+    },
+    code.1,
+  )
+
+-- segments are valid, as many as are asked for and no more than may be, and where nothing may trap, what is copied fits
+pub record AreSegmentsFit (config : Config) (types : List SubType) (imported spaces : IndexSpaces) (segments : Segments) : Type 0 where
+  pub elements : All (IsElementValid (segment_scope config types imported spaces) spaces.tables) segments.elements
+  pub most_elements : length segments.elements ≤ config.max_element_segments
+  pub least_elements : config.min_element_segments ≤ length segments.elements
+  pub most_items : items_in segments.elements ≤ config.max_elements
+  pub enough_items : All (λ (segment : ElementSegment). HasItems config types spaces.funcs segment.items) segments.elements
+  pub elements_inside : IsTrue config.disallow_traps → All (IsElementInside spaces.tables) segments.elements
+  pub data_segments : All (IsDataValid (segment_scope config types imported spaces) spaces.memories) segments.data_segments
+  pub most_data : length segments.data_segments ≤ config.max_data_segments
+  pub least_data : config.min_data_segments ≤ length segments.data_segments
+  pub data_inside : IsTrue config.disallow_traps → All (IsDataInside spaces.memories) segments.data_segments
+
+-- exports as they are asked for, a section of types where there are types, a valid start function where one is allowed,
+-- segments, and a body for each function that is defined
+pub record AreContents (config : Config) (types : List SubType) (imported spaces : IndexSpaces) (imports_size : ℕ) (contents : Contents) : Type 0 where
+  pub exports : AreExportsValid spaces contents.exports
+  pub most_exports : config.export_everything ≡ false → length contents.exports ≤ config.max_exports
+  pub least_exports : config.export_everything ≡ false → config.min_exports ≤ length contents.exports
+  pub everything : IsTrue config.export_everything → AreAllExported spaces contents.exports
+  pub type_size : contents.type_size ≡ imports_size + exported_size types spaces contents.exports
+  pub within : contents.type_size ≤ config.max_type_size
+  pub encodes_types : 0 < length types → IsTrue contents.encodes_types
+  pub start : IsStartValid types spaces.funcs contents.start
+  pub no_start : config.allow_start_export ≡ false → contents.start ≡ None
+  pub segments : AreSegmentsFit config types imported spaces contents.segments
+  pub each_body : length contents.code + length imported.funcs ≡ length spaces.funcs
+  pub bodies : All (IsBodyValid (features_of config) (length types) config.allow_invalid_funcs) contents.code
+
+-- no item of an element segment is a float's
+abbrev pub HaveNoFloatItems : List ElementSegment → Type 0
+HaveNoFloatItems segments = All (All GivesNoFloat) (flat_map (λ (segment : ElementSegment). expressions_of segment.items) segments)
+
+-- no item of a segment and no local of a body is a float's
+pub record HasNoFloatContents (contents : Contents) : Type 0 where
+  pub items : HaveNoFloatItems contents.segments.elements
+  pub locals : All IsNoFloat (flat_map (λ (body : Code). body.locals) contents.code)

@@ -1,0 +1,78 @@
+//! What is drawn behind all definitions.
+
+ghost use Rattle.std.specs.Prelude.{◌≡◌, false, IfOk, IfErr, All};
+ghost use Rattle.smith_bytes.specs.Source.{KeepsPieces};
+ghost use Rattle.smith_types.specs.Floats.{HasNoFloat};
+ghost use Rattle.smith_config.specs.InUse.{FixesExports};
+ghost use Rattle.wasm_smith.specs.Contents.{MayHoldContents};
+ghost use Rattle.wasm_smith.specs.DrawnContents.{TellsImported, AreContents, HasNoFloatContents, imported_in, contents_at};
+ghost use Rattle.wasm_smith.specs.Imported.{spaces_of};
+ghost use Rattle.wasm_smith.specs.Refusals.{MayRefuse};
+ghost use Rattle.wasm_smith.specs.Steps.{Gives};
+
+use crate::build::bodies::bodies;
+use crate::build::definitions::Definitions;
+use crate::build::exports::exports;
+use crate::build::imported::Imported;
+use crate::build::section_flag::section_flag;
+use crate::build::segments::{Segments, all_segments};
+use crate::build::start::start;
+use smith_bytes::{Error, Unstructured};
+use smith_config::Config;
+use smith_types::{Code, ExportKind, Items, Name, TypeSpace};
+use std::alloc::Global;
+
+/// What a module has beside its types, imports and definitions.
+#[derive(Drop)]
+pub(crate) struct Contents {
+    /// The name of each export, and the kind and the index of its item.
+    pub(crate) exports: Items<(Name, ExportKind, u32)>,
+    /// What the imports and the exports add to the type size of the module.
+    pub(crate) type_size: u32,
+    pub(crate) encodes_types: bool,
+    pub(crate) start: Option<u32>,
+    pub(crate) segments: Segments,
+    pub(crate) code: Items<Code>,
+}
+
+/// Draws exports, whether a section of types is written, a start function, segments and bodies, in this order, over all that is
+/// imported and defined.
+#[tactic(auto, unfolding(crate::specs::DrawnContents::contents_at))]
+pub(crate) fn draw_contents(
+    alloc: Global,
+    config: &Config,
+    types: &TypeSpace,
+    imported: &Imported,
+    definitions: &Definitions,
+    u: &mut Unstructured<'_>,
+) -> Result<Contents, Error>
+    requires not_fixed { FixesExports config.now → ⊥ }
+    requires may { MayHoldContents config.now types.now (imported_in imported.now) (spaces_of imported.now) imported.now.type_size }
+    requires told { TellsImported (imported_in imported.now) (spaces_of imported.now) definitions.now }
+    ensures exact { Gives (λ contents. (contents, u.new)) result (contents_at config.now types.now.types (imported_in imported.now) (spaces_of imported.now) imported.now.type_size u.old) }
+    ensures kept { IfOk result (AreContents config.now types.now.types (imported_in imported.now) (spaces_of imported.now) imported.now.type_size) }
+    ensures floats { config.now.allow_floats ≡ false → All HasNoFloat types.now.types → IfOk result HasNoFloatContents }
+    ensures refusal { IfErr result (MayRefuse config.now) }
+    ensures left { KeepsPieces u.old u.new }
+{
+    let exports = exports(
+        alloc,
+        config,
+        types,
+        &imported.spaces,
+        imported.type_size,
+        u,
+    )?;
+    let encodes_types = section_flag(types.types().len(), u);
+    let start = start(config, types.types(), imported.spaces.funcs.as_slice(), u);
+    let segments = all_segments(alloc, config, types, imported, definitions, u)?;
+    let code = bodies(alloc, config, types, definitions.num_funcs, u)?;
+    Ok(Contents {
+        exports: exports.exports,
+        type_size: exports.type_size,
+        encodes_types,
+        start,
+        segments,
+        code,
+    })
+}

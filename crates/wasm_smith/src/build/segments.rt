@@ -1,0 +1,54 @@
+ghost use Rattle.std.specs.Prelude.{IfOk, IfErr, All};
+ghost use Rattle.smith_bytes.specs.Source.{KeepsPieces};
+ghost use Rattle.smith_types.specs.Floats.{HasNoFloat};
+ghost use Rattle.wasm_smith.specs.Contents.{MayHoldContents};
+ghost use Rattle.wasm_smith.specs.DrawnContents.{TellsImported, AreSegmentsFit, HaveNoFloatItems, imported_in, all_segments_at};
+ghost use Rattle.wasm_smith.specs.Imported.{spaces_of};
+ghost use Rattle.wasm_smith.specs.Refusals.{MayRefuse};
+ghost use Rattle.wasm_smith.specs.Steps.{Gives};
+
+use crate::build::data::data;
+use crate::build::definitions::Definitions;
+use crate::build::elements::elements;
+use crate::build::imported::Imported;
+use crate::build::segment_spaces::segment_spaces;
+use smith_bytes::{Error, Unstructured};
+use smith_config::Config;
+use smith_types::{DataSegment, ElementSegment, Items, TypeSpace};
+use std::alloc::Global;
+
+/// The segments of a module.
+#[derive(Drop)]
+pub(crate) struct Segments {
+    pub(crate) elements: Items<ElementSegment>,
+    pub(crate) data_segments: Items<DataSegment>,
+}
+
+/// Draws the element segments, then the data segments, over all that is imported and defined.
+#[tactic(auto, unfolding(crate::specs::DrawnContents::all_segments_at))]
+pub(crate) fn all_segments(
+    alloc: Global,
+    config: &Config,
+    types: &TypeSpace,
+    imported: &Imported,
+    definitions: &Definitions,
+    u: &mut Unstructured<'_>,
+) -> Result<Segments, Error>
+    requires may { MayHoldContents config.now types.now (imported_in imported.now) (spaces_of imported.now) imported.now.type_size }
+    requires told { TellsImported (imported_in imported.now) (spaces_of imported.now) definitions.now }
+    ensures exact { Gives (λ segments. (segments, u.new)) result (all_segments_at config.now types.now.types (imported_in imported.now) (spaces_of imported.now) u.old) }
+    ensures fit { IfOk result (AreSegmentsFit config.now types.now.types (imported_in imported.now) (spaces_of imported.now)) }
+    ensures floats { All HasNoFloat types.now.types → IfOk result (λ segments. HaveNoFloatItems segments.elements) }
+    ensures refusal { IfErr result (MayRefuse config.now) }
+    ensures left { KeepsPieces u.old u.new }
+{
+    let imported_funcs = imported.spaces.funcs.len() - definitions.num_funcs;
+    let imported_globals = imported.spaces.globals.len() - definitions.globals.len();
+    let spaces = segment_spaces(types, &imported.spaces, imported_funcs, imported_globals);
+    let elements = elements(alloc, config, &spaces, u)?;
+    let data_segments = data(alloc, config, &spaces, u)?;
+    Ok(Segments {
+        elements,
+        data_segments,
+    })
+}
