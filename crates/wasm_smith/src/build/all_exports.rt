@@ -16,7 +16,7 @@ use smith_types::{ExportKind, IndexSpaces, Items, TypeSpace};
 use std::alloc::Global;
 use std::collections::HashSet;
 
-/// Adds that many items of a kind, by index.
+/// Adds the first `count` items of a kind, by index.
 fn push_items(
     items: &mut Items<(ExportKind, u32)>,
     kind: ExportKind,
