@@ -1,9 +1,5 @@
 pub mod FaultLemmas
 pub mod DrawnConfigLemmas
-pub mod ChainExamples
-pub mod ShapeExamples
-pub mod OneOfEachKindExamples
-pub mod ShapeFaultExamples
 pub mod ShapeLemmas
 pub mod DepthLemmas
 pub mod NamesInSetLemmas

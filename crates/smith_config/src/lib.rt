@@ -5,7 +5,6 @@ mod arbitrary;
 mod check;
 mod clone;
 mod config;
-mod examples;
 mod features;
 pub mod laws;
 mod offset_choices;

@@ -35,7 +35,6 @@ pub mod LocalLemmas
 pub mod TableTypeLemmas
 pub mod TypeUseLemmas
 pub mod MemoryLemmas
-pub mod OneFunctionExamples
 pub mod BelowLemmas
 pub mod ReadableLemmas
 pub mod ConstScopeLemmas

@@ -1,6 +1,6 @@
-use crate::repeated::told;
 use smith_bytes::{ConfigFault, Count, Error, ShapeFault, Unstructured, Which};
 use smith_config::{Config, Shape};
+use smith_draw_rows::repeated::told;
 use smith_types::{EntityType, ExportKind, Import, Imports, Items, MemoryType, Name};
 use std::alloc::{AllocError, Global};
 use std::test::Fail;

@@ -22,4 +22,3 @@ pub mod ExpressionGrowthLemmas
 pub mod SegmentGrowthLemmas
 pub mod ExportGrowthLemmas
 pub mod ConstStepLemmas
-pub mod TypeExamples

@@ -8,7 +8,6 @@ mod composite_type;
 mod const_instr;
 mod entity_type;
 mod exact;
-mod examples;
 mod features;
 mod grouped_types;
 mod held_values;

@@ -1,29 +1,65 @@
 -- The items of index spaces, all of which may be exported.
-use Rattle.std.proofs.Common.{◌≡◌, ℕ, zero, suc, ◌+◌, ◌<◌, List, [], ◌∷◌, ◌++◌, length, refl, ap, arith, append_assoc, get_or, ◌∙◌}
+use Rattle.std.proofs.Common.{◌≡◌, ℕ, zero, suc, ◌+◌, ◌<◌, List, [], ◌∷◌, ◌++◌, length, refl, arith, length-append, get_or, ◌∙◌}
 use Rattle.std.specs.Prelude.{All, slice_get, Some}
 use Rattle.std.proofs.lemmas.List.Elements.{All-nil, All-cons, All-append}
 use Rattle.std.proofs.lemmas.Option.{slice_get-get_or}
+use Rattle.smith_types.proofs.ListLemmas.{slice_get-grown}
 use Rattle.smith_types.specs.Imports.{IndexSpaces}
 use Rattle.smith_types.specs.declared.entity_type.EntityType.TheVariants as entity
 use Rattle.smith_types.specs.declared.entity_type.ExportKind.{ExportKind}
 use Rattle.smith_types.specs.declared.entity_type.ExportKind.TheVariants as kind
 use Rattle.wasm_smith.specs.Exported.{IsStanding}
-use Rattle.wasm_smith.specs.AllExports.{Item, every_item}
-use Rattle.wasm_smith.specs.Promises.{numbered_from}
+use Rattle.wasm_smith.specs.ExportedItems.{Item, numbered_from, every_item}
+use Rattle.wasm_smith.proofs.DefinedTableLemmas.{slice_get-behind}
 
-numbered_push : (of_kind : ExportKind) (start count : ℕ) → numbered_from of_kind start count ++ (of_kind, start + count) ∷ [] ≡ numbered_from of_kind start (count + 1)
-numbered_push of_kind start zero = let same : start + zero ≡ start = omega arith in rw same refl
-numbered_push of_kind start (suc count) =
-    let turn : suc count + 1 ≡ suc (count + 1) = omega arith in
-    let last : start + suc count ≡ suc start + count = omega arith in
-    rw (turn, last) (ap (λ (items : List Item). (of_kind, start) ∷ items) (numbered_push of_kind (suc start) count))
+length-numbered : (of_kind : ExportKind) (start count : ℕ) → length (numbered_from of_kind start count) ≡ count
+length-numbered of_kind start zero = refl
+length-numbered of_kind start (suc count) = let rest = length-numbered of_kind (suc start) count in omega arith
 
--- one more item of a kind, behind others
-pub numbered_more : {items more : List Item} (before : List Item) (of_kind : ExportKind) (index : ℕ) → items ≡ before ++ numbered_from of_kind 0 index → more ≡ items ++ (of_kind, index) ∷ [] → more ≡ before ++ numbered_from of_kind 0 (index + 1)
-numbered_more before of_kind index now pushed =
-    let from_zero : 0 + index ≡ index = omega arith in
-    let one : numbered_from of_kind 0 index ++ (of_kind, index) ∷ [] ≡ numbered_from of_kind 0 (index + 1) = rw from_zero at (numbered_push of_kind 0 index) in
-    pushed ∙ (ap (λ (l : List Item). l ++ (of_kind, index) ∷ []) now ∙ (append_assoc before (numbered_from of_kind 0 index) ((of_kind, index) ∷ []) ∙ ap (λ (l : List Item). before ++ l) one))
+-- how many items there are
+pub length-every_item : (spaces : IndexSpaces) → length (every_item spaces) ≡ length spaces.funcs + length spaces.tables + length spaces.memories + length spaces.globals + length spaces.tags
+length-every_item spaces = simp (length-append, length-numbered) (omega arith)
+
+numbered_at : (of_kind : ExportKind) (start count index : ℕ) → index < count → slice_get (numbered_from of_kind start count) index ≡ Some (of_kind, start + index)
+numbered_at of_kind start zero index below = absurd (omega arith)
+numbered_at of_kind start (suc count) zero below = let same : start + zero ≡ start = omega arith in rw same refl
+numbered_at of_kind start (suc count) (suc index) below =
+    let next : start + suc index ≡ suc start + index = omega arith in
+    rw next (numbered_at of_kind (suc start) count index (omega arith))
+
+alone : (of_kind : ExportKind) (count index : ℕ) → index < count → slice_get (numbered_from of_kind 0 count) index ≡ Some (of_kind, index)
+alone of_kind count index below = let from_zero : 0 + index ≡ index = omega arith in rw from_zero at (numbered_at of_kind 0 count index below)
+
+first : (of_kind : ExportKind) (count index : ℕ) (more : List Item) → index < count → slice_get (numbered_from of_kind 0 count ++ more) index ≡ Some (of_kind, index)
+first of_kind count index more below = slice_get-grown (numbered_from of_kind 0 count) more index (of_kind, index) (alone of_kind count index below)
+
+past : (of_kind : ExportKind) (count index : ℕ) (more : List Item) → slice_get (numbered_from of_kind 0 count ++ more) (count + index) ≡ slice_get more index
+past of_kind count index more = rw (length-numbered of_kind 0 count) at (slice_get-behind (numbered_from of_kind 0 count) more index)
+
+-- the item at each place: functions come first, then tables, memories, globals and tags
+module _ (spaces : IndexSpaces) where
+  pub func_at : (place : ℕ) → place < length spaces.funcs → slice_get (every_item spaces) place ≡ Some (kind.Func, place)
+  func_at place below = first kind.Func (length spaces.funcs) place _ below
+
+  pub table_at : (place index : ℕ) → place ≡ length spaces.funcs + index → index < length spaces.tables → slice_get (every_item spaces) place ≡ Some (kind.Table, index)
+  table_at place index is below = rw is (past kind.Func (length spaces.funcs) index _ ∙ first kind.Table (length spaces.tables) index _ below)
+
+  pub memory_at : (place index : ℕ) → place ≡ length spaces.funcs + length spaces.tables + index → index < length spaces.memories → slice_get (every_item spaces) place ≡ Some (kind.Memory, index)
+  memory_at place index is below =
+      let parts : place ≡ length spaces.funcs + (length spaces.tables + index) = omega arith in
+      rw parts (past kind.Func (length spaces.funcs) _ _ ∙ (past kind.Table (length spaces.tables) index _ ∙ first kind.Memory (length spaces.memories) index _ below))
+
+  pub global_at : (place index : ℕ) → place ≡ length spaces.funcs + length spaces.tables + length spaces.memories + index → index < length spaces.globals → slice_get (every_item spaces) place ≡ Some (kind.Global, index)
+  global_at place index is below =
+      let parts : place ≡ length spaces.funcs + (length spaces.tables + (length spaces.memories + index)) = omega arith in
+      let behind = past kind.Memory (length spaces.memories) index _ ∙ first kind.Global (length spaces.globals) index _ below in
+      rw parts (past kind.Func (length spaces.funcs) _ _ ∙ (past kind.Table (length spaces.tables) _ _ ∙ behind))
+
+  pub tag_at : (place index : ℕ) → place ≡ length spaces.funcs + length spaces.tables + length spaces.memories + length spaces.globals + index → index < length spaces.tags → slice_get (every_item spaces) place ≡ Some (kind.Tag, index)
+  tag_at place index is below =
+      let parts : place ≡ length spaces.funcs + (length spaces.tables + (length spaces.memories + (length spaces.globals + index))) = omega arith in
+      let behind = past kind.Memory (length spaces.memories) _ _ ∙ (past kind.Global (length spaces.globals) index _ ∙ alone kind.Tag (length spaces.tags) index below) in
+      rw parts (past kind.Func (length spaces.funcs) _ _ ∙ (past kind.Table (length spaces.tables) _ _ ∙ behind))
 
 numbered_all : (P : Item → Type 0) (of_kind : ExportKind) (start count : ℕ) → ((index : ℕ) → index < start + count → P (of_kind, index)) → All P (numbered_from of_kind start count)
 numbered_all P of_kind start zero each = All-nil P

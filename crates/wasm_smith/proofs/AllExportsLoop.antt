@@ -12,7 +12,8 @@ use Rattle.smith_bytes.specs.Source.{KeepsPieces}
 use Rattle.smith_types.specs.Imports.{IndexSpaces}
 use Rattle.smith_types.specs.declared.composite_type.SubType.{SubType}
 use Rattle.smith_config.specs.declared.config.Config.{Config}
-use Rattle.wasm_smith.specs.AllExports.{Item, item_of, exports_of}
+use Rattle.wasm_smith.specs.ExportedItems.{Item, item_of}
+use Rattle.wasm_smith.specs.AllExports.{exports_of}
 use Rattle.wasm_smith.specs.Exporting.{Export, is_exported, export_name_at, HasNames, item_size, exported_size}
 use Rattle.wasm_smith.specs.Exported.{IsStanding, AreExportsFit}
 use Rattle.wasm_smith.proofs.ExportsFitLemmas.{none_fit, fit_push}

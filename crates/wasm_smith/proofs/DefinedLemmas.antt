@@ -11,7 +11,7 @@ use Rattle.smith_bytes.proofs.GrownLemmas.{cond_both, grow_most, grow_least, gro
 use Rattle.smith_bytes.proofs.SpelledLemmas.{listed_read}
 use Rattle.wasm_smith.specs.Defined.{IsFilled}
 use Rattle.wasm_smith.specs.Definitions.{defined_at}
-use Rattle.wasm_smith.specs.Spelling.{SpellsNone}
+use Rattle.smith_spell.specs.Spelling.{SpellsNone}
 
 defined_items : {A : Type 0} (draw : List A → List ℕ → A × List ℕ) (least most imported : ℕ) (bytes : List ℕ) → (defined_at draw least most imported bytes).0 ≡ (grow_at draw (least - imported) (most - imported) [] bytes).0
 unfolding defined_at

@@ -34,7 +34,7 @@ use Rattle.wasm_smith.specs.DefinedTables.{IsTableFit, AreTablesDrawn}
 use Rattle.wasm_smith.specs.Definitions.{Standing, Table, table_at, tables_at, table_scope}
 use Rattle.wasm_smith.specs.Module.{IsTableInitialised}
 use Rattle.wasm_smith.specs.Promises.{initial_of}
-use Rattle.wasm_smith.specs.Spelling.{SpellsNone}
+use Rattle.smith_spell.specs.Spelling.{SpellsNone}
 use Rattle.wasm_smith.proofs.DefinedLemmas.{parts_filled, defined_none}
 
 -- with defined globals out of sight, the imported ones are seen
@@ -88,7 +88,8 @@ tables_all P {config = config} {standing = standing} {imported = imported} fits 
     rw so_far.tables (All-append P imported (map of_table so_far.drawn) all
     (All-map P of_table so_far.drawn (All-weaker (IsTableFit config standing) (λ (one : Table). P one.0) fits so_far.drawn so_far.fit)))
 
-slice_get-behind : {A : Type 0} (xs ys : List A) (i : ℕ) → slice_get (xs ++ ys) (length xs + i) ≡ slice_get ys i
+-- what stands behind the end of the first of two lists stands in the second
+pub slice_get-behind : {A : Type 0} (xs ys : List A) (i : ℕ) → slice_get (xs ++ ys) (length xs + i) ≡ slice_get ys i
 slice_get-behind {A = A} [] ys i = let none : length {A = A} [] + i ≡ i = omega arith in rw none refl
 slice_get-behind (x ∷ xs) ys i = let one : length (x ∷ xs) + i ≡ suc (length xs + i) = omega arith in rw one (slice_get-behind xs ys i)
 
@@ -141,7 +142,7 @@ several_by false most n one within several = absurd (omega (arith, one refl))
 pub several_tables : (config : Config) (imported space : List TableType) → IsSanitized config → IsFilled config.min_tables config.max_tables imported space → 1 < length space → config.reference_types_enabled ≡ true
 several_tables config imported space sanitized filled several = several_by config.reference_types_enabled config.max_tables (length space) sanitized.one_table filled.within several
 
-no_table_read : (config : Config) (standing : Standing) (imported : List TableType) (piece after : List ℕ) → config.min_tables ≡ 0 → imported ≡ [] → SpellsNone config.max_tables piece → tables_at config standing imported (piece ++ after) ≡ (([], []), after)
+pub no_table_read : (config : Config) (standing : Standing) (imported : List TableType) (piece after : List ℕ) → config.min_tables ≡ 0 → imported ≡ [] → SpellsNone config.max_tables piece → tables_at config standing imported (piece ++ after) ≡ (([], []), after)
 unfolding tables_at
 no_table_read config standing imported piece after asked none spelled =
     let drawn = defined_none (λ (made : List Table). table_at config standing) config.min_tables config.max_tables (length imported) piece after asked (rw none refl) spelled in

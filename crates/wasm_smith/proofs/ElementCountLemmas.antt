@@ -16,7 +16,7 @@ use Rattle.smith_types.specs.declared.segments.ElementSegment.{ElementSegment}
 use Rattle.smith_config.specs.declared.config.Config.{Config}
 use Rattle.wasm_smith.specs.Defined.{SpellsEmpty}
 use Rattle.wasm_smith.specs.ElementSegments.{KindChoice, table_kinds_at, kinds_at, element_segments_at, elements_at}
-use Rattle.wasm_smith.specs.Spelling.{SpellsNone}
+use Rattle.smith_spell.specs.Spelling.{SpellsNone}
 use Rattle.wasm_smith.specs.Steps.{Gives, ◌>>=◌}
 use Rattle.wasm_smith.specs.declared.build.element_kinds.KindChoice.TheVariants.{Passive, Declared}
 use Rattle.wasm_smith.proofs.GivenLemmas.{given_takes}
@@ -66,7 +66,7 @@ none_by : (config : Config) (context : Context) (bulk : Bool) (piece after : Lis
 none_by config context true piece after none spelled = segments_none config context (Passive ∷ Declared ∷ []) config.max_element_segments piece after none spelled
 none_by config context false piece after none spelled = rw (none, spelled) refl
 
-elements_none : (config : Config) (context : Context) (tables : List TableType) (segments : List ElementSegment) (piece after : List ℕ) → config.min_element_segments ≡ 0 → tables ≡ []
+pub elements_none : (config : Config) (context : Context) (tables : List TableType) (segments : List ElementSegment) (piece after : List ℕ) → config.min_element_segments ≡ 0 → tables ≡ []
     → SpellsEmpty (SpellsNone (if config.bulk_memory_enabled then config.max_element_segments else 0)) segments piece → elements_at config context tables (piece ++ after) ≡ Ok (segments, after)
 unfolding elements_at kinds_at table_kinds_at
 elements_none config context tables segments piece after none empty h = rw (empty, h.none) (none_by config context config.bulk_memory_enabled piece after none h.spelled)

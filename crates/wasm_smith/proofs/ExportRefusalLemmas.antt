@@ -16,7 +16,7 @@ use Rattle.smith_draw.specs.Choices.{enabled}
 use Rattle.smith_draw.specs.TypeUses.{places_from}
 use Rattle.wasm_smith.specs.Steps.{Gives}
 use Rattle.wasm_smith.specs.Defined.{SpellsEmpty}
-use Rattle.wasm_smith.specs.Spelling.{SpellsNone}
+use Rattle.smith_spell.specs.Spelling.{SpellsNone}
 use Rattle.wasm_smith.specs.Exporting.{Export, candidates, candidate_row, offered_kinds, exports_from, free_exports_at}
 use Rattle.wasm_smith.specs.Exported.{MayExportFreely, AreExported, MayRunOut, MayRefuseFree, MayRefuseAll, MayRefuseExports}
 use Rattle.wasm_smith.specs.AllExports.{everything_at, exports_at}
@@ -74,7 +74,7 @@ no_exports_by config types spaces imports (suc most) piece after none spelled =
     let stop : SpellsBool false piece = rw (lt-ltb 0 (suc most) (omega arith)) at spelled in
     rw (none, bool_read false piece after stop) refl
 
-no_export_read : (config : Config) (types : List SubType) (spaces : IndexSpaces) (imports : ℕ) (exports : List Export) (piece after : List ℕ) → config.min_exports ≡ 0 → SpellsEmpty (SpellsNone config.max_exports) exports piece → free_exports_at config types spaces imports (piece ++ after) ≡ Ok (exports, after)
+pub no_export_read : (config : Config) (types : List SubType) (spaces : IndexSpaces) (imports : ℕ) (exports : List Export) (piece after : List ℕ) → config.min_exports ≡ 0 → SpellsEmpty (SpellsNone config.max_exports) exports piece → free_exports_at config types spaces imports (piece ++ after) ≡ Ok (exports, after)
 unfolding free_exports_at
 no_export_read config types spaces imports exports piece after none h = rw (no_exports_by config types spaces imports config.max_exports piece after none h.spelled, none, h.none) refl
 

@@ -32,11 +32,11 @@ use Rattle.smith_draw.specs.Bounds.{IsTableWithin, IsMemoryWithin}
 use Rattle.wasm_smith.specs.ImportNames.{has_names, is_taken, KnowsPairs}
 use Rattle.wasm_smith.specs.ImportedEntities.{has_room, kind_of, sizes}
 use Rattle.wasm_smith.specs.Importing.{module_name, with_import}
-use Rattle.wasm_smith.specs.Imported.{Counts, IsCounted, AreSpacesWithin, HasNoFloatValue, HasNullableElements, AreImportsFit, IsEntityFit, IsNext, IsOpen, IsOfGroup, IsCompact, IsImported, MayEnd, MayEndAt, spaces_of, entity_spaces}
+use Rattle.wasm_smith.specs.Imported.{Counts, IsCounted, AreNumbersWithin, AreSpacesWithin, HasNoFloatValue, HasNullableElements, AreImportsFit, IsEntityFit, IsNext, IsOpen, IsOfGroup, IsCompact, IsImported, MayEnd, MayEndAt, spaces_of, entity_spaces}
 use Rattle.wasm_smith.specs.declared.build.imported.Imported.{Imported}
 
 -- what is imported of a kind, with one import more
-imported_more : {A : Type 0} (of_kind : EntityType → List A) (imports : List Import) (one : Import) → imported of_kind (imports ++ one ∷ []) ≡ imported of_kind imports ++ of_kind one.entity_type
+pub imported_more : {A : Type 0} (of_kind : EntityType → List A) (imports : List Import) (one : Import) → imported of_kind (imports ++ one ∷ []) ≡ imported of_kind imports ++ of_kind one.entity_type
 imported_more of_kind imports one = flat_map-append (λ (each : Import). of_kind each.entity_type) imports (one ∷ []) ∙ ap (λ xs. imported of_kind imports ++ xs) (append-nil (of_kind one.entity_type))
 
 -- two index spaces, one behind the other
@@ -65,15 +65,7 @@ pushed xs x most room = let lt = ltb-true (length xs) most room in omega (arith,
 same : {A : Type 0} (xs : List A) (most : ℕ) → length xs ≤ most → length (xs ++ []) ≤ most
 same xs most le = rw append-nil le
 
--- how many there are of each kind
-record Numbers (config : Config) (spaces : IndexSpaces) : Type 0 where
-  tags : length spaces.tags ≤ config.max_tags
-  funcs : length spaces.funcs ≤ config.max_funcs
-  tables : length spaces.tables ≤ config.max_tables
-  memories : length spaces.memories ≤ config.max_memories
-  globals : length spaces.globals ≤ config.max_globals
-
-numbers_more : (config : Config) (spaces : IndexSpaces) (one : EntityType) → AreSpacesWithin config spaces → has_room config spaces (kind_of one) ≡ true → Numbers config (joined spaces (entity_spaces one))
+pub numbers_more : (config : Config) (spaces : IndexSpaces) (one : EntityType) → AreNumbersWithin config spaces → has_room config spaces (kind_of one) ≡ true → AreNumbersWithin config (joined spaces (entity_spaces one))
 numbers_more config spaces (entity.Tag x) w room = record { tags = pushed spaces.tags x _ room; funcs = same _ _ w.funcs; tables = same _ _ w.tables; memories = same _ _ w.memories; globals = same _ _ w.globals }
 numbers_more config spaces (entity.Func x) w room = record { tags = same _ _ w.tags; funcs = pushed spaces.funcs x _ room; tables = same _ _ w.tables; memories = same _ _ w.memories; globals = same _ _ w.globals }
 numbers_more config spaces (entity.Table x) w room = record { tags = same _ _ w.tags; funcs = same _ _ w.funcs; tables = pushed spaces.tables x _ room; memories = same _ _ w.memories; globals = same _ _ w.globals }
@@ -82,7 +74,8 @@ numbers_more config spaces (entity.Global x) w room = record { tags = same _ _ w
 
 within_more : (config : Config) (types : List SubType) (spaces : IndexSpaces) (one : EntityType) → AreSpacesWithin config spaces → IsEntityFit config types one → has_room config spaces (kind_of one) ≡ true → AreSpacesWithin config (joined spaces (entity_spaces one))
 within_more config types spaces one w fit room =
-    let numbers = numbers_more config spaces one w room in
+    let old : AreNumbersWithin config spaces = record { tags = w.tags; funcs = w.funcs; tables = w.tables; memories = w.memories; globals = w.globals } in
+    let numbers = numbers_more config spaces one old room in
     record {
       tags = numbers.tags;
       funcs = numbers.funcs;
@@ -97,7 +90,7 @@ some_or : {A : Type 0} (xs ys : List A) → 0 < length (xs ++ ys) → (0 < lengt
 some_or [] ys some = inr some
 some_or (x ∷ xs) ys some = inl (omega arith)
 
-tags_on : (config : Config) (xs ys : List ℕ) → (0 < length xs → IsTrue config.exceptions_enabled) → (0 < length ys → IsTrue config.exceptions_enabled) → 0 < length (xs ++ ys) → IsTrue config.exceptions_enabled
+pub tags_on : (config : Config) (xs ys : List ℕ) → (0 < length xs → IsTrue config.exceptions_enabled) → (0 < length ys → IsTrue config.exceptions_enabled) → 0 < length (xs ++ ys) → IsTrue config.exceptions_enabled
 tags_on config xs ys old new some = elim (some_or xs ys some) [ inl first ↦ old first | inr second ↦ new second ]
 
 -- pairs of names

@@ -12,18 +12,9 @@ pub mod DrawnModuleLemmas
 pub mod DrawnBoundLemmas
 pub mod DrawnPromiseLemmas
 pub mod InitialLemmas
-pub mod SpelledExamples
-pub mod SpelledMemberLemmas
-pub mod PlaceLemmas
+pub mod ReachedLemmas
 pub mod CountingLemmas
-pub mod PartExamples
-pub mod RefusedExamples
-pub mod ShapeExamples
-pub mod PromiseExamples
-pub mod FamilyFitLemmas
-pub mod NearNumberLemmas
 pub mod NoFloatLemmas
-pub mod SpellExamples
 pub mod ImportNameLemmas
 pub mod ExportNameLemmas
 pub mod ImportedEntityLemmas
@@ -57,3 +48,6 @@ pub mod ElementFunctionLemmas
 pub mod ElementFitLemmas
 pub mod ElementCountLemmas
 pub mod ElementsLoop
+pub mod TakenImportsLoop
+pub mod AvailableImportLemmas
+pub mod GroupedImportsLoop

@@ -9,7 +9,8 @@ use Rattle.smith_config.specs.declared.config.Config.{Config}
 use Rattle.smith_config.specs.Faults.{Passes, minimum_of}
 use Rattle.smith_config.proofs.FaultLemmas.{no_fault}
 use Rattle.smith_config.specs.InUse.{HasNoShapes}
-use Rattle.wasm_smith.specs.Refusals.{HasNoMinimums, MayRefuse}
+use Rattle.smith_spell.specs.Minimums.{HasNoMinimums}
+use Rattle.wasm_smith.specs.Refusals.{MayRefuse}
 use Rattle.wasm_smith.specs.ToCome.{MayComeOut}
 use Rattle.wasm_smith.proofs.NoShapeLemmas.{none_used, none_brought}
 

@@ -1,18 +1,18 @@
 -- What no import leaves of a source, and the kind of a group.
 use Rattle.std.proofs.Common.{◌≡◌, ℕ, zero, suc, ◌+◌, ◌<◌, Bool, false, List, [], ◌∷◌, ◌++◌, length, refl, ap, arith, lt-ltb, drop, length-drop}
-use Rattle.std.specs.Prelude.{Result, Ok, IfOk}
+use Rattle.std.specs.Prelude.{Result, Ok, OnOk}
 use Rattle.smith_bytes.specs.Draws.{whole_at}
 use Rattle.smith_bytes.specs.Spelling.{SpellsBool}
 use Rattle.smith_bytes.specs.Takes.{Takes}
 use Rattle.smith_bytes.specs.declared.error.Error.{Error}
 use Rattle.smith_bytes.proofs.SpelledLemmas.{bool_read}
 use Rattle.smith_types.specs.declared.composite_type.SubType.{SubType}
+use Rattle.smith_types.specs.declared.imports.Imports.{Imports}
 use Rattle.smith_config.specs.declared.config.Config.{Config}
 use Rattle.wasm_smith.specs.Steps.{Gives}
-use Rattle.wasm_smith.specs.Spelling.{SpellsNone}
+use Rattle.smith_spell.specs.Spelling.{SpellsNone}
 use Rattle.wasm_smith.specs.Importing.{groups_at, imports_at}
 use Rattle.wasm_smith.specs.Imported.{SpellsNoImport}
-use Rattle.wasm_smith.specs.declared.build.imported.Imported.{Imported}
 use Rattle.wasm_smith.proofs.GivenLemmas.{given_takes}
 
 -- the pieces of a number above 0
@@ -35,8 +35,8 @@ no_import_read config types distinct piece after none spelled =
     let k : config.max_imports + length (piece ++ after) + 1 ≡ suc (config.max_imports + length (piece ++ after)) = omega arith in
     rw (k, no_groups_by config types distinct config.max_imports (config.max_imports + length (piece ++ after)) piece after none refl spelled, none) refl
 
-pub no_import_taken : (config : Config) (types : List SubType) (distinct : Bool) (old new : List ℕ) (r : Result Imported Error) → config.min_imports ≡ 0 → Gives (λ (made : Imported). (made.groups, new)) r (imports_at config types distinct old) → IfOk r (λ made. Takes (SpellsNoImport config) old made.groups new)
+pub no_import_taken : {X : Type 0} (config : Config) (types : List SubType) (distinct : Bool) (groups : List Imports) (old new : List ℕ) (r : Result X Error) → config.min_imports ≡ 0 → Gives (λ _. (groups, new)) r (imports_at config types distinct old) → OnOk r (Takes (SpellsNoImport config) old groups new)
 unfolding SpellsNoImport
-no_import_taken config types distinct old new r none given =
-    given_takes (SpellsNoImport config) (λ (made : Imported). made.groups) (imports_at config types distinct) old new r
-    (λ groups piece after h. rw h.0 (no_import_read config types distinct piece after none h.1)) given
+no_import_taken config types distinct groups old new r none given =
+    given_takes (SpellsNoImport config) (λ _. groups) (imports_at config types distinct) old new r
+    (λ made piece after h. rw h.0 (no_import_read config types distinct piece after none h.1)) given

@@ -19,7 +19,7 @@ use Rattle.smith_draw.specs.SpelledGlobals.{mutable_i32, SpellsMutableI32}
 use Rattle.smith_draw.specs.SpelledConstants.{SpellsConstExpr}
 use Rattle.smith_draw.proofs.GlobalTypeLemmas.{global_type_taken}
 use Rattle.smith_draw.proofs.SpelledConstExprLemmas.{constant_read, mutable_not_read}
-use Rattle.wasm_smith.specs.Spelling.{SpellsGlobal}
+use Rattle.smith_spell.specs.Spelling.{SpellsGlobal}
 use Rattle.wasm_smith.specs.NumberedGlobals.{SpellsGlobals}
 use Rattle.wasm_smith.specs.Definitions.{Standing, Global, globals_of, global_scope, initialised_at, global_at, globals_at}
 use Rattle.wasm_smith.proofs.DefinedLemmas.{defined_alone}
@@ -90,10 +90,10 @@ globals_read config standing (suc most) made (number ∷ numbers) piece after mu
     }
 
 -- the globals and the initialisers, without their indices
-abbrev listed_at : Config → Standing → List ℕ → (List GlobalType × List (List ConstInstr)) × List ℕ
+abbrev pub listed_at : Config → Standing → List ℕ → (List GlobalType × List (List ConstInstr)) × List ℕ
 listed_at config standing bytes = let drawn = globals_at config standing bytes in ((drawn.0.0, map (λ (one : ℕ × List ConstInstr). one.1) drawn.0.1), drawn.1)
 
-listed_read : (config : Config) (standing : Standing) → config.min_globals ≡ 0 → standing.imported_globals ≡ [] → (globals : List GlobalType × List (List ConstInstr)) (piece after : List ℕ) → SpellsGlobals config globals piece
+pub listed_read : (config : Config) (standing : Standing) → config.min_globals ≡ 0 → standing.imported_globals ≡ [] → (globals : List GlobalType × List (List ConstInstr)) (piece after : List ℕ) → SpellsGlobals config globals piece
     → listed_at config standing (piece ++ after) ≡ (globals, after)
 unfolding globals_at
 listed_read config standing least none globals piece after h =

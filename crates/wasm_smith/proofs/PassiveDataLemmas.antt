@@ -16,7 +16,7 @@ use Rattle.smith_config.specs.declared.config.Config.{Config}
 use Rattle.wasm_smith.specs.Steps.{Gives}
 use Rattle.wasm_smith.specs.DataSegments.{counting_at, targets_of, passive_at, segment_at, segments_at, data_at}
 use Rattle.wasm_smith.specs.PassiveData.{passive_data, SpellsPassive}
-use Rattle.wasm_smith.specs.Spelling.{SpellsBytes}
+use Rattle.smith_spell.specs.Spelling.{SpellsBytes}
 use Rattle.wasm_smith.specs.declared.build.data.Targets.{Targets}
 use Rattle.wasm_smith.proofs.GivenLemmas.{given_takes}
 
@@ -89,7 +89,7 @@ by_bulk config context false lists piece after bulk least h =
     let none = no_lists lists piece h in
     rw (bulk, least, none.0, none.1) refl
 
-data_read : (config : Config) (context : Context) (memories : List MemoryType) (segments : List DataSegment) (piece after : List ℕ) → config.min_data_segments ≡ 0 → memories ≡ [] → SpellsPassive config segments piece
+pub data_read : (config : Config) (context : Context) (memories : List MemoryType) (segments : List DataSegment) (piece after : List ℕ) → config.min_data_segments ≡ 0 → memories ≡ [] → SpellsPassive config segments piece
     → data_at config context memories (piece ++ after) ≡ Ok (segments, after)
 data_read config context memories segments piece after least none h = rw (none, h.are) (by_bulk config context config.bulk_memory_enabled h.lists piece after refl least h.spelled)
 

@@ -19,7 +19,7 @@ use Rattle.smith_bytes.specs.declared.error.Count.TheVariants as counts
 use Rattle.wasm_smith.specs.Imported.{MayRefuseImports}
 use Rattle.wasm_smith.specs.Refusals.{MayRefuse}
 use Rattle.smith_draw.specs.TypeUses.{is_function, places_from, is_unshared_function}
-use Rattle.wasm_smith.specs.FuncTypes.{func_types}
+use Rattle.smith_spell.specs.FuncTypes.{func_types}
 
 -- an unshared function is all that is enabled without garbage collection
 plain : (features_gc shared : Bool) (inner : CompositeInnerType) → (is_function inner ≡ false → features_gc ≡ true) → features_gc ≡ false → (shared ≡ true → ⊥) → (is_function inner && not shared) ≡ true

@@ -21,7 +21,7 @@ use Rattle.smith_draw.specs.Choices.{chosen_at}
 use Rattle.smith_draw.proofs.SupertypeLemmas.{chosen_of}
 use Rattle.smith_draw.proofs.TypeUseLemmas.{IsPassing, places_pass}
 use Rattle.smith_draw.proofs.ValueTypeLemmas.{wanted_by}
-use Rattle.wasm_smith.specs.Spelling.{takes_and_gives_nothing, is_start_type, SpellsNoStart}
+use Rattle.smith_spell.specs.Spelling.{takes_and_gives_nothing, is_start_type, SpellsNoStart}
 use Rattle.wasm_smith.specs.Start.{start_funcs, start_wanted_at, start_at}
 use Rattle.wasm_smith.proofs.TypedLemmas.{places_any}
 
@@ -69,7 +69,7 @@ wanted_none : (asked : Bool) (piece after : List ℕ) → Where asked (SpellsBoo
 wanted_none true piece after h = bool_read false piece after h
 wanted_none false piece after h = rw h refl
 
-start_none : (config : Config) (types : List SubType) (funcs piece after : List ℕ) → SpellsNoStart config types funcs piece → start_at config types funcs (piece ++ after) ≡ (None, after)
+pub start_none : (config : Config) (types : List SubType) (funcs piece after : List ℕ) → SpellsNoStart config types funcs piece → start_at config types funcs (piece ++ after) ≡ (None, after)
 unfolding start_at start_wanted_at
 start_none config types funcs piece after h =
     rw (places_any (is_start_type types) 0 funcs, wanted_none _ piece after h) refl

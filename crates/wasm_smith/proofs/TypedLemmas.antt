@@ -22,8 +22,8 @@ use Rattle.smith_draw.proofs.TypeUseLemmas.{types_usable}
 use Rattle.wasm_smith.specs.Steps.{Gives}
 use Rattle.wasm_smith.specs.Defined.{IsFilled, SpellsEmpty}
 use Rattle.wasm_smith.specs.Definitions.{defined_at, typed_at, tag_types, tags_at, funcs_at}
-use Rattle.wasm_smith.specs.FuncTypes.{func_types}
-use Rattle.wasm_smith.specs.Spelling.{SpellsNoTag, SpellsFuncs}
+use Rattle.smith_spell.specs.FuncTypes.{func_types}
+use Rattle.smith_spell.specs.Spelling.{SpellsNoTag, SpellsFuncs}
 use Rattle.wasm_smith.proofs.CountingLemmas.{all_kept}
 use Rattle.wasm_smith.proofs.DefinedLemmas.{defined_all, defined_filled, defined_read, none_listed}
 use Rattle.wasm_smith.proofs.GivenLemmas.{given_is}

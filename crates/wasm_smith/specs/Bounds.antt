@@ -12,6 +12,7 @@ use Rattle.smith_types.specs.declared.entity_type.EntityType.TheVariants as enti
 use Rattle.smith_types.specs.declared.entity_type.ExportKind.{ExportKind}
 use Rattle.smith_types.specs.declared.entity_type.ExportKind.TheVariants as kind
 use Rattle.smith_types.specs.declared.imports.Import.{Import}
+use Rattle.smith_types.specs.declared.segments.Elements.{Elements}
 use Rattle.smith_types.specs.declared.segments.Elements.TheVariants.{Functions}
 use Rattle.smith_types.specs.declared.segments.ElementSegment.{ElementSegment}
 use Rattle.smith_config.specs.declared.config.Config.{Config}
@@ -136,12 +137,16 @@ pub record KeepsBounds (config : Config) (m : Parts) : Type 0 where
   pub type_size_most : m.type_size ≤ config.max_type_size
 
 -- no function is there that an element of functions might be: each is of a shared type
-abbrev pub HasNoCandidates : Parts → Type 0
-HasNoCandidates m = All (λ index. (t : SubType) × (slice_get m.types index ≡ Some t) × IsTrue (shared t)) m.funcs
+abbrev pub HasNoCandidates : List SubType → List ℕ → Type 0
+HasNoCandidates types funcs = All (λ index. (t : SubType) × (slice_get types index ≡ Some t) × IsTrue (shared t)) funcs
 
--- an element segment has as many items as are asked for, or is an empty list of functions where there is no candidate
+-- as many items as are asked for, or an empty list of functions where there is no candidate
+abbrev pub HasItems : Config → List SubType → List ℕ → Elements → Type 0
+HasItems config types funcs items = (config.min_elements ≤ item_count items) ⊎ ((items ≡ Functions []) × HasNoCandidates types funcs)
+
+-- an element segment of a module has enough items
 abbrev pub HasEnough : Config → Parts → ElementSegment → Type 0
-HasEnough config m segment = (config.min_elements ≤ item_count segment.items) ⊎ ((segment.items ≡ Functions []) × HasNoCandidates m)
+HasEnough config m segment = HasItems config m.types m.funcs segment.items
 
 -- no fewer than the configuration asks for
 pub record MeetsMinimums (config : Config) (m : Parts) : Type 0 where

@@ -14,12 +14,13 @@ use Rattle.smith_types.specs.declared.code.Code.{Code}
 use Rattle.smith_config.specs.declared.config.Config.{Config}
 use Rattle.smith_config.specs.Features.{features_of}
 use Rattle.smith_draw.specs.ConstFloats.{GivesNoFloat}
-use Rattle.wasm_smith.specs.AllExports.{AreAllExported, exports_at}
+use Rattle.wasm_smith.specs.Bounds.{HasItems}
+use Rattle.wasm_smith.specs.ExportedItems.{AreAllExported}
+use Rattle.wasm_smith.specs.AllExports.{exports_at}
 use Rattle.wasm_smith.specs.DataSegments.{data_at}
 use Rattle.wasm_smith.specs.Defined.{standing_in}
 use Rattle.wasm_smith.specs.Definitions.{global_scope}
 use Rattle.wasm_smith.specs.DrawnBodies.{bodies_at}
-use Rattle.wasm_smith.specs.DrawnElements.{HasItems}
 use Rattle.wasm_smith.specs.ElementSegments.{elements_at, items_in}
 use Rattle.wasm_smith.specs.Exporting.{exported_size}
 use Rattle.wasm_smith.specs.Promises.{expressions_of}

@@ -1,5 +1,5 @@
 -- What element segments are drawn over, and what each keeps. Rules of this project.
-use Rattle.std.specs.Prelude.{◌≡◌, ◌⊎◌, ℕ, ◌<◌, ◌≤◌, ◌^◌, true, false, IsTrue, IsSome, IsSomeAnd, Option, Some, List, [], length, slice_get, All}
+use Rattle.std.specs.Prelude.{◌≡◌, ◌⊎◌, ℕ, ◌<◌, ◌≤◌, ◌^◌, true, false, IsTrue, IsSome, IsSomeAnd, Option, Some, List, length, slice_get, All}
 use Rattle.smith_bytes.specs.declared.error.Count.TheVariants as counts
 use Rattle.smith_bytes.specs.declared.error.Error.{Error}
 use Rattle.smith_bytes.specs.declared.error.Error.TheVariants.{IncorrectFormat, Memory}
@@ -8,8 +8,7 @@ use Rattle.smith_types.specs.Entities.{IsTableValid, most_elements}
 use Rattle.smith_types.specs.Expressions.{Context}
 use Rattle.smith_types.specs.Flags.{IsElementEnabled}
 use Rattle.smith_types.specs.Floats.{HasNoFloat}
-use Rattle.smith_types.specs.Kinds.{shared}
-use Rattle.smith_types.specs.Segments.{table_index, item_count, AreItemsValid, IsOffsetValid, IsOffsetInside, IsElementValid, IsElementInside}
+use Rattle.smith_types.specs.Segments.{table_index, AreItemsValid, IsOffsetValid, IsOffsetInside, IsElementValid, IsElementInside}
 use Rattle.smith_types.specs.Subtyping.{IsRefBelow}
 use Rattle.smith_types.specs.ValidTypes.{IsRefTypeValid}
 use Rattle.smith_types.specs.declared.composite_type.SubType.{SubType}
@@ -17,7 +16,6 @@ use Rattle.smith_types.specs.declared.entity_type.TableType.{TableType}
 use Rattle.smith_types.specs.declared.segments.ElementKind.{ElementKind}
 use Rattle.smith_types.specs.declared.segments.ElementKind.TheVariants as element
 use Rattle.smith_types.specs.declared.segments.Elements.{Elements}
-use Rattle.smith_types.specs.declared.segments.Elements.TheVariants.{Functions}
 use Rattle.smith_types.specs.declared.segments.ElementSegment.{ElementSegment}
 use Rattle.smith_types.specs.declared.segments.Offset.{Offset}
 use Rattle.smith_types.specs.declared.value_type.RefType.{RefType}
@@ -29,6 +27,7 @@ use Rattle.smith_draw.specs.ConstBounds.{HoldsNonNullableField}
 use Rattle.smith_draw.specs.ConstFloats.{GivesNoFloat}
 use Rattle.smith_draw.specs.ConstScopes.{AreSpacesValid}
 use Rattle.smith_draw.specs.declared.spaces.Spaces.{Spaces}
+use Rattle.wasm_smith.specs.Bounds.{HasItems}
 use Rattle.wasm_smith.specs.Promises.{expressions_of}
 use Rattle.wasm_smith.specs.declared.build.element_kinds.KindChoice.{KindChoice}
 use Rattle.wasm_smith.specs.declared.build.element_kinds.KindChoice.TheVariants as choice
@@ -86,11 +85,6 @@ pub record MayHoldItems (config : Config) (spaces : Spaces) (ty : RefType) : Typ
   pub enabled : IsElementEnabled (features_of config) ty
   pub not_needed : ty.nullable ≡ true
   pub nullable : HoldsNonNullableField spaces.types.now.types → ⊥
-
--- as many items as are asked for, or an empty list of functions where each function is of a shared type
-abbrev pub HasItems : Config → List SubType → List ℕ → Elements → Type 0
-HasItems config types funcs items =
-    (config.min_elements ≤ item_count items) ⊎ ((items ≡ Functions []) × All (λ index. (t : SubType) × (slice_get types index ≡ Some t) × IsTrue (shared t)) funcs)
 
 -- items of a type: valid, enough, and without a float's constant where no type holds a float
 pub record AreItemsFit (config : Config) (context : Context) (ty : RefType) (items : Elements) : Type 0 where

@@ -14,7 +14,8 @@ use Rattle.wasm_smith.specs.Build.{IsGiven}
 use Rattle.wasm_smith.specs.InterestingValues.{HasInterestingValues}
 use Rattle.wasm_smith.specs.Module.{Parts, IsValid, shown_config}
 use Rattle.wasm_smith.specs.Promises.{KeepsPromises}
-use Rattle.wasm_smith.specs.Refusals.{HasNoMinimums}
+use Rattle.smith_spell.specs.Minimums.{HasNoMinimums}
+use Rattle.wasm_smith.specs.Reached.{ReachesMembers, ReachesRests}
 use Rattle.wasm_smith.specs.ToCome.{IsFaulted, IsLeftOut, MayComeOut}
 use Rattle.wasm_smith.specs.declared.module.DuplicateImportsBehavior.{DuplicateImportsBehavior}
 use Rattle.wasm_smith.specs.declared.module.DuplicateImportsBehavior.TheVariants.{Allowed, Disallowed}
@@ -42,6 +43,9 @@ pub record IsGenerated (distinct : Bool) (given : Config) (bytes : List ℕ) (an
   pub refusals : IfErr answer (MayComeOut (sanitized given))
   pub needless : Passes (sanitized given) → HasNoShapes (sanitized given) → HasNoMinimums (sanitized given) → given.export_everything ≡ false → IfErr answer (λ e. e ≡ Memory)
   pub shape : (for_use : Which) → Passes (sanitized given) → IsLeftOut (sanitized given) for_use → IsErrOf answer (Shape for_use LeftOut)
+  -- which lists are reached, by whatever bytes spell them
+  pub reach : ReachesMembers (sanitized given) bytes answer
+  pub rest : ReachesRests (sanitized given) bytes answer
   -- what is left of the source
   pub undrawn : (for_use : Which) → IsLeftOut (sanitized given) for_use → left ≡ bytes
   pub source : IsPiece bytes left

@@ -1,5 +1,6 @@
 -- What the step of imports keeps as it adds imports, and when it may refuse. Rules of this project.
 use Rattle.std.specs.Prelude.{◌≡◌, ℕ, ◌+◌, ◌*◌, ◌^◌, ◌<◌, ◌≤◌, ◌⊎◌, Bool, true, false, ◌&&◌, IsTrue, List, [], length, map, All}
+use Rattle.std.specs.HashSet.{IsEmpty}
 use Rattle.smith_bytes.specs.declared.error.Error.{Error}
 use Rattle.smith_bytes.specs.declared.error.Error.TheVariants as errors
 use Rattle.smith_bytes.specs.declared.error.Why.TheVariants.{Unmet}
@@ -31,7 +32,7 @@ use Rattle.smith_draw.specs.FuncSizes.{IsSmall}
 use Rattle.wasm_smith.specs.ImportNames.{KnowsPairs}
 use Rattle.wasm_smith.specs.ImportedEntities.{kind_of, has_room, may_import, sizes}
 use Rattle.wasm_smith.specs.Refusals.{MayLackImports}
-use Rattle.wasm_smith.specs.Spelling.{SpellsNone}
+use Rattle.smith_spell.specs.Spelling.{SpellsNone}
 use Rattle.wasm_smith.specs.declared.build.imported.Imported.{Imported}
 
 -- imports may be drawn over these types: no shape fixes the imports, and the function types are small
@@ -51,6 +52,14 @@ spaces_of imported = spaces_in imported.spaces
 abbrev pub entity_spaces : EntityType → IndexSpaces
 entity_spaces one = record { tags = tag_of one; funcs = func_of one; tables = table_of one; memories = memory_of one; globals = global_of one }
 
+-- nothing is imported yet
+pub record HasNoImports (imported : Imported) : Type 0 where
+  pub groups : imported.groups ≡ []
+  pub spaces : spaces_of imported ≡ record { tags = []; funcs = []; tables = []; memories = []; globals = [] }
+  pub count : imported.count ≡ 0
+  pub type_size : imported.type_size ≡ 0
+  pub pairs : IsEmpty imported.pairs
+
 -- an import of an entity is counted, and nothing else changes
 pub record IsCounted (types : List SubType) (added : EntityType) (old new : Imported) : Type 0 where
   pub groups : new.groups ≡ old.groups
@@ -65,6 +74,14 @@ pub record Counts (types : List SubType) (distinct : Bool) (imported : Imported)
   pub count : imported.count ≡ length imports
   pub type_size : imported.type_size ≡ sizes types imports
   pub pairs : KnowsPairs distinct imported.pairs imports
+
+-- index spaces have no more of each kind than the configuration allows
+pub record AreNumbersWithin (config : Config) (spaces : IndexSpaces) : Type 0 where
+  pub tags : length spaces.tags ≤ config.max_tags
+  pub funcs : length spaces.funcs ≤ config.max_funcs
+  pub tables : length spaces.tables ≤ config.max_tables
+  pub memories : length spaces.memories ≤ config.max_memories
+  pub globals : length spaces.globals ≤ config.max_globals
 
 -- index spaces have no more than the configuration allows
 pub record AreSpacesWithin (config : Config) (spaces : IndexSpaces) : Type 0 where

@@ -1,5 +1,5 @@
 -- What else a module keeps: which names, types and sections it has. Rules of this project.
-use Rattle.std.specs.Prelude.{◌≡◌, ℕ, zero, suc, ◌<◌, Bool, false, IsTrue, List, [], ◌∷◌, ◌++◌, Option, Some, None, map, length, All}
+use Rattle.std.specs.Prelude.{◌≡◌, ℕ, ◌<◌, Bool, false, IsTrue, List, [], ◌∷◌, ◌++◌, Option, Some, None, map, length, All}
 use Rattle.std.specs.List.{flat_map}
 use Rattle.smith_types.specs.Floats.{IsNoFloat}
 use Rattle.smith_types.specs.Imports.{flattened}
@@ -9,8 +9,6 @@ use Rattle.smith_types.specs.Segments.{IsElementInside, IsDataInside}
 use Rattle.smith_types.specs.declared.value_type.ValType.{ValType}
 use Rattle.smith_types.specs.declared.composite_type.SubType.{SubType}
 use Rattle.smith_types.specs.declared.entity_type.GlobalType.{GlobalType}
-use Rattle.smith_types.specs.declared.entity_type.ExportKind.{ExportKind}
-use Rattle.smith_types.specs.declared.entity_type.ExportKind.TheVariants as kind
 use Rattle.smith_types.specs.declared.imports.Import.{Import}
 use Rattle.smith_types.specs.declared.const_instr.ConstInstr.{ConstInstr}
 use Rattle.smith_types.specs.declared.segments.Elements.{Elements}
@@ -20,7 +18,8 @@ use Rattle.smith_types.specs.declared.code.Code.{Code}
 use Rattle.smith_config.specs.declared.config.Config.{Config}
 use Rattle.smith_config.specs.InUse.{HasNoShapes, FixesImports, FixesExports}
 use Rattle.smith_draw.specs.ConstFloats.{GivesNoFloat}
-use Rattle.wasm_smith.specs.Module.{Parts}
+use Rattle.wasm_smith.specs.ExportedItems.{AreAllExported}
+use Rattle.wasm_smith.specs.Module.{Parts, module_spaces}
 
 -- no two imports have the same pair of names
 abbrev pub HasDistinctImports : Parts → Type 0
@@ -53,18 +52,9 @@ pub record HasNoFloats (m : Parts) : Type 0 where
   pub values : All IsNoFloat (module_values m)
   pub constants : All (All GivesNoFloat) (module_expressions m)
 
--- the kind and each index below a number, in order
-abbrev pub numbered_from : ExportKind → ℕ → ℕ → List (ExportKind × ℕ)
-numbered_from of_kind start zero = []
-numbered_from of_kind start (suc count) = (of_kind, start) ∷ numbered_from of_kind (suc start) count
-
 -- every function, table, memory, global and tag is exported, in this order and by index, each once
 abbrev pub ExportsEverything : Parts → Type 0
-ExportsEverything m =
-    map (λ (one : List ℕ × ExportKind × ℕ). (one.1, one.2)) m.exports
-    ≡ numbered_from kind.Func 0 (length m.funcs)
-    ++ (numbered_from kind.Table 0 (length m.tables)
-    ++ (numbered_from kind.Memory 0 (length m.memories) ++ (numbered_from kind.Global 0 (length m.globals) ++ numbered_from kind.Tag 0 (length m.tags))))
+ExportsEverything m = AreAllExported (module_spaces m) m.exports
 
 -- no function starts the module
 abbrev pub HasNoStart : Parts → Type 0

@@ -16,11 +16,8 @@ use Rattle.smith_config.specs.InUse.{shapes_of, FixesExports}
 use Rattle.smith_config.specs.Shapes.{IsShapeValid, shape_values}
 use Rattle.smith_config.specs.ShapeFaults.{HasShapeFault}
 use Rattle.smith_draw.specs.ConstBounds.{IsNonNullable}
+use Rattle.smith_spell.specs.Minimums.{HasNoMinimums}
 use Rattle.wasm_smith.specs.Bounds.{where_given, exported_of, brought_by_module}
-
--- nothing is asked for at least
-abbrev pub HasNoMinimums : Config → Type 0
-HasNoMinimums config = (count : Count) → minimum_of config count ≡ 0
 
 -- the shape for each use, where there is one that is used
 abbrev pub shape_for : Config → Which → Option Shape

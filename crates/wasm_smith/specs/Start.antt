@@ -5,7 +5,7 @@ use Rattle.smith_types.specs.declared.composite_type.SubType.{SubType}
 use Rattle.smith_config.specs.declared.config.Config.{Config}
 use Rattle.smith_draw.specs.Choices.{chosen_at}
 use Rattle.smith_draw.specs.TypeUses.{places_from}
-use Rattle.wasm_smith.specs.Spelling.{is_start_type}
+use Rattle.smith_spell.specs.Spelling.{is_start_type}
 
 -- the indices of the functions that may start a module, imported ones too: those that take and give nothing
 abbrev pub start_funcs : List SubType → List ℕ → List ℕ

@@ -1,9 +1,11 @@
-ghost use Rattle.wasm_smith.specs.ReadLaws.{GroupsAreRead};
+ghost use Rattle.wasm_smith.specs.SpelledBack.{SpelledComesBack};
 ghost use Rattle.wasm_smith.specs.Termination.{CountingIsValid};
 
-/// The groups of each member of the family are drawn from each piece that spells them.
-pub fn groups_are_read()
-    ensures { GroupsAreRead }
+pub use smith_spell::laws::groups_are_read;
+
+/// Lists of types and functions come back from the bytes that spell them, whatever stands behind these.
+pub fn spelled_comes_back()
+    ensures { SpelledComesBack }
 {}
 
 /// A valid module is still valid with a global that counts fuel.

@@ -28,6 +28,7 @@ pub use smith_draw::{
     arbitrary_table_type, arbitrary_tag_type, arbitrary_types, arbitrary_valtype, clone_rec_group,
     globals_for_const_expr, gradually_grow,
 };
+pub use smith_spell::spell;
 
 // Plain data, and what is decided of it.
 pub use smith_types::{

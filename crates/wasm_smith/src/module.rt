@@ -1,12 +1,12 @@
 ghost use Rattle.std.specs.Prelude.{◌≡◌, false, IfErr};
 ghost use Rattle.wasm_smith.specs.Generated.{is_distinct};
 
-use crate::build::{build, shape_left_out};
+use crate::build::{Drawn, build, shape_left_out};
 use smith_bytes::{Error, ShapeFault, Unstructured};
 use smith_config::Config;
 use smith_types::{
     Code, ConstInstr, DataSegment, ElementSegment, ExportKind, GlobalType, Imports, Items,
-    MemoryType, Name, SubType, TableType, TypeSpace,
+    MemoryType, Name, SubType, TableType,
 };
 use std::alloc::Global;
 use std::fmt;
@@ -17,31 +17,9 @@ use std::ops::Range;
 /// Structure, Modules. In each index space imported items come first.
 #[derive(Drop)]
 pub struct Module {
-    pub(crate) config: Config,
-    pub(crate) types: TypeSpace,
-    pub(crate) imports: Items<Imports>,
-    pub(crate) num_imports: usize,
-    pub(crate) tags: Items<u32>,
-    pub(crate) funcs: Items<u32>,
-    pub(crate) tables: Items<TableType>,
-    pub(crate) defined_tables: Items<Option<Items<ConstInstr>>>,
-    pub(crate) memories: Items<MemoryType>,
-    pub(crate) globals: Items<GlobalType>,
-    pub(crate) defined_globals: Items<(u32, Items<ConstInstr>)>,
-    pub(crate) num_defined_tags: usize,
-    pub(crate) num_defined_funcs: usize,
-    pub(crate) num_defined_memories: usize,
-    pub(crate) exports: Items<(Name, ExportKind, u32)>,
-    pub(crate) start: Option<u32>,
-    pub(crate) elems: Items<ElementSegment>,
-    pub(crate) segments: Items<DataSegment>,
-    pub(crate) code: Items<Code>,
+    pub(crate) config: Box<Config>,
+    pub(crate) drawn: Box<Drawn>,
     pub(crate) fuel_globals: Items<u32>,
-    pub(crate) encodes_types: bool,
-    pub(crate) encodes_imports: bool,
-    pub(crate) type_size: u32,
-    pub(crate) interesting_values32: Items<u32>,
-    pub(crate) interesting_values64: Items<u64>,
 }
 
 impl Model for Module {
@@ -50,32 +28,32 @@ impl Model for Module {
     ghost Value = { Parts };
 
     ghost view = { λ m. record {
-      config = m.config;
-      types = m.types.types;
-      groups = m.types.groups;
-      imports = m.imports;
-      num_imports = m.num_imports;
-      tags = m.tags;
-      funcs = m.funcs;
-      tables = m.tables;
-      defined_tables = m.defined_tables;
-      memories = m.memories;
-      globals = m.globals;
-      defined_globals = m.defined_globals;
-      num_defined_tags = m.num_defined_tags;
-      num_defined_funcs = m.num_defined_funcs;
-      num_defined_memories = m.num_defined_memories;
-      exports = m.exports;
-      start = m.start;
-      elems = m.elems;
-      segments = m.segments;
-      code = m.code;
+      config = m.config.value;
+      types = m.drawn.value.types.types;
+      groups = m.drawn.value.types.groups;
+      imports = m.drawn.value.imported.groups;
+      num_imports = m.drawn.value.imported.count;
+      tags = m.drawn.value.imported.spaces.tags;
+      funcs = m.drawn.value.imported.spaces.funcs;
+      tables = m.drawn.value.imported.spaces.tables;
+      defined_tables = m.drawn.value.definitions.tables;
+      memories = m.drawn.value.imported.spaces.memories;
+      globals = m.drawn.value.imported.spaces.globals;
+      defined_globals = m.drawn.value.definitions.globals;
+      num_defined_tags = m.drawn.value.definitions.num_tags;
+      num_defined_funcs = m.drawn.value.definitions.num_funcs;
+      num_defined_memories = m.drawn.value.definitions.num_memories;
+      exports = m.drawn.value.contents.exports;
+      start = m.drawn.value.contents.start;
+      elems = m.drawn.value.contents.segments.elements;
+      segments = m.drawn.value.contents.segments.data_segments;
+      code = m.drawn.value.contents.code;
       fuel_globals = m.fuel_globals;
-      encodes_types = m.encodes_types;
-      encodes_imports = m.encodes_imports;
-      type_size = m.type_size;
-      interesting_values32 = m.interesting_values32;
-      interesting_values64 = m.interesting_values64;
+      encodes_types = m.drawn.value.contents.encodes_types;
+      encodes_imports = m.drawn.value.encodes_imports;
+      type_size = m.drawn.value.contents.type_size;
+      interesting_values32 = m.drawn.value.interesting_values32;
+      interesting_values64 = m.drawn.value.interesting_values64;
     } };
 }
 
@@ -147,140 +125,140 @@ impl Module {
     pub fn config(&self) -> &Config
         ensures { result.now ≡ self.now.config }
     {
-        &self.config
+        self.config.as_ref()
     }
 
     /// The types, in the order of their indices.
     pub fn types(&self) -> &[SubType]
         ensures { result.now ≡ self.now.types }
     {
-        self.types.types()
+        self.drawn.types.types()
     }
 
     /// The recursive groups, each as the indices of its types.
     pub fn rec_groups(&self) -> &[Range<usize>]
         ensures { result.now ≡ self.now.groups }
     {
-        self.types.rec_groups()
+        self.drawn.types.rec_groups()
     }
 
     /// The imports in their groups.
     pub fn imports(&self) -> &[Imports]
         ensures { result.now ≡ self.now.imports }
     {
-        self.imports.as_slice()
+        self.drawn.imported.groups.as_slice()
     }
 
     /// How many imports the groups hold together.
     pub fn num_imports(&self) -> usize
         ensures { result ≡ self.now.num_imports }
     {
-        self.num_imports
+        self.drawn.imported.count
     }
 
     /// The index of the type of each tag.
     pub fn tags(&self) -> &[u32]
         ensures { result.now ≡ self.now.tags }
     {
-        self.tags.as_slice()
+        self.drawn.imported.spaces.tags.as_slice()
     }
 
     /// The index of the type of each function.
     pub fn funcs(&self) -> &[u32]
         ensures { result.now ≡ self.now.funcs }
     {
-        self.funcs.as_slice()
+        self.drawn.imported.spaces.funcs.as_slice()
     }
 
     /// The type of each table.
     pub fn tables(&self) -> &[TableType]
         ensures { result.now ≡ self.now.tables }
     {
-        self.tables.as_slice()
+        self.drawn.imported.spaces.tables.as_slice()
     }
 
     /// The initialiser of each defined table, where it has one.
     pub fn defined_tables(&self) -> &[Option<Items<ConstInstr>>]
         ensures { result.now ≡ self.now.defined_tables }
     {
-        self.defined_tables.as_slice()
+        self.drawn.definitions.tables.as_slice()
     }
 
     /// The type of each memory.
     pub fn memories(&self) -> &[MemoryType]
         ensures { result.now ≡ self.now.memories }
     {
-        self.memories.as_slice()
+        self.drawn.imported.spaces.memories.as_slice()
     }
 
     /// The type of each global.
     pub fn globals(&self) -> &[GlobalType]
         ensures { result.now ≡ self.now.globals }
     {
-        self.globals.as_slice()
+        self.drawn.imported.spaces.globals.as_slice()
     }
 
     /// The index and the initialiser of each defined global.
     pub fn defined_globals(&self) -> &[(u32, Items<ConstInstr>)]
         ensures { result.now ≡ self.now.defined_globals }
     {
-        self.defined_globals.as_slice()
+        self.drawn.definitions.globals.as_slice()
     }
 
     /// How many tags are defined, behind the imported ones.
     pub fn num_defined_tags(&self) -> usize
         ensures { result ≡ self.now.num_defined_tags }
     {
-        self.num_defined_tags
+        self.drawn.definitions.num_tags
     }
 
     /// How many functions are defined, behind the imported ones.
     pub fn num_defined_funcs(&self) -> usize
         ensures { result ≡ self.now.num_defined_funcs }
     {
-        self.num_defined_funcs
+        self.drawn.definitions.num_funcs
     }
 
     /// How many memories are defined, behind the imported ones.
     pub fn num_defined_memories(&self) -> usize
         ensures { result ≡ self.now.num_defined_memories }
     {
-        self.num_defined_memories
+        self.drawn.definitions.num_memories
     }
 
     /// The name, the kind and the index of each export.
     pub fn exports(&self) -> &[(Name, ExportKind, u32)]
         ensures { result.now ≡ self.now.exports }
     {
-        self.exports.as_slice()
+        self.drawn.contents.exports.as_slice()
     }
 
     /// The index of the function that is called first.
     pub fn start(&self) -> Option<u32>
         ensures { result ≡ self.now.start }
     {
-        self.start
+        self.drawn.contents.start
     }
 
     /// The element segments.
     pub fn elems(&self) -> &[ElementSegment]
         ensures { result.now ≡ self.now.elems }
     {
-        self.elems.as_slice()
+        self.drawn.contents.segments.elements.as_slice()
     }
 
     /// The data segments.
     pub fn data(&self) -> &[DataSegment]
         ensures { result.now ≡ self.now.segments }
     {
-        self.segments.as_slice()
+        self.drawn.contents.segments.data_segments.as_slice()
     }
 
     /// The body of each defined function.
     pub fn code(&self) -> &[Code]
         ensures { result.now ≡ self.now.code }
     {
-        self.code.as_slice()
+        self.drawn.contents.code.as_slice()
     }
 
     /// The globals that count fuel down, in the order in which they were added.
@@ -294,35 +272,35 @@ impl Module {
     pub fn should_encode_types(&self) -> bool
         ensures { result ≡ self.now.encodes_types }
     {
-        self.encodes_types
+        self.drawn.contents.encodes_types
     }
 
     /// Whether an encoder writes an imports section, even an empty one.
     pub fn should_encode_imports(&self) -> bool
         ensures { result ≡ self.now.encodes_imports }
     {
-        self.encodes_imports
+        self.drawn.encodes_imports
     }
 
     /// What the drawn imports and exports cost together.
     pub fn type_size(&self) -> u32
         ensures { result ≡ self.now.type_size }
     {
-        self.type_size
+        self.drawn.contents.type_size
     }
 
     /// Numbers of 32 bits that tests of this module should try, in ascending order.
     pub fn interesting_values32(&self) -> &[u32]
         ensures { result.now ≡ self.now.interesting_values32 }
     {
-        self.interesting_values32.as_slice()
+        self.drawn.interesting_values32.as_slice()
     }
 
     /// Numbers of 64 bits that tests of this module should try, in ascending order.
     pub fn interesting_values64(&self) -> &[u64]
         ensures { result.now ≡ self.now.interesting_values64 }
     {
-        self.interesting_values64.as_slice()
+        self.drawn.interesting_values64.as_slice()
     }
 }
 
@@ -330,7 +308,7 @@ impl Module {
 impl fmt::Debug for Module {
     fn fmt<W: fmt::Write>(&self, f: &mut fmt::Formatter<W>) -> fmt::Result {
         f.debug_struct("Module")
-            .field("config", &self.config)
+            .field("config", self.config.as_ref())
             .finish_non_exhaustive()
     }
 }

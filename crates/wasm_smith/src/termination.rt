@@ -95,14 +95,15 @@ impl Module {
         ensures answer { AnswersFuel default_fuel self.old self.new result }
         ensures valid { IsValid self.old → IsValid self.new }
     {
-        if has_raw_body(self.code.as_slice()) {
+        if has_raw_body(self.drawn.contents.code.as_slice()) {
             return Err(Error::IncorrectFormat(Why::RawBody));
         }
+        let drawn = self.drawn.as_mut();
         push_counter(
             alloc,
             default_fuel,
-            &mut self.globals,
-            &mut self.defined_globals,
+            &mut drawn.imported.spaces.globals,
+            &mut drawn.definitions.globals,
             &mut self.fuel_globals,
         )
     }

@@ -35,6 +35,20 @@ pub(crate) struct Contents {
     pub(crate) code: Items<Code>,
 }
 
+impl Contents {
+    /// Nothing, which takes no memory.
+    pub(crate) fn none(alloc: Global) -> Self {
+        Contents {
+            exports: Items::new(alloc),
+            type_size: 0,
+            encodes_types: false,
+            start: None,
+            segments: Segments::none(alloc),
+            code: Items::new(alloc),
+        }
+    }
+}
+
 /// Draws exports, whether a section of types is written, a start function, segments and bodies, in this order, over all that is
 /// imported and defined.
 #[tactic(auto, unfolding(crate::specs::DrawnContents::contents_at))]

@@ -29,6 +29,19 @@ pub(crate) struct Definitions {
     pub(crate) globals: Items<(u32, Items<ConstInstr>)>,
 }
 
+impl Definitions {
+    /// Nothing is defined, which takes no memory.
+    pub(crate) fn none(alloc: Global) -> Self {
+        Definitions {
+            num_tags: 0,
+            num_funcs: 0,
+            tables: Items::new(alloc),
+            num_memories: 0,
+            globals: Items::new(alloc),
+        }
+    }
+}
+
 /// Defines tags, functions, tables, memories and globals, in this order, behind the imported ones of `spaces`.
 #[tactic(auto, unfolding(crate::specs::Build::definitions_at))]
 pub(crate) fn define(

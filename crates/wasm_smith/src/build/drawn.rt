@@ -1,4 +1,4 @@
-ghost use Rattle.std.specs.Prelude.{◌≡◌, IfOk, IfErr};
+ghost use Rattle.std.specs.Prelude.{◌≡◌, OnOk, IfOk, IfErr};
 ghost use Rattle.smith_bytes.specs.Source.{KeepsPieces};
 ghost use Rattle.smith_config.specs.Faults.{Passes};
 ghost use Rattle.smith_config.specs.InUse.{HasNoShapes};
@@ -6,6 +6,7 @@ ghost use Rattle.smith_config.specs.Sanitized.{IsSanitized};
 ghost use Rattle.wasm_smith.specs.Bounds.{KeepsBounds, MeetsMinimums};
 ghost use Rattle.wasm_smith.specs.Build.{parts_of, as_drawn, module_at};
 ghost use Rattle.wasm_smith.specs.DrawnParts.{IsDrawnFor};
+ghost use Rattle.wasm_smith.specs.Imported.{HasNoImports};
 ghost use Rattle.wasm_smith.specs.InterestingValues.{HasInterestingValues};
 ghost use Rattle.wasm_smith.specs.Module.{IsValid};
 ghost use Rattle.wasm_smith.specs.Promises.{KeepsPromises};
@@ -17,7 +18,7 @@ use crate::build::definitions::{Definitions, define};
 use crate::build::imported::Imported;
 use crate::build::imports::imports;
 use crate::build::section_flag::section_flag;
-use crate::build::types;
+use crate::build::types::types;
 use crate::interesting_values::interesting_values;
 use smith_bytes::{Error, Unstructured};
 use smith_config::Config;
@@ -37,41 +38,55 @@ pub(crate) struct Drawn {
     pub(crate) interesting_values64: Items<u64>,
 }
 
-/// Draws the parts, in the order of the steps, and collects the interesting values.
+impl Drawn {
+    /// Nothing, which takes no memory.
+    pub(crate) fn none(alloc: Global) -> Self
+        ensures { HasNoImports result.imported }
+    {
+        Drawn {
+            types: TypeSpace::new(alloc),
+            imported: Imported::new(alloc),
+            definitions: Definitions::none(alloc),
+            contents: Contents::none(alloc),
+            encodes_imports: false,
+            interesting_values32: Items::new(alloc),
+            interesting_values64: Items::new(alloc),
+        }
+    }
+}
+
+/// Draws the parts into `drawn`, which has no imports yet, in the order of the steps, and collects the interesting values.
 #[tactic(auto, unfolding(crate::specs::Build::module_at))]
 fn parts(
     alloc: Global,
     config: &Config,
     distinct: bool,
+    drawn: &mut Drawn,
     u: &mut Unstructured<'_>,
-) -> Result<Drawn, Error>
+) -> Result<(), Error>
     requires passes { Passes config.now }
     requires sanitized { IsSanitized config.now }
     requires no_shapes { HasNoShapes config.now }
-    ensures exact { Gives (λ drawn. (as_drawn (parts_of config.now drawn), u.new)) result (module_at distinct config.now u.old) }
-    ensures drawn { IfOk result (IsDrawnFor distinct config.now) }
+    requires none { HasNoImports drawn.old.imported }
+    ensures exact { Gives (λ _. (as_drawn (parts_of config.now drawn.new), u.new)) result (module_at distinct config.now u.old) }
+    ensures drawn { OnOk result (IsDrawnFor distinct config.now drawn.new) }
     ensures refusal { IfErr result (MayRefuse config.now) }
     ensures left { KeepsPieces u.old u.new }
 {
-    let types = types::types(alloc, config, u)?;
-    let mut imported = imports(alloc, config, distinct, &types, u)?;
-    let encodes_imports = section_flag(imported.groups.len(), u);
-    let definitions = define(alloc, config, &types, &mut imported.spaces, u)?;
-    let contents = draw_contents(alloc, config, &types, &imported, &definitions, u)?;
-    let (interesting_values32, interesting_values64) = interesting_values(
+    drawn.types = types(alloc, config, u)?;
+    let imported = &mut drawn.imported;
+    imports(alloc, config, distinct, &drawn.types, imported, u)?;
+    drawn.encodes_imports = section_flag(imported.groups.len(), u);
+    drawn.definitions = define(alloc, config, &drawn.types, &mut imported.spaces, u)?;
+    drawn.contents = draw_contents(alloc, config, &drawn.types, imported, &drawn.definitions, u)?;
+    let (narrow, wide) = interesting_values(
         alloc,
         imported.spaces.tables.as_slice(),
         imported.spaces.memories.as_slice(),
     )?;
-    Ok(Drawn {
-        types,
-        imported,
-        definitions,
-        contents,
-        encodes_imports,
-        interesting_values32,
-        interesting_values64,
-    })
+    drawn.interesting_values32 = narrow;
+    drawn.interesting_values64 = wide;
+    Ok(())
 }
 
 /// Draws the parts of a module. Where `distinct` is set, no two imports have the same pair of names.
@@ -80,18 +95,20 @@ pub(crate) fn draw(
     config: &Config,
     distinct: bool,
     u: &mut Unstructured<'_>,
-) -> Result<Drawn, Error>
+) -> Result<Box<Drawn>, Error>
     requires passes { Passes config.now }
     requires sanitized { IsSanitized config.now }
     requires no_shapes { HasNoShapes config.now }
-    ensures exact { Gives (λ drawn. (as_drawn (parts_of config.now drawn), u.new)) result (module_at distinct config.now u.old) }
-    ensures valid { IfOk result (λ drawn. IsValid (parts_of config.now drawn)) }
-    ensures bounds { IfOk result (λ drawn. KeepsBounds config.now (parts_of config.now drawn)) }
-    ensures minimums { IfOk result (λ drawn. MeetsMinimums config.now (parts_of config.now drawn)) }
-    ensures promises { IfOk result (λ drawn. KeepsPromises distinct config.now (parts_of config.now drawn)) }
-    ensures interesting { IfOk result (λ drawn. HasInterestingValues (parts_of config.now drawn)) }
+    ensures exact { Gives (λ drawn. (as_drawn (parts_of config.now drawn.value), u.new)) result (module_at distinct config.now u.old) }
+    ensures valid { IfOk result (λ drawn. IsValid (parts_of config.now drawn.value)) }
+    ensures bounds { IfOk result (λ drawn. KeepsBounds config.now (parts_of config.now drawn.value)) }
+    ensures minimums { IfOk result (λ drawn. MeetsMinimums config.now (parts_of config.now drawn.value)) }
+    ensures promises { IfOk result (λ drawn. KeepsPromises distinct config.now (parts_of config.now drawn.value)) }
+    ensures interesting { IfOk result (λ drawn. HasInterestingValues (parts_of config.now drawn.value)) }
     ensures refusal { IfErr result (MayRefuse config.now) }
     ensures left { KeepsPieces u.old u.new }
 {
-    parts(alloc, config, distinct, u)
+    let mut drawn = Box::new(alloc, Drawn::none(alloc))?;
+    parts(alloc, config, distinct, drawn.as_mut(), u)?;
+    Ok(drawn)
 }

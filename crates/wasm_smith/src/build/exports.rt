@@ -5,10 +5,11 @@ ghost use Rattle.smith_types.specs.Exports.{AreExportsValid};
 ghost use Rattle.smith_types.specs.IndexSpaces.{spaces_in};
 ghost use Rattle.wasm_smith.specs.Steps.{Gives};
 ghost use Rattle.wasm_smith.specs.Defined.{SpellsEmpty};
-ghost use Rattle.wasm_smith.specs.Spelling.{SpellsNone};
+ghost use Rattle.smith_spell.specs.Spelling.{SpellsNone};
 ghost use Rattle.wasm_smith.specs.Exporting.{Export, is_exported, HasNames, exported_size, export_at, offered_kinds, exports_from, free_exports_at};
 ghost use Rattle.wasm_smith.specs.Exported.{MayExport, MayExportFreely, MayDrawExports, IsCandidate, AreExported, MayRefuseFree, MayRefuseExports};
-ghost use Rattle.wasm_smith.specs.AllExports.{AreAllExported, exports_at};
+ghost use Rattle.wasm_smith.specs.ExportedItems.{AreAllExported};
+ghost use Rattle.wasm_smith.specs.AllExports.{exports_at};
 
 use crate::build::all_exports::export_everything;
 use crate::build::export_kinds::{choose_candidate, export_kind, has_candidates};

@@ -9,8 +9,8 @@ ghost use Rattle.smith_config.specs.Sanitized.{IsSanitized};
 ghost use Rattle.wasm_smith.specs.Steps.{Gives};
 ghost use Rattle.wasm_smith.specs.Defined.{IsFilled};
 ghost use Rattle.wasm_smith.specs.Definitions.{funcs_at};
-ghost use Rattle.wasm_smith.specs.FuncTypes.{func_types};
-ghost use Rattle.wasm_smith.specs.Spelling.{SpellsFuncs};
+ghost use Rattle.smith_spell.specs.FuncTypes.{func_types};
+ghost use Rattle.smith_spell.specs.Spelling.{SpellsFuncs};
 ghost use Rattle.wasm_smith.specs.Refusals.{MayRefuse};
 
 use crate::build::typed::define_typed;

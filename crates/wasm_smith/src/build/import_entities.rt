@@ -15,7 +15,7 @@ use smith_draw::{
 use smith_types::{EntityType, ExportKind, TypeSpace};
 use std::alloc::Global;
 
-fn kind_of(added: &EntityType) -> ExportKind
+pub(crate) fn kind_of(added: &EntityType) -> ExportKind
     ensures { result ≡ kind_of added.now }
 {
     match added {

@@ -1,8 +1,6 @@
-ghost use Rattle.std.specs.Prelude.{◌≡◌, ◌<◌, ◌+◌, ◌^◌, [], IfErr, OnOk};
-ghost use Rattle.std.specs.HashSet.{IsEmpty};
-ghost use Rattle.smith_types.specs.IndexSpaces.{spaces_in};
+ghost use Rattle.std.specs.Prelude.{◌≡◌, ◌<◌, ◌+◌, ◌^◌, IfErr, OnOk};
 ghost use Rattle.smith_types.specs.Sizes.{IsTyped, size_in};
-ghost use Rattle.wasm_smith.specs.Imported.{IsCounted};
+ghost use Rattle.wasm_smith.specs.Imported.{HasNoImports, IsCounted};
 
 use smith_bytes::Error;
 use smith_types::{EntityType, Imports, IndexSpaces, Items, TypeSpace};
@@ -26,11 +24,7 @@ pub(crate) struct Imported {
 impl Imported {
     /// No imports, which take no memory.
     pub(crate) fn new(alloc: Global) -> Self
-        ensures groups { result.groups ≡ [] }
-        ensures spaces { spaces_in result.spaces ≡ record { tags = []; funcs = []; tables = []; memories = []; globals = [] } }
-        ensures count { result.count ≡ 0 }
-        ensures type_size { result.type_size ≡ 0 }
-        ensures pairs { IsEmpty result.pairs }
+        ensures { HasNoImports result }
     {
         Imported {
             groups: Items::new(alloc),

@@ -14,6 +14,7 @@ ghost use Rattle.wasm_smith.specs.Imported.{
   IsImported,
   MayEndAt,
   MayEnd,
+  HasNoImports,
   MayRefuseImports,
   SpellsNoImport,
   spaces_of,
@@ -153,34 +154,6 @@ fn single(
     Ok(true)
 }
 
-/// Adds a group of imports of a module, each with its type, and gives whether imports go on.
-#[tactic(auto, unfolding(crate::specs::Importing::group_of_kind_at))]
-fn of_one_module(
-    alloc: Global,
-    config: &Config,
-    distinct: bool,
-    types: &TypeSpace,
-    imported: &mut Imported,
-    module: Name,
-    u: &mut Unstructured<'_>,
-) -> Result<bool, Error>
-    requires may { MayImport config.now types.now }
-    requires so_far { IsImported config.now types.now.types distinct imported.old }
-    requires enabled { IsTrue config.now.compact_imports_enabled }
-    ensures exact { IfOk result (λ goes_on. group_of_kind_at config.now types.now.types distinct imported.old.groups «module» GroupKind.OfOneModule u.old ≡ (goes_on, (imported.new.groups, u.new))) }
-    ensures so_far { OnOk result (IsImported config.now types.now.types distinct imported.new) }
-    ensures ended { IfOk result (λ goes_on. goes_on ≡ false → MayEnd config.now imported.new.count) }
-    ensures more { IfOk result (λ _. imported.old.count ≤ imported.new.count) }
-    ensures memory { IfErr result (λ e. e ≡ Error.Memory) }
-    ensures left { KeepsPieces u.old u.new }
-{
-    let group = Imports::Compact1 {
-        module,
-        items: Items::new(alloc),
-    };
-    filled(alloc, config, distinct, types, imported, group, u)
-}
-
 /// Adds a group of imports of a module that have one type, and gives whether imports go on.
 #[tactic(auto, unfolding(crate::specs::Importing::group_of_kind_at))]
 fn of_one_type(
@@ -214,7 +187,7 @@ fn of_one_type(
 }
 
 /// Adds a group, and gives whether imports go on.
-#[tactic(auto, unfolding(crate::specs::Importing::group_at))]
+#[tactic(auto, unfolding(crate::specs::Importing::group_at, crate::specs::Importing::group_of_kind_at))]
 fn group(
     alloc: Global,
     config: &Config,
@@ -238,7 +211,9 @@ fn group(
     match kind {
         GroupKind::Single => single(alloc, config, distinct, types, imported, module, u),
         GroupKind::OfOneModule => {
-            of_one_module(alloc, config, distinct, types, imported, module, u)
+            let items = Items::new(alloc);
+            let group = Imports::Compact1 { module, items };
+            filled(alloc, config, distinct, types, imported, group, u)
         }
         GroupKind::OfOneType => of_one_type(alloc, config, distinct, types, imported, module, u),
     }
@@ -272,45 +247,48 @@ fn groups(
     Ok(())
 }
 
-/// Draws the imports, and refuses where they end before there are as many as are asked for.
+/// Draws imports behind none, and refuses where they end before there are as many as are asked for.
 #[tactic(auto, unfolding(crate::specs::Importing::imports_at))]
 fn drawn_imports(
     alloc: Global,
     config: &Config,
     distinct: bool,
     types: &TypeSpace,
+    imported: &mut Imported,
     u: &mut Unstructured<'_>,
-) -> Result<Imported, Error>
+) -> Result<(), Error>
     requires may { MayImport config.now types.now }
-    ensures exact { Gives (λ imported. (imported.groups, u.new)) result (imports_at config.now types.now.types distinct u.old) }
-    ensures so_far { IfOk result (IsImported config.now types.now.types distinct) }
-    ensures least { IfOk result (λ imported. config.now.min_imports ≤ imported.count) }
+    requires none { HasNoImports imported.old }
+    ensures exact { Gives (λ _. (imported.new.groups, u.new)) result (imports_at config.now types.now.types distinct u.old) }
+    ensures so_far { OnOk result (IsImported config.now types.now.types distinct imported.new) }
+    ensures least { OnOk result (config.now.min_imports ≤ imported.new.count) }
     ensures refusal { IfErr result (MayRefuseImports config.now) }
     ensures left { KeepsPieces u.old u.new }
 {
-    let mut imported = Imported::new(alloc);
-    groups(alloc, config, distinct, types, &mut imported, u)?;
+    groups(alloc, config, distinct, types, imported, u)?;
     if imported.count < config.min_imports {
         return Err(Error::IncorrectFormat(Why::Unmet(Count::Imports)));
     }
-    Ok(imported)
+    Ok(())
 }
 
-/// As many imports as are asked for, and no more than may be. Where `distinct` is set, no two have the same pair of names.
+/// Adds as many imports to none as are asked for, and no more than may be. Where `distinct` is set, no two have the same pair of names.
 pub(crate) fn imports(
     alloc: Global,
     config: &Config,
     distinct: bool,
     types: &TypeSpace,
+    imported: &mut Imported,
     u: &mut Unstructured<'_>,
-) -> Result<Imported, Error>
+) -> Result<(), Error>
     requires may { MayImport config.now types.now }
-    ensures exact { Gives (λ imported. (imported.groups, u.new)) result (imports_at config.now types.now.types distinct u.old) }
-    ensures so_far { IfOk result (IsImported config.now types.now.types distinct) }
-    ensures least { IfOk result (λ imported. config.now.min_imports ≤ imported.count) }
+    requires none { HasNoImports imported.old }
+    ensures exact { Gives (λ _. (imported.new.groups, u.new)) result (imports_at config.now types.now.types distinct u.old) }
+    ensures so_far { OnOk result (IsImported config.now types.now.types distinct imported.new) }
+    ensures least { OnOk result (config.now.min_imports ≤ imported.new.count) }
     ensures refusal { IfErr result (MayRefuse config.now) }
-    ensures none { config.now.min_imports ≡ 0 → IfOk result (λ imported. Takes (SpellsNoImport config.now) u.old imported.groups u.new) }
+    ensures none { config.now.min_imports ≡ 0 → OnOk result (Takes (SpellsNoImport config.now) u.old imported.new.groups u.new) }
     ensures left { KeepsPieces u.old u.new }
 {
-    drawn_imports(alloc, config, distinct, types, u)
+    drawn_imports(alloc, config, distinct, types, imported, u)
 }

@@ -14,6 +14,7 @@ ghost use Rattle.wasm_smith.specs.Refusals.{MayRefuse};
 ghost use Rattle.wasm_smith.specs.Steps.{Gives};
 
 mod all_exports;
+mod available_imports;
 mod bodies;
 mod contents;
 mod data;
@@ -27,8 +28,10 @@ mod export_kinds;
 mod export_names;
 mod exported;
 mod exports;
+mod flat_imports;
 mod funcs;
 mod globals;
+mod grouped_imports;
 mod import_entities;
 mod import_groups;
 mod import_kinds;
@@ -40,15 +43,19 @@ mod past_full;
 mod section_flag;
 mod segment_spaces;
 mod segments;
+mod shape_types;
 mod shapes_to_come;
 mod standing;
 mod start;
 mod tables;
 mod tags;
+mod taken_imports;
 mod typed;
 mod types;
 
 use crate::module::Module;
+pub(crate) use drawn::Drawn;
+use drawn::draw;
 pub(crate) use shapes_to_come::shape_left_out;
 use smith_bytes::{Error, Unstructured};
 use smith_config::Config;
@@ -76,36 +83,11 @@ pub(crate) fn build(
     ensures refusal { IfErr result (MayRefuse config) }
     ensures left { KeepsPieces u.old u.new }
 {
-    let drawn = drawn::draw(alloc, &config, distinct, u)?;
-    let imported = drawn.imported;
-    let spaces = imported.spaces;
-    let definitions = drawn.definitions;
-    let contents = drawn.contents;
+    let config = Box::new(alloc, config)?;
+    let drawn = draw(alloc, config.as_ref(), distinct, u)?;
     Ok(Module {
         config,
-        types: drawn.types,
-        imports: imported.groups,
-        num_imports: imported.count,
-        tags: spaces.tags,
-        funcs: spaces.funcs,
-        tables: spaces.tables,
-        defined_tables: definitions.tables,
-        memories: spaces.memories,
-        globals: spaces.globals,
-        defined_globals: definitions.globals,
-        num_defined_tags: definitions.num_tags,
-        num_defined_funcs: definitions.num_funcs,
-        num_defined_memories: definitions.num_memories,
-        exports: contents.exports,
-        start: contents.start,
-        elems: contents.segments.elements,
-        segments: contents.segments.data_segments,
-        code: contents.code,
+        drawn,
         fuel_globals: Items::new(alloc),
-        type_size: contents.type_size,
-        interesting_values32: drawn.interesting_values32,
-        interesting_values64: drawn.interesting_values64,
-        encodes_types: contents.encodes_types,
-        encodes_imports: drawn.encodes_imports,
     })
 }

@@ -24,6 +24,16 @@ pub(crate) struct Segments {
     pub(crate) data_segments: Items<DataSegment>,
 }
 
+impl Segments {
+    /// No segments, which take no memory.
+    pub(crate) fn none(alloc: Global) -> Self {
+        Segments {
+            elements: Items::new(alloc),
+            data_segments: Items::new(alloc),
+        }
+    }
+}
+
 /// Draws the element segments, then the data segments, over all that is imported and defined.
 #[tactic(auto, unfolding(crate::specs::DrawnContents::all_segments_at))]
 pub(crate) fn all_segments(

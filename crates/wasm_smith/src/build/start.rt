@@ -2,7 +2,7 @@ ghost use Rattle.std.specs.Prelude.{◌≡◌, ◌<◌, ◌^◌, false, length, 
 ghost use Rattle.smith_bytes.specs.Takes.{Takes, SpellsSuch};
 ghost use Rattle.smith_types.specs.Exports.{IsStartValid};
 ghost use Rattle.smith_draw.specs.Drawing.{AlwaysDraws};
-ghost use Rattle.wasm_smith.specs.Spelling.{takes_and_gives_nothing, is_start_type, SpellsNoStart};
+ghost use Rattle.smith_spell.specs.Spelling.{takes_and_gives_nothing, is_start_type, SpellsNoStart};
 ghost use Rattle.wasm_smith.specs.Start.{start_funcs, start_wanted_at, start_at};
 
 use smith_bytes::Unstructured;

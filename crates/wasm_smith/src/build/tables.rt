@@ -13,7 +13,7 @@ ghost use Rattle.wasm_smith.specs.DefinedTables.{IsTableFit, AreTablesDrawn};
 ghost use Rattle.wasm_smith.specs.Definitions.{table_at, tables_at};
 ghost use Rattle.wasm_smith.specs.Imported.{HasNullableElements};
 ghost use Rattle.wasm_smith.specs.Promises.{initial_of};
-ghost use Rattle.wasm_smith.specs.Spelling.{SpellsNone};
+ghost use Rattle.smith_spell.specs.Spelling.{SpellsNone};
 
 use crate::build::past_full::ask_past_full;
 use smith_bytes::{Error, Unstructured, goes_on};

@@ -6,7 +6,7 @@ ghost use Rattle.smith_config.specs.Faults.{Passes};
 ghost use Rattle.wasm_smith.specs.Steps.{Gives};
 ghost use Rattle.wasm_smith.specs.Defined.{IsFilled, SpellsEmpty};
 ghost use Rattle.wasm_smith.specs.Definitions.{tag_types, tags_at};
-ghost use Rattle.wasm_smith.specs.Spelling.{SpellsNoTag};
+ghost use Rattle.smith_spell.specs.Spelling.{SpellsNoTag};
 ghost use Rattle.wasm_smith.specs.Refusals.{MayRefuse};
 
 use crate::build::typed::define_typed;

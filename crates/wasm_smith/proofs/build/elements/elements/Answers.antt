@@ -4,7 +4,8 @@ use Rattle.std.proofs.lemmas.Result.{IfOk-weaker}
 use Rattle.smith_bytes.specs.declared.error.Count.TheVariants as counts
 use Rattle.smith_types.specs.declared.segments.ElementSegment.{ElementSegment}
 use Rattle.smith_draw.specs.ConstScopes.{seen_by}
-use Rattle.wasm_smith.specs.DrawnElements.{HasItems, IsElementFit}
+use Rattle.wasm_smith.specs.Bounds.{HasItems}
+use Rattle.wasm_smith.specs.DrawnElements.{IsElementFit}
 use Rattle.wasm_smith.specs.ElementSegments.{elements_at}
 use Rattle.wasm_smith.proofs.ElementCountLemmas.{elements_least, elements_taken}
 use Rattle.wasm_smith.proofs.ElementFitLemmas.{elements_no_float}

@@ -1,7 +1,7 @@
 use Rattle.std.proofs.lemmas.Result.{on_ok_weaker}
 use Rattle.smith_bytes.specs.declared.error.Count.TheVariants.{Funcs}
 use Rattle.wasm_smith.specs.Definitions.{funcs_at}
-use Rattle.wasm_smith.specs.Spelling.{SpellsFuncs}
+use Rattle.smith_spell.specs.Spelling.{SpellsFuncs}
 use Rattle.wasm_smith.proofs.RefusalLemmas.{funcs_refuse}
 use Rattle.wasm_smith.proofs.GivenLemmas.{given_takes}
 use Rattle.wasm_smith.proofs.TypedLemmas.{funcs_are, funcs_read}

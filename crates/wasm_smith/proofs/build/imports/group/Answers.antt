@@ -13,8 +13,8 @@ pub returns-in-OfOneModule-clause-advances : goal.returns-in-OfOneModule-clause-
 returns-in-OfOneModule-clause-advances c =
     let kind = c.in-OfOneModule.ensures.shorter (λ same. cc same) in
     let text = piece_short c.in_ok-limited_string.ensures.left in
-    let rest = piece_short c.of_one_module.ensures.left in
-    IfOk-weaker c.of_one_module.result _ _ (λ goes_on more on. omega (arith, kind, text, rest, more)) c.of_one_module.ensures.more
+    let rest = piece_short c.filled.ensures.left in
+    IfOk-weaker c.filled.result _ _ (λ goes_on more on. omega (arith, kind, text, rest, more)) c.filled.ensures.more
 
 pub returns-in-OfOneType-clause-advances : goal.returns-in-OfOneType-clause-advances
 returns-in-OfOneType-clause-advances c =

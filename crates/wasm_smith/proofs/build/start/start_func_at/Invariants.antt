@@ -1,6 +1,6 @@
 use Rattle.std.proofs.Common.{◌≡◌, get_or, drop}
 use Rattle.smith_draw.specs.TypeUses.{places_from}
-use Rattle.wasm_smith.specs.Spelling.{is_start_type}
+use Rattle.smith_spell.specs.Spelling.{is_start_type}
 use Rattle.wasm_smith.specs.Start.{start_funcs}
 use Rattle.wasm_smith.proofs.build.start.start_func_at.Given as goal
 

@@ -2,7 +2,7 @@ use Rattle.std.proofs.lemmas.Result.{on_ok_weaker}
 use Rattle.smith_bytes.specs.declared.error.Count.TheVariants.{Tags}
 use Rattle.wasm_smith.specs.Defined.{SpellsEmpty}
 use Rattle.wasm_smith.specs.Definitions.{tags_at}
-use Rattle.wasm_smith.specs.Spelling.{SpellsNoTag}
+use Rattle.smith_spell.specs.Spelling.{SpellsNoTag}
 use Rattle.wasm_smith.proofs.GivenLemmas.{given_takes}
 use Rattle.wasm_smith.proofs.TypedLemmas.{tags_are, tags_enabled, no_tag_read}
 use Rattle.wasm_smith.proofs.build.tags.tags.Goals as goal

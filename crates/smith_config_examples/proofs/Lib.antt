@@ -1,0 +1,4 @@
+mod ChainExamples
+mod ShapeExamples
+mod OneOfEachKindExamples
+mod ShapeFaultExamples

@@ -1,0 +1,58 @@
+-- What the examples of shapes come to.
+use Rattle.std.proofs.Common.{rules, ℕ, List, [], ◌∷◌, refl, arith}
+use Rattle.std.specs.Prelude.{codes}
+use Rattle.std.proofs.lemmas.List.Elements.{All-cons, All-nil}
+use Rattle.smith_types.specs.Features.{Features}
+use Rattle.smith_types.specs.Types.{IsOrderly}
+use Rattle.smith_types.specs.ValidTypes.{IsTypeValid, AreTypesValid}
+use Rattle.smith_types.specs.Imports.{IndexSpaces}
+use Rattle.smith_types.specs.Entities.{IsFuncValid, AreEntitiesValid}
+use Rattle.smith_types.specs.Exports.{IsEntityAt, AreExportsStanding, AreExportsValid}
+use Rattle.smith_types.specs.declared.composite_type.SubType.{SubType}
+use Rattle.smith_types.specs.declared.entity_type.EntityType.{EntityType}
+use Rattle.smith_types.specs.declared.entity_type.EntityType.TheVariants as entity
+use Rattle.smith_types.specs.declared.entity_type.ExportKind.{ExportKind}
+use Rattle.smith_types.specs.declared.entity_type.ExportKind.TheVariants as kind
+use Rattle.smith_types.specs.ExampleTypes.{final_type, plain_func, range}
+use Rattle.smith_types.proofs.ValidityLemmas.{AreTypesValid-single, no_types}
+use Rattle.smith_config.specs.Shapes.{IsShallow}
+use Rattle.smith_config_examples.proofs.ChainExamples.{shallow_if_few}
+
+-- the type of the function that is passed on
+abbrev one_type : List SubType
+one_type = final_type plain_func ∷ []
+
+-- the space of functions with it alone
+abbrev one_func : IndexSpaces
+one_func = record { tags = []; funcs = 0 ∷ []; tables = []; memories = []; globals = [] }
+
+orderly : IsOrderly one_type
+orderly = search rules
+
+pub shallow : IsShallow one_type
+shallow = shallow_if_few one_type orderly (omega arith)
+
+module _ (features : Features) where
+  type_valid : IsTypeValid features one_type 1 (final_type plain_func)
+  type_valid = search rules
+
+  pub types_valid : AreTypesValid features (record { types = one_type; groups = range 0 1 ∷ [] })
+  types_valid = AreTypesValid-single features [] [] (final_type plain_func) orderly (no_types features) type_valid
+
+  pub entities_valid : AreEntitiesValid features one_type one_func
+  entities_valid = record {
+    tags = search rules;
+    funcs = All-cons (IsFuncValid one_type) 0 [] (record { params = []; results = [] }, (final_type plain_func, refl, refl)) (All-nil (IsFuncValid one_type));
+    tables = search rules;
+    memories = search rules;
+    globals = search rules;
+  }
+
+-- the one export stands
+pub stand_alone : (spaces : IndexSpaces) (one : List ℕ × ExportKind × ℕ) (ty : EntityType) → IsEntityAt spaces one.1 one.2 ty → AreExportsStanding spaces (one ∷ [])
+stand_alone spaces one ty h =
+    let P : List ℕ × ExportKind × ℕ → Type 0 = λ one. (ty : EntityType) × IsEntityAt spaces one.1 one.2 ty in
+    All-cons P one [] (ty, h) (All-nil P)
+
+pub exports_valid : AreExportsValid one_func ((codes "a", kind.Func, 0) ∷ [])
+exports_valid = record { stand = stand_alone one_func (codes "a", kind.Func, 0) (entity.Func 0) (0, refl, refl); distinct = search rules }

@@ -1,0 +1,70 @@
+//! Type spaces for the worked cases: those that bytes give, two structs, and what may be drawn over them without entities.
+
+ghost use Rattle.std.specs.Prelude.{◌≡◌, [], IfOk};
+ghost use Rattle.smith_types.specs.ValidTypes.{AreTypesValid};
+ghost use Rattle.smith_config.specs.Faults.{Passes};
+ghost use Rattle.smith_config.specs.Features.{features_of};
+ghost use Rattle.smith_config.specs.Sanitized.{IsSanitized};
+
+use crate::made_types::{empty_struct, function};
+use smith_types::{SubType, TypeSpace, ValType};
+use std::alloc::Global;
+use wasm_smith::{Config, Entities, Error, Spaces, Unstructured, add_type, arbitrary_types};
+
+/// These types, without entities.
+pub(crate) fn spaces_of<'a>(types: &'a TypeSpace) -> Spaces<'a>
+    ensures types { result.types.now ≡ types.now }
+    ensures functions { result.entities.funcs.now ≡ [] }
+    ensures globals { result.entities.globals.now ≡ [] }
+    ensures imported { result.entities.imported_globals ≡ 0 }
+{
+    Spaces {
+        types,
+        entities: Entities::none(),
+    }
+}
+
+/// The types that bytes give.
+#[tactic(auto, using(smith_types::proofs::ValidityLemmas::no_types, smith_draw::proofs::CallerLemmas::passes_but_imports))]
+pub(crate) fn types_from(alloc: Global, config: &Config, input: &[u8]) -> Result<TypeSpace, Error>
+    requires passes { Passes config.now }
+    requires sanitized { IsSanitized config.now }
+    ensures valid { IfOk result (AreTypesValid (features_of config.now)) }
+{
+    let mut types = TypeSpace::new(alloc);
+    arbitrary_types(
+        alloc,
+        config,
+        &mut types,
+        &Entities::none(),
+        &mut Unstructured::new(input),
+    )?;
+    Ok(types)
+}
+
+fn add(types: &mut TypeSpace, added: SubType) -> Result<(), Error> {
+    if types.may_follow(&added) {
+        let _ = add_type(types, added)?;
+    }
+    Ok(())
+}
+
+/// A struct type, and one below it.
+pub(crate) fn two_structs(alloc: Global) -> Result<TypeSpace, Error> {
+    let mut types = TypeSpace::new(alloc);
+    add(&mut types, empty_struct(alloc, false, None))?;
+    add(&mut types, empty_struct(alloc, false, Some(0)))?;
+    types.push_group()?;
+    Ok(types)
+}
+
+/// A struct type, and three of functions, of which the second alone gives something.
+pub(crate) fn three_functions(alloc: Global) -> Result<TypeSpace, Error> {
+    let mut types = TypeSpace::new(alloc);
+    add(&mut types, empty_struct(alloc, true, None))?;
+    add(&mut types, function(alloc, true, &[], &[])?)?;
+    add(&mut types, function(alloc, true, &[], &[ValType::I32])?)?;
+    add(&mut types, function(alloc, true, &[ValType::I32], &[])?)?;
+    types.push_group()?;
+    Ok(types)
+}

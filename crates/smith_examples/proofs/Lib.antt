@@ -1,0 +1,6 @@
+pub mod NearNumberLemmas
+pub mod PartExamples
+pub mod RefusedExamples
+pub mod ShapeExamples
+pub mod PromiseExamples
+mod ReachedExamples

@@ -1,0 +1,43 @@
+-- The abstract heap types that are listed are those that are offered.
+use Rattle.std.proofs.Common.{◌≡◌, zero, suc, Bool, true, false, List, [], ◌∷◌, refl, ap, arith}
+use Rattle.std.specs.Prelude.{IsTrue}
+use Rattle.std.specs.List.{Contains, AllByRecursion as ByRecursion}
+use Rattle.std.proofs.lemmas.List.Elements.{All-contains, All-from_recursion}
+use Rattle.smith_types.specs.declared.value_type.AbstractHeapType.{AbstractHeapType}
+use Rattle.smith_types.specs.declared.value_type.AbstractHeapType.TheVariants.{Func, Extern, Any, None, NoExtern, NoFunc, Eq, Struct, Array, I31, Exn, NoExn}
+use Rattle.smith_config.specs.declared.config.Config.{Config}
+use Rattle.smith_draw.specs.Choices.{enabled}
+use Rattle.smith_draw.specs.ValueTypes.{abstract_heap_types}
+use Rattle.smith_draw.proofs.EnabledLemmas.{enabled_all}
+use Rattle.smith_spell.specs.Decided.{IsOffered}
+
+-- an item is enabled where a row turns it on
+row_enabled : {A : Type 0} (rows : List (A × Bool)) (x : A) → Contains rows (x, true) → Contains (enabled rows) x
+row_enabled [] x (k, inside, at) = absurd (omega arith)
+row_enabled ((y, true) ∷ rows) x (zero, inside, at) = (0, omega arith, ap (λ row. row.0) at)
+row_enabled ((y, false) ∷ rows) x (zero, inside, at) = let never : false ≡ true = ap (λ row. row.1) at in cc
+row_enabled ((y, true) ∷ rows) x (suc k, inside, at) = let (j, within, there) = row_enabled rows x (k, omega arith, at) in (suc j, omega arith, there)
+row_enabled ((y, false) ∷ rows) x (suc k, inside, at) = row_enabled rows x (k, omega arith, at)
+
+pub offered_from_listed : (config : Config) (ty : AbstractHeapType) → Contains (enabled (abstract_heap_types config)) ty → IsOffered config ty
+offered_from_listed config ty listed =
+    let P = λ (other : AbstractHeapType). IsOffered config other in
+    let gc = λ (on : IsTrue config.gc_enabled). on in
+    let rows : ByRecursion (λ (row : AbstractHeapType × Bool). IsTrue row.1 → P row.0) (abstract_heap_types config) =
+    ((λ _. tt), ((λ _. tt), ((λ on. on), (gc, (gc, (gc, (gc, (gc, (gc, (gc, (gc, tt))))))))))) in
+    All-contains P (enabled (abstract_heap_types config)) ty
+    (enabled_all P (abstract_heap_types config) (All-from_recursion (λ (row : AbstractHeapType × Bool). IsTrue row.1 → P row.0) (abstract_heap_types config) rows)) listed
+
+pub listed_from_offered : (config : Config) (ty : AbstractHeapType) → IsOffered config ty → Contains (enabled (abstract_heap_types config)) ty
+listed_from_offered config Func h = row_enabled (abstract_heap_types config) Func (0, omega arith, refl)
+listed_from_offered config Extern h = row_enabled (abstract_heap_types config) Extern (1, omega arith, refl)
+listed_from_offered config Exn h = row_enabled (abstract_heap_types config) Exn (2, omega arith, ap (λ on. (Exn, on)) h)
+listed_from_offered config Any h = row_enabled (abstract_heap_types config) Any (3, omega arith, ap (λ on. (Any, on)) h)
+listed_from_offered config None h = row_enabled (abstract_heap_types config) None (4, omega arith, ap (λ on. (None, on)) h)
+listed_from_offered config NoExtern h = row_enabled (abstract_heap_types config) NoExtern (5, omega arith, ap (λ on. (NoExtern, on)) h)
+listed_from_offered config NoFunc h = row_enabled (abstract_heap_types config) NoFunc (6, omega arith, ap (λ on. (NoFunc, on)) h)
+listed_from_offered config Eq h = row_enabled (abstract_heap_types config) Eq (7, omega arith, ap (λ on. (Eq, on)) h)
+listed_from_offered config Struct h = row_enabled (abstract_heap_types config) Struct (8, omega arith, ap (λ on. (Struct, on)) h)
+listed_from_offered config Array h = row_enabled (abstract_heap_types config) Array (9, omega arith, ap (λ on. (Array, on)) h)
+listed_from_offered config I31 h = row_enabled (abstract_heap_types config) I31 (10, omega arith, ap (λ on. (I31, on)) h)
+listed_from_offered config NoExn h = absurd h

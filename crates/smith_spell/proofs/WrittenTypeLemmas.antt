@@ -1,0 +1,51 @@
+-- Value types that are written by their parts.
+use Rattle.std.proofs.Common.{◌≡◌, ℕ, ◌-◌, ◌≤◌, Bool, true, false, Some, List, [], ◌∷◌, length, refl, arith}
+use Rattle.std.specs.Prelude.{IsTrue, slice_get}
+use Rattle.std.proofs.lemmas.Option.{slice_get_within}
+use Rattle.smith_bytes.specs.Spelling.{SpellsNumber}
+use Rattle.smith_types.specs.declared.value_type.RefType.{RefType}
+use Rattle.smith_types.specs.declared.value_type.ValType.{ValType}
+use Rattle.smith_types.specs.declared.value_type.ValType.TheVariants as vals
+use Rattle.smith_config.specs.declared.config.Config.{Config}
+use Rattle.smith_draw.specs.Choices.{enabled}
+use Rattle.smith_draw.specs.ValueTypes.{value_classes}
+use Rattle.smith_draw.specs.Spelling.{SpellsPlace, SpellsHeapType, SpellsBehindClass, SpellsValType, class_of}
+use Rattle.smith_spell.specs.Written.{Writes}
+use Rattle.smith_spell.proofs.WrittenLemmas.{nothing_written, joined_written, written_as}
+
+-- the last of six rows of a table, where it is enabled
+pub last_stands : {A : Type 0} (a b c d e f : A) (floats vectors references : Bool) → IsTrue references → let items = enabled ((a, true) ∷ (b, true) ∷ (c, floats) ∷ (d, floats) ∷ (e, vectors) ∷ (f, references) ∷ []) in
+    slice_get items (length items - 1) ≡ Some f
+last_stands a b c d e f true true true on = refl
+last_stands a b c d e f true false true on = refl
+last_stands a b c d e f false true true on = refl
+last_stands a b c d e f false false true on = refl
+last_stands a b c d e f floats vectors false on = cc
+
+-- the place of an item is at most the last
+pub place_within : {A : Type 0} (items : List A) (place : ℕ) (item : A) → slice_get items place ≡ Some item → place ≤ length items - 1
+place_within items place item stands = omega (arith, slice_get_within items place item stands)
+
+-- a number that is the place of an item
+pub place_written : {A : Type 0} {items : List A} {item : A} {old new : List ℕ} (place : ℕ) → slice_get items place ≡ Some item → Writes (SpellsNumber place 0 (length items - 1)) old new → Writes (SpellsPlace items item) old new
+place_written place stands = written_as (λ piece number. record { place = place; stands = stands; number = number })
+
+-- a reference: its class, then its heap type
+pub reference_written : (config : Config) (limit : ℕ) (reference : RefType) {old between new : List ℕ} → IsTrue reference.nullable → Writes (SpellsPlace (enabled (value_classes config)) (class_of (vals.Ref reference))) old between
+    → Writes (SpellsHeapType config limit reference.heap_type) between new → Writes (SpellsValType config limit (vals.Ref reference)) old new
+unfolding SpellsValType
+reference_written config limit reference nullable class heap_type = joined_written class (written_as (λ piece h. (nullable, h)) heap_type)
+
+nothing_behind : (config : Config) (limit : ℕ) (value : ValType) → ((reference : RefType) → value ≡ vals.Ref reference → ⊥) → SpellsBehindClass config limit value []
+nothing_behind config limit vals.I32 other = refl
+nothing_behind config limit vals.I64 other = refl
+nothing_behind config limit vals.F32 other = refl
+nothing_behind config limit vals.F64 other = refl
+nothing_behind config limit vals.V128 other = refl
+nothing_behind config limit (vals.Ref reference) other = absurd (other reference refl)
+
+-- any other value type: its class alone
+pub number_written : (config : Config) (limit : ℕ) (value : ValType) {old new : List ℕ} → ((reference : RefType) → value ≡ vals.Ref reference → ⊥) → Writes (SpellsPlace (enabled (value_classes config)) (class_of value)) old new
+    → Writes (SpellsValType config limit value) old new
+unfolding SpellsValType
+number_written config limit value other class = joined_written class (nothing_written (nothing_behind config limit value other))

@@ -1,0 +1,44 @@
+use Rattle.std.proofs.Common.{rules, arith, [], ◌∷◌, refl}
+use Rattle.std.proofs.lemmas.List.Elements.{All-from_recursion, All-head}
+use Rattle.smith_types.specs.declared.value_type.ValType.TheVariants.{I32}
+use Rattle.smith_types.specs.Entities.{IsFuncValid}
+use Rattle.smith_config.specs.Config.{default_config}
+use Rattle.smith_spell.specs.Family.{IsMemberType, IsMemberField}
+use Rattle.smith_spell.specs.ExampleMembers.{final, field_of, struct_of, taking_a_number, one_of_each_without_gc}
+use Rattle.smith_spell.proofs.EachPlaceLemmas.{each_place}
+use Rattle.smith_spell.proofs.SpellExamples.{function_in_family}
+use Rattle.smith_spell.proofs.examples.family.members.Goals as goal
+
+taking : IsMemberType one_of_each_without_gc 0 (final taking_a_number)
+taking = search rules
+
+pub returns-clause-a_function : goal.returns-clause-a_function
+returns-clause-a_function c = function_in_family
+
+pub returns-clause-full_without_gc : goal.returns-clause-full_without_gc
+returns-clause-full_without_gc c = record {
+  filled = search rules;
+  single = search rules;
+  few_types = omega arith;
+  each_type = each_place (IsMemberType one_of_each_without_gc) (final taking_a_number ∷ []) (taking, tt);
+  few_funcs = omega arith;
+  each_func = All-from_recursion (IsFuncValid (final taking_a_number ∷ [])) (0 ∷ []) ((record { params = I32 ∷ []; results = [] }, (final taking_a_number, refl, refl)), tt);
+}
+
+pub returns-clause-a_type_that_refers_to_itself : goal.returns-clause-a_type_that_refers_to_itself
+returns-clause-a_type_that_refers_to_itself c = λ family.
+    let (gc, few, fields) = (family.each_type 0 (final (struct_of 0)) refl).inner in
+    let (references, nullable, (enabled, below)) = All-head (IsMemberField default_config 0) (field_of 0) [] fields in
+    omega (arith, below)
+
+pub returns-clause-a_type_that_refers_forward : goal.returns-clause-a_type_that_refers_forward
+returns-clause-a_type_that_refers_forward c = λ family.
+    let (gc, few, fields) = (family.each_type 0 (final (struct_of 1)) refl).inner in
+    let (references, nullable, (enabled, below)) = All-head (IsMemberField default_config 0) (field_of 1) [] fields in
+    omega (arith, below)
+
+pub returns-clause-a_type_of_a_later_group : goal.returns-clause-a_type_of_a_later_group
+returns-clause-a_type_of_a_later_group c = λ family.
+    let (gc, few, fields) = (family.each_type 0 (final (struct_of 1)) refl).inner in
+    let (references, nullable, (enabled, below)) = All-head (IsMemberField default_config 0) (field_of 1) [] fields in
+    omega (arith, below)

@@ -1,0 +1,10 @@
+use Rattle.std.proofs.Common.{◌-◌, drop}
+use Rattle.smith_bytes.specs.Spelling.{Listed}
+use Rattle.smith_draw.specs.Spelling.{SpellsPlace}
+use Rattle.smith_spell.specs.FuncTypes.{func_types}
+use Rattle.smith_spell.specs.Spelling.{SpellsFuncs}
+use Rattle.smith_spell.proofs.WritingLoop.{Leads}
+use Rattle.smith_spell.proofs.funcs.write_funcs.Given as goal
+
+abbrev pub invariant-loop-func : goal.invariant-loop-func
+invariant-loop-func l = Leads (Listed (SpellsPlace (func_types l.types)) (l.config.max_funcs - l.func-index) (drop l.func-index l.funcs)) (SpellsFuncs l.config l.types l.funcs) l.fn.bytes l.bytes

@@ -1,0 +1,14 @@
+use Rattle.std.proofs.lemmas.Result.{on_ok_weaker}
+use Rattle.smith_draw.specs.Choices.{enabled}
+use Rattle.smith_draw.specs.ValueTypes.{value_classes}
+use Rattle.smith_draw.specs.Spelling.{class_of}
+use Rattle.smith_spell.proofs.WrittenTypeLemmas.{place_within, place_written}
+use Rattle.smith_spell.proofs.value_types.write_class.Goals as goal
+
+pub write_number-requires : goal.write_number-requires
+write_number-requires c =
+    rw c.count_classes.ensures (place_within (enabled (value_classes c.args.config.now)) c.class_place.result (class_of c.args.value) (c.class_place.ensures c.args.limit c.requires))
+
+pub returns-clause-writes : goal.returns-clause-writes
+returns-clause-writes c =
+    on_ok_weaker c.write_number.result (place_written {items = enabled (value_classes c.args.config.now)} c.class_place.result (c.class_place.ensures c.args.limit c.requires)) (rw c.count_classes.ensures at c.write_number.ensures.writes)

@@ -1,0 +1,28 @@
+-- What spelling answers: bytes from which a module gets these types and functions, whatever follows them. Rules of this
+-- project.
+use Rattle.std.specs.Prelude.{◌≡◌, ℕ, false, List, Option, Some, None, Result, Ok, Err}
+use Rattle.smith_bytes.specs.declared.error.Error.{Error}
+use Rattle.smith_bytes.specs.declared.error.Error.TheVariants.{Memory}
+use Rattle.smith_types.specs.declared.composite_type.SubType.{SubType}
+use Rattle.smith_config.specs.declared.config.Config.{Config}
+use Rattle.smith_config.specs.Faults.{Passes}
+use Rattle.smith_config.specs.InUse.{HasNoShapes}
+use Rattle.smith_config.specs.Sanitized.{sanitized}
+use Rattle.smith_spell.specs.Minimums.{HasNoMinimums}
+use Rattle.smith_spell.specs.Family.{IsInFamily}
+use Rattle.smith_spell.specs.Spelling.{SpellsMember}
+
+-- lists that can be spelled: they are in the family, and the configuration passes and asks for nothing beside them, for a
+-- sanitised configuration
+pub record IsSpellable (config : Config) (groups : List (List SubType)) (funcs : List ℕ) : Type 0 where
+  pub passes : Passes config
+  pub no_minimums : HasNoMinimums config
+  pub no_shapes : HasNoShapes config
+  pub not_everything : config.export_everything ≡ false
+  pub member : IsInFamily config groups funcs
+
+-- what is answered: bytes that spell the lists, none exactly where they cannot be spelled, or want of memory
+abbrev pub AnswersSpelling : Config → List (List SubType) → List ℕ → Result (Option (List ℕ)) Error → Type 0
+AnswersSpelling config groups funcs (Ok (Some bytes)) = IsSpellable (sanitized config) groups funcs × SpellsMember (sanitized config) groups funcs bytes
+AnswersSpelling config groups funcs (Ok None) = IsSpellable (sanitized config) groups funcs → ⊥
+AnswersSpelling config groups funcs (Err error) = error ≡ Memory

@@ -1,0 +1,35 @@
+-- What writing adds behind the bytes that stand.
+use Rattle.std.specs.Prelude.{◌≡◌, ℕ, ◌<◌, List, ◌++◌, Some, length, take, slice_get, slice_index_or}
+use Rattle.std.specs.List.{list_any}
+use Rattle.smith_bytes.specs.Draws.{big_endian, digit_count}
+use Rattle.smith_types.specs.declared.composite_type.SubType.{SubType}
+use Rattle.smith_config.specs.declared.config.Config.{Config}
+use Rattle.smith_draw.specs.Spelling.{is_open}
+use Rattle.smith_spell.specs.Family.{IsMemberType}
+use Rattle.smith_spell.specs.FuncTypes.{func_types}
+use Rattle.smith_spell.specs.declared.sub_types.Before.{Before}
+
+-- behind the old bytes stands a piece for which this holds
+pub record Writes (Spells : List ℕ → Type 0) (old new : List ℕ) : Type 0 where
+  pub piece : List ℕ
+  pub spelled : Spells piece
+  pub whole : new ≡ old ++ piece
+
+-- a number in as many base-256 digits as the greatest one has, the highest first
+pub record SpellsDigits (number most : ℕ) (piece : List ℕ) : Type 0 where
+  pub digits : length piece ≡ digit_count most
+  pub read : big_endian piece ≡ number
+
+-- these many types, of which one may have subtypes or none
+pub record IsSummary (types : List SubType) (before : Before) : Type 0 where
+  pub counted : before.count ≡ length types
+  pub open_told : before.has_open ≡ list_any is_open types
+
+-- each type may have its index
+abbrev pub AreMembers : Config → List SubType → Type 0
+AreMembers config types = (index : ℕ) (t : SubType) → slice_get types index ≡ Some t → IsMemberType config index t
+
+-- for each type, how many types before it functions may have
+pub record ArePlaces (types : List SubType) (places : List ℕ) : Type 0 where
+  pub sized : length places ≡ length types
+  pub told : (i d : ℕ) → i < length types → slice_index_or places i d ≡ length (func_types (take i types))

@@ -1,0 +1,109 @@
+ghost use Rattle.std.specs.Prelude.{◌≡◌, ◌↔◌, ◌<◌, ◌≤◌, ◌+◌, ◌^◌, false, List, IsTrue, IfOk, IfErr, MatchOption, All, length};
+ghost use Rattle.std.specs.List.{flat_map};
+ghost use Rattle.smith_types.specs.Groups.{space_of};
+ghost use Rattle.smith_types.specs.declared.composite_type.SubType.{SubType as Sub};
+ghost use Rattle.smith_spell.specs.Family.{IsInFamily};
+ghost use Rattle.smith_spell.specs.Decided.{AreMembersFrom, AreGroupsInFamily};
+
+use crate::member_type::is_member_type;
+use smith_bytes::Error;
+use smith_config::Config;
+use smith_types::{Items, SubType, TypeSpace, are_funcs_valid, type_space_of};
+use std::alloc::Global;
+
+/// The type space of `groups`, where they and `funcs` are in the family of `config`; else None. Memory is taken only where the
+/// groups may be those of a member and the functions are few enough.
+pub(crate) fn member_space(
+    alloc: Global,
+    config: &Config,
+    groups: &[Items<SubType>],
+    funcs: &[u32],
+) -> Result<Option<TypeSpace>, Error>
+    requires few { config.now.max_types ≤ 2 ^ 31 }
+    ensures found { IfOk result (λ found. MatchOption found (¬ IsInFamily config.now groups.now funcs.now) (λ space. (space ≡ space_of groups.now) × IsInFamily config.now groups.now funcs.now)) }
+    ensures memory { IfErr result (λ e. e ≡ Error.Memory) }
+{
+    if !are_groups_in_family(config, groups) {
+        return Ok(None);
+    }
+    if funcs.len() > config.max_funcs {
+        return Ok(None);
+    }
+    let Some(space) = type_space_of(alloc, groups)? else {
+        return Ok(None);
+    };
+    if !are_funcs_valid(space.types(), funcs) {
+        return Ok(None);
+    }
+    Ok(Some(space))
+}
+
+/// Whether lists of the family may have these groups. Takes no memory.
+fn are_groups_in_family(config: &Config, groups: &[Items<SubType>]) -> bool
+    ensures { IsTrue result ↔ AreGroupsInFamily config.now groups.now }
+{
+    are_filled(groups)
+        && are_sizes_enabled(config, groups)
+        && are_types_few(config.max_types, groups)
+        && are_members(config, groups)
+}
+
+fn are_filled(groups: &[Items<SubType>]) -> bool
+    ensures { IsTrue result ↔ All (λ (group : List Sub). 0 < length group) groups.now }
+{
+    groups.iter().all(|group| !group.is_empty())
+}
+
+// Whether groups are of one type each where they have to be.
+fn are_sizes_enabled(config: &Config, groups: &[Items<SubType>]) -> bool
+    ensures { IsTrue result ↔ (config.now.gc_enabled ≡ false → All (λ (group : List Sub). length group ≡ 1) groups.now) }
+{
+    config.gc_enabled || are_single(groups)
+}
+
+fn are_single(groups: &[Items<SubType>]) -> bool
+    ensures { IsTrue result ↔ All (λ (group : List Sub). length group ≡ 1) groups.now }
+{
+    groups.iter().all(|group| group.len() == 1)
+}
+
+fn are_types_few(most: usize, groups: &[Items<SubType>]) -> bool
+    ensures { IsTrue result ↔ (length (flat_map (λ (group : List Sub). group) groups.now) ≤ most) }
+{
+    let mut left = most;
+    for group in groups {
+        if group.len() > left {
+            return false;
+        }
+        left -= group.len();
+    }
+    true
+}
+
+fn are_members(config: &Config, groups: &[Items<SubType>]) -> bool
+    requires { length (flat_map (λ (group : List Sub). group) groups.now) < 2 ^ 64 }
+    ensures { IsTrue result ↔ AreMembersFrom config.now 0 (flat_map (λ (group : List Sub). group) groups.now) }
+{
+    let mut index = 0;
+    for group in groups {
+        if !are_members_from(config, index, group.as_slice()) {
+            return false;
+        }
+        index += group.len();
+    }
+    true
+}
+
+// Whether types may stand one behind another, the first at an index.
+fn are_members_from(config: &Config, mut index: usize, types: &[SubType]) -> bool
+    requires { index + length types.now < 2 ^ 64 }
+    ensures { IsTrue result ↔ AreMembersFrom config.now index types.now }
+{
+    for ty in types {
+        if !is_member_type(config, index, ty) {
+            return false;
+        }
+        index += 1;
+    }
+    true
+}

@@ -1,0 +1,72 @@
+ghost use Rattle.std.specs.Prelude.{◌≡◌, ◌<◌, ◌≤◌, false, OnOk, IfErr};
+ghost use Rattle.smith_bytes.specs.declared.error.Error.TheVariants.{Memory};
+ghost use Rattle.smith_bytes.specs.Spelling.{SpellsBool, SpellsNumber, SpellsRefusal, SpellsAnyByte, Where};
+ghost use Rattle.smith_spell.specs.Written.{Writes, SpellsDigits};
+
+use smith_bytes::Error;
+use smith_types::Items;
+
+/// Writes a bool.
+pub(crate) fn write_bool(value: bool, bytes: &mut Items<u8>) -> Result<(), Error>
+    ensures writes { OnOk result (Writes (SpellsBool value) bytes.old bytes.new) }
+    ensures memory { IfErr result (λ e. e ≡ Memory) }
+{
+    bytes.push(u8::from(value))
+}
+
+/// Writes that a loop ends, where it `may_go_on`.
+pub(crate) fn write_end(may_go_on: bool, bytes: &mut Items<u8>) -> Result<(), Error>
+    ensures writes { OnOk result (Writes (Where may_go_on (SpellsBool false)) bytes.old bytes.new) }
+    ensures memory { IfErr result (λ e. e ≡ Memory) }
+{
+    if may_go_on {
+        return write_bool(false, bytes);
+    }
+    Ok(())
+}
+
+/// Writes the byte that tells a flag, which is off.
+pub(crate) fn write_flag(bytes: &mut Items<u8>) -> Result<(), Error>
+    ensures writes { OnOk result (Writes SpellsAnyByte bytes.old bytes.new) }
+    ensures memory { IfErr result (λ e. e ≡ Memory) }
+{
+    bytes.push(0)
+}
+
+/// Writes a number in as many base-256 digits as `most` has, the highest first.
+fn write_digits(number: usize, most: usize, bytes: &mut Items<u8>) -> Result<(), Error>
+    requires { number ≤ most }
+    ensures writes { OnOk result (Writes (SpellsDigits number most) bytes.old bytes.new) }
+    ensures memory { IfErr result (λ e. e ≡ Memory) }
+{
+    if most == 0 {
+        return Ok(());
+    }
+    write_digits(number / 256, most / 256, bytes)?;
+    bytes.push((number % 256) as u8)
+}
+
+/// Writes a number of 0 to `most`.
+pub(crate) fn write_number(number: usize, most: usize, bytes: &mut Items<u8>) -> Result<(), Error>
+    requires { number ≤ most }
+    ensures writes { OnOk result (Writes (SpellsNumber number 0 most) bytes.old bytes.new) }
+    ensures memory { IfErr result (λ e. e ≡ Memory) }
+{
+    write_digits(number, most, bytes)
+}
+
+/// Writes that one of some chances is not taken, where this is asked.
+pub(crate) fn write_refusal(
+    is_asked: bool,
+    chances: usize,
+    bytes: &mut Items<u8>,
+) -> Result<(), Error>
+    requires { 1 < chances }
+    ensures writes { OnOk result (Writes (Where is_asked (SpellsRefusal chances)) bytes.old bytes.new) }
+    ensures memory { IfErr result (λ e. e ≡ Memory) }
+{
+    if is_asked {
+        return write_digits(1, chances - 1, bytes);
+    }
+    Ok(())
+}

@@ -1,0 +1,21 @@
+//! Values that meet the definitions of types, entities and expressions, and values that do not.
+//! The clauses are proved, and nothing calls these functions.
+#![tactic(auto)]
+
+mod bodies;
+mod entities;
+mod exports;
+mod expressions;
+mod features;
+mod flags;
+mod grouped_types;
+mod grown;
+mod imports;
+mod kind_names;
+mod matching;
+mod open_types;
+mod refused_types;
+mod segments;
+mod subtyping;
+mod types;
+mod valid_types;

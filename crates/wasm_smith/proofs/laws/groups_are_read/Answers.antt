@@ -1,6 +1,0 @@
-use Rattle.smith_draw.proofs.SpelledGroupLemmas.{types_read}
-use Rattle.wasm_smith.proofs.FamilyFitLemmas.{family_fits}
-use Rattle.wasm_smith.proofs.laws.groups_are_read.Goals as goal
-
-pub returns : goal.returns
-returns c = λ config groups funcs piece after sanitized least member h. types_read config groups piece after sanitized least (family_fits config groups funcs member) h

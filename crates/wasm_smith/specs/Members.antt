@@ -1,0 +1,26 @@
+-- Modules that have given types and functions, and beside them no more than globals and passive data. Rules of this project.
+use Rattle.std.specs.Prelude.{◌≡◌, ℕ, ℤ, List, [], ◌∷◌, None, map}
+use Rattle.smith_types.specs.declared.composite_type.SubType.{SubType}
+use Rattle.smith_types.specs.declared.const_instr.ConstInstr.{ConstInstr}
+use Rattle.smith_types.specs.declared.const_instr.ConstInstr.TheVariants.{I32Const}
+use Rattle.smith_types.specs.declared.segments.DataSegmentKind.TheVariants.{Passive}
+use Rattle.smith_config.specs.Shapes.{space_of}
+use Rattle.smith_draw.specs.SpelledGlobals.{mutable_i32}
+use Rattle.wasm_smith.specs.Module.{Parts}
+
+-- a module has these types and functions
+pub record HasMember (groups : List (List SubType)) (funcs : List ℕ) (m : Parts) : Type 0 where
+  pub types : m.types ≡ (space_of groups).types
+  pub groups_are : m.groups ≡ (space_of groups).groups
+  pub funcs_are : m.funcs ≡ funcs
+
+-- a module has globals of these numbers and these passive data, and no table, memory, export, start or element segment
+pub record HasRest (numbers : List ℤ) (passive : List (List ℕ)) (m : Parts) : Type 0 where
+  pub tables : m.tables ≡ []
+  pub memories : m.memories ≡ []
+  pub globals : m.globals ≡ map (λ number. mutable_i32) numbers
+  pub initials : map (λ (one : ℕ × List ConstInstr). one.1) m.defined_globals ≡ map (λ number. I32Const number ∷ []) numbers
+  pub exports : m.exports ≡ []
+  pub start : m.start ≡ None
+  pub elements : m.elems ≡ []
+  pub data_segments : m.segments ≡ map (λ bytes. record { kind = Passive; init = bytes }) passive
