@@ -51,3 +51,10 @@ pub mod ElementsLoop
 pub mod TakenImportsLoop
 pub mod AvailableImportLemmas
 pub mod GroupedImportsLoop
+pub mod RequiredEntityLemmas
+pub mod PlainEntityLemmas
+pub mod GroupedTypeLemmas
+pub mod StandsBehindLemmas
+pub mod RequiredMoreLemmas
+pub mod RequiredExportsLoop
+pub mod KeptImportLemmas
