@@ -1,6 +1,6 @@
 -- Pieces of bytes that spell what is to be drawn, in the words of this project. A spelling says which bytes, and names no
 -- draw: that a draw reads what is spelled is a law about it.
-use Rattle.std.specs.Prelude.{◌≡◌, ℕ, zero, suc, ◌+◌, ◌-◌, ◌%◌, ◌<◌, Bool, true, false, List, [], ◌∷◌, ◌++◌, length, if◌then◌else◌}
+use Rattle.std.specs.Prelude.{◌≡◌, ℕ, zero, suc, ◌+◌, ◌-◌, ◌%◌, ◌<◌, nat_lt, Bool, true, false, List, [], ◌∷◌, ◌++◌, length, if◌then◌else◌}
 use Rattle.smith_bytes.specs.Draws.{big_endian, digit_count}
 
 -- one byte whose lowest bit is this bool
@@ -33,6 +33,10 @@ pub record SpellsAnyByte (piece : List ℕ) : Type 0 where
 abbrev pub Where : Bool → (List ℕ → Type 0) → List ℕ → Type 0
 Where true Piece piece = Piece piece
 Where false Piece piece = piece ≡ []
+
+-- that a loop with at most this many turns ends before its first, where it might have one
+abbrev pub SpellsNone : ℕ → List ℕ → Type 0
+SpellsNone most = Where (nat_lt 0 most) (SpellsBool false)
 
 -- one piece, and another behind it
 pub record Joined (First Second : List ℕ → Type 0) (piece : List ℕ) : Type 0 where

@@ -8,10 +8,10 @@ ghost use Rattle.smith_types.specs.declared.imports.Imports.TheVariants.{Single,
 ghost use Rattle.smith_config.specs.Config.{default_config};
 ghost use Rattle.smith_draw.specs.Choices.{enabled};
 ghost use Rattle.smith_spell.specs.ExampleMembers.{final, taking_a_number, giving_two, plain_function};
-ghost use Rattle.wasm_smith.specs.ImportNames.{is_taken, new_name, import_name_at};
-ghost use Rattle.wasm_smith.specs.ImportedEntities.{kind_rows, fits, again, sizes};
-ghost use Rattle.wasm_smith.specs.Imported.{MayEnd};
-ghost use Rattle.wasm_smith.specs.Importing.{with_filled, imports_at};
+ghost use Rattle.smith_imports.specs.ImportNames.{is_taken, new_name, import_name_at};
+ghost use Rattle.smith_imports.specs.ImportedEntities.{kind_rows, fits, again, sizes};
+ghost use Rattle.smith_imports.specs.Imported.{MayEnd};
+ghost use Rattle.smith_imports.specs.Importing.{with_filled, imports_at};
 ghost use Rattle.smith_examples.specs.ExampleParts.{number, memory, import_named};
 
 fn drawn_imports()

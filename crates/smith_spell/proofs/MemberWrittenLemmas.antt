@@ -3,14 +3,14 @@ use Rattle.std.proofs.Common.{◌≡◌, ℕ, suc, Bool, true, false, nat_lt, co
 use Rattle.std.specs.Prelude.{All, ◌||◌}
 use Rattle.std.specs.List.{list_any}
 use Rattle.std.proofs.lemmas.Bool.{lt-ltb}
-use Rattle.smith_bytes.specs.Spelling.{SpellsAnyByte, Joined}
+use Rattle.smith_bytes.specs.Spelling.{SpellsAnyByte, Joined, SpellsNone}
 use Rattle.smith_types.specs.Groups.{space_of}
 use Rattle.smith_types.specs.declared.composite_type.SubType.{SubType}
 use Rattle.smith_config.specs.declared.config.Config.{Config}
 use Rattle.smith_draw.specs.TypeUses.{places_from}
 use Rattle.smith_draw.specs.Spelling.{SpellsGroups}
 use Rattle.smith_spell.specs.Family.{IsInFamily}
-use Rattle.smith_spell.specs.Spelling.{SpellsMember, SpellsNone, SpellsNoTag, SpellsFuncs}
+use Rattle.smith_spell.specs.Spelling.{SpellsMember, SpellsNoTag, SpellsFuncs}
 use Rattle.smith_spell.specs.Written.{Writes}
 use Rattle.smith_spell.proofs.WrittenLemmas.{joined_written, written_as}
 use Rattle.smith_spell.proofs.GroupsWrittenLoop.{at_place}

@@ -2,7 +2,7 @@
 use Rattle.std.proofs.Common.{◌≡◌, ℕ, ◌+◌, ◌*◌, ◌^◌, Bool, true, false, List, [], length, ap, sym, subst, ◌∙◌}
 use Rattle.std.specs.Prelude.{fold, if◌then◌else◌}
 use Rattle.std.proofs.Math.Dec.{T, eqb, eqb_refl}
-use Rattle.smith_bytes.specs.Spelling.{Joined, SpellsAnyByte}
+use Rattle.smith_bytes.specs.Spelling.{Joined, SpellsAnyByte, SpellsNone}
 use Rattle.smith_types.specs.Space.{Space}
 use Rattle.smith_types.specs.declared.value_type.HeapType.{HeapType}
 use Rattle.smith_types.specs.declared.value_type.HeapType.TheVariants.{Abstract, Concrete, Exact}
@@ -20,7 +20,7 @@ use Rattle.smith_config.specs.Shapes.{space_of}
 use Rattle.smith_draw.specs.RecGroups.{types_at}
 use Rattle.smith_draw.specs.Spelling.{GroupsFit}
 use Rattle.smith_draw.proofs.SpelledGroupLemmas.{types_read}
-use Rattle.smith_spell.specs.Spelling.{SpellsMember, SpellsNone, SpellsNoTag, SpellsFuncs}
+use Rattle.smith_spell.specs.Spelling.{SpellsMember, SpellsNoTag, SpellsFuncs}
 
 -- what stands behind the groups
 abbrev pub SpellsBehindGroups : Config → List SubType → List ℕ → List ℕ → Type 0

@@ -2,7 +2,7 @@
 -- Rules of this project, for a sanitised configuration. One pair of lists has many spellings.
 use Rattle.std.specs.Prelude.{◌≡◌, ℕ, ◌≤◌, ◌==◌, ◌&&◌, nat_lt, Bool, true, false, if◌then◌else◌, ℤ, List, [], ◌∷◌, length, slice_get, option_to_list}
 use Rattle.std.specs.List.{list_any}
-use Rattle.smith_bytes.specs.Spelling.{SpellsBool, SpellsAnyByte, Where, Joined, Listed}
+use Rattle.smith_bytes.specs.Spelling.{SpellsBool, SpellsAnyByte, SpellsNone, Where, Joined, Listed}
 use Rattle.smith_types.specs.declared.composite_type.CompositeInnerType.{CompositeInnerType}
 use Rattle.smith_types.specs.declared.composite_type.CompositeInnerType.TheVariants.{Func}
 use Rattle.smith_types.specs.declared.composite_type.SubType.{SubType}
@@ -13,10 +13,6 @@ use Rattle.smith_draw.specs.SpelledConstants.{SpellsConstant}
 use Rattle.smith_draw.specs.SpelledGlobals.{SpellsMutableI32}
 use Rattle.smith_draw.specs.TypeUses.{is_tag_type}
 use Rattle.smith_spell.specs.FuncTypes.{func_types}
-
--- that a loop ends before its first turn, where it might have one
-abbrev pub SpellsNone : ℕ → List ℕ → Type 0
-SpellsNone most = Where (nat_lt 0 most) (SpellsBool false)
 
 -- that there is no tag, where one might be
 abbrev pub SpellsNoTag : Config → List SubType → List ℕ → Type 0

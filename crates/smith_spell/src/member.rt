@@ -1,11 +1,11 @@
 ghost use Rattle.std.specs.Prelude.{◌≡◌, ◌&&◌, nat_lt, IfOk, IfErr, OnOk};
 ghost use Rattle.std.specs.List.{list_any};
 ghost use Rattle.smith_bytes.specs.declared.error.Error.TheVariants.{Memory};
-ghost use Rattle.smith_bytes.specs.Spelling.{SpellsAnyByte, Joined};
+ghost use Rattle.smith_bytes.specs.Spelling.{SpellsAnyByte, Joined, SpellsNone};
 ghost use Rattle.smith_types.specs.Groups.{space_of};
 ghost use Rattle.smith_draw.specs.TypeUses.{is_tag_type};
 ghost use Rattle.smith_spell.specs.Family.{IsInFamily};
-ghost use Rattle.smith_spell.specs.Spelling.{SpellsMember, SpellsNone, SpellsNoTag};
+ghost use Rattle.smith_spell.specs.Spelling.{SpellsMember, SpellsNoTag};
 ghost use Rattle.smith_spell.specs.Written.{Writes};
 
 use crate::funcs::write_funcs;

@@ -20,7 +20,7 @@ use Rattle.smith_draw.proofs.SupertypeLemmas.{chosen_of}
 use Rattle.smith_draw.proofs.TypeUseLemmas.{IsPassing, places_pass}
 use Rattle.wasm_smith.specs.Exporting.{is_func_below, candidates, candidate_rows, offered_kinds}
 use Rattle.wasm_smith.specs.Exported.{MayExport, IsCandidate}
-use Rattle.wasm_smith.proofs.ImportedEntityLemmas.{small_at}
+use Rattle.smith_imports.proofs.ImportedEntityLemmas.{small_at}
 
 -- a test that all items pass gives all places
 pub length_all : {A : Type 0} (test : A → Bool) (n : ℕ) (xs : List A) → All (λ x. test x ≡ true) xs → length (places_from test n xs) ≡ length xs

@@ -24,9 +24,9 @@ use Rattle.wasm_smith.specs.Contents.{MayHoldContents, AreSpacesOver}
 use Rattle.wasm_smith.specs.Defined.{AreDefined, IsFilled}
 use Rattle.wasm_smith.specs.DrawnElements.{MayDrawElements, IsTableNullable}
 use Rattle.wasm_smith.specs.Exported.{MayExport, MayExportFreely, MayDrawExports}
-use Rattle.wasm_smith.specs.Imported.{HasNullableElements, IsImported, spaces_of}
+use Rattle.smith_imports.specs.Imported.{HasNullableElements, IsImported, spaces_of}
 use Rattle.wasm_smith.specs.declared.build.definitions.Definitions.{Definitions}
-use Rattle.wasm_smith.specs.declared.build.imported.Imported.{Imported}
+use Rattle.smith_imports.specs.declared.imported.Imported.{Imported}
 
 -- contents may be drawn once types, imports and definitions stand
 pub may_hold_contents : {distinct : Bool} {config : Config} {space : Space} {made : Imported} {spaces : IndexSpaces} {defined : Definitions}

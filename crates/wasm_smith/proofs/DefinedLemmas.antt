@@ -6,12 +6,11 @@ use Rattle.std.proofs.lemmas.List.Elements.{All-nil}
 use Rattle.smith_bytes.specs.Draws.{bool_at}
 use Rattle.smith_bytes.specs.Growth.{grow_at}
 use Rattle.smith_bytes.specs.ReadLaws.{ReadsEach}
-use Rattle.smith_bytes.specs.Spelling.{Listed}
+use Rattle.smith_bytes.specs.Spelling.{Listed, SpellsNone}
 use Rattle.smith_bytes.proofs.GrownLemmas.{cond_both, grow_most, grow_least, grow_all}
 use Rattle.smith_bytes.proofs.SpelledLemmas.{listed_read}
 use Rattle.wasm_smith.specs.Defined.{IsFilled}
 use Rattle.wasm_smith.specs.Definitions.{defined_at}
-use Rattle.smith_spell.specs.Spelling.{SpellsNone}
 
 defined_items : {A : Type 0} (draw : List A → List ℕ → A × List ℕ) (least most imported : ℕ) (bytes : List ℕ) → (defined_at draw least most imported bytes).0 ≡ (grow_at draw (least - imported) (most - imported) [] bytes).0
 unfolding defined_at

@@ -5,7 +5,7 @@ use Rattle.smith_config.specs.declared.config.Config.{Config}
 use Rattle.smith_draw.specs.Memories.{memtype_at}
 use Rattle.wasm_smith.specs.Defined.{IsFilled, SpellsEmpty}
 use Rattle.wasm_smith.specs.Definitions.{memories_at}
-use Rattle.smith_spell.specs.Spelling.{SpellsNone}
+use Rattle.smith_bytes.specs.Spelling.{SpellsNone}
 use Rattle.wasm_smith.proofs.DefinedLemmas.{defined_filled, defined_none}
 
 pub memories_filled : (config : Config) (imported : List MemoryType) (bytes : List ℕ) → config.min_memories ≤ config.max_memories → length imported ≤ config.max_memories → IsFilled config.min_memories config.max_memories imported (memories_at config imported bytes).0

@@ -34,7 +34,7 @@ use Rattle.wasm_smith.specs.DefinedTables.{IsTableFit, AreTablesDrawn}
 use Rattle.wasm_smith.specs.Definitions.{Standing, Table, table_at, tables_at, table_scope}
 use Rattle.wasm_smith.specs.Module.{IsTableInitialised}
 use Rattle.wasm_smith.specs.Promises.{initial_of}
-use Rattle.smith_spell.specs.Spelling.{SpellsNone}
+use Rattle.smith_bytes.specs.Spelling.{SpellsNone}
 use Rattle.wasm_smith.proofs.DefinedLemmas.{parts_filled, defined_none}
 
 -- with defined globals out of sight, the imported ones are seen

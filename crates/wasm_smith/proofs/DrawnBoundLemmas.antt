@@ -18,7 +18,7 @@ use Rattle.wasm_smith.specs.Bounds.{KeepsBounds, MeetsMinimums, HasMost, HasLeas
 use Rattle.wasm_smith.specs.Build.{parts_of}
 use Rattle.wasm_smith.specs.DrawnParts.{IsDrawnFor}
 use Rattle.wasm_smith.specs.Exporting.{Export, item_size, exported_size}
-use Rattle.wasm_smith.specs.ImportedEntities.{sizes}
+use Rattle.smith_imports.specs.ImportedEntities.{sizes}
 use Rattle.wasm_smith.specs.Module.{Parts, module_spaces}
 use Rattle.wasm_smith.specs.declared.build.drawn.Drawn.{Drawn}
 

@@ -7,7 +7,7 @@ use Rattle.smith_bytes.specs.declared.error.Why.{Why}
 use Rattle.smith_bytes.specs.declared.error.Why.TheVariants.{Unmet}
 use Rattle.smith_bytes.specs.declared.error.Error.{Error}
 use Rattle.smith_bytes.specs.Growth.{goes_at}
-use Rattle.smith_bytes.specs.Spelling.{SpellsBool}
+use Rattle.smith_bytes.specs.Spelling.{SpellsBool, SpellsNone}
 use Rattle.smith_bytes.specs.Takes.{Takes}
 use Rattle.smith_bytes.proofs.SpelledLemmas.{bool_read}
 use Rattle.smith_types.specs.Expressions.{Context}
@@ -16,10 +16,9 @@ use Rattle.smith_types.specs.declared.segments.ElementSegment.{ElementSegment}
 use Rattle.smith_config.specs.declared.config.Config.{Config}
 use Rattle.wasm_smith.specs.Defined.{SpellsEmpty}
 use Rattle.wasm_smith.specs.ElementSegments.{KindChoice, table_kinds_at, kinds_at, element_segments_at, elements_at}
-use Rattle.smith_spell.specs.Spelling.{SpellsNone}
-use Rattle.wasm_smith.specs.Steps.{Gives, ◌>>=◌}
+use Rattle.smith_imports.specs.Steps.{Gives, ◌>>=◌}
 use Rattle.wasm_smith.specs.declared.build.element_kinds.KindChoice.TheVariants.{Passive, Declared}
-use Rattle.wasm_smith.proofs.GivenLemmas.{given_takes}
+use Rattle.smith_imports.proofs.GivenLemmas.{given_takes}
 
 -- what holds behind whatever a step gives holds behind the step
 behind : {A B : Type 0} (P : B → Type 0) (first : Result A Why) (next : A → Result B Why) → ((x : A) → IfOk (next x) P) → IfOk (first >>= next) P

@@ -11,8 +11,8 @@ use Rattle.std.proofs.lemmas.Slice.Eq.{bytes_eq-Decides}
 use Rattle.std.proofs.lemmas.List.Folds.{list_any-append}
 use Rattle.smith_bytes.specs.Names.{text_at, IsMadeNew, AddsName}
 use Rattle.wasm_smith.specs.Exporting.{Export, is_exported, longest_export, export_name_at, HasNames}
-use Rattle.wasm_smith.specs.ImportNames.{IsNewName}
-use Rattle.wasm_smith.proofs.ImportNameLemmas.{new_name_is, new_by}
+use Rattle.smith_imports.specs.ImportNames.{IsNewName}
+use Rattle.smith_imports.proofs.ImportNameLemmas.{new_name_is, new_by}
 
 short_by : (name : List ℕ) (one : Export) (exports : List Export) (b : Bool) → bytes_eq one.0 name ≡ b → (b || is_exported exports name) ≡ true
     → (is_exported exports name ≡ true → length name ≤ longest_export exports) → length name ≤ longest_export (one ∷ exports)

@@ -2,7 +2,7 @@
 use Rattle.std.proofs.Common.{◌≡◌, ℕ, zero, suc, ◌-◌, ◌<◌, Bool, true, false, List, [], ◌∷◌, ◌++◌, length, refl, ap, arith, nat_lt, lt-ltb, inl, inr, ◌∙◌}
 use Rattle.std.specs.Prelude.{Result, Ok, IfOk, if◌then◌else◌}
 use Rattle.std.proofs.lemmas.Bool.{ltb-true, ltb-false}
-use Rattle.smith_bytes.specs.Spelling.{SpellsBool}
+use Rattle.smith_bytes.specs.Spelling.{SpellsBool, SpellsNone}
 use Rattle.smith_bytes.specs.Takes.{Takes}
 use Rattle.smith_bytes.specs.declared.error.Error.{Error}
 use Rattle.smith_bytes.proofs.SpelledLemmas.{bool_read}
@@ -14,15 +14,14 @@ use Rattle.smith_config.specs.declared.config.Config.{Config}
 use Rattle.smith_config.specs.InUse.{FixesExports}
 use Rattle.smith_draw.specs.Choices.{enabled}
 use Rattle.smith_draw.specs.TypeUses.{places_from}
-use Rattle.wasm_smith.specs.Steps.{Gives}
+use Rattle.smith_imports.specs.Steps.{Gives}
 use Rattle.wasm_smith.specs.Defined.{SpellsEmpty}
-use Rattle.smith_spell.specs.Spelling.{SpellsNone}
 use Rattle.wasm_smith.specs.Exporting.{Export, candidates, candidate_row, offered_kinds, exports_from, free_exports_at}
 use Rattle.wasm_smith.specs.Exported.{MayExportFreely, AreExported, MayRunOut, MayRefuseFree, MayRefuseAll, MayRefuseExports}
 use Rattle.wasm_smith.specs.AllExports.{everything_at, exports_at}
 use Rattle.wasm_smith.specs.declared.build.exported.Exports.{Exports}
 use Rattle.wasm_smith.proofs.CandidateLemmas.{length_alike}
-use Rattle.wasm_smith.proofs.GivenLemmas.{given_takes}
+use Rattle.smith_imports.proofs.GivenLemmas.{given_takes}
 
 -- where nothing is enabled the first is not, nor another
 off_by : {A : Type 0} (x : A) (b : Bool) (rest : List (A × Bool)) → length (enabled ((x, b) ∷ rest)) ≡ 0 → (b ≡ false) × (length (enabled rest) ≡ 0)

@@ -12,7 +12,7 @@ use Rattle.smith_types.specs.declared.composite_type.SubType.{SubType}
 use Rattle.smith_config.specs.declared.config.Config.{Config}
 use Rattle.wasm_smith.specs.Exporting.{Export, is_exported, item_size}
 use Rattle.wasm_smith.specs.Exported.{IsStanding, AreExportsFit}
-use Rattle.wasm_smith.proofs.ImportsGrownLemmas.{mapped_at, distinct_push}
+use Rattle.smith_imports.proofs.ImportsGrownLemmas.{mapped_at, distinct_push}
 
 -- no export fits beside imports that do
 pub none_fit : (config : Config) (types : List SubType) (spaces : IndexSpaces) (imports : ℕ) → imports ≤ config.max_type_size → AreExportsFit config types spaces imports [] imports

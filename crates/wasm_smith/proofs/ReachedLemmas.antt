@@ -3,7 +3,7 @@
 use Rattle.std.proofs.Common.{◌≡◌, ℕ, ℤ, Bool, true, false, cond, List, [], ◌∷◌, ◌++◌, length, map, None, refl, sym, ap, subst}
 use Rattle.std.specs.Prelude.{Result, Ok, Err, IfOk, IfErr, MatchResult, ◌==◌}
 use Rattle.smith_bytes.specs.Draws.{bool_at}
-use Rattle.smith_bytes.specs.Spelling.{SpellsAnyByte, Where, Joined, Listed}
+use Rattle.smith_bytes.specs.Spelling.{SpellsAnyByte, Where, Joined, Listed, SpellsNone}
 use Rattle.smith_bytes.specs.declared.error.Count.TheVariants as counts
 use Rattle.smith_bytes.specs.declared.error.Error.{Error}
 use Rattle.smith_bytes.specs.declared.error.Error.TheVariants.{Memory}
@@ -23,24 +23,24 @@ use Rattle.smith_draw.specs.SpelledGlobals.{mutable_i32}
 use Rattle.smith_draw.proofs.SpelledGroupLemmas.{types_read}
 use Rattle.smith_spell.specs.Family.{IsInFamily}
 use Rattle.smith_spell.specs.Minimums.{HasNoMinimums}
-use Rattle.smith_spell.specs.Spelling.{SpellsMember, SpellsRest, SpellsNone, SpellsNoTag, SpellsFuncs, SpellsGlobal, SpellsNoStart, SpellsSegments}
+use Rattle.smith_spell.specs.Spelling.{SpellsMember, SpellsRest, SpellsNoTag, SpellsFuncs, SpellsGlobal, SpellsNoStart, SpellsSegments}
 use Rattle.smith_spell.proofs.FamilyFitLemmas.{family_fits}
 use Rattle.wasm_smith.specs.Build.{IsGiven, defined_in, definitions_at, module_of, module_at, as_drawn}
 use Rattle.wasm_smith.specs.Definitions.{standing_over, tables_at, memories_at, globals_at}
 use Rattle.wasm_smith.specs.DrawnContents.{segment_scope, all_segments_at, contents_at}
-use Rattle.wasm_smith.specs.ImportedEntities.{sizes}
+use Rattle.smith_imports.specs.ImportedEntities.{sizes}
 use Rattle.wasm_smith.specs.Members.{HasMember, HasRest}
 use Rattle.wasm_smith.specs.Module.{Parts}
 use Rattle.wasm_smith.specs.PassiveData.{passive_data}
 use Rattle.wasm_smith.specs.Reached.{ReachesMembers, ReachesRests}
-use Rattle.wasm_smith.specs.Steps.{Gives, ◌>>=◌, section_flag_at}
+use Rattle.smith_imports.specs.Steps.{Gives, ◌>>=◌, section_flag_at}
 use Rattle.wasm_smith.specs.declared.build.contents.Contents.{Contents}
 use Rattle.wasm_smith.specs.declared.build.definitions.Definitions.{Definitions}
 use Rattle.wasm_smith.proofs.DefinedMemoryLemmas.{no_memory_read}
 use Rattle.wasm_smith.proofs.DefinedTableLemmas.{no_table_read}
 use Rattle.wasm_smith.proofs.ElementCountLemmas.{elements_none}
 use Rattle.wasm_smith.proofs.ExportRefusalLemmas.{exports_free, no_export_read}
-use Rattle.wasm_smith.proofs.NoImportLemmas.{no_import_read}
+use Rattle.smith_imports.proofs.NoImportLemmas.{no_import_read}
 use Rattle.wasm_smith.proofs.NumberedGlobalLemmas.{listed_read}
 use Rattle.wasm_smith.proofs.PassiveDataLemmas.{data_read}
 use Rattle.wasm_smith.proofs.StartLemmas.{start_none}

@@ -16,7 +16,7 @@ use Rattle.smith_bytes.specs.declared.error.Error.{Error}
 use Rattle.smith_bytes.specs.declared.error.Error.TheVariants as errors
 use Rattle.smith_bytes.specs.declared.error.Why.TheVariants.{Unmet}
 use Rattle.smith_bytes.specs.declared.error.Count.TheVariants as counts
-use Rattle.wasm_smith.specs.Imported.{MayRefuseImports}
+use Rattle.smith_imports.specs.Imported.{MayRefuseImports}
 use Rattle.wasm_smith.specs.Refusals.{MayRefuse}
 use Rattle.smith_draw.specs.TypeUses.{is_function, places_from, is_unshared_function}
 use Rattle.smith_spell.specs.FuncTypes.{func_types}

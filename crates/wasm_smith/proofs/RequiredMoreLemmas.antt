@@ -38,9 +38,10 @@ use Rattle.smith_config.specs.Features.{features_of}
 use Rattle.smith_config.specs.Shapes.{space_of, shape_types, shape_spaces, shape_values, IsTypePlain, ArePlain}
 use Rattle.smith_draw.specs.ConstBounds.{IsNonNullable, HoldsNonNullableField}
 use Rattle.smith_draw.specs.ConstScopes.{fields_of}
-use Rattle.wasm_smith.specs.Bounds.{count_in, counts_as}
-use Rattle.wasm_smith.specs.Imported.{entity_spaces}
-use Rattle.wasm_smith.specs.ImportedEntities.{kind_of}
+use Rattle.wasm_smith.specs.Bounds.{counts_as}
+use Rattle.smith_imports.specs.ShapeImports.{count_in}
+use Rattle.smith_imports.specs.Imported.{entity_spaces}
+use Rattle.smith_imports.specs.ImportedEntities.{kind_of}
 use Rattle.wasm_smith.specs.Required.{
   AreWithin,
   HasRoom,

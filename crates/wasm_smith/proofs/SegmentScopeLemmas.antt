@@ -9,9 +9,9 @@ use Rattle.smith_draw.specs.declared.spaces.Spaces.{Spaces}
 use Rattle.wasm_smith.specs.Contents.{AreSpacesOver}
 use Rattle.wasm_smith.specs.Defined.{AreDefined}
 use Rattle.wasm_smith.specs.DrawnContents.{TellsImported, segment_scope}
-use Rattle.wasm_smith.specs.Imported.{IsImported, spaces_of}
+use Rattle.smith_imports.specs.Imported.{IsImported, spaces_of}
 use Rattle.wasm_smith.specs.declared.build.definitions.Definitions.{Definitions}
-use Rattle.wasm_smith.specs.declared.build.imported.Imported.{Imported}
+use Rattle.smith_imports.specs.declared.imported.Imported.{Imported}
 
 -- with defined globals in sight, all are seen where there is garbage collection
 seen_end : (on : Bool) (all imported : ℕ) → cond (on && true) all imported ≡ cond on all imported

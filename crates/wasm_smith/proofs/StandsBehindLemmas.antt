@@ -26,7 +26,7 @@ use Rattle.smith_config.specs.declared.config.Config.{Config}
 use Rattle.smith_config.specs.Features.{features_of}
 use Rattle.wasm_smith.specs.Defined.{standing_in, IsGlobalInitialised}
 use Rattle.wasm_smith.specs.Definitions.{context_at}
-use Rattle.wasm_smith.specs.Imported.{entity_spaces}
+use Rattle.smith_imports.specs.Imported.{entity_spaces}
 use Rattle.wasm_smith.specs.Module.{IsTableInitialised}
 use Rattle.wasm_smith.specs.Required.{StandsBehind, IsDefinedMore}
 use Rattle.wasm_smith.specs.RequiredExports.{several, scope_beside}

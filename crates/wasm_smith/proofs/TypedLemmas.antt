@@ -19,14 +19,14 @@ use Rattle.smith_draw.specs.declared.type_use.TypeUse.TheVariants.{Tag, DefinedF
 use Rattle.smith_draw.proofs.SpelledValueLemmas.{chosen_read}
 use Rattle.smith_draw.proofs.SupertypeLemmas.{chosen_of}
 use Rattle.smith_draw.proofs.TypeUseLemmas.{types_usable}
-use Rattle.wasm_smith.specs.Steps.{Gives}
+use Rattle.smith_imports.specs.Steps.{Gives}
 use Rattle.wasm_smith.specs.Defined.{IsFilled, SpellsEmpty}
 use Rattle.wasm_smith.specs.Definitions.{defined_at, typed_at, tag_types, tags_at, funcs_at}
 use Rattle.smith_spell.specs.FuncTypes.{func_types}
 use Rattle.smith_spell.specs.Spelling.{SpellsNoTag, SpellsFuncs}
 use Rattle.wasm_smith.proofs.CountingLemmas.{all_kept}
 use Rattle.wasm_smith.proofs.DefinedLemmas.{defined_all, defined_filled, defined_read, none_listed}
-use Rattle.wasm_smith.proofs.GivenLemmas.{given_is}
+use Rattle.smith_imports.proofs.GivenLemmas.{given_is}
 
 -- what items are like whose types are chosen
 pub record AreTyped (Holds : ℕ → Type 0) (choices : List ℕ) (least most : ℕ) (imported items : List ℕ) : Type 0 where

@@ -21,16 +21,8 @@ use Rattle.smith_config.specs.Faults.{minimum_of, maximum_of}
 use Rattle.smith_config.specs.InUse.{shapes_of, FixesImports, FixesExports}
 use Rattle.smith_config.specs.Shapes.{shape_types, shape_imports, shape_spaces}
 use Rattle.smith_draw.specs.Bounds.{IsTableWithin, IsMemoryWithin}
+use Rattle.smith_imports.specs.ShapeImports.{count_in}
 use Rattle.wasm_smith.specs.Module.{Parts}
-
--- how many items index spaces hold of a kind
-abbrev pub count_in : IndexSpaces → Count → ℕ
-count_in spaces counts.Tags = length spaces.tags
-count_in spaces counts.Funcs = length spaces.funcs
-count_in spaces counts.Tables = length spaces.tables
-count_in spaces counts.Memories = length spaces.memories
-count_in spaces counts.Globals = length spaces.globals
-count_in spaces _ = 0
 
 -- how many items of a kind a module has, imported ones among them; of elements those of all segments together
 abbrev pub count_of : Parts → Count → ℕ

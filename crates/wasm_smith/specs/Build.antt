@@ -15,10 +15,10 @@ use Rattle.smith_config.specs.InUse.{HasNoShapes}
 use Rattle.smith_draw.specs.RecGroups.{types_at}
 use Rattle.wasm_smith.specs.Definitions.{standing_over, tags_at, funcs_at, tables_at, memories_at, globals_at}
 use Rattle.wasm_smith.specs.DrawnContents.{contents_at}
-use Rattle.wasm_smith.specs.ImportedEntities.{sizes}
-use Rattle.wasm_smith.specs.Importing.{imports_at}
+use Rattle.smith_imports.specs.ImportedEntities.{sizes}
+use Rattle.smith_imports.specs.Importing.{imports_at}
 use Rattle.wasm_smith.specs.Module.{Parts}
-use Rattle.wasm_smith.specs.Steps.{Gives, ◌>>=◌, section_flag_at}
+use Rattle.smith_imports.specs.Steps.{Gives, ◌>>=◌, section_flag_at}
 use Rattle.wasm_smith.specs.declared.build.contents.Contents.{Contents}
 use Rattle.wasm_smith.specs.declared.build.definitions.Definitions.{Definitions}
 use Rattle.wasm_smith.specs.declared.build.drawn.Drawn.{Drawn}

@@ -13,7 +13,7 @@ use Rattle.smith_draw.specs.ConstBounds.{HoldsNonNullableField}
 use Rattle.smith_draw.specs.FuncSizes.{IsSmall}
 use Rattle.smith_draw.specs.declared.spaces.Spaces.{Spaces}
 use Rattle.wasm_smith.specs.Defined.{IsFilled}
-use Rattle.wasm_smith.specs.Imported.{HasNullableElements}
+use Rattle.smith_imports.specs.Imported.{HasNullableElements}
 
 -- contents may be drawn over these index spaces, which begin with what is imported, where the imports add this much to the
 -- type size: all is valid and as many as the configuration asks for and allows, function types are small, and no field and no

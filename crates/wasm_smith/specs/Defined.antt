@@ -20,7 +20,7 @@ use Rattle.smith_draw.specs.ConstBounds.{HoldsNonNullableField}
 use Rattle.smith_draw.specs.ConstFloats.{GivesNoFloat}
 use Rattle.smith_draw.specs.declared.spaces.Spaces.{Spaces}
 use Rattle.wasm_smith.specs.Definitions.{Standing, standing_over, context_at, table_scope}
-use Rattle.wasm_smith.specs.Imported.{AreSpacesWithin, HasNoFloatValue, HasNullableElements}
+use Rattle.smith_imports.specs.Imported.{AreSpacesWithin, HasNoFloatValue, HasNullableElements}
 use Rattle.wasm_smith.specs.Module.{IsTableInitialised}
 use Rattle.wasm_smith.specs.Promises.{initial_of}
 use Rattle.wasm_smith.specs.declared.build.definitions.Definitions.{Definitions}

@@ -9,7 +9,7 @@ use Rattle.smith_config.specs.Features.{features_of}
 use Rattle.smith_draw.specs.Bounds.{IsTableWithin}
 use Rattle.smith_draw.specs.ConstFloats.{GivesNoFloat}
 use Rattle.wasm_smith.specs.Definitions.{Standing, Table, table_scope}
-use Rattle.wasm_smith.specs.Imported.{HasNullableElements}
+use Rattle.smith_imports.specs.Imported.{HasNullableElements}
 use Rattle.wasm_smith.specs.Module.{IsTableInitialised}
 use Rattle.wasm_smith.specs.Promises.{initial_of}
 

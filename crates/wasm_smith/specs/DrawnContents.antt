@@ -25,10 +25,10 @@ use Rattle.wasm_smith.specs.ElementSegments.{elements_at, items_in}
 use Rattle.wasm_smith.specs.Exporting.{exported_size}
 use Rattle.wasm_smith.specs.Promises.{expressions_of}
 use Rattle.wasm_smith.specs.Start.{start_at}
-use Rattle.wasm_smith.specs.Steps.{◌>>=◌, section_flag_at}
+use Rattle.smith_imports.specs.Steps.{◌>>=◌, section_flag_at}
 use Rattle.wasm_smith.specs.declared.build.contents.Contents.{Contents}
 use Rattle.wasm_smith.specs.declared.build.definitions.Definitions.{Definitions}
-use Rattle.wasm_smith.specs.declared.build.imported.Imported.{Imported}
+use Rattle.smith_imports.specs.declared.imported.Imported.{Imported}
 use Rattle.wasm_smith.specs.declared.build.segments.Segments.{Segments}
 
 -- what is imported of index spaces

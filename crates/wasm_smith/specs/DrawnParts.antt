@@ -9,8 +9,8 @@ use Rattle.smith_config.specs.Features.{features_of}
 use Rattle.smith_config.specs.InUse.{HasNoShapes}
 use Rattle.wasm_smith.specs.Defined.{AreDefined, HaveNoFloats}
 use Rattle.wasm_smith.specs.DrawnContents.{AreContents, HasNoFloatContents, imported_in}
-use Rattle.wasm_smith.specs.Imported.{AreImportsFit}
-use Rattle.wasm_smith.specs.ImportedEntities.{sizes}
+use Rattle.smith_imports.specs.Imported.{AreImportsFit}
+use Rattle.smith_imports.specs.ImportedEntities.{sizes}
 use Rattle.wasm_smith.specs.InterestingValues.{AreAll, IsInteresting32, IsInteresting64}
 use Rattle.wasm_smith.specs.declared.build.drawn.Drawn.{Drawn}
 

@@ -33,7 +33,7 @@ use Rattle.smith_draw.specs.MatchingTypes.{matching_ref_type_at}
 use Rattle.smith_draw.specs.Offsets.{offset_at}
 use Rattle.smith_draw.specs.TypeUses.{places_from}
 use Rattle.smith_draw.specs.ValueTypes.{ref_type_at}
-use Rattle.wasm_smith.specs.Steps.{◌>>=◌}
+use Rattle.smith_imports.specs.Steps.{◌>>=◌}
 pub use Rattle.wasm_smith.specs.declared.build.element_kinds.KindChoice.{KindChoice}
 use Rattle.wasm_smith.specs.declared.build.element_kinds.KindChoice.TheVariants as choice
 

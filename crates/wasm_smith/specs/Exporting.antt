@@ -21,7 +21,7 @@ use Rattle.smith_types.specs.declared.entity_type.ExportKind.TheVariants as kind
 use Rattle.smith_config.specs.declared.config.Config.{Config}
 use Rattle.smith_draw.specs.Choices.{enabled, chosen_at}
 use Rattle.smith_draw.specs.TypeUses.{places_from}
-use Rattle.wasm_smith.specs.ImportNames.{new_name}
+use Rattle.smith_imports.specs.ImportNames.{new_name}
 
 -- an export: its name, and the kind and the index of its item
 abbrev pub Export : Type 0

@@ -17,6 +17,7 @@ use Rattle.smith_config.specs.Shapes.{IsShapeValid, shape_values}
 use Rattle.smith_config.specs.ShapeFaults.{HasShapeFault}
 use Rattle.smith_draw.specs.ConstBounds.{IsNonNullable}
 use Rattle.smith_spell.specs.Minimums.{HasNoMinimums}
+use Rattle.smith_imports.specs.Imported.{MayLackImports}
 use Rattle.wasm_smith.specs.Bounds.{where_given, exported_of, brought_by_module}
 
 -- the shape for each use, where there is one that is used
@@ -32,13 +33,6 @@ HasShape config = (for_use : Which) × IsSome (shape_for config for_use)
 -- a shape that is used holds a reference that may not be null
 abbrev pub HoldsNonNullable : Config → Type 0
 HoldsNonNullable config = (for_use : Which) × IsSomeAnd (shape_for config for_use) (λ shape. Any IsNonNullable (shape_values shape))
-
--- where imports may end before there are as many as are asked for: they may be too large together, or some kind too few
-abbrev pub MayLackImports : Config → Type 0
-MayLackImports config =
-    (config.max_type_size < 42 * config.min_imports)
-    ⊎ ((config.max_tags < config.min_imports)
-    ⊎ ((config.max_funcs < config.min_imports) ⊎ ((config.max_globals < config.min_imports) ⊎ ((config.max_memories < config.min_imports) ⊎ (config.max_tables < config.min_imports)))))
 
 -- where no table, no memory and no global is asked for, so that there may be nothing to export
 pub record MayHaveNoExports (config : Config) : Type 0 where

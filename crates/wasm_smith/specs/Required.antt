@@ -27,10 +27,11 @@ use Rattle.smith_config.specs.Features.{features_of}
 use Rattle.smith_config.specs.Sanitized.{IsSanitized}
 use Rattle.smith_config.specs.Shapes.{shape_types, shape_spaces, shape_values, IsShapeValid}
 use Rattle.smith_draw.specs.ConstBounds.{IsNonNullable, HoldsNonNullableField}
-use Rattle.wasm_smith.specs.Bounds.{count_in, counts_as, exported_of}
+use Rattle.wasm_smith.specs.Bounds.{counts_as, exported_of}
+use Rattle.smith_imports.specs.ShapeImports.{count_in}
 use Rattle.wasm_smith.specs.Defined.{standing_in, IsGlobalInitialised}
 use Rattle.wasm_smith.specs.Definitions.{context_at}
-use Rattle.wasm_smith.specs.ImportedEntities.{kind_of}
+use Rattle.smith_imports.specs.ImportedEntities.{kind_of}
 use Rattle.wasm_smith.specs.Module.{IsTableInitialised}
 use Rattle.wasm_smith.specs.RequiredExports.{several, scope_beside, with_table, with_global}
 use Rattle.wasm_smith.specs.ShapesKept.{Export, IsSameExport, IsSameType}

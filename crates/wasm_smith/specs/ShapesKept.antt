@@ -19,7 +19,7 @@ use Rattle.smith_config.specs.declared.shape.Shape.{Shape}
 use Rattle.smith_config.specs.Faults.{maximum_of}
 use Rattle.smith_config.specs.InUse.{shapes_of}
 use Rattle.smith_config.specs.Shapes.{space_of, shape_types, shape_imports, shape_spaces}
-use Rattle.wasm_smith.specs.Bounds.{count_in}
+use Rattle.smith_imports.specs.ShapeImports.{kept_groups, taken_from}
 use Rattle.wasm_smith.specs.Module.{Parts, module_spaces}
 
 -- the types and groups of a shape begin the module's
@@ -40,14 +40,6 @@ pub record IsSameExport (IsSame : EntityType → EntityType → Type 0) (ours th
   pub mine_is : IsEntityAt ours one.1 one.2 mine
   pub yours_is : IsEntityAt theirs other.1 other.2 yours
   pub same : IsSame mine yours
-
--- a group of imports that is not empty
-abbrev pub is_filled : Imports → Bool
-is_filled group = nat_lt 0 (length (imports_of group))
-
--- the groups of a shape's imports as a module has them: without the empty ones, or one by one
-abbrev pub kept_groups : Config → Shape → List Imports
-kept_groups config shape = if config.compact_imports_enabled then filter is_filled shape.imports else map Single (shape_imports shape)
 
 -- a module shape: its types first, its imports and exports and no other, in order
 pub record KeepsModuleShape (shape : Shape) (m : Parts) : Type 0 where
@@ -74,43 +66,6 @@ IsSameType ours theirs one other = one ≡ other
 -- the exports of a shape and no other, in order
 abbrev pub KeepsExports : Shape → Parts → Type 0
 KeepsExports shape m = AllZip (IsSameExport (IsSameType m.types (shape_types shape)) (module_spaces m) (shape_spaces shape)) m.exports shape.exports
-
--- whether the input picks the import at this place: its byte is odd, and past the end it isn't
-abbrev pub is_picked : List ℕ → ℕ → Bool
-is_picked bytes place = slice_index_or bytes place 0 % 2 == 1
-
--- what an entity counts as
-abbrev pub count_for : EntityType → Count
-count_for (entity.Global global) = counts.Globals
-count_for (entity.Table table) = counts.Tables
-count_for (entity.Memory memory) = counts.Memories
-count_for (entity.Tag index) = counts.Tags
-count_for (entity.Func index) = counts.Funcs
-
--- tags need their feature
-abbrev pub is_allowed : Config → EntityType → Bool
-is_allowed config (entity.Tag index) = config.exceptions_enabled
-is_allowed config _ = true
-
--- the sizes of imports together
-abbrev pub sizes_of : List SubType → List Import → ℕ
-sizes_of types imports = sum_by (λ (one : Import). size_in types one.entity_type) imports
-
--- whether one more import fits behind those that are taken: in number, of its kind and by its size
-unfoldable pub is_fitting : Config → List SubType → List Import → Import → Bool
-is_fitting config types taken one =
-    let count = count_for one.entity_type in
-    nat_lt (length taken) config.max_imports
-    && nat_lt (count_in (imported_spaces taken) count) (maximum_of config count)
-    && is_allowed config one.entity_type
-    && nat_le (sizes_of types taken + size_in types one.entity_type) config.max_type_size
-
--- available imports, from this place on, that are taken behind others: those that the input picks and that fit
-abbrev pub taken_from : Config → List SubType → List ℕ → ℕ → List Import → List Import → List Import
-taken_from config types bytes place taken [] = taken
-taken_from config types bytes place taken (one ∷ more) =
-    let next = if is_picked bytes place && is_fitting config types taken one then taken ++ one ∷ [] else taken in
-    taken_from config types bytes (suc place) next more
 
 -- available imports: the types of their shape first, and of its imports those that the input picks and that fit, in order
 pub record KeepsAvailableImports (bytes : List ℕ) (shape : Shape) (m : Parts) : Type 0 where

@@ -6,18 +6,8 @@ ghost use Rattle.smith_types.specs.declared.value_type.ValType.TheVariants.{Ref}
 ghost use Rattle.smith_types.specs.declared.composite_type.StorageType.TheVariants.{I8, I16};
 ghost use Rattle.smith_types.specs.ExampleTypes.{plain, not_null};
 ghost use Rattle.smith_draw.specs.Spelling.{SpellsGroups, SpellsStorage, SpellsHeapType, SpellsUnshared, SpellsSize, SpellsBehindClass};
-ghost use Rattle.smith_spell.specs.Spelling.{
-  SpellsMember,
-  SpellsRest,
-  SpellsNone,
-  SpellsNoTag,
-  SpellsFuncs,
-  SpellsGlobal,
-  SpellsBytes,
-  SpellsNoStart,
-  SpellsSegments,
-  IsRest,
-};
+ghost use Rattle.smith_bytes.specs.Spelling.{SpellsNone};
+ghost use Rattle.smith_spell.specs.Spelling.{SpellsMember, SpellsRest, SpellsNoTag, SpellsFuncs, SpellsGlobal, SpellsBytes, SpellsNoStart, SpellsSegments, IsRest};
 ghost use Rattle.smith_spell.specs.ExampleMembers.{final, one_function_type, array_and_struct, taking_a_number, giving_two, alone, one_of_each_without_gc, no_types_and_imports, nothing_may_be, with_shared_types, function_bytes, full_bytes, array_and_struct_bytes, number_bytes, data_bytes, bytes_array, plain_function};
 
 fn members()

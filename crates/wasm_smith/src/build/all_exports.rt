@@ -2,7 +2,7 @@ ghost use Rattle.std.specs.Prelude.{◌≡◌, ◌<◌, ◌≤◌, ◌+◌, leng
 ghost use Rattle.smith_bytes.specs.Source.{KeepsPieces};
 ghost use Rattle.smith_types.specs.Exports.{AreExportsValid};
 ghost use Rattle.smith_types.specs.IndexSpaces.{spaces_in};
-ghost use Rattle.wasm_smith.specs.Steps.{Gives};
+ghost use Rattle.smith_imports.specs.Steps.{Gives};
 ghost use Rattle.wasm_smith.specs.Exporting.{exported_size};
 ghost use Rattle.wasm_smith.specs.Exported.{IsIndexed, MayExport, AreExportsFit, MayRefuseAll};
 ghost use Rattle.wasm_smith.specs.ExportedItems.{every_item, AreAllExported};

@@ -6,19 +6,19 @@ ghost use Rattle.smith_types.specs.Floats.{HasNoFloat};
 ghost use Rattle.smith_config.specs.InUse.{FixesExports};
 ghost use Rattle.wasm_smith.specs.Contents.{MayHoldContents};
 ghost use Rattle.wasm_smith.specs.DrawnContents.{TellsImported, AreContents, HasNoFloatContents, imported_in, contents_at};
-ghost use Rattle.wasm_smith.specs.Imported.{spaces_of};
+ghost use Rattle.smith_imports.specs.Imported.{spaces_of};
 ghost use Rattle.wasm_smith.specs.Refusals.{MayRefuse};
-ghost use Rattle.wasm_smith.specs.Steps.{Gives};
+ghost use Rattle.smith_imports.specs.Steps.{Gives};
 
 use crate::build::bodies::bodies;
 use crate::build::definitions::Definitions;
 use crate::build::exports::exports;
-use crate::build::imported::Imported;
 use crate::build::section_flag::section_flag;
 use crate::build::segments::{Segments, all_segments};
 use crate::build::start::start;
 use smith_bytes::{Error, Unstructured};
 use smith_config::Config;
+use smith_imports::Imported;
 use smith_types::{Code, ExportKind, Items, Name, TypeSpace};
 use std::alloc::Global;
 

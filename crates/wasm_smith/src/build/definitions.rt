@@ -3,9 +3,9 @@ ghost use Rattle.smith_bytes.specs.Source.{KeepsPieces};
 ghost use Rattle.smith_types.specs.Floats.{HasNoFloat};
 ghost use Rattle.smith_types.specs.IndexSpaces.{spaces_in};
 ghost use Rattle.wasm_smith.specs.Build.{definitions_at};
-ghost use Rattle.wasm_smith.specs.Steps.{Gives};
+ghost use Rattle.smith_imports.specs.Steps.{Gives};
 ghost use Rattle.wasm_smith.specs.Defined.{MayDefine, AreDefined, HaveNoFloats};
-ghost use Rattle.wasm_smith.specs.Imported.{HasNoFloatValue};
+ghost use Rattle.smith_imports.specs.Imported.{HasNoFloatValue};
 ghost use Rattle.wasm_smith.specs.Refusals.{MayRefuse};
 
 use crate::build::funcs::funcs;

@@ -6,22 +6,22 @@ ghost use Rattle.smith_config.specs.Sanitized.{IsSanitized};
 ghost use Rattle.wasm_smith.specs.Bounds.{KeepsBounds, MeetsMinimums};
 ghost use Rattle.wasm_smith.specs.Build.{parts_of, as_drawn, module_at};
 ghost use Rattle.wasm_smith.specs.DrawnParts.{IsDrawnFor};
-ghost use Rattle.wasm_smith.specs.Imported.{HasNoImports};
+ghost use Rattle.smith_imports.specs.Imported.{HasNoImports};
 ghost use Rattle.wasm_smith.specs.InterestingValues.{HasInterestingValues};
 ghost use Rattle.wasm_smith.specs.Module.{IsValid};
 ghost use Rattle.wasm_smith.specs.Promises.{KeepsPromises};
 ghost use Rattle.wasm_smith.specs.Refusals.{MayRefuse};
-ghost use Rattle.wasm_smith.specs.Steps.{Gives};
+ghost use Rattle.smith_imports.specs.Steps.{Gives};
 
 use crate::build::contents::{Contents, draw_contents};
 use crate::build::definitions::{Definitions, define};
-use crate::build::imported::Imported;
 use crate::build::imports::imports;
 use crate::build::section_flag::section_flag;
 use crate::build::types::types;
 use crate::interesting_values::interesting_values;
 use smith_bytes::{Error, Unstructured};
 use smith_config::Config;
+use smith_imports::Imported;
 use smith_types::{Items, TypeSpace};
 use std::alloc::Global;
 

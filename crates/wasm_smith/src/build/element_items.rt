@@ -10,7 +10,7 @@ ghost use Rattle.smith_config.specs.Sanitized.{IsSanitized};
 ghost use Rattle.smith_draw.specs.ConstFloats.{GivesNoFloat};
 ghost use Rattle.smith_draw.specs.ConstScopes.{AreSpacesValid, seen_by};
 ghost use Rattle.smith_draw.specs.Drawing.{AlwaysDraws, Draws};
-ghost use Rattle.wasm_smith.specs.Steps.{Gives};
+ghost use Rattle.smith_imports.specs.Steps.{Gives};
 ghost use Rattle.wasm_smith.specs.DrawnElements.{IsOffered, FitsTable, AreItemsFit, MayDrawElements, MayHoldItems, MayRefuseItems};
 ghost use Rattle.wasm_smith.specs.ElementSegments.{
   item_type_at,

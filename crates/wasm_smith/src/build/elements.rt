@@ -8,12 +8,12 @@ ghost use Rattle.smith_types.specs.declared.segments.ElementSegment.{ElementSegm
 ghost use Rattle.smith_draw.specs.ConstFloats.{GivesNoFloat};
 ghost use Rattle.smith_draw.specs.ConstScopes.{seen_by};
 ghost use Rattle.wasm_smith.specs.Defined.{SpellsEmpty};
-ghost use Rattle.wasm_smith.specs.Steps.{Gives};
+ghost use Rattle.smith_imports.specs.Steps.{Gives};
 ghost use Rattle.wasm_smith.specs.Bounds.{HasItems};
 ghost use Rattle.wasm_smith.specs.DrawnElements.{IsOffered, IsElementFit, MayDrawElements, MayRefuseItems, MayRefuseElements};
 ghost use Rattle.wasm_smith.specs.ElementSegments.{most_items, items_in, element_segment_at, element_segments_at, elements_at};
 ghost use Rattle.wasm_smith.specs.Promises.{expressions_of};
-ghost use Rattle.smith_spell.specs.Spelling.{SpellsNone};
+ghost use Rattle.smith_bytes.specs.Spelling.{SpellsNone};
 
 use crate::build::element_items::{item_type, items};
 use crate::build::element_kinds::{KindChoice, kinds};

@@ -8,8 +8,8 @@ ghost use Rattle.smith_draw.specs.TypeUses.{places_from};
 ghost use Rattle.wasm_smith.specs.Exporting.{is_func_below, candidates, candidate_row, candidate_rows, offered_kinds};
 ghost use Rattle.wasm_smith.specs.Exported.{MayExport, IsCandidate};
 
-use crate::build::import_kinds::{choose_enabled, count_enabled};
 use smith_bytes::Unstructured;
+use smith_imports::{choose_enabled, count_enabled};
 use smith_types::{EntityType, ExportKind, IndexSpaces, TypeSpace};
 
 /// The size of a function and one more, at most.

@@ -6,7 +6,7 @@ ghost use Rattle.smith_types.specs.ValidTypes.{AreTypesValid};
 ghost use Rattle.smith_config.specs.Faults.{Passes};
 ghost use Rattle.smith_config.specs.Features.{features_of};
 ghost use Rattle.smith_config.specs.Sanitized.{IsSanitized};
-ghost use Rattle.wasm_smith.specs.Steps.{Gives};
+ghost use Rattle.smith_imports.specs.Steps.{Gives};
 ghost use Rattle.wasm_smith.specs.Defined.{IsFilled};
 ghost use Rattle.wasm_smith.specs.Definitions.{funcs_at};
 ghost use Rattle.smith_spell.specs.FuncTypes.{func_types};

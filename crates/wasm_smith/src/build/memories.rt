@@ -7,7 +7,7 @@ ghost use Rattle.smith_draw.specs.Bounds.{IsMemoryWithin};
 ghost use Rattle.smith_draw.specs.Drawing.{DrawsInto};
 ghost use Rattle.wasm_smith.specs.Defined.{IsFilled, SpellsEmpty};
 ghost use Rattle.wasm_smith.specs.Definitions.{memories_at};
-ghost use Rattle.smith_spell.specs.Spelling.{SpellsNone};
+ghost use Rattle.smith_bytes.specs.Spelling.{SpellsNone};
 
 use crate::build::past_full::ask_past_full;
 use smith_bytes::{Error, Unstructured, goes_on};

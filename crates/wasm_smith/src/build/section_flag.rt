@@ -2,12 +2,12 @@ ghost use Rattle.std.specs.Prelude.{◌≡◌, ◌<◌, true};
 ghost use Rattle.smith_bytes.specs.Spelling.{SpellsBool};
 ghost use Rattle.smith_bytes.specs.Takes.{Takes};
 ghost use Rattle.smith_draw.specs.Drawing.{AlwaysDraws};
-ghost use Rattle.wasm_smith.specs.Steps.{section_flag_at};
+ghost use Rattle.smith_imports.specs.Steps.{section_flag_at};
 
 use smith_bytes::Unstructured;
 
 /// Whether a section of `count` types or groups of imports is written: where there are some, else where a bool says so.
-#[tactic(auto, unfolding(crate::specs::Steps::section_flag_at))]
+#[tactic(auto, unfolding(smith_imports::specs::Steps::section_flag_at))]
 pub(crate) fn section_flag(count: usize, u: &mut Unstructured<'_>) -> bool
     ensures draws { AlwaysDraws (section_flag_at count u.old) result u.old u.new }
     ensures written { 0 < count → result ≡ true }

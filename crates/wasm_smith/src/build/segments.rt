@@ -3,17 +3,17 @@ ghost use Rattle.smith_bytes.specs.Source.{KeepsPieces};
 ghost use Rattle.smith_types.specs.Floats.{HasNoFloat};
 ghost use Rattle.wasm_smith.specs.Contents.{MayHoldContents};
 ghost use Rattle.wasm_smith.specs.DrawnContents.{TellsImported, AreSegmentsFit, HaveNoFloatItems, imported_in, all_segments_at};
-ghost use Rattle.wasm_smith.specs.Imported.{spaces_of};
+ghost use Rattle.smith_imports.specs.Imported.{spaces_of};
 ghost use Rattle.wasm_smith.specs.Refusals.{MayRefuse};
-ghost use Rattle.wasm_smith.specs.Steps.{Gives};
+ghost use Rattle.smith_imports.specs.Steps.{Gives};
 
 use crate::build::data::data;
 use crate::build::definitions::Definitions;
 use crate::build::elements::elements;
-use crate::build::imported::Imported;
 use crate::build::segment_spaces::segment_spaces;
 use smith_bytes::{Error, Unstructured};
 use smith_config::Config;
+use smith_imports::Imported;
 use smith_types::{DataSegment, ElementSegment, Items, TypeSpace};
 use std::alloc::Global;
 

@@ -11,9 +11,9 @@ ghost use Rattle.smith_draw.specs.Drawing.{Draws};
 ghost use Rattle.wasm_smith.specs.Defined.{IsFilled, SpellsEmpty, MayInitialise, AreTablesDefined, standing_of};
 ghost use Rattle.wasm_smith.specs.DefinedTables.{IsTableFit, AreTablesDrawn};
 ghost use Rattle.wasm_smith.specs.Definitions.{table_at, tables_at};
-ghost use Rattle.wasm_smith.specs.Imported.{HasNullableElements};
+ghost use Rattle.smith_imports.specs.Imported.{HasNullableElements};
 ghost use Rattle.wasm_smith.specs.Promises.{initial_of};
-ghost use Rattle.smith_spell.specs.Spelling.{SpellsNone};
+ghost use Rattle.smith_bytes.specs.Spelling.{SpellsNone};
 
 use crate::build::past_full::ask_past_full;
 use smith_bytes::{Error, Unstructured, goes_on};

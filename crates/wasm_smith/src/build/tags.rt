@@ -3,7 +3,7 @@ ghost use Rattle.smith_bytes.specs.Source.{KeepsPieces};
 ghost use Rattle.smith_bytes.specs.Takes.{Takes};
 ghost use Rattle.smith_types.specs.Entities.{IsTagValid};
 ghost use Rattle.smith_config.specs.Faults.{Passes};
-ghost use Rattle.wasm_smith.specs.Steps.{Gives};
+ghost use Rattle.smith_imports.specs.Steps.{Gives};
 ghost use Rattle.wasm_smith.specs.Defined.{IsFilled, SpellsEmpty};
 ghost use Rattle.wasm_smith.specs.Definitions.{tag_types, tags_at};
 ghost use Rattle.smith_spell.specs.Spelling.{SpellsNoTag};

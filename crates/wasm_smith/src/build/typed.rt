@@ -2,7 +2,7 @@ ghost use Rattle.std.specs.Prelude.{◌≡◌, ◌<◌, ◌≤◌, ◌⊎◌, le
 ghost use Rattle.smith_bytes.specs.Source.{KeepsPieces};
 ghost use Rattle.smith_draw.specs.Choices.{chosen_at};
 ghost use Rattle.smith_draw.specs.Drawing.{DrawsInto};
-ghost use Rattle.wasm_smith.specs.Steps.{Gives};
+ghost use Rattle.smith_imports.specs.Steps.{Gives};
 ghost use Rattle.wasm_smith.specs.Definitions.{defined_at, behind, typed_at};
 
 use crate::build::past_full::ask_past_full;

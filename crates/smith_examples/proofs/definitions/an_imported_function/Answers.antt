@@ -18,12 +18,12 @@ use Rattle.wasm_smith.specs.DrawnBodies.{bodies_at}
 use Rattle.wasm_smith.specs.DrawnContents.{contents_at, all_segments_at}
 use Rattle.wasm_smith.specs.ElementSegments.{elements_at, kinds_at, table_kinds_at, element_segments_at}
 use Rattle.wasm_smith.specs.Exporting.{free_exports_at, exports_from}
-use Rattle.wasm_smith.specs.ImportGroups.{group_kind_at}
-use Rattle.wasm_smith.specs.ImportNames.{import_name_at}
-use Rattle.wasm_smith.specs.ImportedEntities.{kind_at, entity_of_kind_at, entity_at}
-use Rattle.wasm_smith.specs.Importing.{imports_at, groups_at, group_at, group_of_kind_at}
+use Rattle.smith_imports.specs.ImportGroups.{group_kind_at}
+use Rattle.smith_imports.specs.ImportNames.{import_name_at}
+use Rattle.smith_imports.specs.ImportedEntities.{kind_at, entity_of_kind_at, entity_at}
+use Rattle.smith_imports.specs.Importing.{imports_at, groups_at, group_at, group_of_kind_at}
 use Rattle.wasm_smith.specs.Start.{start_at, start_wanted_at}
-use Rattle.wasm_smith.specs.Steps.{section_flag_at}
+use Rattle.smith_imports.specs.Steps.{section_flag_at}
 use Rattle.smith_examples.proofs.definitions.an_imported_function.Goals as goal
 
 pub returns : goal.returns

@@ -6,7 +6,7 @@ use Rattle.std.specs.Str.Lossy.{utf8_valid_len}
 use Rattle.smith_bytes.specs.Draws.{bool_at, range_at, digit_count, len_at}
 use Rattle.smith_bytes.specs.Names.{text_at}
 use Rattle.smith_draw.specs.Choices.{chosen_at}
-use Rattle.wasm_smith.specs.ImportNames.{new_name}
+use Rattle.smith_imports.specs.ImportNames.{new_name}
 use Rattle.wasm_smith.specs.Exporting.{export_name_at, export_at, exports_from, free_exports_at}
 use Rattle.smith_examples.proofs.exports.drawn_exports.Goals as goal
 

@@ -8,10 +8,10 @@ use Rattle.smith_bytes.specs.Names.{text_at}
 use Rattle.smith_draw.specs.Choices.{chosen_at}
 use Rattle.smith_draw.specs.GlobalTypes.{global_type_at}
 use Rattle.smith_draw.specs.ValueTypes.{sharedness_at, val_type_at}
-use Rattle.wasm_smith.specs.ImportGroups.{group_kind_at}
-use Rattle.wasm_smith.specs.ImportNames.{new_name, import_name_at}
-use Rattle.wasm_smith.specs.ImportedEntities.{kind_at, entity_of_kind_at, entity_at}
-use Rattle.wasm_smith.specs.Importing.{fill_at, filled_at, group_of_kind_at, group_at, groups_at, imports_at}
+use Rattle.smith_imports.specs.ImportGroups.{group_kind_at}
+use Rattle.smith_imports.specs.ImportNames.{new_name, import_name_at}
+use Rattle.smith_imports.specs.ImportedEntities.{kind_at, entity_of_kind_at, entity_at}
+use Rattle.smith_imports.specs.Importing.{fill_at, filled_at, group_of_kind_at, group_at, groups_at, imports_at}
 use Rattle.smith_examples.proofs.imports.drawn_imports.Goals as goal
 
 pub returns-clause-of_one_type : goal.returns-clause-of_one_type

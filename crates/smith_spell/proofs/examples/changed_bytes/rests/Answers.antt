@@ -2,11 +2,11 @@ use Rattle.std.proofs.Common.{arith, ◌≡◌, ℕ, ◌+◌, ◌-◌, ◌%◌, 
 use Rattle.std.specs.Prelude.{pos}
 use Rattle.std.specs.Int.{cast_signed, w32}
 use Rattle.smith_bytes.specs.Draws.{big_endian, little_endian, digit_count}
-use Rattle.smith_bytes.specs.Spelling.{SpellsBool, SpellsNumber, SpellsAnyByte, Joined, Listed}
+use Rattle.smith_bytes.specs.Spelling.{SpellsBool, SpellsNumber, SpellsAnyByte, Joined, Listed, SpellsNone}
 use Rattle.smith_config.specs.Config.{default_config}
 use Rattle.smith_draw.specs.Spelling.{SpellsUnshared}
 use Rattle.smith_draw.specs.SpelledConstants.{SpellsI32}
-use Rattle.smith_spell.specs.Spelling.{SpellsRest, SpellsNone, SpellsGlobal, SpellsBytes, SpellsNoStart, SpellsSegments}
+use Rattle.smith_spell.specs.Spelling.{SpellsRest, SpellsGlobal, SpellsBytes, SpellsNoStart, SpellsSegments}
 use Rattle.smith_spell.proofs.SpelledExamples.{one_odd, bool_first, any_first, digit_first, this_first, word_first, without_nothing, global_parts, opened}
 use Rattle.smith_spell.proofs.examples.changed_bytes.rests.Goals as goal
 

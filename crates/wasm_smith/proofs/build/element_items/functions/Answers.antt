@@ -4,7 +4,7 @@ use Rattle.smith_draw.specs.ConstScopes.{seen_by}
 use Rattle.wasm_smith.specs.DrawnElements.{AreItemsFit}
 use Rattle.wasm_smith.specs.ElementSegments.{functions_at}
 use Rattle.wasm_smith.proofs.ElementFunctionLemmas.{functions_fit}
-use Rattle.wasm_smith.proofs.GivenLemmas.{given_is}
+use Rattle.smith_imports.proofs.GivenLemmas.{given_is}
 use Rattle.wasm_smith.proofs.build.element_items.functions.Goals as goal
 
 pub returns-clause-fit : goal.returns-clause-fit

@@ -9,7 +9,7 @@ use Rattle.wasm_smith.specs.DrawnElements.{IsElementFit}
 use Rattle.wasm_smith.specs.ElementSegments.{elements_at}
 use Rattle.wasm_smith.proofs.ElementCountLemmas.{elements_least, elements_taken}
 use Rattle.wasm_smith.proofs.ElementFitLemmas.{elements_no_float}
-use Rattle.wasm_smith.proofs.GivenLemmas.{given_is}
+use Rattle.smith_imports.proofs.GivenLemmas.{given_is}
 use Rattle.wasm_smith.proofs.build.elements.elements.Goals as goal
 
 pub returns-clause-least : goal.returns-clause-least

@@ -3,7 +3,7 @@ use Rattle.smith_bytes.specs.declared.error.Count.TheVariants.{Funcs}
 use Rattle.wasm_smith.specs.Definitions.{funcs_at}
 use Rattle.smith_spell.specs.Spelling.{SpellsFuncs}
 use Rattle.wasm_smith.proofs.RefusalLemmas.{funcs_refuse}
-use Rattle.wasm_smith.proofs.GivenLemmas.{given_takes}
+use Rattle.smith_imports.proofs.GivenLemmas.{given_takes}
 use Rattle.wasm_smith.proofs.TypedLemmas.{funcs_are, funcs_read}
 use Rattle.wasm_smith.proofs.build.funcs.funcs.Goals as goal
 

@@ -4,7 +4,7 @@ use Rattle.smith_types.specs.Entities.{IsTableValid}
 use Rattle.smith_config.specs.Features.{features_of}
 use Rattle.smith_draw.specs.Bounds.{IsTableWithin}
 use Rattle.wasm_smith.specs.Defined.{standing_of}
-use Rattle.wasm_smith.specs.Imported.{HasNullableElements}
+use Rattle.smith_imports.specs.Imported.{HasNullableElements}
 use Rattle.wasm_smith.proofs.DefinedTableLemmas.{tables_fill, several_tables, tables_all, tables_defined, tables_no_float, no_table_taken}
 use Rattle.wasm_smith.proofs.build.tables.tables.Goals as goal
 

@@ -3,7 +3,7 @@ use Rattle.smith_bytes.specs.declared.error.Count.TheVariants.{Tags}
 use Rattle.wasm_smith.specs.Defined.{SpellsEmpty}
 use Rattle.wasm_smith.specs.Definitions.{tags_at}
 use Rattle.smith_spell.specs.Spelling.{SpellsNoTag}
-use Rattle.wasm_smith.proofs.GivenLemmas.{given_takes}
+use Rattle.smith_imports.proofs.GivenLemmas.{given_takes}
 use Rattle.wasm_smith.proofs.TypedLemmas.{tags_are, tags_enabled, no_tag_read}
 use Rattle.wasm_smith.proofs.build.tags.tags.Goals as goal
 

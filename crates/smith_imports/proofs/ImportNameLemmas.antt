@@ -1,0 +1,147 @@
+-- A pair of names that is made new: its name grows at each turn, and is new once it is longer than each name there is.
+use Rattle.std.proofs.Common.{◌≡◌, ℕ, zero, suc, ◌+◌, ◌≤◌, ◌<◌, Bool, true, false, List, [], ◌∷◌, ◌++◌, length, max, refl, sym, ap, ◌||◌, ◌&&◌, ◌∙◌, arith, below_more, string_bytes, length-append, inl, inr, ◌⊎◌}
+use Rattle.std.specs.Prelude.{not, if◌then◌else◌}
+use Rattle.std.specs.Str.{bytes_eq}
+use Rattle.std.specs.List.{list_any}
+use Rattle.std.specs.Fmt.{decimal}
+use Rattle.std.specs.HashSet.{HashSet, PutsKey, hash_set_len}
+use Rattle.std.specs.declared.string.String.{String}
+use Rattle.std.specs.declared.alloc.Global.{Global}
+use Rattle.std.proofs.Math.Nat.{eq-or-lt_of_le}
+use Rattle.std.proofs.lemmas.Slice.Eq.{bytes_eq-Decides}
+use Rattle.std.proofs.lemmas.List.Folds.{list_any-append}
+use Rattle.std.proofs.lemmas.List.Sorted.{list_any-IsPermutation}
+use Rattle.smith_bytes.specs.Names.{text_at, with_copies}
+use Rattle.smith_types.specs.declared.imports.Import.{Import}
+use Rattle.smith_imports.specs.ImportNames.{has_names, is_taken, longest_name, new_name, import_name_at, is_pair, has_pair, HasPairs, AddsPair, IsNewName}
+
+-- the length of the longest name of a pair
+abbrev pub longest_pair : List (String Global × String Global) → ℕ
+longest_pair [] = 0
+longest_pair (pair ∷ pairs) = max (length (string_bytes pair.1)) (longest_pair pairs)
+
+short_by : (from name : List ℕ) (pair : String Global × String Global) (pairs : List (String Global × String Global)) (a b : Bool) → bytes_eq name (string_bytes pair.1) ≡ b → ((a && b) || list_any (is_pair from name) pairs) ≡ true
+    → (list_any (is_pair from name) pairs ≡ true → length name ≤ longest_pair pairs) → length name ≤ longest_pair (pair ∷ pairs)
+short_by from name pair pairs true true same there later = omega (arith, ap length ((bytes_eq-Decides name (string_bytes pair.1)).0 same))
+short_by from name pair pairs true false same there later = omega (arith, later there)
+short_by from name pair pairs false b same there later = omega (arith, later there)
+
+-- a name of a pair is no longer than the longest
+pub present_short : (from name : List ℕ) (pairs : List (String Global × String Global)) → list_any (is_pair from name) pairs ≡ true → length name ≤ longest_pair pairs
+present_short from name [] there = absurd cc
+present_short from name (pair ∷ pairs) there =
+    short_by from name pair pairs (bytes_eq from (string_bytes pair.0)) (bytes_eq name (string_bytes pair.1)) refl there (present_short from name pairs)
+
+-- name is the text with some copies behind it, and with fewer it was taken
+pub record IsMaking (taken : List ℕ → Bool) (digits text name : List ℕ) : Type 0 where
+  pub some : 0 < length digits
+  pub copies : ℕ
+  pub made : name ≡ with_copies text digits copies
+  pub needed : (n : ℕ) → n < copies → taken (with_copies text digits n) ≡ true
+
+pub making_start : (taken : List ℕ → Bool) (digits text : List ℕ) → 0 < length digits → IsMaking taken digits text text
+making_start taken digits text some = record { some = some; copies = 0; made = refl; needed = λ n below. absurd (omega arith) }
+
+pub making_more : {taken : List ℕ → Bool} {digits text name longer : List ℕ}
+    → IsMaking taken digits text name → taken name ≡ true → longer ≡ name ++ digits → IsMaking taken digits text longer
+making_more now there is_longer = record {
+  some = now.some;
+  copies = suc now.copies;
+  made = is_longer ∙ rw now.made refl;
+  needed = λ n below. below_more _ _ now.needed (rw now.made at there) n (omega arith);
+}
+
+pub making_done : {taken : List ℕ → Bool} {digits text name : List ℕ} → IsMaking taken digits text name → taken name ≡ false → IsNewName taken digits text name
+making_done now new = record { some = now.some; copies = now.copies; made = now.made; fresh = new; needed = now.needed }
+
+-- a set has one pair more once a pair is inserted that it had not
+pub pair_added : {S : Type 0} (old new : HashSet (String Global × String Global) S) (pair : String Global × String Global) (from name : List ℕ) (added : Bool)
+    → string_bytes pair.0 ≡ from → string_bytes pair.1 ≡ name → has_pair old from (string_bytes pair.1) ≡ false → added ≡ not (has_pair old (string_bytes pair.0) (string_bytes pair.1)) → PutsKey old new pair added → hash_set_len new ≡ hash_set_len old + (if added then 1 else 0)
+    → AddsPair old new from name
+pair_added old new pair from name false is_from is_name fresh is puts size =
+    let there : not (has_pair old from (string_bytes pair.1)) ≡ false = rw is_from at (sym is) in
+    let never : not (has_pair old from (string_bytes pair.1)) ≡ true = ap not fresh in
+    absurd (cc)
+pair_added old new pair from name true is_from is_name fresh is puts size = record {
+  has = λ other_from other_name.
+      rw (← is_from, ← is_name) (sym (list_any-IsPermutation (is_pair other_from other_name) (pair ∷ old.keys) new.keys puts));
+  size = size;
+}
+
+short_name_by : (from name : List ℕ) (one : Import) (imports : List Import) (a b : Bool) → bytes_eq name one.name ≡ b → ((a && b) || is_taken imports from name) ≡ true
+    → (is_taken imports from name ≡ true → length name ≤ longest_name imports) → length name ≤ longest_name (one ∷ imports)
+short_name_by from name one imports true true same there later = omega (arith, ap length ((bytes_eq-Decides name one.name).0 same))
+short_name_by from name one imports true false same there later = omega (arith, later there)
+short_name_by from name one imports false b same there later = omega (arith, later there)
+
+-- a name that is taken is no longer than the longest
+taken_short : (from name : List ℕ) (imports : List Import) → is_taken imports from name ≡ true → length name ≤ longest_name imports
+taken_short from name [] there = absurd cc
+taken_short from name (one ∷ imports) there = short_name_by from name one imports (bytes_eq from one.«module») (bytes_eq name one.name) refl there (taken_short from name imports)
+
+copies_long : (text digits : List ℕ) (n : ℕ) → 0 < length digits → n ≤ length (with_copies text digits n)
+copies_long text digits zero some = omega arith
+copies_long text digits (suc n) some = omega (arith, copies_long text digits n some, length-append (with_copies text digits n) digits)
+
+at_end : (j copies : ℕ) → j ≤ copies → (j ≡ copies) ⊎ (j < copies)
+at_end j copies below = eq-or-lt_of_le below
+
+-- from some copies on
+new_from : (taken : List ℕ → Bool) (digits text : List ℕ) (copies turns j : ℕ) → taken (with_copies text digits copies) ≡ false → ((n : ℕ) → n < copies → taken (with_copies text digits n) ≡ true)
+    → j ≤ copies → copies ≤ j + turns → new_name taken digits turns (with_copies text digits j) ≡ with_copies text digits copies
+unfolding new_name
+new_from taken digits text copies zero j fresh needed below enough = let same : j ≡ copies = omega arith in rw same refl
+new_from taken digits text copies (suc turns) j fresh needed below enough = elim (at_end j copies below) [
+  | inl same ↦ rw (same, fresh) refl
+  | inr less ↦ rw (needed j less) (new_from taken digits text copies turns (suc j) fresh needed (omega arith) (omega arith))
+]
+
+few_copies : (taken : List ℕ → Bool) (digits text : List ℕ) (copies most : ℕ) → 0 < length digits → ((name : List ℕ) → taken name ≡ true → length name ≤ most) → ((n : ℕ) → n < copies → taken (with_copies text digits n) ≡ true) → copies ≤ most + 1
+few_copies taken digits text zero most some short needed = omega arith
+few_copies taken digits text (suc n) most some short needed =
+    omega (arith, short (with_copies text digits n) (needed n (omega arith)), copies_long text digits n some)
+
+-- a name that was made new is the one that the definition makes, where no name that is taken is longer
+pub new_name_is : (taken : List ℕ → Bool) (digits text name : List ℕ) (longest : ℕ) → ((other : List ℕ) → taken other ≡ true → length other ≤ longest) → IsNewName taken digits text name → new_name taken digits (longest + 1) text ≡ name
+new_name_is taken digits text name longest short made =
+    let fresh : taken (with_copies text digits made.copies) ≡ false = rw made.made at made.fresh in
+    let few = few_copies taken digits text made.copies longest made.some short made.needed in
+    new_from taken digits text made.copies (longest + 1) 0 fresh made.needed (omega arith) (omega arith) ∙ sym made.made
+
+-- the same by another test that tells the same
+pub new_by : {taken : List ℕ → Bool} {digits text name : List ℕ} (other : List ℕ → Bool) → ((any : List ℕ) → taken any ≡ other any) → IsNewName taken digits text name → IsNewName other digits text name
+new_by {digits = digits} {text = text} {name = name} other same made = record {
+  copies = made.copies;
+  made = made.made;
+  fresh = sym (same name) ∙ made.fresh;
+  some = made.some;
+  needed = λ n below. sym (same (with_copies text digits n)) ∙ made.needed n below;
+}
+
+-- the name of an import that was made new is the one that the definition makes
+pub name_made : (imports : List Import) (from text name : List ℕ) (taken : List ℕ → Bool) (count : ℕ) → ((other : List ℕ) → taken other ≡ is_taken imports from other) → count ≡ length imports → IsNewName taken (decimal count) text name
+    → new_name (is_taken imports from) (decimal (length imports)) (longest_name imports + 1) text ≡ name
+name_made imports from text name taken count same size made =
+    new_name_is (is_taken imports from) (decimal (length imports)) text name (longest_name imports) (λ other there. taken_short from other imports there) (new_by (is_taken imports from) same (rw size at made))
+
+or_flip : (a b : Bool) → (a || b) ≡ (b || (a || false))
+or_flip true true = refl
+or_flip true false = refl
+or_flip false true = refl
+or_flip false false = refl
+
+-- a set with one pair more has the pairs of one import more
+pub knows_more : {S : Type 0} {old new : HashSet (String Global × String Global) S} {imports : List Import} (added : Import) → HasPairs old imports → AddsPair old new added.«module» added.name → HasPairs new (imports ++ added ∷ [])
+knows_more {old = old} {new = new} {imports = imports} added known more = record {
+  has = λ from name.
+      let there = more.has from name in
+      let was = known.has from name in
+      there ∙ rw was (or_flip (has_names from name added) (is_taken imports from name)) ∙ sym (list_any-append (has_names from name) imports (added ∷ []));
+  size = more.size ∙ rw (known.size, length-append) refl;
+}
+
+-- the drawn name, where pairs must be distinct
+pub name_is : (imports : List Import) (from bytes rest text name : List ℕ) (distinct : Bool) → distinct ≡ true → text_at 1000 bytes ≡ (text, rest) → new_name (is_taken imports from) (decimal (length imports)) (longest_name imports + 1) text ≡ name
+    → import_name_at distinct imports from bytes ≡ (name, rest)
+unfolding import_name_at
+name_is imports from bytes rest text name distinct on read made = rw (on, read, made) refl

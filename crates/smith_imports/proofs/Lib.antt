@@ -1,0 +1,11 @@
+pub mod ImportNameLemmas
+pub mod ImportedEntityLemmas
+pub mod ImportsGrownLemmas
+pub mod FilledGroupLoop
+pub mod ImportGroupsLoop
+pub mod GivenLemmas
+pub mod NoImportLemmas
+pub mod TakenImportsLoop
+pub mod AvailableImportLemmas
+pub mod GroupedImportsLoop
+pub mod KeptImportLemmas

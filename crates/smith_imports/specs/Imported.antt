@@ -1,0 +1,188 @@
+-- What the step of imports keeps as it adds imports, and when it may refuse. Rules of this project.
+use Rattle.std.specs.Prelude.{◌≡◌, ℕ, ◌+◌, ◌*◌, ◌^◌, ◌<◌, ◌≤◌, ◌⊎◌, Bool, true, false, ◌&&◌, IsTrue, List, [], length, map, All}
+use Rattle.std.specs.HashSet.{IsEmpty}
+use Rattle.smith_bytes.specs.declared.error.Error.{Error}
+use Rattle.smith_bytes.specs.declared.error.Error.TheVariants as errors
+use Rattle.smith_bytes.specs.declared.error.Why.TheVariants.{Unmet}
+use Rattle.smith_bytes.specs.declared.error.Count.TheVariants as counts
+use Rattle.smith_types.specs.Entities.{AreEntitiesValid}
+use Rattle.smith_types.specs.Exports.{AreDistinct}
+use Rattle.smith_types.specs.Flags.{IsImportsEnabled}
+use Rattle.smith_types.specs.Floats.{IsNoFloat}
+use Rattle.smith_types.specs.Imports.{IndexSpaces, IsImportsValid, flattened, imported_spaces, tag_of, func_of, table_of, memory_of, global_of}
+use Rattle.smith_types.specs.IndexSpaces.{spaces_in, with_entity}
+use Rattle.smith_types.specs.Sizes.{IsTyped, size_in}
+use Rattle.smith_types.specs.Space.{Space}
+use Rattle.smith_types.specs.ValidTypes.{AreTypesValid}
+use Rattle.smith_types.specs.declared.composite_type.SubType.{SubType}
+use Rattle.smith_types.specs.declared.entity_type.EntityType.{EntityType}
+use Rattle.smith_types.specs.declared.entity_type.ExportKind.{ExportKind}
+use Rattle.smith_types.specs.declared.entity_type.GlobalType.{GlobalType}
+use Rattle.smith_types.specs.declared.entity_type.TableType.{TableType}
+use Rattle.smith_types.specs.declared.imports.Import.{Import}
+use Rattle.smith_types.specs.declared.imports.Imports.{Imports}
+use Rattle.smith_types.specs.declared.imports.Imports.TheVariants.{Single, Compact2}
+use Rattle.smith_config.specs.declared.config.Config.{Config}
+use Rattle.smith_config.specs.Faults.{Passes}
+use Rattle.smith_config.specs.Features.{features_of}
+use Rattle.smith_config.specs.InUse.{FixesImports}
+use Rattle.smith_config.specs.Sanitized.{IsSanitized}
+use Rattle.smith_draw.specs.Bounds.{IsTableWithin, IsMemoryWithin}
+use Rattle.smith_draw.specs.FuncSizes.{IsSmall}
+use Rattle.smith_imports.specs.ImportNames.{KnowsPairs}
+use Rattle.smith_imports.specs.ImportedEntities.{kind_of, has_room, may_import, sizes}
+use Rattle.smith_bytes.specs.Spelling.{SpellsNone}
+use Rattle.smith_imports.specs.declared.imported.Imported.{Imported}
+
+-- imports may be drawn over these types: no shape fixes the imports, and the function types are small
+pub record MayImport (config : Config) (space : Space) : Type 0 where
+  pub passes : Passes config
+  pub sanitized : IsSanitized config
+  pub free : FixesImports config → ⊥
+  pub valid : AreTypesValid (features_of config) space
+  pub few : length space.types < 2 ^ 32
+  pub small : All IsSmall space.types
+
+-- the index spaces that the imports begin so far
+abbrev pub spaces_of : Imported → IndexSpaces
+spaces_of imported = spaces_in imported.spaces
+
+-- the index spaces that one entity makes
+abbrev pub entity_spaces : EntityType → IndexSpaces
+entity_spaces one = record { tags = tag_of one; funcs = func_of one; tables = table_of one; memories = memory_of one; globals = global_of one }
+
+-- nothing is imported yet
+pub record HasNoImports (imported : Imported) : Type 0 where
+  pub groups : imported.groups ≡ []
+  pub spaces : spaces_of imported ≡ record { tags = []; funcs = []; tables = []; memories = []; globals = [] }
+  pub count : imported.count ≡ 0
+  pub type_size : imported.type_size ≡ 0
+  pub pairs : IsEmpty imported.pairs
+
+-- an import of an entity is counted, and nothing else changes
+pub record IsCounted (types : List SubType) (added : EntityType) (old new : Imported) : Type 0 where
+  pub groups : new.groups ≡ old.groups
+  pub spaces : spaces_of new ≡ with_entity (spaces_of old) added
+  pub count : new.count ≡ old.count + 1
+  pub type_size : new.type_size ≡ old.type_size + (size_in types added + 1)
+  pub pairs : new.pairs ≡ old.pairs
+
+-- what is counted is counted of these imports
+pub record Counts (types : List SubType) (distinct : Bool) (imported : Imported) (imports : List Import) : Type 0 where
+  pub spaces : spaces_of imported ≡ imported_spaces imports
+  pub count : imported.count ≡ length imports
+  pub type_size : imported.type_size ≡ sizes types imports
+  pub pairs : KnowsPairs distinct imported.pairs imports
+
+-- index spaces have no more of each kind than the configuration allows
+pub record AreNumbersWithin (config : Config) (spaces : IndexSpaces) : Type 0 where
+  pub tags : length spaces.tags ≤ config.max_tags
+  pub funcs : length spaces.funcs ≤ config.max_funcs
+  pub tables : length spaces.tables ≤ config.max_tables
+  pub memories : length spaces.memories ≤ config.max_memories
+  pub globals : length spaces.globals ≤ config.max_globals
+
+-- index spaces have no more than the configuration allows
+pub record AreSpacesWithin (config : Config) (spaces : IndexSpaces) : Type 0 where
+  pub tags : length spaces.tags ≤ config.max_tags
+  pub funcs : length spaces.funcs ≤ config.max_funcs
+  pub tables : length spaces.tables ≤ config.max_tables
+  pub memories : length spaces.memories ≤ config.max_memories
+  pub globals : length spaces.globals ≤ config.max_globals
+  pub each_table : All (IsTableWithin config) spaces.tables
+  pub each_memory : All (IsMemoryWithin config) spaces.memories
+
+-- the value of a global is not a float
+abbrev pub HasNoFloatValue : GlobalType → Type 0
+HasNoFloatValue global = IsNoFloat global.val_type
+
+-- the elements of a table may be null
+abbrev pub HasNullableElements : TableType → Type 0
+HasNullableElements table = table.element_type.nullable ≡ true
+
+-- imports are valid and within the bounds; each adds at most 42 to the type size; their pairs of names are distinct where
+-- they must be
+pub record AreImportsFit (config : Config) (types : List SubType) (distinct : Bool) (imports : List Import) : Type 0 where
+  pub entities : AreEntitiesValid (features_of config) types (imported_spaces imports)
+  pub tags : 0 < length (imported_spaces imports).tags → IsTrue config.exceptions_enabled
+  pub within : AreSpacesWithin config (imported_spaces imports)
+  pub most : length imports ≤ config.max_imports
+  pub type_size : sizes types imports ≤ config.max_type_size
+  pub small : sizes types imports ≤ 42 * length imports
+  pub nullable_tables : All HasNullableElements (imported_spaces imports).tables
+  pub floats : config.allow_floats ≡ false → All HasNoFloatValue (imported_spaces imports).globals
+  pub apart : IsTrue distinct → AreDistinct {A = List ℕ × List ℕ} (map (λ (one : Import). (one.«module», one.name)) imports)
+
+-- an entity may be imported
+pub record IsEntityFit (config : Config) (types : List SubType) (added : EntityType) : Type 0 where
+  pub valid : AreEntitiesValid (features_of config) types (entity_spaces added)
+  pub tag : 0 < length (tag_of added) → IsTrue config.exceptions_enabled
+  pub tables : All (IsTableWithin config) (table_of added)
+  pub memories : All (IsMemoryWithin config) (memory_of added)
+  pub nullable_tables : All HasNullableElements (table_of added)
+  pub floats : config.allow_floats ≡ false → All HasNoFloatValue (global_of added)
+  pub small : size_in types added ≤ 41
+  pub typed : IsTyped types added
+
+-- an entity may be imported beside index spaces and a type size
+pub record IsNext (config : Config) (types : List SubType) (spaces : IndexSpaces) (size : ℕ) (added : EntityType) : Type 0 where
+  pub fit : IsEntityFit config types added
+  pub room : has_room config spaces (kind_of added) ≡ true
+  pub fits : size + (size_in types added + 1) ≤ config.max_type_size
+  pub sum : size + (size_in types added + 1) < 2 ^ 32
+
+-- one more of a kind may be imported
+abbrev pub IsOffered : Config → List SubType → IndexSpaces → ExportKind → Type 0
+IsOffered config types spaces of_kind = (may_import config types of_kind && has_room config spaces of_kind) ≡ true
+
+-- imports may end beside index spaces and a type size: an import may be too large, or some kind is full
+abbrev pub MayEndAt : Config → IndexSpaces → ℕ → Type 0
+MayEndAt config spaces size = (config.max_type_size < size + 42) ⊎ ((of_kind : ExportKind) × (has_room config spaces of_kind ≡ false))
+
+-- imports may end where there are as many as this: one more may be too large beside them, or they may fill some kind
+abbrev pub MayEnd : Config → ℕ → Type 0
+MayEnd config count =
+    (config.max_type_size < 42 * (count + 1))
+    ⊎ ((config.max_tags ≤ count) ⊎ ((config.max_funcs ≤ count) ⊎ ((config.max_globals ≤ count) ⊎ ((config.max_memories ≤ count) ⊎ (config.max_tables ≤ count)))))
+
+-- a group is compact
+abbrev pub IsCompact : Imports → Type 0
+IsCompact (Single imported) = ⊥
+IsCompact _ = Unit {0}
+
+-- the type that all imports of a group have, where it has one, is that of an entity that may be imported
+abbrev pub HasFitEntity : Config → List SubType → Imports → Type 0
+HasFitEntity config types (Compact2 from entity_type names) = IsEntityFit config types entity_type
+HasFitEntity config types _ = Unit {0}
+
+-- an import of a group may have this type
+abbrev pub IsOfGroup : Imports → EntityType → Type 0
+IsOfGroup (Compact2 from entity_type names) added = added ≡ entity_type
+IsOfGroup _ added = Unit {0}
+
+-- imports may be added to a group
+pub record IsOpen (config : Config) (types : List SubType) (group : Imports) : Type 0 where
+  pub fit : HasFitEntity config types group
+  pub enabled : IsImportsEnabled (features_of config) group
+  pub compact : IsCompact group
+
+-- what is imported so far: groups that are valid, and what is counted of them
+pub record IsImported (config : Config) (types : List SubType) (distinct : Bool) (imported : Imported) : Type 0 where
+  pub counts : Counts types distinct imported (flattened imported.groups)
+  pub fit : AreImportsFit config types distinct (flattened imported.groups)
+  pub groups : All (IsImportsValid (features_of config)) imported.groups
+
+-- where imports may end before there are as many as are asked for: they may be too large together, or some kind too few
+abbrev pub MayLackImports : Config → Type 0
+MayLackImports config =
+    (config.max_type_size < 42 * config.min_imports)
+    ⊎ ((config.max_tags < config.min_imports)
+    ⊎ ((config.max_funcs < config.min_imports) ⊎ ((config.max_globals < config.min_imports) ⊎ ((config.max_memories < config.min_imports) ⊎ (config.max_tables < config.min_imports)))))
+
+-- when imports may be refused: for want of memory, or where a minimum above zero may stay unmet
+abbrev pub MayRefuseImports : Config → Error → Type 0
+MayRefuseImports config e = (e ≡ errors.Memory) ⊎ ((e ≡ errors.IncorrectFormat (Unmet counts.Imports)) × (0 < config.min_imports) × MayLackImports config)
+
+-- that there is no import
+unfoldable pub SpellsNoImport : Config → List Imports → List ℕ → Type 0
+SpellsNoImport config groups piece = (groups ≡ []) × SpellsNone config.max_imports piece

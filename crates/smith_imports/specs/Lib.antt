@@ -1,0 +1,9 @@
+pub mod ImportGroups
+pub mod ImportNames
+pub mod ImportedEntities
+pub mod Imported
+pub mod Importing
+pub mod ShapeImports
+pub mod AvailableImports
+pub mod KeptImports
+pub mod Steps

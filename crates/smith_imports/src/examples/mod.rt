@@ -1,0 +1,3 @@
+//! Values of private types.
+
+mod import_groups;

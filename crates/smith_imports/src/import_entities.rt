@@ -1,0 +1,133 @@
+ghost use Rattle.std.specs.Prelude.{◌≡◌, ◌<◌, ◌+◌, ◌^◌, true, None, Some, IsTrue, IfOk, IfSome, if◌then◌else◌};
+ghost use Rattle.smith_types.specs.Sizes.{size_in};
+ghost use Rattle.smith_draw.specs.Drawing.{Draws};
+ghost use Rattle.smith_imports.specs.Imported.{MayImport, IsEntityFit, IsNext, MayEndAt, spaces_of};
+ghost use Rattle.smith_imports.specs.ImportedEntities.{kind_of, has_room, may_import, entity_of_kind_at, fits, entity_at, again};
+
+use crate::import_kinds::{has_room, kind};
+use crate::imported::Imported;
+use smith_bytes::{Error, Unstructured};
+use smith_config::Config;
+use smith_draw::{
+    Entities, Spaces, TypeUse, arbitrary_global_type, arbitrary_memtype, arbitrary_table_type,
+    choose_type,
+};
+use smith_types::{EntityType, ExportKind, TypeSpace};
+use std::alloc::Global;
+
+pub(crate) fn kind_of(added: &EntityType) -> ExportKind
+    ensures { result ≡ kind_of added.now }
+{
+    match added {
+        EntityType::Tag(_) => ExportKind::Tag,
+        EntityType::Func(_) => ExportKind::Func,
+        EntityType::Global(_) => ExportKind::Global,
+        EntityType::Memory(_) => ExportKind::Memory,
+        EntityType::Table(_) => ExportKind::Table,
+    }
+}
+
+/// Draws an entity of a kind that may be imported.
+#[tactic(auto, unfolding(crate::specs::ImportedEntities::entity_of_kind_at))]
+fn entity_of_kind(
+    alloc: Global,
+    config: &Config,
+    types: &TypeSpace,
+    kind: ExportKind,
+    u: &mut Unstructured<'_>,
+) -> Result<EntityType, Error>
+    requires may { MayImport config.now types.now }
+    requires kind { may_import config.now types.now.types kind ≡ true }
+    ensures draws { Draws (entity_of_kind_at config.now types.now.types kind u.old) result u.old u.new }
+    ensures kind { IfOk result (λ added. kind_of added ≡ kind) }
+    ensures fit { IfOk result (IsEntityFit config.now types.now.types) }
+{
+    let spaces = Spaces {
+        types,
+        entities: Entities::none(),
+    };
+    match kind {
+        ExportKind::Tag => Ok(EntityType::Tag(choose_type(TypeUse::Tag, types.types(), u))),
+        ExportKind::Func => Ok(EntityType::Func(choose_type(
+            TypeUse::ImportedFunc,
+            types.types(),
+            u,
+        ))),
+        ExportKind::Global => Ok(EntityType::Global(arbitrary_global_type(
+            alloc, config, &spaces, u,
+        )?)),
+        ExportKind::Memory => Ok(EntityType::Memory(arbitrary_memtype(config, u)?)),
+        ExportKind::Table => Ok(EntityType::Table(arbitrary_table_type(
+            alloc, config, &spaces, u,
+        )?)),
+    }
+}
+
+/// Whether an import of an entity fits beside a type size.
+fn fits(config: &Config, types: &TypeSpace, size: u32, added: &EntityType) -> bool
+    requires fit { IsEntityFit config.now types.now.types added.now }
+    ensures exact { result ≡ fits config.now types.now.types size added.now }
+    ensures sum { IsTrue result → size + (size_in types.now.types added.now + 1) < 2 ^ 32 }
+{
+    let most = config.max_type_size;
+    u64::from(size) + u64::from(types.size_of(added)) + 1 <= u64::from(most)
+}
+
+/// The entity, if an import of it fits.
+fn if_fits(
+    config: &Config,
+    types: &TypeSpace,
+    imported: &Imported,
+    added: EntityType,
+) -> Option<EntityType>
+    requires fit { IsEntityFit config.now types.now.types added }
+    requires room { has_room config.now (spaces_of imported.now) (kind_of added) ≡ true }
+    ensures exact { result ≡ (if fits config.now types.now.types imported.now.type_size added then Some added else None) }
+    ensures next { IfSome result (IsNext config.now types.now.types (spaces_of imported.now) imported.now.type_size) }
+    ensures ended { result ≡ None → MayEndAt config.now (spaces_of imported.now) imported.now.type_size }
+{
+    if fits(config, types, imported.type_size, &added) {
+        Some(added)
+    } else {
+        None
+    }
+}
+
+/// Draws an entity of a kind that has room, if there is such a kind and an import of the entity fits.
+#[tactic(auto, unfolding(crate::specs::ImportedEntities::entity_at))]
+pub(crate) fn entity(
+    alloc: Global,
+    config: &Config,
+    types: &TypeSpace,
+    imported: &Imported,
+    u: &mut Unstructured<'_>,
+) -> Result<Option<EntityType>, Error>
+    requires may { MayImport config.now types.now }
+    ensures draws { Draws (entity_at config.now types.now.types (spaces_of imported.now) imported.now.type_size u.old) result u.old u.new }
+    ensures next { IfOk result (λ drawn. IfSome drawn (IsNext config.now types.now.types (spaces_of imported.now) imported.now.type_size)) }
+    ensures ended { IfOk result (λ drawn. drawn ≡ None → MayEndAt config.now (spaces_of imported.now) imported.now.type_size) }
+{
+    let Some(kind) = kind(config, types.types(), imported, u) else {
+        return Ok(None);
+    };
+    let added = entity_of_kind(alloc, config, types, kind, u)?;
+    Ok(if_fits(config, types, imported, added))
+}
+
+/// The same entity once more, if its kind has room and an import of it fits.
+pub(crate) fn again(
+    config: &Config,
+    types: &TypeSpace,
+    imported: &Imported,
+    added: EntityType,
+) -> Option<EntityType>
+    requires fit { IsEntityFit config.now types.now.types added }
+    ensures exact { result ≡ again config.now types.now.types (spaces_of imported.now) imported.now.type_size added }
+    ensures next { IfSome result (IsNext config.now types.now.types (spaces_of imported.now) imported.now.type_size) }
+    ensures ended { result ≡ None → MayEndAt config.now (spaces_of imported.now) imported.now.type_size }
+{
+    if !has_room(config, imported, kind_of(&added)) {
+        return None;
+    }
+    if_fits(config, types, imported, added)
+}

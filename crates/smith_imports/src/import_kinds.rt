@@ -1,0 +1,106 @@
+ghost use Rattle.std.specs.Prelude.{◌≡◌, ◌<◌, false, None, length, slice_index_or, count_by, IfSome};
+ghost use Rattle.smith_draw.specs.Choices.{enabled, chosen_at};
+ghost use Rattle.smith_draw.specs.Drawing.{AlwaysDraws};
+ghost use Rattle.smith_imports.specs.Imported.{IsOffered, spaces_of};
+ghost use Rattle.smith_imports.specs.ImportedEntities.{has_room, may_import, kind_row, kind_at};
+
+use crate::imported::Imported;
+use smith_bytes::Unstructured;
+use smith_config::Config;
+use smith_draw::{TypeUse, count_types};
+use smith_types::{ExportKind, SubType};
+
+/// Whether one more of a kind may stand beside what is imported.
+pub(crate) fn has_room(config: &Config, imported: &Imported, kind: ExportKind) -> bool
+    ensures { result ≡ has_room config.now (spaces_of imported.now) kind }
+{
+    match kind {
+        ExportKind::Tag => imported.spaces.tags.len() < config.max_tags,
+        ExportKind::Func => imported.spaces.funcs.len() < config.max_funcs,
+        ExportKind::Global => imported.spaces.globals.len() < config.max_globals,
+        ExportKind::Memory => imported.spaces.memories.len() < config.max_memories,
+        ExportKind::Table => imported.spaces.tables.len() < config.max_tables,
+    }
+}
+
+fn may_import(config: &Config, types: &[SubType], kind: ExportKind) -> bool
+    ensures { result ≡ may_import config.now types.now kind }
+{
+    match kind {
+        ExportKind::Tag => config.exceptions_enabled && count_types(TypeUse::Tag, types) > 0,
+        ExportKind::Func => count_types(TypeUse::ImportedFunc, types) > 0,
+        _ => true,
+    }
+}
+
+/// A kind, with whether one more of it may be imported.
+fn kind_row(
+    config: &Config,
+    types: &[SubType],
+    imported: &Imported,
+    kind: ExportKind,
+) -> (ExportKind, bool)
+    ensures { result ≡ kind_row config.now types.now (spaces_of imported.now) kind }
+{
+    let offered = may_import(config, types, kind) && has_room(config, imported, kind);
+    (kind, offered)
+}
+
+/// Counts the kinds of a table that are offered.
+pub fn count_enabled(table: &[(ExportKind, bool)]) -> usize
+    ensures { result ≡ count_by (λ row. row.1) table.now }
+{
+    table.iter().filter(|row| row.1).count()
+}
+
+/// The kind at a place among those of a table that are offered.
+fn enabled_at(table: &[(ExportKind, bool)], mut place: usize) -> ExportKind
+    ensures { result ≡ slice_index_or (enabled table.now) place ExportKind.Memory }
+{
+    for row in table {
+        if !row.1 {
+            continue;
+        }
+        if place == 0 {
+            return row.0;
+        }
+        place -= 1;
+    }
+    ExportKind::Memory
+}
+
+/// Chooses a kind among those of a table that are offered.
+#[tactic(auto, using(crate::proofs::ImportedEntityLemmas::length_enabled), unfolding(smith_draw::specs::Choices::chosen_at))]
+pub fn choose_enabled(table: &[(ExportKind, bool)], u: &mut Unstructured<'_>) -> ExportKind
+    requires { 0 < length (enabled table.now) }
+    ensures { AlwaysDraws (chosen_at ExportKind.Memory (enabled table.now) u.old) result u.old u.new }
+{
+    let last = count_enabled(table) - 1;
+    let place = u.int_in_range(0..=last);
+    enabled_at(table, place)
+}
+
+/// Draws a kind of which one more may be imported, if there is one.
+#[tactic(auto, using(crate::proofs::ImportedEntityLemmas::length_enabled), unfolding(crate::specs::ImportedEntities::kind_at))]
+pub(crate) fn kind(
+    config: &Config,
+    types: &[SubType],
+    imported: &Imported,
+    u: &mut Unstructured<'_>,
+) -> Option<ExportKind>
+    ensures draws { AlwaysDraws (kind_at config.now types.now (spaces_of imported.now) u.old) result u.old u.new }
+    ensures offered { IfSome result (IsOffered config.now types.now (spaces_of imported.now)) }
+    ensures full { result ≡ None → has_room config.now (spaces_of imported.now) ExportKind.Table ≡ false }
+{
+    let table = [
+        kind_row(config, types, imported, ExportKind::Tag),
+        kind_row(config, types, imported, ExportKind::Func),
+        kind_row(config, types, imported, ExportKind::Global),
+        kind_row(config, types, imported, ExportKind::Memory),
+        kind_row(config, types, imported, ExportKind::Table),
+    ];
+    if count_enabled(&table) == 0 {
+        return None;
+    }
+    Some(choose_enabled(&table, u))
+}

@@ -1,0 +1,71 @@
+ghost use Rattle.std.specs.Prelude.{◌≡◌, ◌++◌, ◌∷◌, [], false, string_bytes, IsTrue, IfOk, IfErr, List};
+ghost use Rattle.std.specs.HashSet.{hash_set_len};
+ghost use Rattle.std.specs.Fmt.{decimal};
+ghost use Rattle.smith_bytes.specs.Source.{KeepsPieces};
+ghost use Rattle.smith_types.specs.declared.imports.Import.{Import};
+ghost use Rattle.smith_imports.specs.ImportNames.{import_name_at, is_taken, has_pair, IsNewName, KnowsPairs, AddsPair};
+
+use smith_bytes::{Error, Unstructured, limited_string};
+use smith_types::Name;
+use std::alloc::Global;
+use std::collections::HashSet;
+use std::fmt::Write;
+
+/// The pair of names, and behind its own name the number of pairs as often as it takes until the pair is new.
+fn new_pair(
+    pairs: &HashSet<(String, String)>,
+    from: String,
+    text: String,
+) -> Result<(String, String), Error>
+    ensures from { IfOk result (λ pair. string_bytes pair.0 ≡ string_bytes from) }
+    ensures made { IfOk result (λ pair. IsNewName (has_pair pairs.now (string_bytes from)) (decimal (hash_set_len pairs.now)) (string_bytes text) (string_bytes pair.1)) }
+    ensures memory { IfErr result (λ e. e ≡ Error.Memory) }
+{
+    let count = pairs.len();
+    let mut pair = (from, text);
+    while pairs.contains(&pair) {
+        write!(pair.1, "{count}")?;
+    }
+    Ok(pair)
+}
+
+/// The text made a name that is new beside that of the module, and added to the pairs.
+fn distinct_name(
+    alloc: Global,
+    from: &str,
+    pairs: &mut HashSet<(String, String)>,
+    text: String,
+) -> Result<String, Error>
+    ensures made { IfOk result (λ name. IsNewName (has_pair pairs.old from.now) (decimal (hash_set_len pairs.old)) (string_bytes text) (string_bytes name)) }
+    ensures added { IfOk result (λ name. AddsPair pairs.old pairs.new from.now (string_bytes name)) }
+    ensures memory { IfErr result (λ e. e ≡ Error.Memory) }
+{
+    let pair = new_pair(pairs, from.to_string(alloc)?, text)?;
+    let name = pair.1.clone()?;
+    pairs.insert(pair)?;
+    Ok(name)
+}
+
+/// Draws the name of an import from a module. Where pairs of names must be distinct, its pair is new, and added to the pairs.
+#[tactic(auto, unfolding(crate::specs::ImportNames::import_name_at))]
+pub(crate) fn import_name(
+    alloc: Global,
+    distinct: bool,
+    from: &Name,
+    pairs: &mut HashSet<(String, String)>,
+    u: &mut Unstructured<'_>,
+) -> Result<Name, Error>
+    ensures exact { (imports : List Import) → KnowsPairs distinct pairs.old imports → IfOk result (λ name. import_name_at distinct imports from.now u.old ≡ (name, u.new)) }
+    ensures fresh { (imports : List Import) → KnowsPairs distinct pairs.old imports → IfOk result (λ name. IsTrue distinct → is_taken imports from.now name ≡ false) }
+    ensures pairs { (imports : List Import) (added : Import) → KnowsPairs distinct pairs.old imports
+        → IfOk result (λ name. added.«module» ≡ from.now → added.name ≡ name → KnowsPairs distinct pairs.new (imports ++ added ∷ [])) }
+    ensures memory { IfErr result (λ e. e ≡ Error.Memory) }
+    ensures left { KeepsPieces u.old u.new }
+{
+    let text = limited_string(alloc, 1000, u)?;
+    if !distinct {
+        return Ok(Name::from_string(text));
+    }
+    let name = distinct_name(alloc, from.as_str(), pairs, text)?;
+    Ok(Name::from_string(name))
+}

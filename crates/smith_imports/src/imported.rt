@@ -1,0 +1,52 @@
+ghost use Rattle.std.specs.Prelude.{◌≡◌, ◌<◌, ◌+◌, ◌^◌, IfErr, OnOk};
+ghost use Rattle.smith_types.specs.Sizes.{IsTyped, size_in};
+ghost use Rattle.smith_imports.specs.Imported.{HasNoImports, IsCounted};
+
+use smith_bytes::Error;
+use smith_types::{EntityType, Imports, IndexSpaces, Items, TypeSpace};
+use std::alloc::Global;
+use std::collections::HashSet;
+
+/// The imports that are drawn so far, and what is counted of them.
+#[derive(Drop)]
+pub struct Imported {
+    /// The imports, in groups.
+    pub groups: Items<Imports>,
+    /// The index spaces that the imports begin.
+    pub spaces: IndexSpaces,
+    /// How many imports there are.
+    pub count: usize,
+    /// What the imports add to the type size of the module.
+    pub type_size: u32,
+    /// The pairs of names of the imports, where these must be distinct.
+    pub pairs: HashSet<(String, String)>,
+}
+
+impl Imported {
+    /// No imports, which take no memory.
+    pub fn new(alloc: Global) -> Self
+        ensures { HasNoImports result }
+    {
+        Imported {
+            groups: Items::new(alloc),
+            spaces: IndexSpaces::new(alloc),
+            count: 0,
+            type_size: 0,
+            pairs: HashSet::new(alloc),
+        }
+    }
+
+    /// Counts an import of an entity, whose group and pair of names are added apart.
+    pub(crate) fn count_entity(&mut self, types: &TypeSpace, added: EntityType) -> Result<(), Error>
+        requires typed { IsTyped types.now.types added }
+        requires count { self.old.count + 1 < 2 ^ 64 }
+        requires fits { self.old.type_size + (size_in types.now.types added + 1) < 2 ^ 32 }
+        ensures counted { OnOk result (IsCounted types.now.types added self.old self.new) }
+        ensures memory { IfErr result (λ e. e ≡ Error.Memory) }
+    {
+        self.spaces.push(added)?;
+        self.count += 1;
+        self.type_size += types.size_of(&added) + 1;
+        Ok(())
+    }
+}

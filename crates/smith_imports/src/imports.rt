@@ -1,0 +1,293 @@
+ghost use Rattle.std.specs.Prelude.{◌≡◌, ◌<◌, ◌≤◌, ◌+◌, ◌-◌, ◌++◌, true, false, None, [], length, IsTrue, IfOk, IfErr, IfSome, OnOk};
+ghost use Rattle.smith_bytes.specs.Source.{KeepsPieces};
+ghost use Rattle.smith_bytes.specs.Takes.{Takes};
+ghost use Rattle.smith_types.specs.Imports.{imports_of, flattened};
+ghost use Rattle.smith_draw.specs.Drawing.{Draws};
+ghost use Rattle.smith_imports.specs.Steps.{Gives};
+ghost use Rattle.smith_imports.specs.Imported.{
+  MayImport,
+  Counts,
+  AreImportsFit,
+  IsNext,
+  IsOpen,
+  IsOfGroup,
+  IsImported,
+  MayEndAt,
+  MayEnd,
+  HasNoImports,
+  MayRefuseImports,
+  SpellsNoImport,
+  spaces_of,
+};
+ghost use Rattle.smith_imports.specs.Importing.{next_entity_at, fill_at, filled_at, group_of_kind_at, group_at, groups_at, imports_at};
+
+use crate::import_entities::{again, entity};
+use crate::import_groups::{GroupKind, group_kind, has_imports, module_name, push_import};
+use crate::import_names::import_name;
+use crate::imported::Imported;
+use smith_bytes::{Count, Error, Unstructured, Why, goes_on, limited_string};
+use smith_config::Config;
+use smith_types::{EntityType, Import, Imports, Items, Name, TypeSpace};
+use std::alloc::Global;
+
+/// Draws the entity that a compact group imports next, if there is one.
+fn next_entity(
+    alloc: Global,
+    config: &Config,
+    types: &TypeSpace,
+    imported: &Imported,
+    group: &Imports,
+    u: &mut Unstructured<'_>,
+) -> Result<Option<EntityType>, Error>
+    requires may { MayImport config.now types.now }
+    requires ready { IsOpen config.now types.now.types group.now }
+    ensures draws { Draws (next_entity_at config.now types.now.types (spaces_of imported.now) imported.now.type_size group.now u.old) result u.old u.new }
+    ensures next { IfOk result (λ drawn. IfSome drawn (IsNext config.now types.now.types (spaces_of imported.now) imported.now.type_size)) }
+    ensures of_group { IfOk result (λ drawn. IfSome drawn (IsOfGroup group.now)) }
+    ensures ended { IfOk result (λ drawn. drawn ≡ None → MayEndAt config.now (spaces_of imported.now) imported.now.type_size) }
+{
+    match group {
+        Imports::Compact2 { entity_type, .. } => Ok(again(config, types, imported, *entity_type)),
+        _ => entity(alloc, config, types, imported, u),
+    }
+}
+
+/// Adds imports to a compact group, and gives whether imports go on behind it.
+fn fill(
+    alloc: Global,
+    config: &Config,
+    distinct: bool,
+    types: &TypeSpace,
+    imported: &mut Imported,
+    group: &mut Imports,
+    u: &mut Unstructured<'_>,
+) -> Result<bool, Error>
+    requires may { MayImport config.now types.now }
+    requires ready { IsOpen config.now types.now.types group.old }
+    requires counts { Counts types.now.types distinct imported.old (flattened imported.old.groups ++ imports_of group.old) }
+    requires fit { AreImportsFit config.now types.now.types distinct (flattened imported.old.groups ++ imports_of group.old) }
+    ensures exact { IfOk result (λ goes_on. fill_at config.now types.now.types distinct (flattened imported.old.groups) (config.now.max_imports - imported.old.count) group.old u.old ≡ (goes_on, (group.new, u.new))) }
+    ensures groups { OnOk result (imported.new.groups ≡ imported.old.groups) }
+    ensures ready { OnOk result (IsOpen config.now types.now.types group.new) }
+    ensures counts { OnOk result (Counts types.now.types distinct imported.new (flattened imported.old.groups ++ imports_of group.new)) }
+    ensures fit { OnOk result (AreImportsFit config.now types.now.types distinct (flattened imported.old.groups ++ imports_of group.new)) }
+    ensures ended { IfOk result (λ goes_on. goes_on ≡ false → MayEndAt config.now (spaces_of imported.new) imported.new.type_size) }
+    ensures more { OnOk result (imported.old.count ≤ imported.new.count) }
+    ensures memory { IfErr result (λ e. e ≡ Error.Memory) }
+    ensures left { KeepsPieces u.old u.new }
+{
+    while imported.count < config.max_imports {
+        if !u.arbitrary::<bool>() {
+            return Ok(true);
+        }
+        let Some(added) = next_entity(alloc, config, types, imported, group, u)? else {
+            return Ok(false);
+        };
+        let name = import_name(alloc, distinct, module_name(group), &mut imported.pairs, u)?;
+        imported.count_entity(types, added)?;
+        push_import(group, name, added)?;
+    }
+    Ok(true)
+}
+
+/// Fills a compact group and adds it, unless it stays empty. Gives whether imports go on.
+#[tactic(auto, unfolding(crate::specs::Importing::filled_at))]
+fn filled(
+    alloc: Global,
+    config: &Config,
+    distinct: bool,
+    types: &TypeSpace,
+    imported: &mut Imported,
+    mut group: Imports,
+    u: &mut Unstructured<'_>,
+) -> Result<bool, Error>
+    requires may { MayImport config.now types.now }
+    requires so_far { IsImported config.now types.now.types distinct imported.old }
+    requires ready { IsOpen config.now types.now.types group }
+    requires empty { imports_of group ≡ [] }
+    ensures exact { IfOk result (λ goes_on. filled_at config.now types.now.types distinct imported.old.groups group u.old ≡ (goes_on, (imported.new.groups, u.new))) }
+    ensures so_far { OnOk result (IsImported config.now types.now.types distinct imported.new) }
+    ensures ended { IfOk result (λ goes_on. goes_on ≡ false → MayEnd config.now imported.new.count) }
+    ensures more { IfOk result (λ _. imported.old.count ≤ imported.new.count) }
+    ensures memory { IfErr result (λ e. e ≡ Error.Memory) }
+    ensures left { KeepsPieces u.old u.new }
+{
+    let goes_on = fill(alloc, config, distinct, types, imported, &mut group, u)?;
+    if has_imports(&group) {
+        imported.groups.push(group)?;
+    }
+    Ok(goes_on)
+}
+
+/// Adds an import by itself, and gives whether imports go on.
+#[tactic(auto, unfolding(crate::specs::Importing::group_of_kind_at))]
+fn single(
+    alloc: Global,
+    config: &Config,
+    distinct: bool,
+    types: &TypeSpace,
+    imported: &mut Imported,
+    module: Name,
+    u: &mut Unstructured<'_>,
+) -> Result<bool, Error>
+    requires may { MayImport config.now types.now }
+    requires so_far { IsImported config.now types.now.types distinct imported.old }
+    requires room { imported.old.count < config.now.max_imports }
+    ensures exact { IfOk result (λ goes_on. group_of_kind_at config.now types.now.types distinct imported.old.groups «module» GroupKind.Single u.old ≡ (goes_on, (imported.new.groups, u.new))) }
+    ensures so_far { OnOk result (IsImported config.now types.now.types distinct imported.new) }
+    ensures ended { IfOk result (λ goes_on. goes_on ≡ false → MayEnd config.now imported.new.count) }
+    ensures advances { IfOk result (λ goes_on. goes_on ≡ true → imported.old.count + length u.new < imported.new.count + length u.old) }
+    ensures memory { IfErr result (λ e. e ≡ Error.Memory) }
+    ensures left { KeepsPieces u.old u.new }
+{
+    let Some(entity_type) = entity(alloc, config, types, imported, u)? else {
+        return Ok(false);
+    };
+    let name = import_name(alloc, distinct, &module, &mut imported.pairs, u)?;
+    imported.count_entity(types, entity_type)?;
+    imported.groups.push(Imports::Single(Import {
+        module,
+        name,
+        entity_type,
+    }))?;
+    Ok(true)
+}
+
+/// Adds a group of imports of a module that have one type, and gives whether imports go on.
+#[tactic(auto, unfolding(crate::specs::Importing::group_of_kind_at))]
+fn of_one_type(
+    alloc: Global,
+    config: &Config,
+    distinct: bool,
+    types: &TypeSpace,
+    imported: &mut Imported,
+    module: Name,
+    u: &mut Unstructured<'_>,
+) -> Result<bool, Error>
+    requires may { MayImport config.now types.now }
+    requires so_far { IsImported config.now types.now.types distinct imported.old }
+    requires enabled { IsTrue config.now.compact_imports_enabled }
+    ensures exact { IfOk result (λ goes_on. group_of_kind_at config.now types.now.types distinct imported.old.groups «module» GroupKind.OfOneType u.old ≡ (goes_on, (imported.new.groups, u.new))) }
+    ensures so_far { OnOk result (IsImported config.now types.now.types distinct imported.new) }
+    ensures ended { IfOk result (λ goes_on. goes_on ≡ false → MayEnd config.now imported.new.count) }
+    ensures more { IfOk result (λ _. imported.old.count ≤ imported.new.count) }
+    ensures memory { IfErr result (λ e. e ≡ Error.Memory) }
+    ensures left { KeepsPieces u.old u.new }
+{
+    let Some(entity_type) = entity(alloc, config, types, imported, u)? else {
+        return Ok(false);
+    };
+    let group = Imports::Compact2 {
+        module,
+        entity_type,
+        names: Items::new(alloc),
+    };
+    filled(alloc, config, distinct, types, imported, group, u)
+}
+
+/// Adds a group, and gives whether imports go on.
+#[tactic(auto, unfolding(crate::specs::Importing::group_at, crate::specs::Importing::group_of_kind_at))]
+fn group(
+    alloc: Global,
+    config: &Config,
+    distinct: bool,
+    types: &TypeSpace,
+    imported: &mut Imported,
+    u: &mut Unstructured<'_>,
+) -> Result<bool, Error>
+    requires may { MayImport config.now types.now }
+    requires so_far { IsImported config.now types.now.types distinct imported.old }
+    requires room { imported.old.count < config.now.max_imports }
+    ensures exact { IfOk result (λ goes_on. group_at config.now types.now.types distinct imported.old.groups u.old ≡ (goes_on, (imported.new.groups, u.new))) }
+    ensures so_far { OnOk result (IsImported config.now types.now.types distinct imported.new) }
+    ensures ended { IfOk result (λ goes_on. goes_on ≡ false → MayEnd config.now imported.new.count) }
+    ensures advances { IfOk result (λ goes_on. goes_on ≡ true → imported.old.count + length u.new < imported.new.count + length u.old) }
+    ensures memory { IfErr result (λ e. e ≡ Error.Memory) }
+    ensures left { KeepsPieces u.old u.new }
+{
+    let kind = group_kind(config, u);
+    let module = Name::from_string(limited_string(alloc, 1000, u)?);
+    match kind {
+        GroupKind::Single => single(alloc, config, distinct, types, imported, module, u),
+        GroupKind::OfOneModule => {
+            let items = Items::new(alloc);
+            let group = Imports::Compact1 { module, items };
+            filled(alloc, config, distinct, types, imported, group, u)
+        }
+        GroupKind::OfOneType => of_one_type(alloc, config, distinct, types, imported, module, u),
+    }
+}
+
+/// Adds groups, while there is room and imports go on.
+fn groups(
+    alloc: Global,
+    config: &Config,
+    distinct: bool,
+    types: &TypeSpace,
+    imported: &mut Imported,
+    u: &mut Unstructured<'_>,
+) -> Result<(), Error>
+    requires may { MayImport config.now types.now }
+    requires so_far { IsImported config.now types.now.types distinct imported.old }
+    ensures exact { OnOk result (groups_at config.now types.now.types distinct (config.now.max_imports + length u.old + 1) imported.old.groups u.old ≡ (imported.new.groups, u.new)) }
+    ensures so_far { OnOk result (IsImported config.now types.now.types distinct imported.new) }
+    ensures least { OnOk result (imported.new.count < config.now.min_imports → MayEnd config.now imported.new.count) }
+    ensures memory { IfErr result (λ e. e ≡ Error.Memory) }
+    ensures left { KeepsPieces u.old u.new }
+{
+    while imported.count < config.max_imports {
+        if !goes_on(u, imported.count, config.min_imports) {
+            return Ok(());
+        }
+        if !group(alloc, config, distinct, types, imported, u)? {
+            return Ok(());
+        }
+    }
+    Ok(())
+}
+
+/// Draws imports behind none, and refuses where they end before there are as many as are asked for.
+#[tactic(auto, unfolding(crate::specs::Importing::imports_at))]
+fn drawn_imports(
+    alloc: Global,
+    config: &Config,
+    distinct: bool,
+    types: &TypeSpace,
+    imported: &mut Imported,
+    u: &mut Unstructured<'_>,
+) -> Result<(), Error>
+    requires may { MayImport config.now types.now }
+    requires none { HasNoImports imported.old }
+    ensures exact { Gives (λ _. (imported.new.groups, u.new)) result (imports_at config.now types.now.types distinct u.old) }
+    ensures so_far { OnOk result (IsImported config.now types.now.types distinct imported.new) }
+    ensures least { OnOk result (config.now.min_imports ≤ imported.new.count) }
+    ensures refusal { IfErr result (MayRefuseImports config.now) }
+    ensures left { KeepsPieces u.old u.new }
+{
+    groups(alloc, config, distinct, types, imported, u)?;
+    if imported.count < config.min_imports {
+        return Err(Error::IncorrectFormat(Why::Unmet(Count::Imports)));
+    }
+    Ok(())
+}
+
+/// Adds as many imports to none as are asked for, and no more than may be. Where `distinct` is set, no two have the same pair of names.
+pub fn arbitrary_imports(
+    alloc: Global,
+    config: &Config,
+    distinct: bool,
+    types: &TypeSpace,
+    imported: &mut Imported,
+    u: &mut Unstructured<'_>,
+) -> Result<(), Error>
+    requires may { MayImport config.now types.now }
+    requires none { HasNoImports imported.old }
+    ensures exact { Gives (λ _. (imported.new.groups, u.new)) result (imports_at config.now types.now.types distinct u.old) }
+    ensures so_far { OnOk result (IsImported config.now types.now.types distinct imported.new) }
+    ensures least { OnOk result (config.now.min_imports ≤ imported.new.count) }
+    ensures refusal { IfErr result (MayRefuseImports config.now) }
+    ensures none { config.now.min_imports ≡ 0 → OnOk result (Takes (SpellsNoImport config.now) u.old imported.new.groups u.new) }
+    ensures left { KeepsPieces u.old u.new }
+{
+    drawn_imports(alloc, config, distinct, types, imported, u)
+}

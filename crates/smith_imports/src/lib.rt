@@ -1,0 +1,23 @@
+//! The imports of a module: those that are drawn, those that are taken of a shape, and those that a module shape brings.
+#![tactic(auto)]
+
+mod available;
+mod examples;
+mod flat_imports;
+mod grouped_imports;
+mod import_entities;
+mod import_groups;
+mod import_kinds;
+mod import_names;
+mod imported;
+mod imports;
+mod module_shape;
+mod shape_types;
+mod taken_imports;
+
+pub use available::available_imports;
+pub use import_kinds::{choose_enabled, count_enabled};
+pub use imported::Imported;
+pub use imports::arbitrary_imports;
+pub use module_shape::imports_of_shape;
+pub use shape_types::types_of_shape;
