@@ -38,6 +38,11 @@ Where false Piece piece = piece ≡ []
 abbrev pub SpellsNone : ℕ → List ℕ → Type 0
 SpellsNone most = Where (nat_lt 0 most) (SpellsBool false)
 
+-- that a list is empty, by a piece that says so
+pub record SpellsEmpty {A : Type 0} (IsEmptySpelled : List ℕ → Type 0) (items : List A) (piece : List ℕ) : Type 0 where
+  pub none : items ≡ []
+  pub spelled : IsEmptySpelled piece
+
 -- one piece, and another behind it
 pub record Joined (First Second : List ℕ → Type 0) (piece : List ℕ) : Type 0 where
   pub first : List ℕ

@@ -9,7 +9,7 @@ ghost use Rattle.smith_config.specs.Shapes.{space_of};
 ghost use Rattle.wasm_smith.specs.Contents.{MayHoldContents};
 ghost use Rattle.wasm_smith.specs.Definitions.{table_scope};
 ghost use Rattle.wasm_smith.specs.DrawnContents.{AreSegmentsFit, AreContents};
-ghost use Rattle.wasm_smith.specs.DrawnElements.{IsPlaced};
+ghost use Rattle.smith_contents.specs.DrawnElements.{IsPlaced};
 ghost use Rattle.smith_examples.specs.ExampleDefinitions.{beside_globals, no_imports};
 ghost use Rattle.smith_examples.specs.ExampleParts.{table};
 

@@ -4,10 +4,10 @@ ghost use Rattle.std.specs.Prelude.{◌≡◌, [], ◌∷◌, true, replicate};
 ghost use Rattle.smith_types.specs.declared.value_type.ValType.TheVariants.{I32, I64};
 ghost use Rattle.smith_types.specs.declared.code.Instructions.TheVariants.{Unreachable, Arbitrary};
 ghost use Rattle.smith_config.specs.Config.{default_config};
-ghost use Rattle.wasm_smith.specs.DrawnBodies.{raw_bytes_at, bodies_at};
+ghost use Rattle.smith_contents.specs.DrawnBodies.{raw_bytes_at, bodies_at};
 ghost use Rattle.smith_examples.specs.ExampleParts.{trapping};
 
-#[tactic(auto, unfolding(wasm_smith::specs::DrawnBodies::raw_bytes_at, smith_bytes::specs::Draws::len_at, smith_bytes::specs::Draws::range_at, smith_bytes::specs::Draws::digit_count))]
+#[tactic(auto, unfolding(smith_contents::specs::DrawnBodies::raw_bytes_at, smith_bytes::specs::Draws::len_at, smith_bytes::specs::Draws::range_at, smith_bytes::specs::Draws::digit_count))]
 fn raw_bytes()
     ensures of_nothing { raw_bytes_at [] ≡ (Arbitrary [], []) }
     ensures all { raw_bytes_at (7 ∷ 8 ∷ 2 ∷ []) ≡ (Arbitrary (7 ∷ 8 ∷ []), []) }
@@ -16,7 +16,7 @@ fn raw_bytes()
 {}
 
 // The locals of a body come before what it does, and one body before the next.
-#[tactic(auto, unfolding(wasm_smith::specs::DrawnBodies::bodies_at, wasm_smith::specs::DrawnBodies::body_at, wasm_smith::specs::DrawnBodies::instructions_at, wasm_smith::specs::DrawnBodies::is_raw_at, wasm_smith::specs::DrawnBodies::raw_bytes_at, smith_draw::specs::Locals::locals_at, smith_draw::specs::CompositeTypes::val_types_at, smith_draw::specs::ValueTypes::val_type_at, smith_draw::specs::Choices::chosen_at, smith_bytes::specs::Growth::grow_at, smith_bytes::specs::Draws::bool_at, smith_bytes::specs::Draws::len_at, smith_bytes::specs::Draws::range_at, smith_bytes::specs::Draws::digit_count))]
+#[tactic(auto, unfolding(smith_contents::specs::DrawnBodies::bodies_at, smith_contents::specs::DrawnBodies::body_at, smith_contents::specs::DrawnBodies::instructions_at, smith_contents::specs::DrawnBodies::is_raw_at, smith_contents::specs::DrawnBodies::raw_bytes_at, smith_draw::specs::Locals::locals_at, smith_draw::specs::CompositeTypes::val_types_at, smith_draw::specs::ValueTypes::val_type_at, smith_draw::specs::Choices::chosen_at, smith_bytes::specs::Growth::grow_at, smith_bytes::specs::Draws::bool_at, smith_bytes::specs::Draws::len_at, smith_bytes::specs::Draws::range_at, smith_bytes::specs::Draws::digit_count))]
 fn bodies()
     ensures of_no_function { bodies_at default_config [] 0 (1 ∷ []) ≡ ([], 1 ∷ []) }
     ensures of_nothing { bodies_at default_config [] 3 [] ≡ (replicate 3 trapping, []) }

@@ -22,8 +22,8 @@ use Rattle.smith_draw.specs.FuncSizes.{IsSmall}
 use Rattle.smith_draw.specs.declared.spaces.Spaces.{Spaces}
 use Rattle.wasm_smith.specs.Contents.{MayHoldContents, AreSpacesOver}
 use Rattle.wasm_smith.specs.Defined.{AreDefined, IsFilled}
-use Rattle.wasm_smith.specs.DrawnElements.{MayDrawElements, IsTableNullable}
-use Rattle.wasm_smith.specs.Exported.{MayExport, MayExportFreely, MayDrawExports}
+use Rattle.smith_contents.specs.DrawnElements.{MayDrawElements, IsTableNullable}
+use Rattle.smith_contents.specs.Exported.{MayExport, MayExportFreely, MayDrawExports}
 use Rattle.smith_imports.specs.Imported.{HasNullableElements, IsImported, spaces_of}
 use Rattle.wasm_smith.specs.declared.build.definitions.Definitions.{Definitions}
 use Rattle.smith_imports.specs.declared.imported.Imported.{Imported}

@@ -3,7 +3,8 @@ use Rattle.std.proofs.Common.{◌≡◌, ℕ, ◌≤◌, ◌<◌, true, nat_lt, 
 use Rattle.smith_types.specs.declared.entity_type.MemoryType.{MemoryType}
 use Rattle.smith_config.specs.declared.config.Config.{Config}
 use Rattle.smith_draw.specs.Memories.{memtype_at}
-use Rattle.wasm_smith.specs.Defined.{IsFilled, SpellsEmpty}
+use Rattle.smith_bytes.specs.Spelling.{SpellsEmpty}
+use Rattle.wasm_smith.specs.Defined.{IsFilled}
 use Rattle.wasm_smith.specs.Definitions.{memories_at}
 use Rattle.smith_bytes.specs.Spelling.{SpellsNone}
 use Rattle.wasm_smith.proofs.DefinedLemmas.{defined_filled, defined_none}

@@ -1,5 +1,5 @@
 -- What tables are like that stand behind imported ones, with their initialisers.
-use Rattle.std.proofs.Common.{◌≡◌, ◌∙◌, ℕ, zero, suc, ◌+◌, ◌<◌, ◌≤◌, Bool, true, false, ◌&&◌, cond, List, [], ◌∷◌, ◌++◌, map, length, refl, ap, subst, arith, length-append, inl, inr}
+use Rattle.std.proofs.Common.{◌≡◌, ◌∙◌, ℕ, zero, suc, ◌<◌, ◌≤◌, Bool, true, false, ◌&&◌, cond, List, [], ◌∷◌, ◌++◌, map, length, refl, ap, subst, arith, length-append, inl, inr}
 use Rattle.std.specs.Prelude.{Option, Some, None, All, IfSome, IsSome, IsTrue, slice_get}
 use Rattle.std.specs.List.{flat_map, AllByRecursion as Each}
 use Rattle.std.proofs.lemmas.Bool.{and_right}
@@ -29,7 +29,9 @@ use Rattle.smith_draw.specs.ConstFloats.{GivesNoFloat}
 use Rattle.smith_draw.specs.ConstScopes.{AreSpacesValid, seen_by}
 use Rattle.smith_draw.specs.TableTypes.{table_type_at}
 use Rattle.smith_draw.specs.declared.spaces.Spaces.{Spaces}
-use Rattle.wasm_smith.specs.Defined.{IsFilled, SpellsEmpty, MayInitialise, AreTablesDefined, standing_of}
+use Rattle.smith_bytes.specs.Spelling.{SpellsEmpty}
+use Rattle.smith_contents.proofs.PlaceOfListLemmas.{slice_get-behind}
+use Rattle.wasm_smith.specs.Defined.{IsFilled, MayInitialise, AreTablesDefined, standing_of}
 use Rattle.wasm_smith.specs.DefinedTables.{IsTableFit, AreTablesDrawn}
 use Rattle.wasm_smith.specs.Definitions.{Standing, Table, table_at, tables_at, table_scope}
 use Rattle.wasm_smith.specs.Module.{IsTableInitialised}
@@ -87,11 +89,6 @@ tables_all P {config = config} {standing = standing} {imported = imported} fits 
     let of_table = λ (one : Table). one.0 in
     rw so_far.tables (All-append P imported (map of_table so_far.drawn) all
     (All-map P of_table so_far.drawn (All-weaker (IsTableFit config standing) (λ (one : Table). P one.0) fits so_far.drawn so_far.fit)))
-
--- what stands behind the end of the first of two lists stands in the second
-pub slice_get-behind : {A : Type 0} (xs ys : List A) (i : ℕ) → slice_get (xs ++ ys) (length xs + i) ≡ slice_get ys i
-slice_get-behind {A = A} [] ys i = let none : length {A = A} [] + i ≡ i = omega arith in rw none refl
-slice_get-behind (x ∷ xs) ys i = let one : length (x ∷ xs) + i ≡ suc (length xs + i) = omega arith in rw one (slice_get-behind xs ys i)
 
 -- each initialiser is that of the table that was drawn with it
 initialised_at : (P : TableType → Option (List ConstInstr) → Type 0) (drawn : List Table) → Each (λ (one : Table). P one.0 one.1) drawn

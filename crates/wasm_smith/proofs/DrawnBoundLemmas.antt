@@ -17,7 +17,7 @@ use Rattle.smith_draw.specs.Bounds.{IsTableWithin, IsMemoryWithin}
 use Rattle.wasm_smith.specs.Bounds.{KeepsBounds, MeetsMinimums, HasMost, HasLeast, count_of, brought, added, of_shapes, export_size, imports_size, exports_size}
 use Rattle.wasm_smith.specs.Build.{parts_of}
 use Rattle.wasm_smith.specs.DrawnParts.{IsDrawnFor}
-use Rattle.wasm_smith.specs.Exporting.{Export, item_size, exported_size}
+use Rattle.smith_contents.specs.Exporting.{Export, item_size, exported_size}
 use Rattle.smith_imports.specs.ImportedEntities.{sizes}
 use Rattle.wasm_smith.specs.Module.{Parts, module_spaces}
 use Rattle.wasm_smith.specs.declared.build.drawn.Drawn.{Drawn}

@@ -31,19 +31,19 @@ use Rattle.wasm_smith.specs.DrawnContents.{segment_scope, all_segments_at, conte
 use Rattle.smith_imports.specs.ImportedEntities.{sizes}
 use Rattle.wasm_smith.specs.Members.{HasMember, HasRest}
 use Rattle.wasm_smith.specs.Module.{Parts}
-use Rattle.wasm_smith.specs.PassiveData.{passive_data}
+use Rattle.smith_contents.specs.PassiveData.{passive_data}
 use Rattle.wasm_smith.specs.Reached.{ReachesMembers, ReachesRests}
 use Rattle.smith_imports.specs.Steps.{Gives, ◌>>=◌, section_flag_at}
 use Rattle.wasm_smith.specs.declared.build.contents.Contents.{Contents}
 use Rattle.wasm_smith.specs.declared.build.definitions.Definitions.{Definitions}
 use Rattle.wasm_smith.proofs.DefinedMemoryLemmas.{no_memory_read}
 use Rattle.wasm_smith.proofs.DefinedTableLemmas.{no_table_read}
-use Rattle.wasm_smith.proofs.ElementCountLemmas.{elements_none}
-use Rattle.wasm_smith.proofs.ExportRefusalLemmas.{exports_free, no_export_read}
+use Rattle.smith_contents.proofs.ElementCountLemmas.{elements_none}
+use Rattle.smith_contents.proofs.ExportRefusalLemmas.{exports_free, no_export_read}
 use Rattle.smith_imports.proofs.NoImportLemmas.{no_import_read}
 use Rattle.wasm_smith.proofs.NumberedGlobalLemmas.{listed_read}
-use Rattle.wasm_smith.proofs.PassiveDataLemmas.{data_read}
-use Rattle.wasm_smith.proofs.StartLemmas.{start_none}
+use Rattle.smith_contents.proofs.PassiveDataLemmas.{data_read}
+use Rattle.smith_contents.proofs.StartLemmas.{start_none}
 use Rattle.wasm_smith.proofs.TypedLemmas.{no_tag_read, funcs_read}
 
 -- whether an empty section is written is a byte

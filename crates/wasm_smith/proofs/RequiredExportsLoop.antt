@@ -27,7 +27,7 @@ use Rattle.smith_config.specs.Shapes.{shape_types, shape_spaces, shape_values}
 use Rattle.smith_draw.specs.ConstBounds.{IsNonNullable, HoldsNonNullableField}
 use Rattle.wasm_smith.specs.Bounds.{counts_as}
 use Rattle.smith_imports.specs.ShapeImports.{count_in}
-use Rattle.wasm_smith.specs.Exported.{IsStanding}
+use Rattle.smith_contents.specs.Exported.{IsStanding}
 use Rattle.wasm_smith.specs.Required.{IsKeptType, MayRequire, MayDefineMore, StandsBehind, IsRequiredMore, AreRequired, MayLackIn, MayRefuseExported, MayRefuseRequired}
 use Rattle.wasm_smith.specs.RequiredExports.{Answers, Required, entity_of, standing_with, export_required_at, required_from, required_at}
 use Rattle.wasm_smith.specs.ShapesKept.{Export, IsSameExport, IsSameFuncType}

@@ -1,5 +1,5 @@
 -- What tags and functions that are defined behind imported ones are like, and which bytes they take.
-use Rattle.std.proofs.Common.{◌≡◌, ℕ, suc, ◌<◌, ◌≤◌, Bool, true, false, ◌&&◌, ◌||◌, cond, eqb, ltb, nat_lt, List, [], ◌∷◌, ◌++◌, length, refl, subst, arith, lt-ltb}
+use Rattle.std.proofs.Common.{◌≡◌, ℕ, ◌<◌, ◌≤◌, Bool, true, false, ◌&&◌, cond, eqb, ltb, nat_lt, List, [], ◌∷◌, ◌++◌, length, refl, subst, arith, lt-ltb}
 use Rattle.std.specs.Prelude.{Result, Ok, IfOk, OnOk, IsTrue, All, if◌then◌else◌}
 use Rattle.std.specs.List.{list_any}
 use Rattle.std.proofs.lemmas.Bool.{cond_both, ltb-false, eqb-false, and_right, ne_eqb}
@@ -14,13 +14,15 @@ use Rattle.smith_types.specs.declared.composite_type.SubType.{SubType}
 use Rattle.smith_config.specs.declared.config.Config.{Config}
 use Rattle.smith_draw.specs.Choices.{chosen_at}
 use Rattle.smith_draw.specs.Spelling.{SpellsPlace}
-use Rattle.smith_draw.specs.TypeUses.{is_tag_type, places_from, types_for}
+use Rattle.smith_draw.specs.TypeUses.{is_tag_type, types_for}
 use Rattle.smith_draw.specs.declared.type_use.TypeUse.TheVariants.{Tag, DefinedFunc}
 use Rattle.smith_draw.proofs.SpelledValueLemmas.{chosen_read}
 use Rattle.smith_draw.proofs.SupertypeLemmas.{chosen_of}
 use Rattle.smith_draw.proofs.TypeUseLemmas.{types_usable}
 use Rattle.smith_imports.specs.Steps.{Gives}
-use Rattle.wasm_smith.specs.Defined.{IsFilled, SpellsEmpty}
+use Rattle.smith_bytes.specs.Spelling.{SpellsEmpty}
+use Rattle.smith_contents.proofs.PlaceOfListLemmas.{places_any}
+use Rattle.wasm_smith.specs.Defined.{IsFilled}
 use Rattle.wasm_smith.specs.Definitions.{defined_at, typed_at, tag_types, tags_at, funcs_at}
 use Rattle.smith_spell.specs.FuncTypes.{func_types}
 use Rattle.smith_spell.specs.Spelling.{SpellsNoTag, SpellsFuncs}
@@ -80,15 +82,6 @@ enabled_by false places imported items none before some = before (subst (λ (xs 
 -- where there are tags, exceptions are enabled
 pub tags_enabled : (config : Config) (types : List SubType) (imported items : List ℕ) → AreTyped (IsTagValid types) (tag_types config types) config.min_tags config.max_tags imported items → (0 < length imported → IsTrue config.exceptions_enabled) → 0 < length items → IsTrue config.exceptions_enabled
 tags_enabled config types imported items are before some = enabled_by config.exceptions_enabled (types_for Tag types) imported items are.none before some
-
-any_turn : (b : Bool) (n : ℕ) (places : List ℕ) (any : Bool) → ltb 0 (length places) ≡ any → ltb 0 (length (cond b (n ∷ places) places)) ≡ (b || any)
-any_turn true n places any e = lt-ltb 0 (length (n ∷ places)) (omega arith)
-any_turn false n places any e = e
-
--- whether a test holds at some place is whether it holds of some item
-pub places_any : {A : Type 0} (test : A → Bool) (n : ℕ) (xs : List A) → ltb 0 (length (places_from test n xs)) ≡ list_any test xs
-places_any test n [] = refl
-places_any test n (x ∷ xs) = any_turn (test x) n (places_from test (suc n) xs) (list_any test xs) (places_any test (suc n) xs)
 
 and_on : (b : Bool) → (b && true) ≡ b
 and_on true = refl

@@ -1,19 +1,15 @@
 -- How much a module has: its type size, the most and the least of each kind. Rules of this project.
-use Rattle.std.specs.Prelude.{◌≡◌, ℕ, ◌+◌, ◌≤◌, ◌⊎◌, max, false, ◌||◌, is_some, IsTrue, ⊤, List, [], ◌++◌, Option, Some, option_map, unwrap_or, length, slice_get, sum_by, All, if◌then◌else◌}
+use Rattle.std.specs.Prelude.{◌≡◌, ℕ, ◌+◌, ◌≤◌, ◌⊎◌, max, false, ◌||◌, is_some, ⊤, List, [], ◌++◌, Option, option_map, unwrap_or, length, slice_get, sum_by, All, if◌then◌else◌}
 use Rattle.std.specs.List.{Contains}
 use Rattle.smith_bytes.specs.declared.error.Count.{Count}
 use Rattle.smith_bytes.specs.declared.error.Count.TheVariants as counts
-use Rattle.smith_types.specs.Kinds.{shared}
 use Rattle.smith_types.specs.Imports.{IndexSpaces, flattened, imported_spaces}
 use Rattle.smith_types.specs.Segments.{item_count}
 use Rattle.smith_types.specs.Sizes.{size_in}
-use Rattle.smith_types.specs.declared.composite_type.SubType.{SubType}
 use Rattle.smith_types.specs.declared.entity_type.EntityType.TheVariants as entity
 use Rattle.smith_types.specs.declared.entity_type.ExportKind.{ExportKind}
 use Rattle.smith_types.specs.declared.entity_type.ExportKind.TheVariants as kind
 use Rattle.smith_types.specs.declared.imports.Import.{Import}
-use Rattle.smith_types.specs.declared.segments.Elements.{Elements}
-use Rattle.smith_types.specs.declared.segments.Elements.TheVariants.{Functions}
 use Rattle.smith_types.specs.declared.segments.ElementSegment.{ElementSegment}
 use Rattle.smith_config.specs.declared.config.Config.{Config}
 use Rattle.smith_config.specs.declared.shape.Shape.{Shape}
@@ -21,6 +17,7 @@ use Rattle.smith_config.specs.Faults.{minimum_of, maximum_of}
 use Rattle.smith_config.specs.InUse.{shapes_of, FixesImports, FixesExports}
 use Rattle.smith_config.specs.Shapes.{shape_types, shape_imports, shape_spaces}
 use Rattle.smith_draw.specs.Bounds.{IsTableWithin, IsMemoryWithin}
+use Rattle.smith_contents.specs.Held.{HasItems}
 use Rattle.smith_imports.specs.ShapeImports.{count_in}
 use Rattle.wasm_smith.specs.Module.{Parts}
 
@@ -127,14 +124,6 @@ pub record KeepsBounds (config : Config) (m : Parts) : Type 0 where
   pub memories : All (λ memory. Contains (of_shapes (λ spaces. spaces.memories) config) memory ⊎ IsMemoryWithin config memory) m.memories
   pub type_size : m.type_size ≡ imports_size config m + exports_size config m
   pub type_size_most : m.type_size ≤ config.max_type_size
-
--- no function is there that an element of functions might be: each is of a shared type
-abbrev pub HasNoCandidates : List SubType → List ℕ → Type 0
-HasNoCandidates types funcs = All (λ index. (t : SubType) × (slice_get types index ≡ Some t) × IsTrue (shared t)) funcs
-
--- as many items as are asked for, or an empty list of functions where there is no candidate
-abbrev pub HasItems : Config → List SubType → List ℕ → Elements → Type 0
-HasItems config types funcs items = (config.min_elements ≤ item_count items) ⊎ ((items ≡ Functions []) × HasNoCandidates types funcs)
 
 -- an element segment of a module has enough items
 abbrev pub HasEnough : Config → Parts → ElementSegment → Type 0

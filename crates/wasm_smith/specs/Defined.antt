@@ -1,5 +1,5 @@
 -- What holds of an index space once its definitions stand behind its imports.
-use Rattle.std.specs.Prelude.{◌≡◌, ℕ, ◌+◌, ◌<◌, ◌≤◌, ◌^◌, IsTrue, Option, Some, List, [], map, length, slice_get, All, if◌then◌else◌}
+use Rattle.std.specs.Prelude.{◌≡◌, ℕ, ◌+◌, ◌<◌, ◌≤◌, ◌^◌, IsTrue, Option, Some, List, map, length, slice_get, All, if◌then◌else◌}
 use Rattle.std.specs.List.{flat_map}
 use Rattle.smith_types.specs.Entities.{IsFuncValid, IsGlobalValid, AreEntitiesValid, AreCountsEnabled}
 use Rattle.smith_types.specs.Expressions.{IsConstExpr}
@@ -30,11 +30,6 @@ pub record IsFilled {A : Type 0} (least most : ℕ) (imported space : List A) : 
   pub extends : Extends imported space
   pub enough : least ≤ length space
   pub within : length space ≤ most
-
--- that a list is empty, by a piece that says so
-pub record SpellsEmpty {A : Type 0} (IsEmptySpelled : List ℕ → Type 0) (items : List A) (piece : List ℕ) : Type 0 where
-  pub none : items ≡ []
-  pub spelled : IsEmptySpelled piece
 
 -- what initialisers may refer to is valid, and no type holds a reference that may not be null
 pub record MayInitialise (config : Config) (space : Space) (standing : Standing) : Type 0 where

@@ -14,17 +14,17 @@ use Rattle.smith_types.specs.declared.code.Code.{Code}
 use Rattle.smith_config.specs.declared.config.Config.{Config}
 use Rattle.smith_config.specs.Features.{features_of}
 use Rattle.smith_draw.specs.ConstFloats.{GivesNoFloat}
-use Rattle.wasm_smith.specs.Bounds.{HasItems}
-use Rattle.wasm_smith.specs.ExportedItems.{AreAllExported}
-use Rattle.wasm_smith.specs.AllExports.{exports_at}
-use Rattle.wasm_smith.specs.DataSegments.{data_at}
+use Rattle.smith_contents.specs.Held.{HasItems}
+use Rattle.smith_contents.specs.ExportedItems.{AreAllExported}
+use Rattle.smith_contents.specs.AllExports.{exports_at}
+use Rattle.smith_contents.specs.DataSegments.{data_at}
 use Rattle.wasm_smith.specs.Defined.{standing_in}
 use Rattle.wasm_smith.specs.Definitions.{global_scope}
-use Rattle.wasm_smith.specs.DrawnBodies.{bodies_at}
-use Rattle.wasm_smith.specs.ElementSegments.{elements_at, items_in}
-use Rattle.wasm_smith.specs.Exporting.{exported_size}
-use Rattle.wasm_smith.specs.Promises.{expressions_of}
-use Rattle.wasm_smith.specs.Start.{start_at}
+use Rattle.smith_contents.specs.DrawnBodies.{bodies_at}
+use Rattle.smith_contents.specs.ElementSegments.{elements_at, items_in}
+use Rattle.smith_contents.specs.Exporting.{exported_size}
+use Rattle.smith_contents.specs.Held.{expressions_of}
+use Rattle.smith_contents.specs.Start.{start_at}
 use Rattle.smith_imports.specs.Steps.{◌>>=◌, section_flag_at}
 use Rattle.wasm_smith.specs.declared.build.contents.Contents.{Contents}
 use Rattle.wasm_smith.specs.declared.build.definitions.Definitions.{Definitions}

@@ -11,24 +11,18 @@ use Rattle.smith_types.specs.declared.composite_type.SubType.{SubType}
 use Rattle.smith_types.specs.declared.entity_type.GlobalType.{GlobalType}
 use Rattle.smith_types.specs.declared.imports.Import.{Import}
 use Rattle.smith_types.specs.declared.const_instr.ConstInstr.{ConstInstr}
-use Rattle.smith_types.specs.declared.segments.Elements.{Elements}
-use Rattle.smith_types.specs.declared.segments.Elements.TheVariants.{Functions, Expressions}
 use Rattle.smith_types.specs.declared.segments.ElementSegment.{ElementSegment}
 use Rattle.smith_types.specs.declared.code.Code.{Code}
 use Rattle.smith_config.specs.declared.config.Config.{Config}
 use Rattle.smith_config.specs.InUse.{HasNoShapes, FixesImports, FixesExports}
 use Rattle.smith_draw.specs.ConstFloats.{GivesNoFloat}
-use Rattle.wasm_smith.specs.ExportedItems.{AreAllExported}
+use Rattle.smith_contents.specs.ExportedItems.{AreAllExported}
+use Rattle.smith_contents.specs.Held.{expressions_of}
 use Rattle.wasm_smith.specs.Module.{Parts, module_spaces}
 
 -- no two imports have the same pair of names
 abbrev pub HasDistinctImports : Parts → Type 0
 HasDistinctImports m = AreDistinct {A = List ℕ × List ℕ} (map (λ (one : Import). (one.«module», one.name)) (flattened m.imports))
-
--- the expressions of an element segment
-abbrev pub expressions_of : Elements → List (List ConstInstr)
-expressions_of (Functions functions) = []
-expressions_of (Expressions expressions) = expressions
 
 -- the expression of a table that has one
 abbrev pub initial_of : Option (List ConstInstr) → List (List ConstInstr)

@@ -17,6 +17,7 @@ use Rattle.smith_config.specs.Shapes.{IsShapeValid, shape_values}
 use Rattle.smith_config.specs.ShapeFaults.{HasShapeFault}
 use Rattle.smith_draw.specs.ConstBounds.{IsNonNullable}
 use Rattle.smith_spell.specs.Minimums.{HasNoMinimums}
+use Rattle.smith_contents.specs.Exported.{MayHaveNoExports}
 use Rattle.smith_imports.specs.Imported.{MayLackImports}
 use Rattle.wasm_smith.specs.Bounds.{where_given, exported_of, brought_by_module}
 
@@ -33,12 +34,6 @@ HasShape config = (for_use : Which) × IsSome (shape_for config for_use)
 -- a shape that is used holds a reference that may not be null
 abbrev pub HoldsNonNullable : Config → Type 0
 HoldsNonNullable config = (for_use : Which) × IsSomeAnd (shape_for config for_use) (λ shape. Any IsNonNullable (shape_values shape))
-
--- where no table, no memory and no global is asked for, so that there may be nothing to export
-pub record MayHaveNoExports (config : Config) : Type 0 where
-  pub tables : config.min_tables ≡ 0
-  pub memories : config.min_memories ≡ 0
-  pub globals : config.min_globals ≡ 0
 
 -- where exports may end before there are as many as are asked for: beside a shape, or where they may be too large together,
 -- or where there may be no item

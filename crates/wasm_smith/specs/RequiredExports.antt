@@ -20,7 +20,7 @@ use Rattle.smith_config.specs.declared.shape.Shape.{Shape}
 use Rattle.smith_config.specs.Features.{features_of}
 use Rattle.smith_config.specs.Shapes.{shape_types, shape_spaces}
 use Rattle.smith_draw.specs.ConstExprs.{const_expr_at, table_init_at}
-use Rattle.wasm_smith.specs.Exporting.{Export}
+use Rattle.smith_contents.specs.Exporting.{Export}
 use Rattle.wasm_smith.specs.declared.build.definitions.Definitions.{Definitions}
 
 -- What a step answered is what reading answers, unless memory ran out.

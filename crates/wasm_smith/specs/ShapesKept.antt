@@ -1,22 +1,15 @@
 -- What a module keeps of the shapes that it was asked to have. Rules of this project.
-use Rattle.std.specs.Prelude.{◌≡◌, ℕ, suc, ◌+◌, ◌%◌, ◌==◌, ◌&&◌, nat_le, nat_lt, Bool, true, IsTrue, IfSome, List, [], ◌∷◌, ◌++◌, None, Some, map, length, sum_by, slice_get, slice_index_or, if◌then◌else◌}
-use Rattle.std.specs.List.{AllZip, filter}
-use Rattle.smith_bytes.specs.declared.error.Count.{Count}
-use Rattle.smith_bytes.specs.declared.error.Count.TheVariants as counts
+use Rattle.std.specs.Prelude.{◌≡◌, ℕ, IsTrue, IfSome, List, [], None, Some, slice_get}
+use Rattle.std.specs.List.{AllZip}
 use Rattle.smith_types.specs.Grown.{Extends}
-use Rattle.smith_types.specs.Imports.{IndexSpaces, imports_of, flattened, imported_spaces}
+use Rattle.smith_types.specs.Imports.{IndexSpaces, flattened}
 use Rattle.smith_types.specs.Exports.{IsEntityAt}
-use Rattle.smith_types.specs.Sizes.{size_in}
 use Rattle.smith_types.specs.declared.composite_type.SubType.{SubType}
 use Rattle.smith_types.specs.declared.entity_type.EntityType.{EntityType}
 use Rattle.smith_types.specs.declared.entity_type.EntityType.TheVariants as entity
 use Rattle.smith_types.specs.declared.entity_type.ExportKind.{ExportKind}
-use Rattle.smith_types.specs.declared.imports.Import.{Import}
-use Rattle.smith_types.specs.declared.imports.Imports.{Imports}
-use Rattle.smith_types.specs.declared.imports.Imports.TheVariants.{Single}
 use Rattle.smith_config.specs.declared.config.Config.{Config}
 use Rattle.smith_config.specs.declared.shape.Shape.{Shape}
-use Rattle.smith_config.specs.Faults.{maximum_of}
 use Rattle.smith_config.specs.InUse.{shapes_of}
 use Rattle.smith_config.specs.Shapes.{space_of, shape_types, shape_imports, shape_spaces}
 use Rattle.smith_imports.specs.ShapeImports.{kept_groups, taken_from}

@@ -9,14 +9,8 @@ use Rattle.smith_types.specs.declared.value_type.ValType.TheVariants.{I32}
 use Rattle.smith_types.specs.declared.entity_type.GlobalType.{GlobalType}
 use Rattle.smith_types.specs.declared.const_instr.ConstInstr.TheVariants.{I32Const}
 use Rattle.smith_types.specs.declared.code.Code.{Code}
-use Rattle.smith_types.specs.declared.code.Instructions.{Instructions}
-use Rattle.smith_types.specs.declared.code.Instructions.TheVariants.{Unreachable, Arbitrary}
+use Rattle.smith_contents.specs.Held.{IsRaw}
 use Rattle.wasm_smith.specs.Module.{Parts, IsValid}
-
--- instructions that are raw bytes, before which no check can stand
-abbrev pub IsRaw : Instructions → Type 0
-IsRaw Unreachable = ⊥
-IsRaw (Arbitrary bytes) = Unit {0}
 
 -- some body of a module is raw bytes
 abbrev pub HasRawBody : Parts → Type 0

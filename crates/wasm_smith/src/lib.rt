@@ -2,7 +2,6 @@
 #![tactic(auto)]
 
 mod build;
-mod examples;
 mod interesting_values;
 pub mod laws;
 mod module;

@@ -10,14 +10,12 @@ ghost use Rattle.smith_imports.specs.Imported.{spaces_of};
 ghost use Rattle.wasm_smith.specs.Refusals.{MayRefuse};
 ghost use Rattle.smith_imports.specs.Steps.{Gives};
 
-use crate::build::bodies::bodies;
 use crate::build::definitions::Definitions;
-use crate::build::exports::exports;
 use crate::build::section_flag::section_flag;
 use crate::build::segments::{Segments, all_segments};
-use crate::build::start::start;
 use smith_bytes::{Error, Unstructured};
 use smith_config::Config;
+use smith_contents::{arbitrary_bodies, arbitrary_exports, arbitrary_start};
 use smith_imports::Imported;
 use smith_types::{Code, ExportKind, Items, Name, TypeSpace};
 use std::alloc::Global;
@@ -69,7 +67,7 @@ pub(crate) fn draw_contents(
     ensures refusal { IfErr result (MayRefuse config.now) }
     ensures left { KeepsPieces u.old u.new }
 {
-    let exports = exports(
+    let exports = arbitrary_exports(
         alloc,
         config,
         types,
@@ -78,9 +76,9 @@ pub(crate) fn draw_contents(
         u,
     )?;
     let encodes_types = section_flag(types.types().len(), u);
-    let start = start(config, types.types(), imported.spaces.funcs.as_slice(), u);
+    let start = arbitrary_start(config, types.types(), imported.spaces.funcs.as_slice(), u);
     let segments = all_segments(alloc, config, types, imported, definitions, u)?;
-    let code = bodies(alloc, config, types, definitions.num_funcs, u)?;
+    let code = arbitrary_bodies(alloc, config, types, definitions.num_funcs, u)?;
     Ok(Contents {
         exports: exports.exports,
         type_size: exports.type_size,

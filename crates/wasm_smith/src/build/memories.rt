@@ -5,7 +5,8 @@ ghost use Rattle.smith_config.specs.Faults.{Passes};
 ghost use Rattle.smith_config.specs.Features.{features_of};
 ghost use Rattle.smith_draw.specs.Bounds.{IsMemoryWithin};
 ghost use Rattle.smith_draw.specs.Drawing.{DrawsInto};
-ghost use Rattle.wasm_smith.specs.Defined.{IsFilled, SpellsEmpty};
+ghost use Rattle.smith_bytes.specs.Spelling.{SpellsEmpty};
+ghost use Rattle.wasm_smith.specs.Defined.{IsFilled};
 ghost use Rattle.wasm_smith.specs.Definitions.{memories_at};
 ghost use Rattle.smith_bytes.specs.Spelling.{SpellsNone};
 

@@ -7,12 +7,11 @@ ghost use Rattle.smith_imports.specs.Imported.{spaces_of};
 ghost use Rattle.wasm_smith.specs.Refusals.{MayRefuse};
 ghost use Rattle.smith_imports.specs.Steps.{Gives};
 
-use crate::build::data::data;
 use crate::build::definitions::Definitions;
-use crate::build::elements::elements;
 use crate::build::segment_spaces::segment_spaces;
 use smith_bytes::{Error, Unstructured};
 use smith_config::Config;
+use smith_contents::{arbitrary_data, arbitrary_elements};
 use smith_imports::Imported;
 use smith_types::{DataSegment, ElementSegment, Items, TypeSpace};
 use std::alloc::Global;
@@ -55,8 +54,8 @@ pub(crate) fn all_segments(
     let imported_funcs = imported.spaces.funcs.len() - definitions.num_funcs;
     let imported_globals = imported.spaces.globals.len() - definitions.globals.len();
     let spaces = segment_spaces(types, &imported.spaces, imported_funcs, imported_globals);
-    let elements = elements(alloc, config, &spaces, u)?;
-    let data_segments = data(alloc, config, &spaces, u)?;
+    let elements = arbitrary_elements(alloc, config, &spaces, u)?;
+    let data_segments = arbitrary_data(alloc, config, &spaces, u)?;
     Ok(Segments {
         elements,
         data_segments,

@@ -10,19 +10,19 @@ use Rattle.smith_draw.specs.TypeUses.{is_tag_type, is_unshared_function}
 use Rattle.smith_draw.specs.ValueTypes.{val_type_at, sharedness_at}
 use Rattle.std.specs.Str.{is_utf8, chars}
 use Rattle.std.specs.Str.Lossy.{utf8_valid_len}
-use Rattle.wasm_smith.specs.AllExports.{exports_at}
+use Rattle.smith_contents.specs.AllExports.{exports_at}
 use Rattle.wasm_smith.specs.Build.{module_at, definitions_at}
-use Rattle.wasm_smith.specs.DataSegments.{data_at, counting_at, segments_at}
+use Rattle.smith_contents.specs.DataSegments.{data_at, counting_at, segments_at}
 use Rattle.wasm_smith.specs.Definitions.{defined_at, typed_at, tags_at, funcs_at, tables_at, memories_at, globals_at}
-use Rattle.wasm_smith.specs.DrawnBodies.{bodies_at}
+use Rattle.smith_contents.specs.DrawnBodies.{bodies_at}
 use Rattle.wasm_smith.specs.DrawnContents.{contents_at, all_segments_at}
-use Rattle.wasm_smith.specs.ElementSegments.{elements_at, kinds_at, table_kinds_at, element_segments_at}
-use Rattle.wasm_smith.specs.Exporting.{free_exports_at, exports_from}
+use Rattle.smith_contents.specs.ElementSegments.{elements_at, kinds_at, table_kinds_at, element_segments_at}
+use Rattle.smith_contents.specs.Exporting.{free_exports_at, exports_from}
 use Rattle.smith_imports.specs.ImportGroups.{group_kind_at}
 use Rattle.smith_imports.specs.ImportNames.{import_name_at}
 use Rattle.smith_imports.specs.ImportedEntities.{kind_at, entity_of_kind_at, entity_at}
 use Rattle.smith_imports.specs.Importing.{imports_at, groups_at, group_at, group_of_kind_at}
-use Rattle.wasm_smith.specs.Start.{start_at, start_wanted_at}
+use Rattle.smith_contents.specs.Start.{start_at, start_wanted_at}
 use Rattle.smith_imports.specs.Steps.{section_flag_at}
 use Rattle.smith_examples.proofs.definitions.an_imported_function.Goals as goal
 

@@ -7,7 +7,7 @@ use Rattle.smith_bytes.specs.Draws.{bool_at, range_at, digit_count, len_at}
 use Rattle.smith_bytes.specs.Names.{text_at}
 use Rattle.smith_draw.specs.Choices.{chosen_at}
 use Rattle.smith_imports.specs.ImportNames.{new_name}
-use Rattle.wasm_smith.specs.Exporting.{export_name_at, export_at, exports_from, free_exports_at}
+use Rattle.smith_contents.specs.Exporting.{export_name_at, export_at, exports_from, free_exports_at}
 use Rattle.smith_examples.proofs.exports.ends.Goals as goal
 
 pub returns-clause-without_items : goal.returns-clause-without_items

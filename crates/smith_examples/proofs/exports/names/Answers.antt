@@ -6,7 +6,7 @@ use Rattle.std.specs.Str.Lossy.{utf8_valid_len}
 use Rattle.smith_bytes.specs.Draws.{range_at, digit_count, len_at}
 use Rattle.smith_bytes.specs.Names.{text_at}
 use Rattle.smith_imports.specs.ImportNames.{new_name}
-use Rattle.wasm_smith.specs.Exporting.{export_name_at}
+use Rattle.smith_contents.specs.Exporting.{export_name_at}
 use Rattle.smith_examples.proofs.exports.names.Goals as goal
 
 pub returns-clause-number_behind : goal.returns-clause-number_behind

@@ -1,16 +1,16 @@
 use Rattle.wasm_smith.proofs.ContentsLemmas.{few_funcs, may_draw_exports}
 use Rattle.wasm_smith.proofs.build.contents.draw_contents.Goals as goal
 
-pub exports-requires : goal.exports-requires
-exports-requires c = record { may = may_draw_exports c.requires.may c.requires.not_fixed }
+pub arbitrary_exports-requires : goal.arbitrary_exports-requires
+arbitrary_exports-requires c = record { may = may_draw_exports c.requires.may c.requires.not_fixed }
 
-pub start-start-requires : goal.start-start-requires
-start-start-requires c = rw c.as_slice.ensures (few_funcs c.requires.may)
+pub arbitrary_start-start-requires : goal.arbitrary_start-start-requires
+arbitrary_start-start-requires c = rw c.as_slice.ensures (few_funcs c.requires.may)
 
 pub returns-in_err-code-clause-left : goal.returns-in_err-code-clause-left
 returns-in_err-code-clause-left c = λ whole h.
-    c.bodies.ensures.draws.left whole (c.all_segments.ensures.left whole (c.start-start.ensures.draws.left whole (c.section_flag-encodes_types.ensures.draws.left whole (c.exports.ensures.left whole h))))
+    c.arbitrary_bodies.ensures.draws.left whole (c.all_segments.ensures.left whole (c.arbitrary_start-start.ensures.draws.left whole (c.section_flag-encodes_types.ensures.draws.left whole (c.arbitrary_exports.ensures.left whole h))))
 
 pub returns-clause-left : goal.returns-clause-left
 returns-clause-left c = λ whole h.
-    c.bodies.ensures.draws.left whole (c.all_segments.ensures.left whole (c.start-start.ensures.draws.left whole (c.section_flag-encodes_types.ensures.draws.left whole (c.exports.ensures.left whole h))))
+    c.arbitrary_bodies.ensures.draws.left whole (c.all_segments.ensures.left whole (c.arbitrary_start-start.ensures.draws.left whole (c.section_flag-encodes_types.ensures.draws.left whole (c.arbitrary_exports.ensures.left whole h))))

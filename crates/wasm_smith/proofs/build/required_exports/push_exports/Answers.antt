@@ -1,7 +1,7 @@
 use Rattle.std.proofs.Common.{arith, [], ◌∷◌, ◌++◌}
 use Rattle.smith_types.specs.IndexSpaces.{spaces_in}
 use Rattle.smith_draw.proofs.ConstStepLemmas.{passed_on}
-use Rattle.wasm_smith.specs.Exporting.{Export}
+use Rattle.smith_contents.specs.Exporting.{Export}
 use Rattle.wasm_smith.specs.RequiredExports.{standing_with}
 use Rattle.wasm_smith.proofs.RequiredExportsLoop.{none_required, one_stands, room_for_one, required_more, required_refused, required_full, all_required, refused_for, refused_by}
 use Rattle.wasm_smith.proofs.build.required_exports.push_exports.Goals as goal

@@ -1,6 +1,6 @@
 use Rattle.std.proofs.lemmas.Result.{on_ok_weaker}
 use Rattle.smith_bytes.specs.declared.error.Count.TheVariants.{Tags}
-use Rattle.wasm_smith.specs.Defined.{SpellsEmpty}
+use Rattle.smith_bytes.specs.Spelling.{SpellsEmpty}
 use Rattle.wasm_smith.specs.Definitions.{tags_at}
 use Rattle.smith_spell.specs.Spelling.{SpellsNoTag}
 use Rattle.smith_imports.proofs.GivenLemmas.{given_takes}

@@ -1,0 +1,77 @@
+-- Data segments that are drawn may stand in a module: they are valid, and where nothing may trap, what they copy fits.
+use Rattle.std.proofs.Common.{◌≡◌, ℕ, ◌<◌, ◌≤◌, Bool, true, false, cond, List, [], length, refl, subst, arith}
+use Rattle.std.specs.Prelude.{◌↔◌, All, IsTrue}
+use Rattle.std.specs.List.{Contains}
+use Rattle.std.proofs.lemmas.List.Elements.{All-contains_itself, All-weaker}
+use Rattle.smith_bytes.proofs.GrownLemmas.{grow_most, grow_least}
+use Rattle.smith_types.specs.Expressions.{Context, IsVisible}
+use Rattle.smith_types.specs.Segments.{IsOffsetValid, IsOffsetInside, address_type}
+use Rattle.smith_types.specs.Subtyping.{IsValBelow}
+use Rattle.smith_types.specs.declared.composite_type.SubType.{SubType}
+use Rattle.smith_types.specs.declared.entity_type.MemoryType.{MemoryType}
+use Rattle.smith_types.specs.declared.segments.DataSegmentKind.TheVariants.{Passive, Active}
+use Rattle.smith_types.specs.declared.segments.Offset.{Offset}
+use Rattle.smith_types.specs.declared.value_type.ValType.{ValType}
+use Rattle.smith_types.specs.declared.value_type.ValType.TheVariants.{I32, I64, F32, F64, V128, Ref}
+use Rattle.smith_config.specs.declared.config.Config.{Config}
+use Rattle.smith_draw.specs.Choices.{chosen_at}
+use Rattle.smith_draw.specs.ConstScopes.{IsReadable}
+use Rattle.smith_draw.proofs.SupertypeLemmas.{chosen_of}
+use Rattle.smith_draw.proofs.ValueTypeLemmas.{drawn_is}
+use Rattle.smith_contents.specs.DataSegments.{Indexed, no_memory, least_bytes, segment_at, segments_at}
+use Rattle.smith_contents.specs.DataTargets.{StandsIn, TellOffsets, IsDataFit}
+use Rattle.smith_contents.specs.declared.data.Targets.{Targets}
+
+-- what holds of all memories that count holds of the one that is chosen
+pub chosen_keeps : (P : Indexed → Type 0) {items seen : List Indexed} (bytes : List ℕ) {after : List ℕ} {one : Indexed} → seen ≡ items → 0 < length items → All P items → chosen_at no_memory seen bytes ≡ (one, after) → P one
+chosen_keeps P {items = items} bytes same some all chosen = drawn_is P _ (chosen_of P no_memory items bytes some all) (rw same at chosen)
+
+below_number : (wide : Bool) (types : List SubType) (value : ValType) → IsValBelow types value (address_type wide) → value ≡ address_type wide
+below_number true types I64 h = refl
+below_number true types I32 h = absurd h
+below_number true types F32 h = absurd h
+below_number true types F64 h = absurd h
+below_number true types V128 h = absurd h
+below_number true types (Ref r) h = absurd h
+below_number false types I32 h = refl
+below_number false types I64 h = absurd h
+below_number false types F32 h = absurd h
+below_number false types F64 h = absurd h
+below_number false types V128 h = absurd h
+below_number false types (Ref r) h = absurd h
+
+readable_tells : (context : Context) (wide : Bool) (index : ℕ) → IsReadable context (address_type wide) index → IsVisible context index (address_type wide)
+readable_tells context wide index (value, visible, below) = subst (λ (ty : ValType). IsVisible context index ty) (below_number wide context.types value below) visible
+
+-- globals that may be read tell an offset
+pub readable_tell : (context : Context) (wide : Bool) (globals : List ℕ) → ((index : ℕ) → Contains globals index ↔ IsReadable context (address_type wide) index) → TellOffsets context wide globals
+readable_tell context wide globals readable =
+    All-weaker (Contains globals) (λ index. IsVisible context index (address_type wide)) (λ index inside. readable_tells context wide index ((readable index).0 inside)) globals (All-contains_itself globals)
+
+-- of both widths
+pub both_tell : (context : Context) (wide : Bool) (globals32 globals64 : List ℕ) → TellOffsets context false globals32 → TellOffsets context true globals64 → TellOffsets context wide (cond wide globals64 globals32)
+both_tell context true globals32 globals64 narrow broad = broad
+both_tell context false globals32 globals64 narrow broad = narrow
+
+pub both_none : (wide : Bool) (globals32 globals64 : List ℕ) → globals32 ≡ [] → globals64 ≡ [] → cond wide globals64 globals32 ≡ []
+both_none true globals32 globals64 narrow broad = broad
+both_none false globals32 globals64 narrow broad = narrow
+
+-- what is copied into a memory may stand
+pub active_fit : {config : Config} {context : Context} {memories : List MemoryType} {one : Indexed} {offset : Offset} {init : List ℕ}
+    → StandsIn memories one → IsOffsetValid context one.1.memory64 offset → (IsTrue config.disallow_traps → IsOffsetInside offset (length init) (least_bytes one.1))
+    → IsDataFit config context memories (record { kind = Active one.0 offset; init = init })
+active_fit {one = one} stands valid inside = record { valid = (one.1, stands, valid); inside = λ on. (one.1, stands, inside on) }
+
+-- what is passive may, with bulk memory
+pub passive_fit : {config : Config} {context : Context} {memories : List MemoryType} {init : List ℕ} → IsTrue context.features.bulk_memory → IsDataFit config context memories (record { kind = Passive; init = init })
+passive_fit bulk = record { valid = bulk; inside = λ on. tt }
+
+-- how many segments there are
+pub segments_most : (config : Config) (targets : Targets) (bytes : List ℕ) → length (segments_at config targets bytes).0 ≤ config.max_data_segments
+unfolding segments_at
+segments_most config targets bytes = grow_most (λ _. segment_at config targets) config.min_data_segments config.max_data_segments config.max_data_segments [] bytes (omega arith)
+
+pub segments_least : (config : Config) (targets : Targets) (bytes : List ℕ) → config.min_data_segments ≤ config.max_data_segments → config.min_data_segments ≤ length (segments_at config targets bytes).0
+unfolding segments_at
+segments_least config targets bytes ordered = grow_least (λ _. segment_at config targets) config.min_data_segments config.max_data_segments [] bytes (omega arith)

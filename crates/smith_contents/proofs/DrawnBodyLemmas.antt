@@ -1,0 +1,72 @@
+-- Drawn bodies are valid, without floats no local is one, and they are raw bytes only where they may be.
+use Rattle.std.proofs.Common.{◌≡◌, ℕ, Bool, true, false, cond, List, [], length, refl, subst, arith}
+use Rattle.std.specs.Prelude.{IsTrue, All}
+use Rattle.std.specs.List.{Any, flat_map}
+use Rattle.std.proofs.lemmas.Bool.{cond_both}
+use Rattle.std.proofs.lemmas.List.Elements.{All-nil, recursion_from_All}
+use Rattle.smith_bytes.specs.Draws.{bool_at}
+use Rattle.smith_bytes.proofs.GrownLemmas.{grow_most, grow_least, grow_all}
+use Rattle.smith_types.specs.Bodies.{AreInstructionsValid, IsBodyValid}
+use Rattle.smith_types.specs.Floats.{IsNoFloat}
+use Rattle.smith_types.specs.declared.composite_type.SubType.{SubType}
+use Rattle.smith_types.specs.declared.code.Code.{Code}
+use Rattle.smith_types.specs.declared.code.Instructions.{Instructions}
+use Rattle.smith_types.specs.declared.code.Instructions.TheVariants.{Unreachable, Arbitrary}
+use Rattle.smith_types.proofs.HeldValueLemmas.{all_of_parts}
+use Rattle.smith_config.specs.declared.config.Config.{Config}
+use Rattle.smith_config.specs.Features.{features_of}
+use Rattle.smith_config.specs.Sanitized.{IsSanitized}
+use Rattle.smith_draw.proofs.LocalLemmas.{locals_most, locals_valid, locals_no_float}
+use Rattle.smith_contents.specs.DrawnBodies.{raw_bytes_at, is_raw_at, instructions_at, body_at, bodies_at}
+use Rattle.smith_contents.specs.Held.{IsRaw}
+
+raw_allowed : (may : Bool) (drawn : Bool × List ℕ) (bytes : List ℕ) → (cond may drawn (false, bytes)).0 ≡ true → IsTrue may
+raw_allowed true drawn bytes raw = refl
+raw_allowed false drawn bytes raw = cc
+
+instructions_valid : (config : Config) (bytes : List ℕ) → AreInstructionsValid config.allow_invalid_funcs (instructions_at config bytes).0
+unfolding instructions_at raw_bytes_at is_raw_at
+instructions_valid config bytes =
+    let raw = is_raw_at config bytes in
+    cond_both raw.0 (raw_bytes_at raw.1) (Unreachable, raw.1) (λ (r : Instructions × List ℕ). AreInstructionsValid config.allow_invalid_funcs r.0)
+    (raw_allowed config.allow_invalid_funcs (bool_at bytes) bytes) (λ off. tt)
+
+body_valid : (config : Config) (types : List SubType) (bytes : List ℕ) → IsSanitized config → IsBodyValid (features_of config) (length types) config.allow_invalid_funcs (body_at config types bytes).0
+unfolding body_at
+body_valid config types bytes sanitized = record {
+  few = locals_most config types bytes;
+  locals = locals_valid config types bytes sanitized;
+  instructions = instructions_valid config _;
+}
+
+pub bodies_each : (config : Config) (types : List SubType) (count : ℕ) (bytes : List ℕ) → length (bodies_at config types count bytes).0 ≡ count
+unfolding bodies_at
+bodies_each config types count bytes =
+    let most = grow_most (λ _. body_at config types) count count count [] bytes (omega arith) in
+    let least = grow_least (λ _. body_at config types) count count [] bytes (omega arith) in
+    omega (arith, most, least)
+
+pub bodies_valid : (config : Config) (types : List SubType) (count : ℕ) (bytes : List ℕ) → IsSanitized config → All (IsBodyValid (features_of config) (length types) config.allow_invalid_funcs) (bodies_at config types count bytes).0
+unfolding bodies_at
+bodies_valid config types count bytes sanitized =
+    let P = λ (body : Code). IsBodyValid (features_of config) (length types) config.allow_invalid_funcs body in
+    grow_all P (λ _. body_at config types) (λ _ after. body_valid config types after sanitized) count count [] bytes (All-nil P)
+
+body_no_float : (config : Config) (types : List SubType) (bytes : List ℕ) → config.allow_floats ≡ false → All IsNoFloat (body_at config types bytes).0.locals
+unfolding body_at
+body_no_float config types bytes off = locals_no_float config types bytes off
+
+pub bodies_no_float : (config : Config) (types : List SubType) (count : ℕ) (bytes : List ℕ) → config.allow_floats ≡ false → All IsNoFloat (flat_map (λ (body : Code). body.locals) (bodies_at config types count bytes).0)
+unfolding bodies_at
+bodies_no_float config types count bytes off =
+    let P = λ (body : Code). All IsNoFloat body.locals in
+    let each = grow_all P (λ _. body_at config types) (λ _ after. body_no_float config types after off) count count [] bytes (All-nil P) in
+    all_of_parts IsNoFloat (λ (body : Code). body.locals) _ (recursion_from_All P _ each)
+
+not_raw : (raw : Bool) (instructions : Instructions) → raw ≡ false → AreInstructionsValid raw instructions → ¬ IsRaw instructions
+not_raw raw Unreachable off valid is_raw = is_raw
+not_raw raw (Arbitrary bytes) off valid is_raw = cc
+
+-- valid bodies are no raw bytes where none may be
+pub none_raw : (config : Config) (types : ℕ) (bodies : List Code) → config.allow_invalid_funcs ≡ false → All (IsBodyValid (features_of config) types config.allow_invalid_funcs) bodies → ¬ Any (λ (body : Code). IsRaw body.instructions) bodies
+none_raw config types bodies off valid (place, body, inside, at, raw) = not_raw config.allow_invalid_funcs body.instructions off (subst (λ (one : Code). IsBodyValid (features_of config) types config.allow_invalid_funcs one) at (valid place body inside)).instructions raw

@@ -1,0 +1,91 @@
+-- What the items of element segments are like.
+use Rattle.std.proofs.Common.{◌≡◌, ◌∙◌, ℕ, ◌≤◌, Bool, true, false, List, [], length, refl, arith}
+use Rattle.std.specs.Prelude.{All, slice_index_or}
+use Rattle.std.proofs.lemmas.Option.{slice_get-get_or}
+use Rattle.smith_bytes.proofs.GrownLemmas.{grow_most}
+use Rattle.smith_types.specs.Expressions.{Context}
+use Rattle.smith_types.specs.Flags.{IsElementEnabled}
+use Rattle.smith_types.specs.declared.composite_type.SubType.{SubType}
+use Rattle.smith_types.specs.declared.value_type.RefType.{RefType}
+use Rattle.smith_types.proofs.GroupGrowthLemmas.{AreTypesOpen-at, AreTypesOpen-start}
+use Rattle.smith_config.specs.declared.config.Config.{Config}
+use Rattle.smith_config.specs.Features.{features_of}
+use Rattle.smith_config.specs.Sanitized.{IsSanitized}
+use Rattle.smith_draw.specs.Choices.{chosen_at}
+use Rattle.smith_draw.specs.Kept.{IsSharingEnabled}
+use Rattle.smith_draw.specs.MatchingTypes.{matching_ref_type_at}
+use Rattle.smith_draw.specs.declared.spaces.Spaces.{Spaces}
+use Rattle.smith_draw.proofs.ChosenLemmas.{matching_without_gc}
+use Rattle.smith_draw.proofs.MatchingLemmas.{matching_ref_below, matching_ref_valid, matching_ref_nullable}
+use Rattle.smith_draw.proofs.NullableLemmas.{ref_type_nullable}
+use Rattle.smith_draw.proofs.TableTypeLemmas.{element_enabled}
+use Rattle.smith_draw.proofs.ValueTypeLemmas.{ref_type_drawn}
+use Rattle.smith_contents.specs.DrawnElements.{IsOffered, FitsAddresses, FitsTable, MayDrawElements, MayHoldItems}
+use Rattle.smith_contents.specs.ElementSegments.{KindChoice, item_type_at, chosen_functions_at, expression_item_at, drawn_expressions_at}
+use Rattle.smith_contents.specs.declared.element_kinds.KindChoice.TheVariants as choice
+
+-- types that stand are shared only where that is enabled
+sharing : (config : Config) (spaces : Spaces) → MayDrawElements config spaces → All (IsSharingEnabled (features_of config)) spaces.types.now.types
+sharing config spaces may k d inside =
+    let space = spaces.types.now in
+    let open_types = AreTypesOpen-start (features_of config) (length space.types) space (omega arith) may.standing.types in
+    (AreTypesOpen-at (features_of config) (length space.types) space open_types k (slice_index_or space.types k d) (slice_get-get_or space.types k d inside)).enabled.shared
+
+matching_same : (config : Config) (types : List SubType) (element : RefType) (bytes : List ℕ) → config.gc_enabled ≡ false → (matching_ref_type_at config types element bytes).0 ≡ element
+unfolding matching_ref_type_at
+matching_same config types element bytes off = rw (matching_without_gc config types element.heap_type bytes off) refl
+
+-- a type that matches an element type is enabled where that is
+matching_enabled : (config : Config) (types : List SubType) (element : RefType) (bytes : List ℕ) (gc : Bool) → config.gc_enabled ≡ gc → IsSanitized config → IsElementEnabled (features_of config) element → IsElementEnabled (features_of config) (matching_ref_type_at config types element bytes).0
+matching_enabled config types element bytes true is sanitized enabled other = sanitized.gc is
+matching_enabled config types element bytes false is sanitized enabled other = enabled (λ same. other (matching_same config types element bytes is ∙ same))
+
+-- a segment may hold items of the type that is drawn
+pub item_type_may : (config : Config) (spaces : Spaces) (kind : KindChoice) (bytes : List ℕ) → MayDrawElements config spaces → IsOffered config spaces.types.now.types spaces.entities.tables.now kind
+    → MayHoldItems config spaces (item_type_at config spaces.types.now.types kind bytes).0
+unfolding item_type_at
+item_type_may config spaces choice.Passive bytes may offered = record {
+  standing = may.standing;
+  valid = (ref_type_drawn config spaces.types.now.types false (length spaces.types.now.types) bytes may.sanitized (λ never. cc)).valid;
+  enabled = element_enabled config spaces.types.now.types false (length spaces.types.now.types) bytes;
+  not_needed = ref_type_nullable config spaces.types.now.types false (length spaces.types.now.types) bytes;
+  nullable = may.nullable;
+}
+item_type_may config spaces choice.Declared bytes may offered = record {
+  standing = may.standing;
+  valid = (ref_type_drawn config spaces.types.now.types false (length spaces.types.now.types) bytes may.sanitized (λ never. cc)).valid;
+  enabled = element_enabled config spaces.types.now.types false (length spaces.types.now.types) bytes;
+  not_needed = ref_type_nullable config spaces.types.now.types false (length spaces.types.now.types) bytes;
+  nullable = may.nullable;
+}
+item_type_may config spaces (choice.Active index table) bytes may offered =
+    let types = spaces.types.now.types in
+    record {
+      standing = may.standing;
+      valid = (matching_ref_valid config types table.element_type bytes).against (length types) (omega arith) (sharing config spaces may) offered.fit.valid.element;
+      enabled = matching_enabled config types table.element_type bytes config.gc_enabled refl may.sanitized offered.fit.valid.element_enabled;
+      not_needed = matching_ref_nullable config types table.element_type bytes ∙ offered.fit.nullable;
+      nullable = may.nullable;
+    }
+
+-- the type that is drawn fits the table
+pub item_type_fits : (config : Config) (types : List SubType) (kind : KindChoice) (bytes : List ℕ) → FitsTable types kind (item_type_at config types kind bytes).0
+unfolding item_type_at
+item_type_fits config types choice.Passive bytes = tt
+item_type_fits config types choice.Declared bytes = tt
+item_type_fits config types (choice.Active index table) bytes = matching_ref_below config types table.element_type bytes
+
+-- the table of a kind that is offered
+pub fits_addresses : (config : Config) (spaces : Spaces) (kind : KindChoice) → IsOffered config spaces.types.now.types spaces.entities.tables.now kind → FitsAddresses kind
+fits_addresses config spaces choice.Passive offered = tt
+fits_addresses config spaces choice.Declared offered = tt
+fits_addresses config spaces (choice.Active index table) offered = offered.fit.valid.limits.minimum_fits
+
+-- as many items as may be, or fewer
+pub functions_few : (config : Config) (funcs : List ℕ) (most : ℕ) (bytes : List ℕ) → length (chosen_functions_at config funcs most bytes).0 ≤ most
+unfolding chosen_functions_at
+functions_few config funcs most bytes = grow_most (λ _. chosen_at 0 funcs) config.min_elements most most [] bytes (omega arith)
+
+pub expressions_few : (config : Config) (context : Context) (ty : RefType) (most : ℕ) (bytes : List ℕ) → length (drawn_expressions_at config context ty most bytes).0 ≤ most
+unfolding drawn_expressions_at
+expressions_few config context ty most bytes = grow_most (λ _. expression_item_at config context ty) config.min_elements most most [] bytes (omega arith)

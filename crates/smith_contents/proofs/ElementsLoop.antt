@@ -1,0 +1,85 @@
+-- One turn of the loop that draws element segments.
+use Rattle.std.proofs.Common.{◌≡◌, ◌∙◌, ℕ, suc, ◌+◌, ◌-◌, ◌≤◌, ◌<◌, Bool, true, false, Result, Ok, Err, List, [], ◌∷◌, ◌++◌, length, nat_lt, refl, sym, subst, ap, arith, length-append}
+use Rattle.std.specs.Prelude.{IsErrAnd}
+use Rattle.std.proofs.lemmas.List.Sums.{sum_by_push}
+use Rattle.smith_bytes.specs.declared.error.Why.{Why}
+use Rattle.smith_bytes.specs.declared.error.Error.{Error}
+use Rattle.smith_bytes.specs.declared.error.Error.TheVariants as errors
+use Rattle.smith_bytes.specs.Growth.{goes_at}
+use Rattle.smith_bytes.specs.Source.{KeepsPieces}
+use Rattle.smith_types.specs.Expressions.{Context}
+use Rattle.smith_types.specs.Segments.{item_count}
+use Rattle.smith_types.specs.declared.segments.ElementSegment.{ElementSegment}
+use Rattle.smith_config.specs.declared.config.Config.{Config}
+use Rattle.smith_imports.specs.Steps.{◌>>=◌, Gives}
+use Rattle.smith_contents.specs.ElementSegments.{KindChoice, items_in, element_segment_at, element_segments_at}
+
+-- n segments are made, with as many items in all, and what is drawn from here on completes the whole
+pub record AreSegmentsMade (config : Config) (context : Context) (kinds : List KindChoice) (n : ℕ) (made : List ElementSegment) (total : ℕ) (start bytes : List ℕ) (whole : Result (List ElementSegment × List ℕ) Why) : Type 0 where
+  pub len : length made ≡ n
+  pub total_is : total ≡ items_in made
+  pub within : total ≤ config.max_elements
+  pub few : n ≤ config.max_element_segments
+  pub so_far : element_segments_at config context kinds (config.max_element_segments - n) made bytes ≡ whole
+  pub left : KeepsPieces start bytes
+
+module _ {config : Config} {context : Context} {kinds : List KindChoice} {n total : ℕ} {made : List ElementSegment} {start bytes mid : List ℕ} {b : Bool} {whole : Result (List ElementSegment × List ℕ) Why} where
+  -- no segment was asked for
+  pub segments_stop : AreSegmentsMade config context kinds n made total start bytes whole → n < config.max_element_segments → goes_at (nat_lt n config.min_element_segments) bytes ≡ (b, mid) → b ≡ false → whole ≡ Ok (made, mid)
+  unfolding element_segments_at
+  segments_stop now lt go off =
+      let k : config.max_element_segments - n ≡ suc (config.max_element_segments - suc n) = omega arith in
+      let one : element_segments_at config context kinds (config.max_element_segments - n) made bytes ≡ Ok (made, mid) = rw (k, now.len, go, off) refl in
+      sym now.so_far ∙ one
+
+  -- a segment was asked for, and drawn or refused
+  segments_turn : AreSegmentsMade config context kinds n made total start bytes whole → n < config.max_element_segments → goes_at (nat_lt n config.min_element_segments) bytes ≡ (b, mid) → b ≡ true
+      → whole ≡ (element_segment_at config context kinds total mid >>= (λ segment. element_segments_at config context kinds (config.max_element_segments - (n + 1)) (made ++ segment.0 ∷ []) segment.1))
+  unfolding element_segments_at
+  segments_turn now lt go on =
+      let k : config.max_element_segments - n ≡ suc (config.max_element_segments - (n + 1)) = omega arith in
+      let one : element_segments_at config context kinds (config.max_element_segments - n) made bytes ≡ (element_segment_at config context kinds total mid >>= (λ segment. element_segments_at config context kinds (config.max_element_segments - (n + 1)) (made ++ segment.0 ∷ []) segment.1)) = rw (k, now.len, go, on, now.total_is) refl in
+      sym now.so_far ∙ one
+
+  -- a segment was refused
+  pub segments_refused : {why : Why} → AreSegmentsMade config context kinds n made total start bytes whole → n < config.max_element_segments → goes_at (nat_lt n config.min_element_segments) bytes ≡ (b, mid) → b ≡ true
+      → element_segment_at config context kinds total mid ≡ Err why → whole ≡ Err why
+  segments_refused now lt go on drawn = segments_turn now lt go on ∙ rw drawn refl
+
+  -- one more segment was drawn
+  pub segments_go : {more : List ElementSegment} {grown : ℕ} {segment : ElementSegment} {after : List ℕ} → AreSegmentsMade config context kinds n made total start bytes whole → n < config.max_element_segments
+      → goes_at (nat_lt n config.min_element_segments) bytes ≡ (b, mid) → b ≡ true → element_segment_at config context kinds total mid ≡ Ok (segment, after) → more ≡ made ++ segment ∷ [] → grown ≡ total + item_count segment.items → grown ≤ config.max_elements
+      → KeepsPieces bytes mid → KeepsPieces mid after → AreSegmentsMade config context kinds (n + 1) more grown start after whole
+  segments_go {segment = segment} now lt go on drawn longer counted within p q =
+      let turned : element_segment_at config context kinds total mid >>= (λ segment. element_segments_at config context kinds (config.max_element_segments - (n + 1)) (made ++ segment.0 ∷ []) segment.1) ≡ whole = sym (segments_turn now lt go on) in
+      rw longer (record {
+        len = rw length-append (omega (arith, now.len));
+        total_is = counted ∙ (ap (λ (sum : ℕ). sum + item_count segment.items) now.total_is ∙ sym (sum_by_push (λ (one : ElementSegment). item_count one.items) made segment));
+        within = within;
+        few = omega arith;
+        so_far = rw drawn at turned;
+        left = λ whole h. q whole (p whole (now.left whole h));
+      })
+
+-- no more segments may be drawn
+pub segments_full : {config : Config} {context : Context} {kinds : List KindChoice} {n total : ℕ} {made : List ElementSegment} {start bytes : List ℕ} {whole : Result (List ElementSegment × List ℕ) Why}
+    → AreSegmentsMade config context kinds n made total start bytes whole → config.max_element_segments ≤ n → whole ≡ Ok (made, bytes)
+unfolding element_segments_at
+segments_full {config = config} {context = context} {kinds = kinds} {n = n} {made = made} {bytes = bytes} now le =
+    let k : config.max_element_segments - n ≡ 0 = omega arith in
+    let one : element_segments_at config context kinds (config.max_element_segments - n) made bytes ≡ Ok (made, bytes) = rw k refl in
+    sym now.so_far ∙ one
+
+-- what refuses a part refuses the whole
+refused_part : {X Y A B : Type 0} (of_part : X → A) (of_whole : Y → B) (e : Error) (part : Result A Why) (whole : Result B Why) → Gives of_part (Err e) part → ((why : Why) → part ≡ Err why → whole ≡ Err why) → Gives of_whole (Err e) whole
+refused_part of_part of_whole errors.Memory part whole given passes = tt
+refused_part of_part of_whole errors.EmptyChoose part whole given passes = given
+refused_part of_part of_whole errors.NotEnoughData part whole given passes = given
+refused_part of_part of_whole (errors.Config fault) part whole given passes = given
+refused_part of_part of_whole (errors.Shape which fault) part whole given passes = given
+refused_part of_part of_whole (errors.IncorrectFormat why) part whole given passes = passes why given
+
+pub refused_by : {X Y A B : Type 0} (of_part : X → A) (of_whole : Y → B) (e : Error) (part : Result A Why) (whole : Result B Why) (result : Result Y Error) → Gives of_part (Err e) part → ((why : Why) → part ≡ Err why → whole ≡ Err why)
+    → IsErrAnd result (λ y. y ≡ e) → Gives of_whole result whole
+refused_by of_part of_whole e part whole (Ok y) given passes h = absurd h
+refused_by {X = X} of_part of_whole e part whole (Err own) given passes h = refused_part of_part of_whole own part whole (subst (λ (one : Error). Gives of_part (Err one) part) (sym h) given) passes

@@ -1,0 +1,94 @@
+-- Where exports run out, when they are refused, and which bytes none takes.
+use Rattle.std.proofs.Common.{◌≡◌, ℕ, zero, suc, ◌-◌, ◌<◌, Bool, true, false, List, [], ◌∷◌, ◌++◌, length, refl, ap, arith, nat_lt, lt-ltb, inl, inr, ◌∙◌}
+use Rattle.std.specs.Prelude.{Result, Ok, IfOk, if◌then◌else◌}
+use Rattle.std.proofs.lemmas.Bool.{ltb-true, ltb-false}
+use Rattle.smith_bytes.specs.Spelling.{SpellsBool, SpellsNone}
+use Rattle.smith_bytes.specs.Takes.{Takes}
+use Rattle.smith_bytes.specs.declared.error.Error.{Error}
+use Rattle.smith_bytes.proofs.SpelledLemmas.{bool_read}
+use Rattle.smith_types.specs.Imports.{IndexSpaces}
+use Rattle.smith_types.specs.declared.composite_type.SubType.{SubType}
+use Rattle.smith_types.specs.declared.entity_type.ExportKind.{ExportKind}
+use Rattle.smith_types.specs.declared.entity_type.ExportKind.TheVariants as kind
+use Rattle.smith_config.specs.declared.config.Config.{Config}
+use Rattle.smith_draw.specs.Choices.{enabled}
+use Rattle.smith_draw.specs.TypeUses.{places_from}
+use Rattle.smith_imports.specs.Steps.{Gives}
+use Rattle.smith_bytes.specs.Spelling.{SpellsEmpty}
+use Rattle.smith_contents.specs.Exporting.{Export, candidates, candidate_row, offered_kinds, exports_from, free_exports_at}
+use Rattle.smith_contents.specs.Exported.{MayExportFreely, AreExported, MayRunOut}
+use Rattle.smith_contents.specs.AllExports.{everything_at, exports_at}
+use Rattle.smith_contents.specs.declared.exported.Exports.{Exports}
+use Rattle.smith_contents.proofs.CandidateLemmas.{length_alike}
+use Rattle.smith_imports.proofs.GivenLemmas.{given_takes}
+
+-- where nothing is enabled the first is not, nor another
+off_by : {A : Type 0} (x : A) (b : Bool) (rest : List (A × Bool)) → length (enabled ((x, b) ∷ rest)) ≡ 0 → (b ≡ false) × (length (enabled rest) ≡ 0)
+off_by x true rest none = absurd (omega arith)
+off_by x false rest none = (refl, none)
+
+-- where more than 42 is left a kind without candidates has no item
+none_of_kind : {A : Type 0} (left : ℕ) (xs : List A) → 42 < left → nat_lt 0 (length (places_from (λ x. nat_lt 2 left) 0 xs)) ≡ false → length xs ≡ 0
+none_of_kind left xs much none =
+    let on : nat_lt 2 left ≡ true = lt-ltb 2 left (omega arith) in
+    let all : length (places_from (λ x. nat_lt 2 left) 0 xs) ≡ length xs = length_alike (nat_lt 2 left) 0 xs ∙ rw on refl in
+    let few = ltb-false 0 (length (places_from (λ x. nat_lt 2 left) 0 xs)) none in
+    omega (arith, few, all)
+
+run_out_by : (config : Config) (types : List SubType) (spaces : IndexSpaces) (imports : ℕ) (exports : List Export) (size : ℕ) (much : Bool) → nat_lt 42 (config.max_type_size - size) ≡ much → MayExportFreely config types spaces imports → AreExported config types spaces imports exports size → length exports < config.min_exports
+    → nat_lt 0 (length (offered_kinds types spaces (config.max_type_size - size))) ≡ false → MayRunOut config
+run_out_by config types spaces imports exports size false much may kept few none =
+    let little = ltb-false 42 (config.max_type_size - size) much in
+    inl (omega (arith, little, kept.fit.type_size, kept.small, may.small))
+run_out_by config types spaces imports exports size true much may kept few none =
+    let left = config.max_type_size - size in
+    let more = ltb-true 42 left much in
+    let nothing = ltb-false 0 (length (offered_kinds types spaces left)) none in
+    let row = candidate_row types spaces left in
+    let has = λ (of_kind : ExportKind). nat_lt 0 (length (candidates types spaces left of_kind)) in
+    let globals : List (ExportKind × Bool) = row kind.Global ∷ [] in
+    let memories : List (ExportKind × Bool) = row kind.Memory ∷ globals in
+    let tables : List (ExportKind × Bool) = row kind.Table ∷ memories in
+    let all : length (enabled (row kind.Func ∷ tables)) ≡ 0 = omega (arith, nothing) in
+    let func = off_by kind.Func (has kind.Func) tables all in
+    let table = off_by kind.Table (has kind.Table) memories func.1 in
+    let memory = off_by kind.Memory (has kind.Memory) globals table.1 in
+    let global = off_by kind.Global (has kind.Global) [] memory.1 in
+    inr (record {
+      tables = omega (arith, none_of_kind left spaces.tables more table.0, may.tables);
+      memories = omega (arith, none_of_kind left spaces.memories more memory.0, may.memories);
+      globals = omega (arith, none_of_kind left spaces.globals more global.0, may.globals);
+    })
+
+-- where exports end for want of a candidate they are too large together, or there may be no item
+pub run_out : (config : Config) (types : List SubType) (spaces : IndexSpaces) (imports : ℕ) (exports : List Export) (size : ℕ) → MayExportFreely config types spaces imports → AreExported config types spaces imports exports size → length exports < config.min_exports
+    → nat_lt 0 (length (offered_kinds types spaces (config.max_type_size - size))) ≡ false → MayRunOut config
+run_out config types spaces imports exports size may kept few none = run_out_by config types spaces imports exports size (nat_lt 42 (config.max_type_size - size)) refl may kept few none
+
+no_exports_by : (config : Config) (types : List SubType) (spaces : IndexSpaces) (imports most : ℕ) (piece after : List ℕ) → config.min_exports ≡ 0 → SpellsNone most piece → exports_from config types spaces imports most [] (piece ++ after) ≡ ([], after)
+unfolding exports_from
+no_exports_by config types spaces imports zero piece after none spelled = rw spelled refl
+no_exports_by config types spaces imports (suc most) piece after none spelled =
+    let stop : SpellsBool false piece = rw (lt-ltb 0 (suc most) (omega arith)) at spelled in
+    rw (none, bool_read false piece after stop) refl
+
+pub no_export_read : (config : Config) (types : List SubType) (spaces : IndexSpaces) (imports : ℕ) (exports : List Export) (piece after : List ℕ) → config.min_exports ≡ 0 → SpellsEmpty (SpellsNone config.max_exports) exports piece → free_exports_at config types spaces imports (piece ++ after) ≡ Ok (exports, after)
+unfolding free_exports_at
+no_export_read config types spaces imports exports piece after none h = rw (no_exports_by config types spaces imports config.max_exports piece after none h.spelled, none, h.none) refl
+
+-- a piece that says that there is no export is taken
+pub no_export_taken : (config : Config) (types : List SubType) (spaces : IndexSpaces) (imports : ℕ) (old new : List ℕ) (result : Result Exports Error) → config.min_exports ≡ 0 → Gives (λ (made : Exports). (made.exports, new)) result (free_exports_at config types spaces imports old)
+    → IfOk result (λ made. Takes (SpellsEmpty (SpellsNone config.max_exports)) old made.exports new)
+no_export_taken config types spaces imports old new result none given =
+    given_takes (SpellsEmpty (SpellsNone config.max_exports)) (λ (made : Exports). made.exports) (free_exports_at config types spaces imports) old new result
+    (λ exports piece after h. no_export_read config types spaces imports exports piece after none h) given
+
+-- every item is exported where that is asked for
+pub exports_all : (config : Config) (types : List SubType) (spaces : IndexSpaces) (imports : ℕ) (bytes : List ℕ) → config.export_everything ≡ true → exports_at config types spaces imports bytes ≡ everything_at config types spaces imports bytes
+unfolding exports_at
+exports_all config types spaces imports bytes on = ap (λ (all : Bool). if all then everything_at config types spaces imports bytes else free_exports_at config types spaces imports bytes) on
+
+-- and else exports are drawn freely
+pub exports_free : (config : Config) (types : List SubType) (spaces : IndexSpaces) (imports : ℕ) (bytes : List ℕ) → config.export_everything ≡ false → exports_at config types spaces imports bytes ≡ free_exports_at config types spaces imports bytes
+unfolding exports_at
+exports_free config types spaces imports bytes off = ap (λ (all : Bool). if all then everything_at config types spaces imports bytes else free_exports_at config types spaces imports bytes) off

@@ -1,0 +1,39 @@
+-- What data segments may be copied into, and what each is like. Rules of this project.
+use Rattle.std.specs.Prelude.{◌≡◌, ℕ, ◌<◌, Bool, false, IsTrue, List, [], Some, slice_get, All}
+use Rattle.smith_bytes.specs.declared.error.Error.{Error}
+use Rattle.smith_bytes.specs.declared.error.Error.TheVariants.{IncorrectFormat, Memory}
+use Rattle.smith_bytes.specs.declared.error.Why.TheVariants.{Unmet}
+use Rattle.smith_bytes.specs.declared.error.Count.TheVariants.{DataSegments}
+use Rattle.smith_types.specs.Expressions.{Context, IsVisible}
+use Rattle.smith_types.specs.Segments.{IsDataValid, IsDataInside, address_type}
+use Rattle.smith_types.specs.declared.entity_type.MemoryType.{MemoryType}
+use Rattle.smith_types.specs.declared.segments.DataSegment.{DataSegment}
+use Rattle.smith_config.specs.declared.config.Config.{Config}
+use Rattle.smith_contents.specs.DataSegments.{Indexed, globals_for}
+use Rattle.smith_contents.specs.declared.data.Targets.{Targets}
+
+-- a memory stands at its index
+abbrev pub StandsIn : List MemoryType → Indexed → Type 0
+StandsIn memories one = slice_get memories one.0 ≡ Some one.1
+
+-- globals of these indices tell an offset of this width
+abbrev pub TellOffsets : Context → Bool → List ℕ → Type 0
+TellOffsets context wide globals = All (λ index. IsVisible context index (address_type wide)) globals
+
+-- each memory stands at its index, each global tells an offset, and none does where nothing may trap
+pub record AreTargets (config : Config) (context : Context) (memories : List MemoryType) (targets : Targets) : Type 0 where
+  pub stand : All (StandsIn memories) targets.memories
+  pub globals : (wide : Bool) → TellOffsets context wide (globals_for targets wide)
+  pub none : IsTrue config.disallow_traps → (wide : Bool) → globals_for targets wide ≡ []
+  pub bulk : IsTrue config.bulk_memory_enabled → IsTrue context.features.bulk_memory
+
+-- a segment may stand in the module: it is valid, and where nothing may trap, what is copied fits
+pub record IsDataFit (config : Config) (context : Context) (memories : List MemoryType) (segment : DataSegment) : Type 0 where
+  pub valid : IsDataValid context memories segment
+  pub inside : IsTrue config.disallow_traps → IsDataInside memories segment
+
+-- when data segments are refused, but for want of memory: where some are asked for without bulk memory
+abbrev pub MayRefuseData : Config → Error → Type 0
+MayRefuseData config Memory = Unit {0}
+MayRefuseData config (IncorrectFormat (Unmet DataSegments)) = (config.bulk_memory_enabled ≡ false) × (0 < config.min_data_segments)
+MayRefuseData config _ = ⊥

@@ -1,0 +1,112 @@
+-- What element segments are drawn over, and what each keeps. Rules of this project.
+use Rattle.std.specs.Prelude.{◌≡◌, ◌⊎◌, ℕ, ◌<◌, ◌≤◌, ◌^◌, true, false, IsTrue, IsSome, IsSomeAnd, Option, Some, List, length, slice_get, All}
+use Rattle.smith_bytes.specs.declared.error.Count.TheVariants as counts
+use Rattle.smith_bytes.specs.declared.error.Error.{Error}
+use Rattle.smith_bytes.specs.declared.error.Error.TheVariants.{IncorrectFormat, Memory}
+use Rattle.smith_bytes.specs.declared.error.Why.TheVariants.{Unmet}
+use Rattle.smith_types.specs.Entities.{IsTableValid, most_elements}
+use Rattle.smith_types.specs.Expressions.{Context}
+use Rattle.smith_types.specs.Flags.{IsElementEnabled}
+use Rattle.smith_types.specs.Floats.{HasNoFloat}
+use Rattle.smith_types.specs.Segments.{table_index, AreItemsValid, IsOffsetValid, IsOffsetInside, IsElementValid, IsElementInside}
+use Rattle.smith_types.specs.Subtyping.{IsRefBelow}
+use Rattle.smith_types.specs.ValidTypes.{IsRefTypeValid}
+use Rattle.smith_types.specs.declared.composite_type.SubType.{SubType}
+use Rattle.smith_types.specs.declared.entity_type.TableType.{TableType}
+use Rattle.smith_types.specs.declared.segments.ElementKind.{ElementKind}
+use Rattle.smith_types.specs.declared.segments.ElementKind.TheVariants as element
+use Rattle.smith_types.specs.declared.segments.Elements.{Elements}
+use Rattle.smith_types.specs.declared.segments.ElementSegment.{ElementSegment}
+use Rattle.smith_types.specs.declared.segments.Offset.{Offset}
+use Rattle.smith_types.specs.declared.value_type.RefType.{RefType}
+use Rattle.smith_config.specs.declared.config.Config.{Config}
+use Rattle.smith_config.specs.Faults.{Passes}
+use Rattle.smith_config.specs.Features.{features_of}
+use Rattle.smith_config.specs.Sanitized.{IsSanitized}
+use Rattle.smith_draw.specs.ConstBounds.{HoldsNonNullableField}
+use Rattle.smith_draw.specs.ConstFloats.{GivesNoFloat}
+use Rattle.smith_draw.specs.ConstScopes.{AreSpacesValid}
+use Rattle.smith_draw.specs.declared.spaces.Spaces.{Spaces}
+use Rattle.smith_contents.specs.Held.{HasItems}
+use Rattle.smith_contents.specs.Held.{expressions_of}
+use Rattle.smith_contents.specs.declared.element_kinds.KindChoice.{KindChoice}
+use Rattle.smith_contents.specs.declared.element_kinds.KindChoice.TheVariants as choice
+
+-- a valid table whose elements may be null
+pub record IsTableNullable (config : Config) (types : List SubType) (table : TableType) : Type 0 where
+  pub valid : IsTableValid (features_of config) types table
+  pub nullable : table.element_type.nullable ≡ true
+
+-- a table that a segment may be copied into, if it names it so
+pub record IsTarget (config : Config) (types : List SubType) (tables : List TableType) (index : Option ℕ) (table : TableType) : Type 0 where
+  pub fit : IsTableNullable config types table
+  pub stands : slice_get tables (table_index index) ≡ Some table
+  pub named : IsSome index → IsTrue config.bulk_memory_enabled
+
+-- a kind that is offered beside these tables
+abbrev pub IsOffered : Config → List SubType → List TableType → KindChoice → Type 0
+IsOffered config types tables (choice.Active index table) = IsTarget config types tables index table
+IsOffered config types tables _ = IsTrue config.bulk_memory_enabled
+
+-- element segments may be drawn over these spaces: all of them are valid, and no reference that is needed may not be null
+pub record MayDrawElements (config : Config) (spaces : Spaces) : Type 0 where
+  pub passes : Passes config
+  pub sanitized : IsSanitized config
+  pub standing : AreSpacesValid config spaces
+  pub nullable : HoldsNonNullableField spaces.types.now.types → ⊥
+  pub tables : All (IsTableNullable config spaces.types.now.types) spaces.entities.tables.now
+  pub few_tables : length spaces.entities.tables.now < 2 ^ 32
+
+-- the minimum of the table, if a segment is copied into one, is not above what its addresses reach
+abbrev pub FitsAddresses : KindChoice → Type 0
+FitsAddresses (choice.Active index table) = table.minimum ≤ most_elements table.table64
+FitsAddresses _ = Unit {0}
+
+-- an offset into a table, and where nothing may trap, how many items end within the least elements from it on
+pub record IsPlaced (config : Config) (context : Context) (table : TableType) (offset : Offset) (hint : Option ℕ) : Type 0 where
+  pub valid : IsOffsetValid context table.table64 offset
+  pub inside : IsTrue config.disallow_traps → IsSomeAnd hint (λ most. IsOffsetInside offset most table.minimum)
+
+-- the kind of a segment is the one that was chosen, placed where it is copied into a table
+abbrev pub IsKindDrawn : Config → Context → KindChoice → ElementKind × Option ℕ → Type 0
+IsKindDrawn config context choice.Passive drawn = drawn.0 ≡ element.Passive
+IsKindDrawn config context choice.Declared drawn = drawn.0 ≡ element.Declared
+IsKindDrawn config context (choice.Active index table) drawn = (offset : Offset) × (drawn.0 ≡ element.Active index offset) × IsPlaced config context table offset drawn.1
+
+-- items of a type fit the table, if they are copied into one
+abbrev pub FitsTable : List SubType → KindChoice → RefType → Type 0
+FitsTable types (choice.Active index table) ty = IsRefBelow types ty table.element_type
+FitsTable types _ ty = Unit {0}
+
+-- items of a type may be drawn over spaces: both are valid, and no reference that is needed may not be null
+pub record MayHoldItems (config : Config) (spaces : Spaces) (ty : RefType) : Type 0 where
+  pub standing : AreSpacesValid config spaces
+  pub valid : IsRefTypeValid (features_of config) (length spaces.types.now.types) ty
+  pub enabled : IsElementEnabled (features_of config) ty
+  pub not_needed : ty.nullable ≡ true
+  pub nullable : HoldsNonNullableField spaces.types.now.types → ⊥
+
+-- items of a type: valid, enough, and without a float's constant where no type holds a float
+pub record AreItemsFit (config : Config) (context : Context) (ty : RefType) (items : Elements) : Type 0 where
+  pub valid : AreItemsValid context ty items
+  pub enough : HasItems config context.types context.funcs items
+  pub floats : All HasNoFloat context.types → All (All GivesNoFloat) (expressions_of items)
+
+-- a segment may stand in the module: it is valid, has enough items without a float, and where nothing may trap, what is copied
+-- fits
+pub record IsElementFit (config : Config) (context : Context) (tables : List TableType) (segment : ElementSegment) : Type 0 where
+  pub valid : IsElementValid context tables segment
+  pub inside : IsTrue config.disallow_traps → IsElementInside tables segment
+  pub enough : HasItems config context.types context.funcs segment.items
+  pub floats : All HasNoFloat context.types → All (All GivesNoFloat) (expressions_of segment.items)
+
+-- when items are refused: memory runs out, or more are asked for than may be
+abbrev pub MayRefuseItems : Config → Error → Type 0
+MayRefuseItems config e = (e ≡ Memory) ⊎ ((e ≡ IncorrectFormat (Unmet counts.Elements)) × (0 < config.min_elements))
+
+-- when element segments are refused: memory runs out, no kind is offered, or a segment may not have as many items as are asked
+-- for
+abbrev pub MayRefuseElements : Config → Error → Type 0
+MayRefuseElements config e =
+    (e ≡ Memory) ⊎ (((e ≡ IncorrectFormat (Unmet counts.Elements)) × (0 < config.min_elements))
+    ⊎ ((e ≡ IncorrectFormat (Unmet counts.ElementSegments)) × (0 < config.min_element_segments) × (config.bulk_memory_enabled ≡ false)))

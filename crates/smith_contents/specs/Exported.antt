@@ -1,0 +1,92 @@
+-- What the step of exports needs and keeps, and when it may refuse. Rules of this project.
+use Rattle.std.specs.Prelude.{◌≡◌, true, false, ℕ, ◌+◌, ◌*◌, ◌^◌, ◌<◌, ◌≤◌, ◌⊎◌, List, length, All}
+use Rattle.smith_bytes.specs.declared.error.Error.{Error}
+use Rattle.smith_bytes.specs.declared.error.Error.TheVariants as errors
+use Rattle.smith_bytes.specs.declared.error.Why.TheVariants.{Unmet, TypeSize}
+use Rattle.smith_bytes.specs.declared.error.Count.TheVariants as counts
+use Rattle.smith_types.specs.Entities.{IsFuncValid}
+use Rattle.smith_types.specs.Exports.{IsEntityAt, AreExportsValid}
+use Rattle.smith_types.specs.Imports.{IndexSpaces}
+use Rattle.smith_types.specs.declared.composite_type.SubType.{SubType}
+use Rattle.smith_types.specs.declared.entity_type.EntityType.{EntityType}
+use Rattle.smith_types.specs.declared.entity_type.ExportKind.{ExportKind}
+use Rattle.smith_config.specs.declared.config.Config.{Config}
+use Rattle.smith_config.specs.InUse.{FixesExports}
+use Rattle.smith_draw.specs.FuncSizes.{IsSmall}
+use Rattle.smith_contents.specs.Exporting.{Export, item_size, exported_size}
+
+-- the indices of all items of index spaces have 32 bits
+pub record IsIndexed (spaces : IndexSpaces) : Type 0 where
+  pub funcs : length spaces.funcs < 2 ^ 32
+  pub tables : length spaces.tables < 2 ^ 32
+  pub memories : length spaces.memories < 2 ^ 32
+  pub globals : length spaces.globals < 2 ^ 32
+  pub tags : length spaces.tags < 2 ^ 32
+
+-- items of index spaces may be exported over these types: the functions have small types, and indices have 32 bits
+pub record MayExport (types : List SubType) (spaces : IndexSpaces) : Type 0 where
+  pub small : All IsSmall types
+  pub funcs : All (IsFuncValid types) spaces.funcs
+  pub few : IsIndexed spaces
+
+-- exports may be drawn beside what the imports add to the type size: there are as many tables, memories and globals as are
+-- asked for, and an import adds at most 42
+pub record MayExportFreely (config : Config) (types : List SubType) (spaces : IndexSpaces) (imports : ℕ) : Type 0 where
+  pub items : MayExport types spaces
+  pub ordered : config.min_exports ≤ config.max_exports
+  pub within : imports ≤ config.max_type_size
+  pub small : imports ≤ 42 * config.max_imports
+  pub tables : config.min_tables ≤ length spaces.tables
+  pub memories : config.min_memories ≤ length spaces.memories
+  pub globals : config.min_globals ≤ length spaces.globals
+
+-- an item stands in index spaces
+abbrev pub IsStanding : IndexSpaces → ExportKind → ℕ → Type 0
+IsStanding spaces of_kind index = (ty : EntityType) × IsEntityAt spaces of_kind index ty
+
+-- an item that may be exported where that much of the type size is left: it stands, and its size and one more is below that
+pub record IsCandidate (types : List SubType) (spaces : IndexSpaces) (left : ℕ) (of_kind : ExportKind) (index : ℕ) : Type 0 where
+  pub stands : IsStanding spaces of_kind index
+  pub fits : item_size types spaces of_kind index + 1 < left
+  pub small : item_size types spaces of_kind index ≤ 41
+
+-- exports are valid; the type size is that of imports and exports, and within the bound
+pub record AreExportsFit (config : Config) (types : List SubType) (spaces : IndexSpaces) (imports : ℕ) (exports : List Export) (size : ℕ) : Type 0 where
+  pub valid : AreExportsValid spaces exports
+  pub type_size : size ≡ imports + exported_size types spaces exports
+  pub within : size ≤ config.max_type_size
+
+-- exports that are drawn freely: no more than may be, and each adds at most 42 to the type size
+pub record AreExported (config : Config) (types : List SubType) (spaces : IndexSpaces) (imports : ℕ) (exports : List Export) (size : ℕ) : Type 0 where
+  pub fit : AreExportsFit config types spaces imports exports size
+  pub most : length exports ≤ config.max_exports
+  pub small : exported_size types spaces exports ≤ 42 * length exports
+
+-- where no table, no memory and no global is asked for, so that there may be nothing to export
+pub record MayHaveNoExports (config : Config) : Type 0 where
+  pub tables : config.min_tables ≡ 0
+  pub memories : config.min_memories ≡ 0
+  pub globals : config.min_globals ≡ 0
+
+-- where exports may end before there are as many as are asked for: they may be too large together, or there may be no item
+abbrev pub MayRunOut : Config → Type 0
+MayRunOut config = (config.max_type_size ≤ 42 * (config.max_imports + config.min_exports)) ⊎ MayHaveNoExports config
+
+-- when exports that are drawn freely may be refused: for want of memory, or where a minimum above zero may stay unmet
+abbrev pub MayRefuseFree : Config → Error → Type 0
+MayRefuseFree config e = (e ≡ errors.Memory) ⊎ ((e ≡ errors.IncorrectFormat (Unmet counts.Exports)) × (0 < config.min_exports) × MayRunOut config)
+
+-- when the exports of every item may be refused: for want of memory, or where they are too large together
+abbrev pub MayRefuseAll : Error → Type 0
+MayRefuseAll e = (e ≡ errors.Memory) ⊎ (e ≡ errors.IncorrectFormat TypeSize)
+
+-- exports may be drawn beside what the imports add to the type size, where no shape fixes them
+pub record MayDrawExports (config : Config) (types : List SubType) (spaces : IndexSpaces) (imports : ℕ) : Type 0 where
+  pub not_fixed : FixesExports config → ⊥
+  pub items : MayExport types spaces
+  pub within : imports ≤ config.max_type_size
+  pub freely : config.export_everything ≡ false → MayExportFreely config types spaces imports
+
+-- when exports may be refused: as those of every item where everything is exported, else as those that are drawn freely
+abbrev pub MayRefuseExports : Config → Error → Type 0
+MayRefuseExports config e = ((config.export_everything ≡ true) × MayRefuseAll e) ⊎ ((config.export_everything ≡ false) × MayRefuseFree config e)

@@ -1,0 +1,12 @@
+pub mod Held
+pub mod ExportedItems
+pub mod Exporting
+pub mod AllExports
+pub mod Exported
+pub mod Start
+pub mod ElementSegments
+pub mod DrawnElements
+pub mod DataSegments
+pub mod DataTargets
+pub mod PassiveData
+pub mod DrawnBodies

@@ -1,0 +1,106 @@
+ghost use Rattle.std.specs.Prelude.{◌≡◌, false, length, IfOk, All};
+ghost use Rattle.std.specs.List.{Any, flat_map};
+ghost use Rattle.smith_types.specs.Bodies.{IsBodyValid};
+ghost use Rattle.smith_types.specs.Floats.{IsNoFloat};
+ghost use Rattle.smith_config.specs.Features.{features_of};
+ghost use Rattle.smith_config.specs.Sanitized.{IsSanitized};
+ghost use Rattle.smith_draw.specs.Drawing.{AlwaysDraws, Draws};
+ghost use Rattle.smith_contents.specs.DrawnBodies.{raw_bytes_at, is_raw_at, instructions_at, body_at, bodies_at};
+ghost use Rattle.smith_contents.specs.Held.{IsRaw};
+
+use smith_bytes::{Error, Unstructured};
+use smith_config::Config;
+use smith_draw::{Entities, Spaces, arbitrary_locals};
+use smith_types::{Code, Instructions, Items, TypeSpace};
+use std::alloc::Global;
+
+/// Draws a length and takes as many bytes.
+#[tactic(auto, unfolding(crate::specs::DrawnBodies::raw_bytes_at))]
+fn raw_bytes(alloc: Global, u: &mut Unstructured<'_>) -> Result<Instructions, Error>
+    ensures { Draws (raw_bytes_at u.old) result u.old u.new }
+{
+    let length = u.arbitrary_len();
+    let bytes = u.bytes(length)?;
+    Ok(Instructions::Arbitrary(Items::from_slice(alloc, bytes)?))
+}
+
+/// Whether a body is raw bytes.
+#[tactic(auto, unfolding(crate::specs::DrawnBodies::is_raw_at))]
+fn is_raw(config: &Config, u: &mut Unstructured<'_>) -> bool
+    ensures { AlwaysDraws (is_raw_at config.now u.old) result u.old u.new }
+{
+    if config.allow_invalid_funcs {
+        return u.arbitrary();
+    }
+    false
+}
+
+#[tactic(auto, unfolding(crate::specs::DrawnBodies::instructions_at))]
+fn instructions(
+    alloc: Global,
+    config: &Config,
+    u: &mut Unstructured<'_>,
+) -> Result<Instructions, Error>
+    ensures { Draws (instructions_at config.now u.old) result u.old u.new }
+{
+    if is_raw(config, u) {
+        return raw_bytes(alloc, u);
+    }
+    Ok(Instructions::Unreachable)
+}
+
+#[tactic(auto, unfolding(crate::specs::DrawnBodies::body_at))]
+fn body(
+    alloc: Global,
+    config: &Config,
+    spaces: &Spaces<'_>,
+    u: &mut Unstructured<'_>,
+) -> Result<Code, Error>
+    requires { IsSanitized config.now }
+    ensures { Draws (body_at config.now spaces.now.types.now.types u.old) result u.old u.new }
+{
+    let locals = arbitrary_locals(alloc, config, spaces, u)?;
+    let instructions = instructions(alloc, config, u)?;
+    Ok(Code {
+        locals,
+        instructions,
+    })
+}
+
+#[tactic(auto, unfolding(crate::specs::DrawnBodies::bodies_at))]
+fn drawn_bodies(
+    alloc: Global,
+    config: &Config,
+    types: &TypeSpace,
+    count: usize,
+    u: &mut Unstructured<'_>,
+) -> Result<Items<Code>, Error>
+    requires { IsSanitized config.now }
+    ensures { Draws (bodies_at config.now types.now.types count u.old) result u.old u.new }
+{
+    let entities = Entities::none();
+    let spaces = Spaces { types, entities };
+    let mut bodies = Items::with_capacity(alloc, count)?;
+    for made in 0..count {
+        bodies.push(body(alloc, config, &spaces, u)?)?;
+    }
+    Ok(bodies)
+}
+
+/// Draws a body for each of `count` functions: its locals over `types`, and what it does.
+pub fn arbitrary_bodies(
+    alloc: Global,
+    config: &Config,
+    types: &TypeSpace,
+    count: usize,
+    u: &mut Unstructured<'_>,
+) -> Result<Items<Code>, Error>
+    requires { IsSanitized config.now }
+    ensures draws { Draws (bodies_at config.now types.now.types count u.old) result u.old u.new }
+    ensures each { IfOk result (λ bodies. length bodies ≡ count) }
+    ensures valid { IfOk result (All (IsBodyValid (features_of config.now) (length types.now.types) config.now.allow_invalid_funcs)) }
+    ensures floats { config.now.allow_floats ≡ false → IfOk result (λ bodies. All IsNoFloat (flat_map (λ body. body.locals) bodies)) }
+    ensures no_raw { config.now.allow_invalid_funcs ≡ false → IfOk result (λ bodies. ¬ Any (λ body. IsRaw body.instructions) bodies) }
+{
+    drawn_bodies(alloc, config, types, count, u)
+}

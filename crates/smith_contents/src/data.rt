@@ -1,0 +1,343 @@
+ghost use Rattle.std.specs.Prelude.{◌≡◌, [], ◌<◌, ◌≤◌, ◌^◌, true, false, List, take, length, IsTrue, IfOk, IfErr, All};
+ghost use Rattle.smith_bytes.specs.ByteLists.{byte_list_at};
+ghost use Rattle.smith_bytes.specs.Source.{KeepsPieces};
+ghost use Rattle.smith_bytes.specs.Takes.{Takes};
+ghost use Rattle.smith_types.specs.Entities.{IsMemoryValid, page_log2};
+ghost use Rattle.smith_types.specs.Expressions.{Context};
+ghost use Rattle.smith_types.specs.Segments.{IsDataValid, IsDataInside, IsOffsetValid, IsOffsetInside};
+ghost use Rattle.smith_types.specs.declared.entity_type.MemoryType.{MemoryType};
+ghost use Rattle.smith_config.specs.Faults.{Passes};
+ghost use Rattle.smith_config.specs.Features.{features_of};
+ghost use Rattle.smith_draw.specs.ConstScopes.{AreSpacesValid, seen_by};
+ghost use Rattle.smith_draw.specs.Drawing.{AlwaysDraws, Draws};
+ghost use Rattle.smith_imports.specs.Steps.{Gives};
+ghost use Rattle.smith_contents.specs.DataSegments.{HasPages, counts_at, counting_at, offset_globals, globals_for, least_bytes, last_address, constant_offset, address_at, constant_at, placed_at, active_at, passive_at, segment_at, segments_at, data_at};
+ghost use Rattle.smith_contents.specs.DataTargets.{StandsIn, TellOffsets, AreTargets, IsDataFit, MayRefuseData};
+ghost use Rattle.smith_contents.specs.PassiveData.{SpellsPassive};
+
+use smith_bytes::{Count, Error, Unstructured, Why, goes_on};
+use smith_config::Config;
+use smith_draw::{Spaces, arbitrary_offset, choose, globals_for_const_expr};
+use smith_types::{DataSegment, DataSegmentKind, Items, MemoryType, Offset, ValType};
+use std::alloc::Global;
+
+/// What segments may be copied into, and the globals that may tell where.
+#[derive(Drop)]
+pub(crate) struct Targets {
+    /// The memories that count, each with its index.
+    memories: Items<(u32, MemoryType)>,
+    /// The globals that may tell an offset into a memory of 32 bits.
+    globals32: Items<u32>,
+    /// The globals that may tell an offset into a memory of 64 bits.
+    globals64: Items<u32>,
+}
+
+#[tactic(auto, unfolding(smith_bytes::specs::ByteLists::byte_list_at))]
+fn byte_list(alloc: Global, u: &mut Unstructured<'_>) -> Result<Items<u8>, Error>
+    ensures { Draws (byte_list_at u.old) result u.old u.new }
+{
+    let mut bytes = Items::new(alloc);
+    for made in 0..u.len() {
+        if !goes_on(u, made, 0) {
+            return Ok(bytes);
+        }
+        bytes.push(u.arbitrary::<u8>())?;
+    }
+    Ok(bytes)
+}
+
+/// Whether a memory counts as one that segments are copied into.
+#[tactic(auto, unfolding(crate::specs::DataSegments::counts_at))]
+fn counts(memory: MemoryType, u: &mut Unstructured<'_>) -> bool
+    ensures { AlwaysDraws (counts_at memory u.old) result u.old u.new }
+{
+    if memory.minimum > 0 {
+        return true;
+    }
+    u.int_in_range(0u32..=10) == 0
+}
+
+/// The memories that count, each with its index.
+fn counting(
+    alloc: Global,
+    memories: &[MemoryType],
+    u: &mut Unstructured<'_>,
+) -> Result<Items<(u32, MemoryType)>, Error>
+    requires { length memories.now < 2 ^ 32 }
+    ensures draws { Draws (counting_at [] 0 memories.now u.old) result u.old u.new }
+    ensures stand { IfOk result (All (StandsIn memories.now)) }
+{
+    let mut counting = Items::new(alloc);
+    for index in 0..memories.len() {
+        let memory = memories[index];
+        if !counts(memory, u) {
+            continue;
+        }
+        counting.push((index as u32, memory))?;
+    }
+    Ok(counting)
+}
+
+/// Lists the globals that may tell an offset of this width.
+fn offset_globals(
+    alloc: Global,
+    config: &Config,
+    spaces: &Spaces<'_>,
+    wide: bool,
+) -> Result<Items<u32>, Error>
+    requires { AreSpacesValid config.now spaces.now }
+    ensures exact { IfOk result (λ globals. globals ≡ offset_globals config.now (seen_by config.now spaces.now true) wide) }
+    ensures tell { IfOk result (TellOffsets (seen_by config.now spaces.now true) wide) }
+    ensures none { IsTrue config.now.disallow_traps → IfOk result (λ globals. globals ≡ []) }
+    ensures memory { IfErr result (λ e. e ≡ Error.Memory) }
+{
+    if config.disallow_traps {
+        return Ok(Items::new(alloc));
+    }
+    if wide {
+        return globals_for_const_expr(alloc, config, spaces, ValType::I64, true);
+    }
+    globals_for_const_expr(alloc, config, spaces, ValType::I32, true)
+}
+
+fn least_bytes(memory: MemoryType) -> u128
+    requires { page_log2 memory.page_size_log2 ≤ 16 }
+    ensures { result ≡ least_bytes memory }
+{
+    u128::from(memory.minimum) * (1 << memory.page_size_log2.unwrap_or(16))
+}
+
+fn last_address(wide: bool) -> u64
+    ensures { result ≡ last_address wide }
+{
+    if wide { u64::MAX } else { u64::from(u32::MAX) }
+}
+
+fn constant_offset(wide: bool, address: u64) -> Offset
+    requires { address ≤ last_address wide }
+    ensures { result ≡ constant_offset wide address }
+{
+    if wide {
+        return Offset::Const64(address.cast_signed());
+    }
+    Offset::Const32((address as u32).cast_signed())
+}
+
+/// Draws the address at which `size` bytes begin.
+#[tactic(auto, unfolding(crate::specs::DataSegments::address_at))]
+fn address(no_traps: bool, memory: MemoryType, size: usize, u: &mut Unstructured<'_>) -> u64
+    requires { page_log2 memory.page_size_log2 ≤ 16 }
+    ensures draws { AlwaysDraws (address_at no_traps memory size u.old) result u.old u.new }
+    ensures within { result ≤ last_address memory.memory64 }
+{
+    let last = last_address(memory.memory64);
+    let inside = least_bytes(memory).min(u128::from(last)) as u64;
+    let most = if no_traps { inside } else { last };
+    arbitrary_offset(inside, most, size, u)
+}
+
+/// The first `most` bytes.
+fn cut(init: Items<u8>, most: u128) -> Items<u8>
+    ensures { result ≡ take most init }
+{
+    let mut bytes = init.into_vec();
+    let most = most.min(bytes.len() as u128);
+    bytes.truncate(most as usize);
+    Items::from_vec(bytes)
+}
+
+/// Draws a constant offset for `init`, of which what fits is kept where nothing may trap.
+#[tactic(auto, unfolding(crate::specs::DataSegments::constant_at))]
+fn constant(
+    no_traps: bool,
+    memory: MemoryType,
+    init: Items<u8>,
+    u: &mut Unstructured<'_>,
+) -> (Offset, Items<u8>)
+    requires { page_log2 memory.page_size_log2 ≤ 16 }
+    ensures draws { AlwaysDraws (constant_at no_traps memory init u.old) result u.old u.new }
+    ensures valid { (context : Context) → IsOffsetValid context memory.memory64 result.0 }
+    ensures inside { IsTrue no_traps → IsOffsetInside result.0 (length result.1) (least_bytes memory) }
+{
+    let address = address(no_traps, memory, init.len(), u);
+    if !no_traps {
+        return (constant_offset(memory.memory64, address), init);
+    }
+    let most = least_bytes(memory);
+    let kept = cut(init, most);
+    let fitting = u128::from(address).min(most - kept.len() as u128) as u64;
+    (constant_offset(memory.memory64, fitting), kept)
+}
+
+/// Draws an offset for `init`: a constant, or one of `globals`.
+#[tactic(auto, unfolding(crate::specs::DataSegments::placed_at))]
+fn placed(
+    no_traps: bool,
+    globals: &[u32],
+    memory: MemoryType,
+    init: Items<u8>,
+    u: &mut Unstructured<'_>,
+) -> (Offset, Items<u8>)
+    requires { page_log2 memory.page_size_log2 ≤ 16 }
+    ensures draws { AlwaysDraws (placed_at no_traps globals.now memory init u.old) result u.old u.new }
+    ensures valid { (context : Context) → TellOffsets context memory.memory64 globals.now → IsOffsetValid context memory.memory64 result.0 }
+    ensures inside { IsTrue no_traps → globals.now ≡ [] → IsOffsetInside result.0 (length result.1) (least_bytes memory) }
+{
+    let place = u.int_in_range(0..=globals.len());
+    if place == 0 {
+        return constant(no_traps, memory, init, u);
+    }
+    (Offset::Global(globals[place - 1]), init)
+}
+
+/// The globals that may tell an offset of this width.
+fn globals_for<'a>(targets: &'a Targets, wide: bool) -> &'a [u32]
+    ensures { result.now ≡ globals_for targets.now wide }
+{
+    if wide {
+        return targets.globals64.as_slice();
+    }
+    targets.globals32.as_slice()
+}
+
+/// Copies `init` into one of the memories that count.
+#[tactic(auto, unfolding(crate::specs::DataSegments::active_at))]
+fn active(
+    config: &Config,
+    targets: &Targets,
+    init: Items<u8>,
+    u: &mut Unstructured<'_>,
+) -> DataSegment
+    requires some { 0 < length targets.now.memories }
+    requires pages { All HasPages targets.now.memories }
+    ensures draws { AlwaysDraws (active_at config.now targets.now init u.old) result u.old u.new }
+    ensures fit { (context : Context) (memories : List MemoryType) → AreTargets config.now context memories targets.now → IsDataFit config.now context memories result }
+{
+    let (memory_index, memory) = choose(targets.memories.as_slice(), u);
+    let globals = globals_for(targets, memory.memory64);
+    let (offset, init) = placed(config.disallow_traps, globals, memory, init, u);
+    DataSegment {
+        kind: DataSegmentKind::Active {
+            memory_index,
+            offset,
+        },
+        init,
+    }
+}
+
+/// Whether a segment is passive.
+#[tactic(auto, unfolding(crate::specs::DataSegments::passive_at))]
+fn passive(config: &Config, targets: &Targets, u: &mut Unstructured<'_>) -> bool
+    ensures draws { AlwaysDraws (passive_at config.now targets.now u.old) result u.old u.new }
+    ensures bulk { result ≡ true → IsTrue config.now.bulk_memory_enabled }
+    ensures some { result ≡ false → IsTrue config.now.bulk_memory_enabled → 0 < length targets.now.memories }
+{
+    if !config.bulk_memory_enabled {
+        return false;
+    }
+    targets.memories.is_empty() || u.arbitrary()
+}
+
+#[tactic(auto, unfolding(crate::specs::DataSegments::segment_at))]
+fn segment(
+    alloc: Global,
+    config: &Config,
+    targets: &Targets,
+    u: &mut Unstructured<'_>,
+) -> Result<DataSegment, Error>
+    requires some { config.now.bulk_memory_enabled ≡ false → 0 < length targets.now.memories }
+    requires pages { All HasPages targets.now.memories }
+    ensures draws { Draws (segment_at config.now targets.now u.old) result u.old u.new }
+    ensures fit { (context : Context) (memories : List MemoryType) → AreTargets config.now context memories targets.now → IfOk result (IsDataFit config.now context memories) }
+{
+    let init = byte_list(alloc, u)?;
+    if passive(config, targets, u) {
+        return Ok(DataSegment {
+            kind: DataSegmentKind::Passive,
+            init,
+        });
+    }
+    Ok(active(config, targets, init, u))
+}
+
+#[tactic(auto, unfolding(crate::specs::DataSegments::segments_at))]
+fn segments(
+    alloc: Global,
+    config: &Config,
+    targets: &Targets,
+    u: &mut Unstructured<'_>,
+) -> Result<Items<DataSegment>, Error>
+    requires some { config.now.bulk_memory_enabled ≡ false → 0 < length targets.now.memories }
+    requires pages { All HasPages targets.now.memories }
+    ensures draws { Draws (segments_at config.now targets.now u.old) result u.old u.new }
+    ensures fit { (context : Context) (memories : List MemoryType) → AreTargets config.now context memories targets.now → IfOk result (All (IsDataFit config.now context memories)) }
+{
+    let mut segments = Items::new(alloc);
+    for made in 0..config.max_data_segments {
+        if !goes_on(u, made, config.min_data_segments) {
+            return Ok(segments);
+        }
+        segments.push(segment(alloc, config, targets, u)?)?;
+    }
+    Ok(segments)
+}
+
+#[tactic(auto, unfolding(crate::specs::DataSegments::data_at))]
+fn drawn_data(
+    alloc: Global,
+    config: &Config,
+    spaces: &Spaces<'_>,
+    u: &mut Unstructured<'_>,
+) -> Result<Items<DataSegment>, Error>
+    requires standing { AreSpacesValid config.now spaces.now }
+    requires memories { All (IsMemoryValid (features_of config.now)) spaces.now.entities.memories.now }
+    requires few { length spaces.now.entities.memories.now < 2 ^ 32 }
+    ensures exact { Gives (λ segments. (segments, u.new)) result (data_at config.now (seen_by config.now spaces.now true) spaces.now.entities.memories.now u.old) }
+    ensures fit { IfOk result (All (IsDataFit config.now (seen_by config.now spaces.now true) spaces.now.entities.memories.now)) }
+    ensures most { IfOk result (λ segments. length segments ≤ config.now.max_data_segments) }
+    ensures least { config.now.min_data_segments ≤ config.now.max_data_segments → IfOk result (λ segments. config.now.min_data_segments ≤ length segments) }
+    ensures refusal { IfErr result (MayRefuseData config.now) }
+    ensures left { KeepsPieces u.old u.new }
+{
+    let memories = counting(alloc, spaces.entities.memories, u)?;
+    if !config.bulk_memory_enabled && memories.is_empty() {
+        if config.min_data_segments > 0 {
+            return Err(Error::IncorrectFormat(Why::Unmet(Count::DataSegments)));
+        }
+        return Ok(Items::new(alloc));
+    }
+    let targets = Targets {
+        memories,
+        globals32: offset_globals(alloc, config, spaces, false)?,
+        globals64: offset_globals(alloc, config, spaces, true)?,
+    };
+    segments(alloc, config, &targets, u)
+}
+
+/// Draws the data segments: as many as are asked for, and no more than may be. They are copied into the memories of `spaces`, of
+/// which there are fewer than 2^32, from constant offsets on or from where its visible globals say.
+///
+/// # Errors
+///
+/// `Unmet(DataSegments)` where some are asked for, there is no bulk memory, and no memory counts.
+pub fn arbitrary_data(
+    alloc: Global,
+    config: &Config,
+    spaces: &Spaces<'_>,
+    u: &mut Unstructured<'_>,
+) -> Result<Items<DataSegment>, Error>
+    requires passes { Passes config.now }
+    requires standing { AreSpacesValid config.now spaces.now }
+    requires memories { All (IsMemoryValid (features_of config.now)) spaces.now.entities.memories.now }
+    requires few { length spaces.now.entities.memories.now < 2 ^ 32 }
+    ensures exact { Gives (λ segments. (segments, u.new)) result (data_at config.now (seen_by config.now spaces.now true) spaces.now.entities.memories.now u.old) }
+    ensures valid { IfOk result (All (IsDataValid (seen_by config.now spaces.now true) spaces.now.entities.memories.now)) }
+    ensures inside { IsTrue config.now.disallow_traps → IfOk result (All (IsDataInside spaces.now.entities.memories.now)) }
+    ensures most { IfOk result (λ segments. length segments ≤ config.now.max_data_segments) }
+    ensures least { IfOk result (λ segments. config.now.min_data_segments ≤ length segments) }
+    ensures reach { config.now.min_data_segments ≡ 0 → spaces.now.entities.memories.now ≡ [] → IfOk result (λ segments. Takes (SpellsPassive config.now) u.old segments u.new) }
+    ensures refusal { IfErr result (MayRefuseData config.now) }
+    ensures left { KeepsPieces u.old u.new }
+{
+    drawn_data(alloc, config, spaces, u)
+}

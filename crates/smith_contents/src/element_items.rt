@@ -1,0 +1,273 @@
+ghost use Rattle.std.specs.Prelude.{◌≡◌, ◌<◌, ◌≤◌, ◌^◌, true, false, length, IsTrue, OnOk, IfOk, IfErr, All};
+ghost use Rattle.smith_bytes.specs.Source.{KeepsPieces};
+ghost use Rattle.smith_types.specs.Expressions.{IsConstExpr};
+ghost use Rattle.smith_types.specs.Floats.{HasNoFloat};
+ghost use Rattle.smith_types.specs.Segments.{item_count};
+ghost use Rattle.smith_types.specs.declared.segments.Elements.TheVariants as listed;
+ghost use Rattle.smith_types.specs.declared.value_type.RefType.{RefType};
+ghost use Rattle.smith_types.specs.declared.value_type.ValType.TheVariants.{Ref};
+ghost use Rattle.smith_config.specs.Sanitized.{IsSanitized};
+ghost use Rattle.smith_draw.specs.ConstFloats.{GivesNoFloat};
+ghost use Rattle.smith_draw.specs.ConstScopes.{AreSpacesValid, seen_by};
+ghost use Rattle.smith_draw.specs.Drawing.{AlwaysDraws, Draws};
+ghost use Rattle.smith_imports.specs.Steps.{Gives};
+ghost use Rattle.smith_contents.specs.DrawnElements.{IsOffered, FitsTable, AreItemsFit, MayDrawElements, MayHoldItems, MayRefuseItems};
+ghost use Rattle.smith_contents.specs.ElementSegments.{
+  item_type_at,
+  is_funcref,
+  is_unshared_type,
+  unshared_funcs,
+  are_functions_at,
+  chosen_functions_at,
+  functions_at,
+  expression_item_at,
+  drawn_expressions_at,
+  expressions_at,
+  items_at,
+};
+
+use crate::element_kinds::{KindChoice, is_funcref};
+use smith_bytes::{Count, Error, Unstructured, Why, goes_on};
+use smith_config::Config;
+use smith_draw::{
+    Spaces, arbitrary_const_expr, arbitrary_matching_ref_type, arbitrary_ref_type, choose,
+};
+use smith_types::{ConstInstr, Elements, Items, RefType, SubType, ValType};
+use std::alloc::Global;
+
+#[tactic(auto, unfolding(crate::specs::ElementSegments::item_type_at))]
+fn drawn_item_type(
+    alloc: Global,
+    config: &Config,
+    spaces: &Spaces<'_>,
+    choice: KindChoice,
+    u: &mut Unstructured<'_>,
+) -> Result<RefType, Error>
+    requires { IsSanitized config.now }
+    ensures { Draws (item_type_at config.now spaces.now.types.now.types choice u.old) result u.old u.new }
+{
+    let limit = spaces.types.types().len() as u32;
+    match choice {
+        KindChoice::Active(_, table) => {
+            arbitrary_matching_ref_type(alloc, config, spaces, table.element_type, u)
+        }
+        _ => arbitrary_ref_type(alloc, config, spaces, false, limit, u),
+    }
+}
+
+/// Draws the type of the items of a segment of the kind `choice`.
+pub(crate) fn item_type(
+    alloc: Global,
+    config: &Config,
+    spaces: &Spaces<'_>,
+    choice: KindChoice,
+    u: &mut Unstructured<'_>,
+) -> Result<RefType, Error>
+    requires may { MayDrawElements config.now spaces.now }
+    requires offered { IsOffered config.now spaces.now.types.now.types spaces.now.entities.tables.now choice }
+    ensures draws { Draws (item_type_at config.now spaces.now.types.now.types choice u.old) result u.old u.new }
+    ensures may { IfOk result (MayHoldItems config.now spaces.now) }
+    ensures fits { IfOk result (FitsTable spaces.now.types.now.types choice) }
+{
+    drawn_item_type(alloc, config, spaces, choice, u)
+}
+
+/// Whether the type of this index is not shared.
+fn is_unshared_type(types: &[SubType], index: u32) -> bool
+    ensures { result ≡ is_unshared_type types.now index }
+{
+    match types.get(index as usize) {
+        Some(t) => !t.composite_type.shared,
+        None => false,
+    }
+}
+
+/// Lists the functions of `funcs` whose types are not shared, by their indices. There are fewer than 2^32 functions.
+fn unshared_funcs(alloc: Global, types: &[SubType], funcs: &[u32]) -> Result<Items<u32>, Error>
+    requires few { length funcs.now < 2 ^ 32 }
+    ensures exact { IfOk result (λ indices. indices ≡ unshared_funcs types.now funcs.now) }
+    ensures memory { IfErr result (λ e. e ≡ Error.Memory) }
+{
+    let mut indices = Items::new(alloc);
+    for (index, ty) in funcs.iter().enumerate() {
+        if is_unshared_type(types, *ty) {
+            indices.push(index as u32)?;
+        }
+    }
+    Ok(indices)
+}
+
+/// Whether items of the type `ty` are listed as functions.
+#[tactic(auto, unfolding(crate::specs::ElementSegments::are_functions_at))]
+fn are_functions(config: &Config, ty: RefType, u: &mut Unstructured<'_>) -> bool
+    ensures draws { AlwaysDraws (are_functions_at config.now ty u.old) result u.old u.new }
+    ensures references { result ≡ false → IsTrue config.now.reference_types_enabled }
+{
+    if !config.reference_types_enabled {
+        return true;
+    }
+    if is_funcref(ty) {
+        return u.arbitrary();
+    }
+    false
+}
+
+/// Tells that a segment may have as many items as are asked for.
+fn ask_enough(config: &Config, most: usize) -> Result<(), Error>
+    ensures enough { OnOk result (config.now.min_elements ≤ most) }
+    ensures unmet { IfErr result (λ e. (e ≡ Error.IncorrectFormat (Why.Unmet Count.Elements)) × (most < config.now.min_elements)) }
+{
+    if most < config.min_elements {
+        return Err(Error::IncorrectFormat(Why::Unmet(Count::Elements)));
+    }
+    Ok(())
+}
+
+/// Chooses items among the functions of `funcs`.
+#[tactic(auto, unfolding(crate::specs::ElementSegments::chosen_functions_at))]
+fn chosen_functions(
+    alloc: Global,
+    config: &Config,
+    funcs: &[u32],
+    most: usize,
+    u: &mut Unstructured<'_>,
+) -> Result<Items<u32>, Error>
+    requires { 0 < length funcs.now }
+    ensures { Draws (chosen_functions_at config.now funcs.now most u.old) result u.old u.new }
+{
+    let mut items = Items::new(alloc);
+    for made in 0..most {
+        if !goes_on(u, made, config.min_elements) {
+            return Ok(items);
+        }
+        items.push(choose(funcs, u))?;
+    }
+    Ok(items)
+}
+
+#[tactic(auto, unfolding(crate::specs::ElementSegments::functions_at))]
+fn drawn_functions(
+    alloc: Global,
+    config: &Config,
+    spaces: &Spaces<'_>,
+    most: usize,
+    u: &mut Unstructured<'_>,
+) -> Result<Items<u32>, Error>
+    requires few { length spaces.now.entities.funcs.now < 2 ^ 32 }
+    ensures exact { Gives (λ items. (items, u.new)) result (functions_at config.now (seen_by config.now spaces.now true) most u.old) }
+    ensures few { IfOk result (λ items. length items ≤ most) }
+    ensures refusal { IfErr result (MayRefuseItems config.now) }
+    ensures left { KeepsPieces u.old u.new }
+{
+    let funcs = unshared_funcs(alloc, spaces.types.types(), spaces.entities.funcs)?;
+    if funcs.is_empty() {
+        return Ok(funcs);
+    }
+    ask_enough(config, most)?;
+    chosen_functions(alloc, config, funcs.as_slice(), most, u)
+}
+
+/// Draws items that are functions, at most `most`.
+fn functions(
+    alloc: Global,
+    config: &Config,
+    spaces: &Spaces<'_>,
+    most: usize,
+    u: &mut Unstructured<'_>,
+) -> Result<Items<u32>, Error>
+    requires { AreSpacesValid config.now spaces.now }
+    ensures exact { Gives (λ items. (items, u.new)) result (functions_at config.now (seen_by config.now spaces.now true) most u.old) }
+    ensures few { IfOk result (λ items. length items ≤ most) }
+    ensures fit { (ty : RefType) → IsTrue (is_funcref ty) → IfOk result (λ items. AreItemsFit config.now (seen_by config.now spaces.now true) ty (listed.Functions items)) }
+    ensures refusal { IfErr result (MayRefuseItems config.now) }
+    ensures left { KeepsPieces u.old u.new }
+{
+    drawn_functions(alloc, config, spaces, most, u)
+}
+
+/// Draws an item as an expression.
+#[tactic(auto, unfolding(crate::specs::ElementSegments::expression_item_at))]
+fn expression_item(
+    alloc: Global,
+    config: &Config,
+    spaces: &Spaces<'_>,
+    ty: RefType,
+    u: &mut Unstructured<'_>,
+) -> Result<Items<ConstInstr>, Error>
+    requires references { IsTrue config.now.reference_types_enabled }
+    requires may { MayHoldItems config.now spaces.now ty }
+    ensures draws { Draws (expression_item_at config.now (seen_by config.now spaces.now true) ty u.old) result u.old u.new }
+    ensures typed { IfOk result (IsConstExpr (seen_by config.now spaces.now true) (Ref ty)) }
+    ensures floats { All HasNoFloat spaces.now.types.now.types → IfOk result (All GivesNoFloat) }
+{
+    arbitrary_const_expr(alloc, config, spaces, ValType::Ref(ty), true, u)
+}
+
+#[tactic(auto, unfolding(crate::specs::ElementSegments::drawn_expressions_at))]
+fn drawn_expressions(
+    alloc: Global,
+    config: &Config,
+    spaces: &Spaces<'_>,
+    ty: RefType,
+    most: usize,
+    u: &mut Unstructured<'_>,
+) -> Result<Items<Items<ConstInstr>>, Error>
+    requires references { IsTrue config.now.reference_types_enabled }
+    requires may { MayHoldItems config.now spaces.now ty }
+    ensures draws { Draws (drawn_expressions_at config.now (seen_by config.now spaces.now true) ty most u.old) result u.old u.new }
+    ensures typed { IfOk result (All (IsConstExpr (seen_by config.now spaces.now true) (Ref ty))) }
+    ensures floats { All HasNoFloat spaces.now.types.now.types → IfOk result (All (All GivesNoFloat)) }
+{
+    let mut items = Items::new(alloc);
+    for made in 0..most {
+        if !goes_on(u, made, config.min_elements) {
+            return Ok(items);
+        }
+        items.push(expression_item(alloc, config, spaces, ty, u)?)?;
+    }
+    Ok(items)
+}
+
+#[tactic(auto, unfolding(crate::specs::ElementSegments::expressions_at))]
+fn expressions(
+    alloc: Global,
+    config: &Config,
+    spaces: &Spaces<'_>,
+    ty: RefType,
+    most: usize,
+    u: &mut Unstructured<'_>,
+) -> Result<Items<Items<ConstInstr>>, Error>
+    requires references { IsTrue config.now.reference_types_enabled }
+    requires may { MayHoldItems config.now spaces.now ty }
+    ensures exact { Gives (λ items. (items, u.new)) result (expressions_at config.now (seen_by config.now spaces.now true) ty most u.old) }
+    ensures few { IfOk result (λ items. length items ≤ most) }
+    ensures fit { IfOk result (λ items. AreItemsFit config.now (seen_by config.now spaces.now true) ty (listed.Expressions items)) }
+    ensures refusal { IfErr result (MayRefuseItems config.now) }
+    ensures left { KeepsPieces u.old u.new }
+{
+    ask_enough(config, most)?;
+    drawn_expressions(alloc, config, spaces, ty, most, u)
+}
+
+/// Draws the items of a segment of the type `ty`, at most `most`.
+#[tactic(auto, unfolding(crate::specs::ElementSegments::items_at))]
+pub(crate) fn items(
+    alloc: Global,
+    config: &Config,
+    spaces: &Spaces<'_>,
+    ty: RefType,
+    most: usize,
+    u: &mut Unstructured<'_>,
+) -> Result<Elements, Error>
+    requires may { MayHoldItems config.now spaces.now ty }
+    ensures exact { Gives (λ items. (items, u.new)) result (items_at config.now (seen_by config.now spaces.now true) ty most u.old) }
+    ensures few { IfOk result (λ items. item_count items ≤ most) }
+    ensures fit { IfOk result (AreItemsFit config.now (seen_by config.now spaces.now true) ty) }
+    ensures refusal { IfErr result (MayRefuseItems config.now) }
+    ensures left { KeepsPieces u.old u.new }
+{
+    if are_functions(config, ty, u) {
+        return Ok(Elements::Functions(functions(alloc, config, spaces, most, u)?));
+    }
+    Ok(Elements::Expressions(expressions(alloc, config, spaces, ty, most, u)?))
+}

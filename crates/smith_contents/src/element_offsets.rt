@@ -1,0 +1,176 @@
+ghost use Rattle.std.specs.Prelude.{◌≡◌, ◌+◌, ◌-◌, ◌<◌, ◌≤◌, ℕ, true, [], Some, IsTrue, IfOk, IfErr};
+ghost use Rattle.smith_types.specs.Entities.{most_elements};
+ghost use Rattle.smith_types.specs.Expressions.{Context};
+ghost use Rattle.smith_types.specs.Features.{Features};
+ghost use Rattle.smith_types.specs.Segments.{address_type, IsOffsetValid, IsOffsetInside};
+ghost use Rattle.smith_types.specs.ValidTypes.{IsValTypeValid};
+ghost use Rattle.smith_draw.specs.ConstScopes.{AreSpacesValid, seen_by};
+ghost use Rattle.smith_draw.specs.Drawing.{AlwaysDraws, Draws};
+ghost use Rattle.smith_contents.specs.DataTargets.{TellOffsets};
+ghost use Rattle.smith_contents.specs.DrawnElements.{FitsAddresses, IsPlaced, IsKindDrawn};
+ghost use Rattle.smith_contents.specs.ElementSegments.{offset_globals, most_offset, constant_offset, hint_at, constant_offset_at, is_global_wanted_at, table_offset_at, kind_at};
+
+use crate::element_kinds::KindChoice;
+use smith_bytes::{Error, Unstructured};
+use smith_config::Config;
+use smith_draw::{Spaces, arbitrary_offset, choose, globals_for_const_expr};
+use smith_types::{ElementKind, Items, Offset, TableType, ValType};
+use std::alloc::Global;
+
+/// The type of the addresses of a table.
+fn address_type(wide: bool) -> ValType
+    ensures exact { result ≡ address_type wide }
+    ensures valid { (features : Features) (end : ℕ) → IsValTypeValid features end result }
+{
+    if wide { ValType::I64 } else { ValType::I32 }
+}
+
+/// Lists the globals that an offset into `table` may be read from.
+fn offset_globals(
+    alloc: Global,
+    config: &Config,
+    spaces: &Spaces<'_>,
+    table: &TableType,
+) -> Result<Items<u32>, Error>
+    requires { AreSpacesValid config.now spaces.now }
+    ensures exact { IfOk result (λ globals. globals ≡ offset_globals config.now (seen_by config.now spaces.now true) table.now) }
+    ensures tell { IfOk result (TellOffsets (seen_by config.now spaces.now true) table.now.table64) }
+    ensures none { IsTrue config.now.disallow_traps → IfOk result (λ globals. globals ≡ []) }
+    ensures memory { IfErr result (λ e. e ≡ Error.Memory) }
+{
+    if config.disallow_traps {
+        return Ok(Items::new(alloc));
+    }
+    let address = address_type(table.table64);
+    globals_for_const_expr(alloc, config, spaces, address, true)
+}
+
+/// The greatest constant offset into `table`.
+fn most_offset(config: &Config, table: &TableType) -> u64
+    requires { table.now.minimum ≤ most_elements table.now.table64 }
+    ensures exact { result ≡ most_offset config.now table.now }
+    ensures above { table.now.minimum ≤ result }
+    ensures within { result ≤ most_elements table.now.table64 }
+{
+    if config.disallow_traps {
+        return table.minimum;
+    }
+    if table.table64 {
+        u64::MAX
+    } else {
+        u32::MAX as u64
+    }
+}
+
+/// A constant of the address type of `table`.
+fn constant_offset(table: &TableType, offset: u64) -> Offset
+    requires { offset ≤ most_elements table.now.table64 }
+    ensures exact { result ≡ constant_offset table.now offset }
+    ensures valid { (context : Context) → IsOffsetValid context table.now.table64 result }
+    ensures inside { (count most : ℕ) → offset + count ≤ most → IsOffsetInside result count most }
+{
+    if table.table64 {
+        return Offset::Const64(offset.cast_signed());
+    }
+    Offset::Const32((offset as u32).cast_signed())
+}
+
+/// How many elements are to fit between `offset` and the minimum of `table`, if that is limited.
+#[tactic(auto, unfolding(crate::specs::ElementSegments::hint_at))]
+fn hint(config: &Config, table: &TableType, offset: u64, u: &mut Unstructured<'_>) -> Option<u64>
+    requires { offset ≤ most_offset config.now table.now }
+    ensures draws { AlwaysDraws (hint_at config.now table.now offset u.old) result u.old u.new }
+    ensures inside { IsTrue config.now.disallow_traps → result ≡ Some (table.now.minimum - offset) }
+{
+    if config.disallow_traps {
+        return Some(table.minimum - offset);
+    }
+    if offset > table.minimum {
+        return None;
+    }
+    let chance: u32 = u.int_in_range(0..=10);
+    if chance == 0 {
+        None
+    } else {
+        Some(table.minimum - offset)
+    }
+}
+
+#[tactic(auto, unfolding(crate::specs::ElementSegments::constant_offset_at))]
+fn drawn_constant(
+    config: &Config,
+    table: &TableType,
+    u: &mut Unstructured<'_>,
+) -> (Offset, Option<u64>)
+    requires { table.now.minimum ≤ most_elements table.now.table64 }
+    ensures draws { AlwaysDraws (constant_offset_at config.now table.now u.old) result u.old u.new }
+    ensures placed { (context : Context) → IsPlaced config.now context table.now result.0 result.1 }
+{
+    let most = most_offset(config, table);
+    let offset = arbitrary_offset(table.minimum, most, 0, u);
+    let hint = hint(config, table, offset, u);
+    (constant_offset(table, offset), hint)
+}
+
+/// Whether an offset is read from one of `count` globals.
+#[tactic(auto, unfolding(crate::specs::ElementSegments::is_global_wanted_at))]
+fn is_global_wanted(count: usize, u: &mut Unstructured<'_>) -> bool
+    ensures draws { AlwaysDraws (is_global_wanted_at count u.old) result u.old u.new }
+    ensures some { IsTrue result → 0 < count }
+{
+    if count == 0 {
+        return false;
+    }
+    u.arbitrary()
+}
+
+#[tactic(auto, unfolding(crate::specs::ElementSegments::table_offset_at))]
+fn table_offset(
+    alloc: Global,
+    config: &Config,
+    spaces: &Spaces<'_>,
+    table: &TableType,
+    u: &mut Unstructured<'_>,
+) -> Result<(Offset, Option<u64>), Error>
+    requires standing { AreSpacesValid config.now spaces.now }
+    requires fits { table.now.minimum ≤ most_elements table.now.table64 }
+    ensures draws { Draws (table_offset_at config.now (seen_by config.now spaces.now true) table.now u.old) result u.old u.new }
+    ensures placed { IfOk result (λ drawn. IsPlaced config.now (seen_by config.now spaces.now true) table.now drawn.0 drawn.1) }
+{
+    let globals = offset_globals(alloc, config, spaces, table)?;
+    if !is_global_wanted(globals.len(), u) {
+        return Ok(drawn_constant(config, table, u));
+    }
+    let global = choose(globals.as_slice(), u);
+    Ok((Offset::Global(global), None))
+}
+
+/// Draws a segment of the kind `choice`, and how many elements are to fit, if that is limited.
+#[tactic(auto, unfolding(crate::specs::ElementSegments::kind_at))]
+pub(crate) fn kind(
+    alloc: Global,
+    config: &Config,
+    spaces: &Spaces<'_>,
+    choice: KindChoice,
+    u: &mut Unstructured<'_>,
+) -> Result<(ElementKind, Option<u64>), Error>
+    requires standing { AreSpacesValid config.now spaces.now }
+    requires fits { FitsAddresses choice }
+    ensures draws { Draws (kind_at config.now (seen_by config.now spaces.now true) choice u.old) result u.old u.new }
+    ensures placed { IfOk result (IsKindDrawn config.now (seen_by config.now spaces.now true) choice) }
+{
+    match choice {
+        KindChoice::Passive => Ok((ElementKind::Passive, None)),
+        KindChoice::Declared => Ok((ElementKind::Declared, None)),
+        KindChoice::Active(index, table) => {
+            let (offset, hint) = table_offset(alloc, config, spaces, &table, u)?;
+            Ok((
+                ElementKind::Active {
+                    table: index,
+                    offset,
+                },
+                hint,
+            ))
+        }
+    }
+}

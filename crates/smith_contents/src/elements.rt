@@ -1,0 +1,167 @@
+ghost use Rattle.std.specs.Prelude.{◌≡◌, ◌+◌, ◌<◌, ◌≤◌, true, [], length, IsTrue, IfOk, IfErr, All, if◌then◌else◌};
+ghost use Rattle.std.specs.List.{flat_map};
+ghost use Rattle.smith_bytes.specs.Source.{KeepsPieces};
+ghost use Rattle.smith_bytes.specs.Takes.{Takes};
+ghost use Rattle.smith_types.specs.Floats.{HasNoFloat};
+ghost use Rattle.smith_types.specs.Segments.{item_count, IsElementValid, IsElementInside};
+ghost use Rattle.smith_types.specs.declared.segments.ElementSegment.{ElementSegment};
+ghost use Rattle.smith_draw.specs.ConstFloats.{GivesNoFloat};
+ghost use Rattle.smith_draw.specs.ConstScopes.{seen_by};
+ghost use Rattle.smith_bytes.specs.Spelling.{SpellsEmpty};
+ghost use Rattle.smith_imports.specs.Steps.{Gives};
+ghost use Rattle.smith_contents.specs.Held.{HasItems};
+ghost use Rattle.smith_contents.specs.DrawnElements.{IsOffered, IsElementFit, MayDrawElements, MayRefuseItems, MayRefuseElements};
+ghost use Rattle.smith_contents.specs.ElementSegments.{most_items, items_in, element_segment_at, element_segments_at, elements_at};
+ghost use Rattle.smith_contents.specs.Held.{expressions_of};
+ghost use Rattle.smith_bytes.specs.Spelling.{SpellsNone};
+
+use crate::element_items::{item_type, items};
+use crate::element_kinds::{KindChoice, kinds};
+use crate::element_offsets::kind;
+use smith_bytes::{Count, Error, Unstructured, Why, goes_on};
+use smith_config::Config;
+use smith_draw::{Spaces, choose};
+use smith_types::{ElementSegment, Elements, Items};
+use std::alloc::Global;
+
+/// The most items of a segment, behind `total` in all segments before it.
+fn most_items(config: &Config, hint: Option<u64>, total: usize) -> usize
+    requires { total ≤ config.now.max_elements }
+    ensures exact { result ≡ most_items config.now hint total }
+    ensures within { total + result ≤ config.now.max_elements }
+{
+    let left = config.max_elements - total;
+    match hint {
+        Some(hint) => hint.min(left as u64) as usize,
+        None => config.max_elements.min(left),
+    }
+}
+
+/// Draws a segment of one of these kinds, behind `total` items in all segments before it.
+#[tactic(auto, unfolding(crate::specs::ElementSegments::element_segment_at))]
+fn segment(
+    alloc: Global,
+    config: &Config,
+    spaces: &Spaces<'_>,
+    kinds: &[KindChoice],
+    total: usize,
+    u: &mut Unstructured<'_>,
+) -> Result<ElementSegment, Error>
+    requires may { MayDrawElements config.now spaces.now }
+    requires some { 0 < length kinds.now }
+    requires offered { All (IsOffered config.now spaces.now.types.now.types spaces.now.entities.tables.now) kinds.now }
+    requires total { total ≤ config.now.max_elements }
+    ensures within { IfOk result (λ segment. total + item_count segment.items ≤ config.now.max_elements) }
+    ensures exact { Gives (λ segment. (segment, u.new)) result (element_segment_at config.now (seen_by config.now spaces.now true) kinds.now total u.old) }
+    ensures fit { IfOk result (IsElementFit config.now (seen_by config.now spaces.now true) spaces.now.entities.tables.now) }
+    ensures refusal { IfErr result (MayRefuseItems config.now) }
+    ensures left { KeepsPieces u.old u.new }
+{
+    let choice = choose(kinds, u);
+    let (kind, hint) = kind(alloc, config, spaces, choice, u)?;
+    let ty = item_type(alloc, config, spaces, choice, u)?;
+    let most = most_items(config, hint, total);
+    let items = items(alloc, config, spaces, ty, most, u)?;
+    Ok(ElementSegment { kind, ty, items })
+}
+
+/// How many items a segment has.
+fn item_count(items: &Elements) -> usize
+    ensures { result ≡ item_count items.now }
+{
+    match items {
+        Elements::Functions(functions) => functions.len(),
+        Elements::Expressions(expressions) => expressions.len(),
+    }
+}
+
+/// Draws segments of these kinds.
+fn segments(
+    alloc: Global,
+    config: &Config,
+    spaces: &Spaces<'_>,
+    kinds: &[KindChoice],
+    u: &mut Unstructured<'_>,
+) -> Result<Items<ElementSegment>, Error>
+    requires may { MayDrawElements config.now spaces.now }
+    requires some { 0 < length kinds.now }
+    requires offered { All (IsOffered config.now spaces.now.types.now.types spaces.now.entities.tables.now) kinds.now }
+    ensures exact { Gives (λ segments. (segments, u.new)) result (element_segments_at config.now (seen_by config.now spaces.now true) kinds.now config.now.max_element_segments [] u.old) }
+    ensures fit { IfOk result (All (IsElementFit config.now (seen_by config.now spaces.now true) spaces.now.entities.tables.now)) }
+    ensures most { IfOk result (λ segments. (length segments ≤ config.now.max_element_segments) × (items_in segments ≤ config.now.max_elements)) }
+    ensures refusal { IfErr result (MayRefuseItems config.now) }
+    ensures left { KeepsPieces u.old u.new }
+{
+    let mut segments = Items::new(alloc);
+    let mut total = 0;
+    for made in 0..config.max_element_segments {
+        if !goes_on(u, made, config.min_element_segments) {
+            return Ok(segments);
+        }
+        let segment = segment(alloc, config, spaces, kinds, total, u)?;
+        total += item_count(&segment.items);
+        segments.push(segment)?;
+    }
+    Ok(segments)
+}
+
+/// Refuses to give no segment where some are asked for.
+fn none(alloc: Global, config: &Config) -> Result<Items<ElementSegment>, Error>
+    ensures none { IfOk result (λ segments. (segments ≡ []) × (config.now.min_element_segments ≡ 0)) }
+    ensures unmet { IfErr result (λ e. (e ≡ Error.IncorrectFormat (Why.Unmet Count.ElementSegments)) × (0 < config.now.min_element_segments)) }
+{
+    if config.min_element_segments > 0 {
+        return Err(Error::IncorrectFormat(Why::Unmet(Count::ElementSegments)));
+    }
+    Ok(Items::new(alloc))
+}
+
+#[tactic(auto, unfolding(crate::specs::ElementSegments::elements_at))]
+fn drawn_elements(
+    alloc: Global,
+    config: &Config,
+    spaces: &Spaces<'_>,
+    u: &mut Unstructured<'_>,
+) -> Result<Items<ElementSegment>, Error>
+    requires may { MayDrawElements config.now spaces.now }
+    ensures exact { Gives (λ segments. (segments, u.new)) result (elements_at config.now (seen_by config.now spaces.now true) spaces.now.entities.tables.now u.old) }
+    ensures fit { IfOk result (All (IsElementFit config.now (seen_by config.now spaces.now true) spaces.now.entities.tables.now)) }
+    ensures most { IfOk result (λ segments. (length segments ≤ config.now.max_element_segments) × (items_in segments ≤ config.now.max_elements)) }
+    ensures refusal { IfErr result (MayRefuseElements config.now) }
+    ensures left { KeepsPieces u.old u.new }
+{
+    let kinds = kinds(alloc, config, spaces, u)?;
+    if kinds.is_empty() {
+        return none(alloc, config);
+    }
+    segments(alloc, config, spaces, kinds.as_slice(), u)
+}
+
+/// Draws the element segments beside the tables of `spaces`: as many as are asked for, and no more than may be, each with as
+/// many items as are asked for, unless it lists functions and there is none that is not shared.
+///
+/// # Errors
+///
+/// `Unmet(ElementSegments)` where some are asked for, there is no bulk memory, and no table is offered; `Unmet(Elements)` where
+/// a segment may not have as many items as are asked for.
+pub fn arbitrary_elements(
+    alloc: Global,
+    config: &Config,
+    spaces: &Spaces<'_>,
+    u: &mut Unstructured<'_>,
+) -> Result<Items<ElementSegment>, Error>
+    requires may { MayDrawElements config.now spaces.now }
+    ensures exact { Gives (λ segments. (segments, u.new)) result (elements_at config.now (seen_by config.now spaces.now true) spaces.now.entities.tables.now u.old) }
+    ensures valid { IfOk result (All (IsElementValid (seen_by config.now spaces.now true) spaces.now.entities.tables.now)) }
+    ensures inside { IsTrue config.now.disallow_traps → IfOk result (All (IsElementInside spaces.now.entities.tables.now)) }
+    ensures most { IfOk result (λ segments. (length segments ≤ config.now.max_element_segments) × (items_in segments ≤ config.now.max_elements)) }
+    ensures least { IfOk result (λ segments. config.now.min_element_segments ≤ length segments) }
+    ensures enough { IfOk result (All (λ (segment : ElementSegment). HasItems config.now spaces.now.types.now.types spaces.now.entities.funcs.now segment.items)) }
+    ensures floats { All HasNoFloat spaces.now.types.now.types → IfOk result (λ segments. All (All GivesNoFloat) (flat_map (λ (segment : ElementSegment). expressions_of segment.items) segments)) }
+    ensures none { config.now.min_element_segments ≡ 0 → spaces.now.entities.tables.now ≡ []
+        → IfOk result (λ segments. Takes (SpellsEmpty (SpellsNone (if config.now.bulk_memory_enabled then config.now.max_element_segments else 0))) u.old segments u.new) }
+    ensures refusal { IfErr result (MayRefuseElements config.now) }
+    ensures left { KeepsPieces u.old u.new }
+{
+    drawn_elements(alloc, config, spaces, u)
+}

@@ -1,0 +1,195 @@
+ghost use Rattle.std.specs.Prelude.{◌≡◌, ◌<◌, ◌^◌, nat_lt, length, slice_index_or, All, if◌then◌else◌};
+ghost use Rattle.smith_types.specs.Entities.{IsFuncValid};
+ghost use Rattle.smith_types.specs.IndexSpaces.{spaces_in};
+ghost use Rattle.smith_draw.specs.Choices.{chosen_at};
+ghost use Rattle.smith_draw.specs.Drawing.{AlwaysDraws};
+ghost use Rattle.smith_draw.specs.FuncSizes.{IsSmall};
+ghost use Rattle.smith_draw.specs.TypeUses.{places_from};
+ghost use Rattle.smith_contents.specs.Exporting.{is_func_below, candidates, candidate_row, candidate_rows, offered_kinds};
+ghost use Rattle.smith_contents.specs.Exported.{MayExport, IsCandidate};
+
+use smith_bytes::Unstructured;
+use smith_imports::{choose_enabled, count_enabled};
+use smith_types::{EntityType, ExportKind, IndexSpaces, TypeSpace};
+
+/// The size of a function and one more, at most.
+const MOST_OF_FUNC: u32 = 42;
+
+/// The size of a table, a memory or a global, and one more.
+const SIZE_OF_OTHER: u32 = 2;
+
+/// Whether the size of a function of the type of this index, and one more, is below what is left.
+fn is_func_below(types: &TypeSpace, left: u32, func: u32) -> bool
+    requires small { All IsSmall types.now.types }
+    requires valid { IsFuncValid types.now.types func }
+    ensures { result ≡ is_func_below types.now.types left func }
+{
+    types.size_of(&EntityType::Func(func)) + 1 < left
+}
+
+/// Counts the functions whose size, and one more, is below what is left.
+fn count_funcs(types: &TypeSpace, funcs: &[u32], left: u32) -> usize
+    requires small { All IsSmall types.now.types }
+    requires valid { All (IsFuncValid types.now.types) funcs.now }
+    ensures { result ≡ length (places_from (is_func_below types.now.types left) 0 funcs.now) }
+{
+    let mut count = 0;
+    for func in funcs {
+        if is_func_below(types, left, *func) {
+            count += 1;
+        }
+    }
+    count
+}
+
+/// The index of the function at a place among those whose size, and one more, is below what is left.
+fn func_at(types: &TypeSpace, funcs: &[u32], left: u32, mut place: usize) -> u32
+    requires small { All IsSmall types.now.types }
+    requires valid { All (IsFuncValid types.now.types) funcs.now }
+    requires few { length funcs.now < 2 ^ 32 }
+    ensures { result ≡ slice_index_or (places_from (is_func_below types.now.types left) 0 funcs.now) place 0 }
+{
+    for (index, func) in funcs.iter().enumerate() {
+        if !is_func_below(types, left, *func) {
+            continue;
+        }
+        if place == 0 {
+            return index as u32;
+        }
+        place -= 1;
+    }
+    0
+}
+
+/// Counts the functions that may be exported. Where more than the size of any function is left, none is looked at.
+fn count_func_candidates(types: &TypeSpace, funcs: &[u32], left: u32) -> usize
+    requires small { All IsSmall types.now.types }
+    requires valid { All (IsFuncValid types.now.types) funcs.now }
+    ensures { result ≡ length (places_from (is_func_below types.now.types left) 0 funcs.now) }
+{
+    if left > MOST_OF_FUNC {
+        return funcs.len();
+    }
+    count_funcs(types, funcs, left)
+}
+
+/// The index of the function at a place among those that may be exported.
+fn func_candidate_at(types: &TypeSpace, funcs: &[u32], left: u32, place: usize) -> u32
+    requires small { All IsSmall types.now.types }
+    requires valid { All (IsFuncValid types.now.types) funcs.now }
+    requires few { length funcs.now < 2 ^ 32 }
+    requires within { place < length (places_from (is_func_below types.now.types left) 0 funcs.now) }
+    ensures { result ≡ slice_index_or (places_from (is_func_below types.now.types left) 0 funcs.now) place 0 }
+{
+    if left > MOST_OF_FUNC {
+        return place as u32;
+    }
+    func_at(types, funcs, left, place)
+}
+
+/// Counts `count` tables, memories or globals where they may be exported: all of them may, or none.
+fn count_others(count: usize, left: u32) -> usize
+    ensures { result ≡ (if nat_lt 2 left then count else 0) }
+{
+    if left > SIZE_OF_OTHER { count } else { 0 }
+}
+
+/// Counts the items of a kind that may be exported where that much of the type size is left.
+fn count_candidates(types: &TypeSpace, spaces: &IndexSpaces, left: u32, kind: ExportKind) -> usize
+    requires { MayExport types.now.types (spaces_in spaces.now) }
+    ensures { result ≡ length (candidates types.now.types (spaces_in spaces.now) left kind) }
+{
+    match kind {
+        ExportKind::Func => count_func_candidates(types, spaces.funcs.as_slice(), left),
+        ExportKind::Table => count_others(spaces.tables.len(), left),
+        ExportKind::Memory => count_others(spaces.memories.len(), left),
+        ExportKind::Global => count_others(spaces.globals.len(), left),
+        ExportKind::Tag => 0,
+    }
+}
+
+/// The index of the item at a place among those of a kind that may be exported.
+fn candidate_at(
+    types: &TypeSpace,
+    spaces: &IndexSpaces,
+    left: u32,
+    kind: ExportKind,
+    place: usize,
+) -> u32
+    requires may { MayExport types.now.types (spaces_in spaces.now) }
+    requires within { place < length (candidates types.now.types (spaces_in spaces.now) left kind) }
+    ensures { result ≡ slice_index_or (candidates types.now.types (spaces_in spaces.now) left kind) place 0 }
+{
+    match kind {
+        ExportKind::Func => func_candidate_at(types, spaces.funcs.as_slice(), left, place),
+        _ => place as u32,
+    }
+}
+
+/// Chooses an item of a kind among those that may be exported, and gives its index.
+#[tactic(auto, unfolding(smith_draw::specs::Choices::chosen_at))]
+pub(crate) fn choose_candidate(
+    types: &TypeSpace,
+    spaces: &IndexSpaces,
+    left: u32,
+    kind: ExportKind,
+    u: &mut Unstructured<'_>,
+) -> u32
+    requires may { MayExport types.now.types (spaces_in spaces.now) }
+    requires some { 0 < length (candidates types.now.types (spaces_in spaces.now) left kind) }
+    ensures draws { AlwaysDraws (chosen_at 0 (candidates types.now.types (spaces_in spaces.now) left kind) u.old) result u.old u.new }
+    ensures candidate { IsCandidate types.now.types (spaces_in spaces.now) left kind result }
+{
+    let last = count_candidates(types, spaces, left, kind) - 1;
+    let place = u.int_in_range(0..=last);
+    candidate_at(types, spaces, left, kind, place)
+}
+
+/// A kind, with whether an item of it may be exported.
+fn candidate_row(
+    types: &TypeSpace,
+    spaces: &IndexSpaces,
+    left: u32,
+    kind: ExportKind,
+) -> (ExportKind, bool)
+    requires { MayExport types.now.types (spaces_in spaces.now) }
+    ensures { result ≡ candidate_row types.now.types (spaces_in spaces.now) left kind }
+{
+    (kind, count_candidates(types, spaces, left, kind) > 0)
+}
+
+/// The kinds in order, each with whether an item of it may be exported.
+fn candidate_rows(types: &TypeSpace, spaces: &IndexSpaces, left: u32) -> [(ExportKind, bool); 4]
+    requires { MayExport types.now.types (spaces_in spaces.now) }
+    ensures { result ≡ candidate_rows types.now.types (spaces_in spaces.now) left }
+{
+    [
+        candidate_row(types, spaces, left, ExportKind::Func),
+        candidate_row(types, spaces, left, ExportKind::Table),
+        candidate_row(types, spaces, left, ExportKind::Memory),
+        candidate_row(types, spaces, left, ExportKind::Global),
+    ]
+}
+
+/// Whether there is an item that may be exported.
+pub(crate) fn has_candidates(types: &TypeSpace, spaces: &IndexSpaces, left: u32) -> bool
+    requires { MayExport types.now.types (spaces_in spaces.now) }
+    ensures { result ≡ nat_lt 0 (length (offered_kinds types.now.types (spaces_in spaces.now) left)) }
+{
+    count_enabled(&candidate_rows(types, spaces, left)) > 0
+}
+
+/// Chooses a kind among those of which an item may be exported.
+pub(crate) fn export_kind(
+    types: &TypeSpace,
+    spaces: &IndexSpaces,
+    left: u32,
+    u: &mut Unstructured<'_>,
+) -> ExportKind
+    requires may { MayExport types.now.types (spaces_in spaces.now) }
+    requires some { 0 < length (offered_kinds types.now.types (spaces_in spaces.now) left) }
+    ensures draws { AlwaysDraws (chosen_at ExportKind.Memory (offered_kinds types.now.types (spaces_in spaces.now) left) u.old) result u.old u.new }
+    ensures offered { 0 < length (candidates types.now.types (spaces_in spaces.now) left result) }
+{
+    choose_enabled(&candidate_rows(types, spaces, left), u)
+}

@@ -1,0 +1,35 @@
+ghost use Rattle.std.specs.Prelude.{◌≡◌, ◌≤◌};
+ghost use Rattle.smith_types.specs.IndexSpaces.{spaces_in};
+ghost use Rattle.smith_contents.specs.Exporting.{item_size};
+ghost use Rattle.smith_contents.specs.Exported.{MayExport};
+
+use smith_types::{EntityType, ExportKind, IndexSpaces, Items, Name, TypeSpace};
+
+/// The exports of a module.
+#[derive(Drop)]
+pub struct Exports {
+    /// The name of each export, and the kind and the index of its item.
+    pub exports: Items<(Name, ExportKind, u32)>,
+    /// What the imports and the exports add to the type size of the module.
+    pub type_size: u32,
+}
+
+/// The size of an item: of a function that of its type.
+pub(crate) fn item_size(
+    types: &TypeSpace,
+    spaces: &IndexSpaces,
+    kind: ExportKind,
+    index: u32,
+) -> u32
+    requires { MayExport types.now.types (spaces_in spaces.now) }
+    ensures exact { result ≡ item_size types.now.types (spaces_in spaces.now) kind index }
+    ensures small { result ≤ 41 }
+{
+    let ExportKind::Func = kind else {
+        return 1;
+    };
+    match spaces.funcs.as_slice().get(index as usize) {
+        Some(func) => types.size_of(&EntityType::Func(*func)),
+        None => 1,
+    }
+}

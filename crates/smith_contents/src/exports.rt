@@ -1,0 +1,159 @@
+ghost use Rattle.std.specs.Prelude.{◌≡◌, ◌<◌, ◌≤◌, ◌+◌, ◌-◌, ◌^◌, ◌++◌, ◌∷◌, [], false, nat_lt, length, List, IsTrue, IfOk, IfErr};
+ghost use Rattle.smith_bytes.specs.Source.{KeepsPieces};
+ghost use Rattle.smith_bytes.specs.Takes.{Takes};
+ghost use Rattle.smith_types.specs.Exports.{AreExportsValid};
+ghost use Rattle.smith_types.specs.IndexSpaces.{spaces_in};
+ghost use Rattle.smith_imports.specs.Steps.{Gives};
+ghost use Rattle.smith_bytes.specs.Spelling.{SpellsEmpty};
+ghost use Rattle.smith_bytes.specs.Spelling.{SpellsNone};
+ghost use Rattle.smith_contents.specs.Exporting.{Export, is_exported, HasNames, exported_size, export_at, offered_kinds, exports_from, free_exports_at};
+ghost use Rattle.smith_contents.specs.Exported.{MayExport, MayExportFreely, MayDrawExports, IsCandidate, AreExported, MayRefuseFree, MayRefuseExports};
+ghost use Rattle.smith_contents.specs.ExportedItems.{AreAllExported};
+ghost use Rattle.smith_contents.specs.AllExports.{exports_at};
+
+use crate::all_exports::export_everything;
+use crate::export_kinds::{choose_candidate, export_kind, has_candidates};
+use crate::export_names::export_name;
+use crate::exported::{Exports, item_size};
+use smith_bytes::{Count, Error, Unstructured, Why, goes_on};
+use smith_config::Config;
+use smith_types::{ExportKind, IndexSpaces, Items, Name, TypeSpace};
+use std::alloc::Global;
+use std::collections::HashSet;
+
+/// Draws an export of an item that may be exported where that much of the type size is left.
+#[tactic(auto, unfolding(crate::specs::Exporting::export_at))]
+fn export(
+    alloc: Global,
+    types: &TypeSpace,
+    spaces: &IndexSpaces,
+    left: u32,
+    names: &mut HashSet<String>,
+    u: &mut Unstructured<'_>,
+) -> Result<(Name, ExportKind, u32), Error>
+    requires may { MayExport types.now.types (spaces_in spaces.now) }
+    requires some { 0 < length (offered_kinds types.now.types (spaces_in spaces.now) left) }
+    ensures exact { (exports : List Export) → HasNames names.old exports → length exports < 2 ^ 64
+        → IfOk result (λ one. export_at types.now.types (spaces_in spaces.now) left exports u.old ≡ (one, u.new)) }
+    ensures fresh { (exports : List Export) → HasNames names.old exports → IfOk result (λ one. is_exported exports one.0 ≡ false) }
+    ensures names { (exports : List Export) → HasNames names.old exports → IfOk result (λ one. HasNames names.new (exports ++ one ∷ [])) }
+    ensures candidate { IfOk result (λ one. IsCandidate types.now.types (spaces_in spaces.now) left one.1 one.2) }
+    ensures memory { IfErr result (λ e. e ≡ Error.Memory) }
+    ensures left { KeepsPieces u.old u.new }
+{
+    let name = export_name(alloc, names, u)?;
+    let kind = export_kind(types, spaces, left, u);
+    let index = choose_candidate(types, spaces, left, kind, u);
+    Ok((name, kind, index))
+}
+
+/// Draws exports one after another, while there is room and an item that may be exported.
+fn push_exports(
+    alloc: Global,
+    config: &Config,
+    types: &TypeSpace,
+    spaces: &IndexSpaces,
+    imports_size: u32,
+    u: &mut Unstructured<'_>,
+) -> Result<Exports, Error>
+    requires may { MayExportFreely config.now types.now.types (spaces_in spaces.now) imports_size }
+    ensures exact { IfOk result (λ made. exports_from config.now types.now.types (spaces_in spaces.now) imports_size config.now.max_exports [] u.old ≡ (made.exports, u.new)) }
+    ensures kept { IfOk result (λ made. AreExported config.now types.now.types (spaces_in spaces.now) imports_size made.exports made.type_size) }
+    ensures none_left { IfOk result (λ made. length made.exports < config.now.min_exports
+        → nat_lt 0 (length (offered_kinds types.now.types (spaces_in spaces.now) (config.now.max_type_size - made.type_size))) ≡ false) }
+    ensures memory { IfErr result (λ e. e ≡ Error.Memory) }
+    ensures left { KeepsPieces u.old u.new }
+{
+    let mut exports = Items::new(alloc);
+    let mut names = HashSet::new(alloc);
+    let mut type_size = imports_size;
+    for made in 0..config.max_exports {
+        if !goes_on(u, made, config.min_exports) {
+            return Ok(Exports { exports, type_size });
+        }
+        let left = config.max_type_size - type_size;
+        if !has_candidates(types, spaces, left) {
+            return Ok(Exports { exports, type_size });
+        }
+        let one = export(alloc, types, spaces, left, &mut names, u)?;
+        type_size += item_size(types, spaces, one.1, one.2) + 1;
+        exports.push(one)?;
+    }
+    Ok(Exports { exports, type_size })
+}
+
+#[tactic(auto, unfolding(crate::specs::Exporting::free_exports_at))]
+fn drawn_exports(
+    alloc: Global,
+    config: &Config,
+    types: &TypeSpace,
+    spaces: &IndexSpaces,
+    imports_size: u32,
+    u: &mut Unstructured<'_>,
+) -> Result<Exports, Error>
+    requires may { MayExportFreely config.now types.now.types (spaces_in spaces.now) imports_size }
+    ensures exact { Gives (λ made. (made.exports, u.new)) result (free_exports_at config.now types.now.types (spaces_in spaces.now) imports_size u.old) }
+    ensures kept { IfOk result (λ made. AreExported config.now types.now.types (spaces_in spaces.now) imports_size made.exports made.type_size) }
+    ensures least { IfOk result (λ made. config.now.min_exports ≤ length made.exports) }
+    ensures refusal { IfErr result (MayRefuseFree config.now) }
+    ensures left { KeepsPieces u.old u.new }
+{
+    let drawn = push_exports(alloc, config, types, spaces, imports_size, u)?;
+    if drawn.exports.len() < config.min_exports {
+        return Err(Error::IncorrectFormat(Why::Unmet(Count::Exports)));
+    }
+    Ok(drawn)
+}
+
+/// As many exports as are asked for, and no more than may be, of the items in `spaces`, where the imports add `imports_size` to
+/// the type size.
+fn free_exports(
+    alloc: Global,
+    config: &Config,
+    types: &TypeSpace,
+    spaces: &IndexSpaces,
+    imports_size: u32,
+    u: &mut Unstructured<'_>,
+) -> Result<Exports, Error>
+    requires may { MayExportFreely config.now types.now.types (spaces_in spaces.now) imports_size }
+    ensures exact { Gives (λ made. (made.exports, u.new)) result (free_exports_at config.now types.now.types (spaces_in spaces.now) imports_size u.old) }
+    ensures valid { IfOk result (λ made. AreExportsValid (spaces_in spaces.now) made.exports) }
+    ensures most { IfOk result (λ made. length made.exports ≤ config.now.max_exports) }
+    ensures least { IfOk result (λ made. config.now.min_exports ≤ length made.exports) }
+    ensures type_size { IfOk result (λ made. made.type_size ≡ imports_size + exported_size types.now.types (spaces_in spaces.now) made.exports) }
+    ensures within { IfOk result (λ made. made.type_size ≤ config.now.max_type_size) }
+    ensures refusal { IfErr result (MayRefuseFree config.now) }
+    ensures none { config.now.min_exports ≡ 0 → IfOk result (λ made. Takes (SpellsEmpty (SpellsNone config.now.max_exports)) u.old made.exports u.new) }
+    ensures left { KeepsPieces u.old u.new }
+{
+    drawn_exports(alloc, config, types, spaces, imports_size, u)
+}
+
+/// The exports of a module: of every item in `spaces` where that is asked for, else drawn freely. The imports add `imports_size` to
+/// the type size.
+pub fn arbitrary_exports(
+    alloc: Global,
+    config: &Config,
+    types: &TypeSpace,
+    spaces: &IndexSpaces,
+    imports_size: u32,
+    u: &mut Unstructured<'_>,
+) -> Result<Exports, Error>
+    requires may { MayDrawExports config.now types.now.types (spaces_in spaces.now) imports_size }
+    ensures exact { Gives (λ made. (made.exports, u.new)) result (exports_at config.now types.now.types (spaces_in spaces.now) imports_size u.old) }
+    ensures valid { IfOk result (λ made. AreExportsValid (spaces_in spaces.now) made.exports) }
+    ensures most { config.now.export_everything ≡ false → IfOk result (λ made. length made.exports ≤ config.now.max_exports) }
+    ensures least { config.now.export_everything ≡ false → IfOk result (λ made. config.now.min_exports ≤ length made.exports) }
+    ensures everything { IsTrue config.now.export_everything → IfOk result (λ made. AreAllExported (spaces_in spaces.now) made.exports) }
+    ensures type_size { IfOk result (λ made. made.type_size ≡ imports_size + exported_size types.now.types (spaces_in spaces.now) made.exports) }
+    ensures within { IfOk result (λ made. made.type_size ≤ config.now.max_type_size) }
+    ensures refusal { IfErr result (MayRefuseExports config.now) }
+    ensures none { config.now.export_everything ≡ false → config.now.min_exports ≡ 0
+        → IfOk result (λ made. Takes (SpellsEmpty (SpellsNone config.now.max_exports)) u.old made.exports u.new) }
+    ensures left { KeepsPieces u.old u.new }
+{
+    if config.export_everything {
+        return export_everything(alloc, config, types, spaces, imports_size, u);
+    }
+    free_exports(alloc, config, types, spaces, imports_size, u)
+}

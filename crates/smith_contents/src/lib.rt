@@ -1,0 +1,23 @@
+//! What a module has behind its definitions: exports, a start function, segments and bodies.
+#![tactic(auto)]
+
+mod all_exports;
+mod bodies;
+mod data;
+mod element_items;
+mod element_kinds;
+mod element_offsets;
+mod elements;
+mod examples;
+mod export_kinds;
+mod export_names;
+mod exported;
+mod exports;
+mod start;
+
+pub use bodies::arbitrary_bodies;
+pub use data::arbitrary_data;
+pub use elements::arbitrary_elements;
+pub use exported::Exports;
+pub use exports::arbitrary_exports;
+pub use start::arbitrary_start;

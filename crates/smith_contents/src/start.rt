@@ -1,0 +1,108 @@
+ghost use Rattle.std.specs.Prelude.{◌≡◌, ◌<◌, ◌^◌, false, length, slice_index_or, None, IsTrue};
+ghost use Rattle.smith_bytes.specs.Takes.{Takes, SpellsSuch};
+ghost use Rattle.smith_types.specs.Exports.{IsStartValid};
+ghost use Rattle.smith_draw.specs.Drawing.{AlwaysDraws};
+ghost use Rattle.smith_spell.specs.Spelling.{takes_and_gives_nothing, is_start_type, SpellsNoStart};
+ghost use Rattle.smith_contents.specs.Start.{start_funcs, start_wanted_at, start_at};
+
+use smith_bytes::Unstructured;
+use smith_config::Config;
+use smith_types::{CompositeInnerType, SubType};
+
+fn takes_and_gives_nothing(inner: &CompositeInnerType) -> bool
+    ensures { result ≡ takes_and_gives_nothing inner.now }
+{
+    match inner {
+        CompositeInnerType::Func(function) => {
+            function.params.is_empty() && function.results.is_empty()
+        }
+        _ => false,
+    }
+}
+
+/// Whether functions of the type of this index may start a module.
+fn is_start_type(types: &[SubType], index: u32) -> bool
+    ensures { result ≡ is_start_type types.now index }
+{
+    match types.get(index as usize) {
+        Some(t) => takes_and_gives_nothing(&t.composite_type.inner),
+        None => false,
+    }
+}
+
+/// Counts the functions that may start the module.
+fn count_start_funcs(types: &[SubType], funcs: &[u32]) -> usize
+    ensures { result ≡ length (start_funcs types.now funcs.now) }
+{
+    let mut count = 0;
+    for ty in funcs {
+        if is_start_type(types, *ty) {
+            count += 1;
+        }
+    }
+    count
+}
+
+/// The index of the function at a place among those that may start the module.
+fn start_func_at(types: &[SubType], funcs: &[u32], mut place: usize) -> u32
+    requires { length funcs.now < 2 ^ 32 }
+    ensures { result ≡ slice_index_or (start_funcs types.now funcs.now) place 0 }
+{
+    for (index, ty) in funcs.iter().enumerate() {
+        if !is_start_type(types, *ty) {
+            continue;
+        }
+        if place == 0 {
+            return index as u32;
+        }
+        place -= 1;
+    }
+    0
+}
+
+/// Whether one of `count` functions starts the module.
+#[tactic(auto, unfolding(crate::specs::Start::start_wanted_at))]
+fn is_start_wanted(config: &Config, count: usize, u: &mut Unstructured<'_>) -> bool
+    ensures draws { AlwaysDraws (start_wanted_at config.now count u.old) result u.old u.new }
+    ensures some { IsTrue result → 0 < count }
+{
+    if !config.allow_start_export || count == 0 {
+        return false;
+    }
+    u.arbitrary()
+}
+
+#[tactic(auto, unfolding(crate::specs::Start::start_at, smith_draw::specs::Choices::chosen_at))]
+fn drawn_start(
+    config: &Config,
+    types: &[SubType],
+    funcs: &[u32],
+    u: &mut Unstructured<'_>,
+) -> Option<u32>
+    requires { length funcs.now < 2 ^ 32 }
+    ensures { AlwaysDraws (start_at config.now types.now funcs.now u.old) result u.old u.new }
+{
+    let count = count_start_funcs(types, funcs);
+    if !is_start_wanted(config, count, u) {
+        return None;
+    }
+    let place = u.int_in_range(0..=count - 1);
+    Some(start_func_at(types, funcs, place))
+}
+
+/// Draws which function starts the module, if one does: the index among `funcs`, imported ones too, of one that takes and gives
+/// nothing. There are fewer than 2^32 functions.
+pub fn arbitrary_start(
+    config: &Config,
+    types: &[SubType],
+    funcs: &[u32],
+    u: &mut Unstructured<'_>,
+) -> Option<u32>
+    requires { length funcs.now < 2 ^ 32 }
+    ensures draws { AlwaysDraws (start_at config.now types.now funcs.now u.old) result u.old u.new }
+    ensures valid { IsStartValid types.now funcs.now result }
+    ensures off { config.now.allow_start_export ≡ false → result ≡ None }
+    ensures none { Takes (SpellsSuch (λ start. start ≡ None) (λ _. SpellsNoStart config.now types.now funcs.now)) u.old result u.new }
+{
+    drawn_start(config, types, funcs, u)
+}

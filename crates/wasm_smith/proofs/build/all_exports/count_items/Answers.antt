@@ -1,7 +1,0 @@
-use Rattle.std.proofs.Common.{arith}
-use Rattle.smith_types.specs.IndexSpaces.{spaces_in}
-use Rattle.wasm_smith.proofs.AllExportsLemmas.{length-every_item}
-use Rattle.wasm_smith.proofs.build.all_exports.count_items.Goals as goal
-
-pub returns : goal.returns
-returns c = omega (arith, length-every_item (spaces_in c.args.spaces.now))
