@@ -28,6 +28,7 @@ mod section_flag;
 mod segment_spaces;
 mod segments;
 mod shape_entities;
+mod shapes_in_use;
 mod shapes_to_come;
 mod standing;
 mod tables;

@@ -1,0 +1,27 @@
+-- Which shape of a configuration is refused, and for what. Rules of this project.
+use Rattle.std.specs.Prelude.{⊤, IfSome, IsSomeAnd, Option}
+use Rattle.smith_bytes.specs.declared.error.Error.{Error}
+use Rattle.smith_bytes.specs.declared.error.Which.{Which}
+use Rattle.smith_bytes.specs.declared.error.Which.TheVariants as which
+use Rattle.smith_config.specs.declared.config.Config.{Config}
+use Rattle.smith_config.specs.declared.shape.Shape.{Shape}
+use Rattle.smith_config.specs.ShapeFaults.{IsRefused}
+use Rattle.smith_config.specs.Shapes.{IsShapeValid}
+use Rattle.wasm_smith.specs.Refusals.{shape_for}
+
+-- a shape that is given for a use is refused: for its first fault, or for want of memory, of which one that is too long takes none
+abbrev pub IsFaultOf : Config → Option Shape → Which → Error → Type 0
+IsFaultOf config given for_use e = IsSomeAnd given (λ shape. IsRefused for_use config shape e)
+
+-- the use comes before this one where shapes are checked
+abbrev pub ComesBefore : Which → Which → Type 0
+ComesBefore which.ModuleShape which.AvailableImports = ⊤
+ComesBefore which.ModuleShape which.Exports = ⊤
+ComesBefore which.AvailableImports which.Exports = ⊤
+ComesBefore _ _ = ⊥
+
+-- the first shape of a configuration that may not be handed in is refused
+pub record IsFirstFaulty (config : Config) (e : Error) : Type 0 where
+  pub for_use : Which
+  pub refused : IsFaultOf config (shape_for config for_use) for_use e
+  pub earlier : (other : Which) → ComesBefore other for_use → IfSome (shape_for config other) (λ shape. IsShapeValid other config shape)
