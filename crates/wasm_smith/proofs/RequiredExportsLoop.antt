@@ -28,7 +28,8 @@ use Rattle.smith_draw.specs.ConstBounds.{IsNonNullable, HoldsNonNullableField}
 use Rattle.wasm_smith.specs.Bounds.{counts_as}
 use Rattle.smith_imports.specs.ShapeImports.{count_in}
 use Rattle.smith_contents.specs.Exported.{IsStanding}
-use Rattle.wasm_smith.specs.Required.{IsKeptType, MayRequire, MayDefineMore, StandsBehind, IsRequiredMore, AreRequired, MayLackIn, MayRefuseExported, MayRefuseRequired}
+use Rattle.wasm_smith.proofs.RequiredLimitLemmas.{no_limits, limits_both}
+use Rattle.wasm_smith.specs.Required.{AddsLimitsOf, IsKeptType, MayRequire, MayDefineMore, StandsBehind, IsRequiredMore, AreRequired, MayLackIn, MayRefuseExported, MayRefuseRequired}
 use Rattle.wasm_smith.specs.RequiredExports.{Answers, Required, entity_of, standing_with, export_required_at, required_from, required_at}
 use Rattle.wasm_smith.specs.ShapesKept.{Export, IsSameExport, IsSameFuncType}
 use Rattle.wasm_smith.specs.declared.build.definitions.Definitions.{Definitions}
@@ -90,6 +91,7 @@ pub record AreRequiring (own_types : Bool) (config : Config) (shape : Shape) (ol
   pub spaces_grown : AreSpacesGrown old spaces
   pub counted : (count : Count) → (count ≡ counts.Types → ⊥) → count_in spaces count ≡ count_in old count + sum_by (λ (each : Export). counts_as count each.1) (take place shape.exports)
   pub types_counted : length types.types ≤ length old_types.types + sum_by (λ (each : Export). counts_as counts.Types each.1) (take place shape.exports)
+  pub limits : AddsLimitsOf shape old spaces
   pub unchanged : own_types ≡ false → types ≡ old_types
   pub lacking : HoldsNonNullableField types.types → HoldsNonNullableField old_types.types
   pub may : MayDefineMore config types spaces defined (length shape.exports - place)
@@ -108,6 +110,7 @@ none_required own_types config shape types spaces defined start shape_may may = 
   spaces_grown = record { tags = all_kept spaces.tags; funcs = all_kept spaces.funcs; tables = all_kept spaces.tables; memories = all_kept spaces.memories; globals = all_kept spaces.globals };
   counted = λ count other. omega arith;
   types_counted = omega arith;
+  limits = no_limits shape spaces;
   unchanged = λ off. refl;
   lacking = λ holds. holds;
   may = let same : length shape.exports - 0 ≡ length shape.exports = omega arith in rw same may;
@@ -133,6 +136,7 @@ module _ {own_types : Bool} {config : Config} {shape : Shape} {old_types types :
     spaces_grown = now.spaces_grown;
     counted = λ count other. rw (take_all place shape.exports full) at now.counted count other;
     types_counted = rw (take_all place shape.exports full) at now.types_counted;
+    limits = now.limits;
     unchanged = now.unchanged;
     lacking = now.lacking;
     stands = now.stands;
@@ -193,6 +197,7 @@ module _ {own_types : Bool} {config : Config} {shape : Shape} {old_types types :
           spaces_grown = grown_both now.spaces_grown more.spaces_grown;
           counted = λ count other. omega (arith, now.counted count other, more.counted count other, sum count);
           types_counted = omega (arith, now.types_counted, more.types_counted, sum counts.Types);
+          limits = limits_both now.limits more.limits;
           unchanged = λ off. more.unchanged off ∙ now.unchanged off;
           lacking = λ holds. now.lacking (more.lacking holds);
           may = more.may (length shape.exports - (place + 1)) (rw steps at now.may);

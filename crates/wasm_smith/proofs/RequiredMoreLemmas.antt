@@ -42,6 +42,7 @@ use Rattle.wasm_smith.specs.Bounds.{counts_as}
 use Rattle.smith_imports.specs.ShapeImports.{count_in}
 use Rattle.smith_imports.specs.Imported.{entity_spaces}
 use Rattle.smith_imports.specs.ImportedEntities.{kind_of}
+use Rattle.wasm_smith.proofs.RequiredLimitLemmas.{limits_more}
 use Rattle.wasm_smith.specs.Required.{
   AreWithin,
   HasRoom,
@@ -371,7 +372,7 @@ counted_more spaces (entity.Global global) count other = omega arith
 pub required_more : {own_types : Bool} {config : Config} {shape : Shape} {space types : Space} {spaces later : IndexSpaces} {defined fuller : Definitions} {theirs added : EntityType} (one made : Export)
     → entity_of (shape_spaces shape) one.1 one.2 ≡ Some theirs → IsOver own_types config shape space types one.1 theirs added → IsDefinedMore config types.types spaces defined later fuller added
     → made.0 ≡ one.0 → made.1 ≡ one.1 → made.2 ≡ next_index spaces one.1 → IsRequiredMore own_types config shape space spaces defined types later fuller one made
-required_more {config = config} {shape = shape} {space = space} {types = types} {spaces = spaces} {later = later} {defined = defined} {fuller = fuller} {theirs = theirs} {added = added} one made found over more name of_kind index = record {
+required_more {own_types = own_types} {config = config} {shape = shape} {space = space} {types = types} {spaces = spaces} {later = later} {defined = defined} {fuller = fuller} {theirs = theirs} {added = added} one made found over more name of_kind index = record {
   same = record {
     name = name;
     kind = of_kind;
@@ -386,6 +387,7 @@ required_more {config = config} {shape = shape} {space = space} {types = types} 
   spaces_grown = rw more.spaces_are (spaces_grown spaces added);
   counted = λ count other. ap (λ (all : IndexSpaces). count_in all count) more.spaces_are ∙ (counted_more spaces added count other ∙ ap (λ (of_one : ExportKind). count_in spaces count + counts_as count of_one) over.kind);
   types_counted = over.counted;
+  limits = rw more.spaces_are (limits_more own_types types.types shape spaces one.2 theirs added over.same (rw over.kind (entity_stands (shape_spaces shape) one.1 one.2 theirs found)));
   unchanged = over.unchanged;
   lacking = over.lacking;
   may = may_more config space types spaces defined over.grown over.valid added later fuller over.entity more;

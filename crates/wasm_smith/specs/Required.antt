@@ -1,6 +1,6 @@
 -- What the exports that a shape fixes need and keep, and when they may be refused. Rules of this project.
-use Rattle.std.specs.Prelude.{◌≡◌, false, ℕ, ◌+◌, ◌<◌, ◌≤◌, ◌^◌, ◌⊎◌, Bool, true, Option, Some, None, List, length, slice_get}
-use Rattle.std.specs.List.{Any, AllZip}
+use Rattle.std.specs.Prelude.{◌≡◌, false, ℕ, ◌+◌, ◌<◌, ◌≤◌, ◌^◌, ◌⊎◌, Bool, true, Option, Some, None, List, length, slice_get, All}
+use Rattle.std.specs.List.{Any, AllZip, Contains}
 use Rattle.smith_bytes.specs.declared.error.Count.{Count}
 use Rattle.smith_bytes.specs.declared.error.Count.TheVariants as counts
 use Rattle.smith_bytes.specs.declared.error.Error.{Error}
@@ -127,6 +127,11 @@ pub record MayRequire (own_types : Bool) (config : Config) (shape : Shape) (spac
   pub valid : IsShapeValid (use_of own_types) config shape
   pub present : own_types ≡ false → Extends (shape_types shape) space.types
 
+-- tables and memories that are added are of the types of a shape's
+pub record AddsLimitsOf (shape : Shape) (old new : IndexSpaces) : Type 0 where
+  pub tables : All (λ table. Contains old.tables table ⊎ Contains (shape_spaces shape).tables table) new.tables
+  pub memories : All (λ memory. Contains old.memories memory ⊎ Contains (shape_spaces shape).memories memory) new.memories
+
 -- what an export of a shape, and what is defined for it, keep of what stands
 pub record IsRequiredMore (own_types : Bool) (config : Config) (shape : Shape) (old_types : Space) (old : IndexSpaces) (old_defined : Definitions) (types : Space) (spaces : IndexSpaces) (defined : Definitions) (one made : Export) : Type 0 where
   pub same : IsSameExport (IsKeptType own_types types.types (shape_types shape)) spaces (shape_spaces shape) made one
@@ -135,6 +140,7 @@ pub record IsRequiredMore (own_types : Bool) (config : Config) (shape : Shape) (
   pub spaces_grown : AreSpacesGrown old spaces
   pub counted : (count : Count) → (count ≡ counts.Types → ⊥) → count_in spaces count ≡ count_in old count + counts_as count one.1
   pub types_counted : length types.types ≤ length old_types.types + counts_as counts.Types one.1
+  pub limits : AddsLimitsOf shape old spaces
   pub unchanged : own_types ≡ false → types ≡ old_types
   pub lacking : HoldsNonNullableField types.types → HoldsNonNullableField old_types.types
   pub may : (more : ℕ) → MayDefineMore config old_types old old_defined (more + 1) → MayDefineMore config types spaces defined more
@@ -147,6 +153,7 @@ pub record AreRequired (own_types : Bool) (config : Config) (shape : Shape) (old
   pub spaces_grown : AreSpacesGrown old spaces
   pub counted : (count : Count) → (count ≡ counts.Types → ⊥) → count_in spaces count ≡ count_in old count + exported_of count shape
   pub types_counted : length types.types ≤ length old_types.types + exported_of counts.Types shape
+  pub limits : AddsLimitsOf shape old spaces
   pub unchanged : own_types ≡ false → types ≡ old_types
   pub lacking : HoldsNonNullableField types.types → HoldsNonNullableField old_types.types
   pub stands : (imported : IndexSpaces) → StandsBehind config imported old_types old old_defined → StandsBehind config imported types spaces defined

@@ -13,7 +13,7 @@ ghost use Rattle.wasm_smith.specs.Bounds.{exported_of};
 ghost use Rattle.smith_imports.specs.ShapeImports.{count_in};
 ghost use Rattle.smith_contents.specs.Exported.{IsStanding};
 ghost use Rattle.smith_contents.specs.Exporting.{Export};
-ghost use Rattle.wasm_smith.specs.Required.{MayDefineMore, MayRequire, StandsBehind, IsRequiredMore, AreRequired, MayLackIn, MayRefuseRequired, MayRefuseExported};
+ghost use Rattle.wasm_smith.specs.Required.{AddsLimitsOf, MayDefineMore, MayRequire, StandsBehind, IsRequiredMore, AreRequired, MayLackIn, MayRefuseRequired, MayRefuseExported};
 ghost use Rattle.wasm_smith.specs.RequiredExports.{Answers, entity_of, standing_with, export_required_at, required_at};
 ghost use Rattle.wasm_smith.specs.ShapesKept.{IsSameExport, IsSameType};
 
@@ -120,6 +120,7 @@ pub(crate) fn required_exports(
     ensures types { OnOk result (Extends types.old.types types.new.types) }
     ensures types_most { OnOk result (length types.new.types ≤ length types.old.types + exported_of Types shape.now) }
     ensures spaces { OnOk result (AreSpacesGrown (spaces_in spaces.old) (spaces_in spaces.new)) }
+    ensures limits { OnOk result (AddsLimitsOf shape.now (spaces_in spaces.old) (spaces_in spaces.new)) }
     ensures counted { (count : Count) → (count ≡ Types → ⊥) → OnOk result (count_in (spaces_in spaces.new) count ≡ count_in (spaces_in spaces.old) count + exported_of count shape.now) }
     ensures refusal { IfErr result (MayRefuseRequired config.now types.old.types shape.now) }
     ensures memory { (MayLackIn types.old.types shape.now → ⊥) → IsTrue config.now.reference_types_enabled → 2 ≤ config.now.max_memories → IfErr result (λ e. e ≡ Error.Memory) }
@@ -149,6 +150,7 @@ pub(crate) fn exports_of_shape(
     ensures stands { (imported : Spaces) → StandsBehind config.now imported types.old (spaces_in spaces.old) definitions.old → OnOk result (StandsBehind config.now imported types.new (spaces_in spaces.new) definitions.new) }
     ensures types { OnOk result (types.new ≡ types.old) }
     ensures spaces { OnOk result (AreSpacesGrown (spaces_in spaces.old) (spaces_in spaces.new)) }
+    ensures limits { OnOk result (AddsLimitsOf shape.now (spaces_in spaces.old) (spaces_in spaces.new)) }
     ensures counted { (count : Count) → (count ≡ Types → ⊥) → OnOk result (count_in (spaces_in spaces.new) count ≡ count_in (spaces_in spaces.old) count + exported_of count shape.now) }
     ensures refusal { IfErr result (MayRefuseRequired config.now types.old.types shape.now) }
     ensures memory { (MayLackIn types.old.types shape.now → ⊥) → IsTrue config.now.reference_types_enabled → 2 ≤ config.now.max_memories → IfErr result (λ e. e ≡ Error.Memory) }

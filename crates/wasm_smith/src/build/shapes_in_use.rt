@@ -33,6 +33,11 @@ pub(crate) fn check_shapes(alloc: Global, config: &Config) -> Result<(), Error>
     ensures refused { IfErr result (IsFirstFaulty config.now) }
 {
     check_given(alloc, config, &config.module_shape, Which::ModuleShape)?;
-    check_given(alloc, config, &config.available_imports, Which::AvailableImports)?;
+    check_given(
+        alloc,
+        config,
+        &config.available_imports,
+        Which::AvailableImports,
+    )?;
     check_given(alloc, config, &config.exports, Which::Exports)
 }

@@ -27,3 +27,6 @@ returns-clause-memory c = λ none on several.
 
 pub returns-clause-counted : goal.returns-clause-counted
 returns-clause-counted c = λ count other. IfOk-weaker c.push_exports.result _ _ (λ exports made. made.counted count other) c.push_exports.ensures.required
+
+pub returns-clause-limits : goal.returns-clause-limits
+returns-clause-limits c = IfOk-weaker c.push_exports.result _ _ (λ exports made. made.limits) c.push_exports.ensures.required

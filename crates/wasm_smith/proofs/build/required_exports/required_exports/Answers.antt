@@ -29,3 +29,6 @@ returns-clause-counted c = λ count other. IfOk-weaker c.push_exports.result _ _
 
 pub returns-clause-types_most : goal.returns-clause-types_most
 returns-clause-types_most c = IfOk-weaker c.push_exports.result _ _ (λ exports made. made.types_counted) c.push_exports.ensures.required
+
+pub returns-clause-limits : goal.returns-clause-limits
+returns-clause-limits c = IfOk-weaker c.push_exports.result _ _ (λ exports made. made.limits) c.push_exports.ensures.required
