@@ -29,3 +29,4 @@ pub mod StandsBehindLemmas
 pub mod RequiredLimitLemmas
 pub mod RequiredMoreLemmas
 pub mod RequiredExportsLoop
+pub mod BegunLemmas

@@ -13,6 +13,7 @@ ghost use Rattle.wasm_smith.specs.Promises.{KeepsPromises};
 ghost use Rattle.wasm_smith.specs.Refusals.{MayRefuse};
 ghost use Rattle.smith_imports.specs.Steps.{Gives};
 
+mod begun;
 mod contents;
 mod definitions;
 mod drawn;

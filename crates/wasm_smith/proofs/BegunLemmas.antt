@@ -1,0 +1,135 @@
+-- What a module begins with: what a shape imports is valid and not too much, and what is made of an answer is answered.
+use Rattle.std.proofs.Common.{◌≡◌, ◌∙◌, ◌⊎◌, ℕ, zero, suc, ◌+◌, ◌<◌, ◌≤◌, ◌^◌, List, [], ◌∷◌, ◌++◌, length, inl, inr, refl, sym, ap, arith, length-append, append-nil}
+use Rattle.std.specs.Prelude.{All, Result, Ok, Err, IsErrAnd}
+use Rattle.std.specs.List.{Contains, flat_map}
+use Rattle.std.proofs.lemmas.List.Elements.{All-weaker, Contains-append_left}
+use Rattle.smith_bytes.specs.declared.error.Count.{Count}
+use Rattle.smith_bytes.specs.declared.error.Count.TheVariants as counts
+use Rattle.smith_bytes.specs.declared.error.Error.{Error}
+use Rattle.smith_bytes.specs.declared.error.Which.TheVariants.{ModuleShape}
+use Rattle.smith_types.specs.Entities.{AreEntitiesValid, AreCountsEnabled}
+use Rattle.smith_types.specs.Imports.{IndexSpaces, Defines, imported, imported_spaces, tag_of, func_of, table_of, memory_of, global_of}
+use Rattle.smith_types.specs.Space.{Space}
+use Rattle.smith_types.specs.ValidTypes.{AreTypesValid}
+use Rattle.smith_types.specs.declared.entity_type.EntityType.{EntityType}
+use Rattle.smith_types.specs.declared.entity_type.EntityType.TheVariants as entity
+use Rattle.smith_types.specs.declared.imports.Import.{Import}
+use Rattle.smith_config.specs.declared.config.Config.{Config}
+use Rattle.smith_config.specs.declared.shape.Shape.{Shape}
+use Rattle.smith_config.specs.Features.{features_of}
+use Rattle.smith_config.specs.Sanitized.{IsSanitized}
+use Rattle.smith_config.specs.Shapes.{IsShapeValid, shape_imports, shape_spaces, shape_types, space_of}
+use Rattle.smith_imports.specs.ShapeImports.{count_in}
+use Rattle.wasm_smith.specs.Begun.{nothing_defined}
+use Rattle.wasm_smith.specs.Bounds.{brought_by_module, exported_of}
+use Rattle.wasm_smith.specs.Required.{AddsLimitsOf, HasRoom, MayDefineMore, StandsBehind}
+use Rattle.wasm_smith.specs.RequiredExports.{Answers, then_with}
+use Rattle.wasm_smith.proofs.RequiredExportsLoop.{refused_by}
+
+-- of one kind there are no more than all imports
+none_more : {A : Type 0} (of_kind : EntityType → List A) → ((one : EntityType) → length (of_kind one) ≤ 1) → (imports : List Import) → length (imported of_kind imports) ≤ length imports
+none_more of_kind one [] = omega arith
+none_more of_kind one (first ∷ more) =
+    let all = length-append (of_kind first.entity_type) (imported of_kind more) in
+    let here = one first.entity_type in
+    let later = none_more of_kind one more in
+    omega (arith, all, here, later)
+
+one_tag : (one : EntityType) → length (tag_of one) ≤ 1
+one_tag (entity.Tag index) = omega arith
+one_tag _ = omega arith
+
+one_func : (one : EntityType) → length (func_of one) ≤ 1
+one_func (entity.Func index) = omega arith
+one_func _ = omega arith
+
+one_table : (one : EntityType) → length (table_of one) ≤ 1
+one_table (entity.Table table) = omega arith
+one_table _ = omega arith
+
+one_memory : (one : EntityType) → length (memory_of one) ≤ 1
+one_memory (entity.Memory memory) = omega arith
+one_memory _ = omega arith
+
+one_global : (one : EntityType) → length (global_of one) ≤ 1
+one_global (entity.Global global) = omega arith
+one_global _ = omega arith
+
+-- imports leave room for as many more
+pub imported_room : (imports : List Import) (more : ℕ) → length imports + more < 2 ^ 32 → HasRoom (imported_spaces imports) more
+imported_room imports more few =
+    let tags = none_more tag_of one_tag imports in
+    let funcs = none_more func_of one_func imports in
+    let tables = none_more table_of one_table imports in
+    let memories = none_more memory_of one_memory imports in
+    let globals = none_more global_of one_global imports in
+    record {
+      tags = omega (arith, few, tags);
+      funcs = omega (arith, few, funcs);
+      tables = omega (arith, few, tables);
+      memories = omega (arith, few, memories);
+      globals = omega (arith, few, globals);
+    }
+
+-- nothing is defined behind what is imported
+defines_none : {A : Type 0} (xs : List A) → Defines xs 0 xs
+defines_none xs = record { defined = []; count_is = refl; parts = sym (append-nil xs) }
+
+pub stands_alone : (config : Config) (space : Space) (spaces : IndexSpaces) → AreTypesValid (features_of config) space → AreEntitiesValid (features_of config) space.types spaces → AreCountsEnabled (features_of config) spaces
+    → StandsBehind config spaces space spaces nothing_defined
+stands_alone config space spaces types entities counts = record {
+  types = types;
+  entities = entities;
+  counts = counts;
+  tags = defines_none spaces.tags;
+  funcs = defines_none spaces.funcs;
+  tables = defines_none spaces.tables;
+  memories = defines_none spaces.memories;
+  globals = defines_none spaces.globals;
+  each_table = λ place initial at. absurd cc;
+  each_global = λ place index initial at. absurd cc;
+}
+
+-- the exports of a module shape may be defined behind its imports
+pub may_begin : (config : Config) (shape : Shape) → IsSanitized config → IsShapeValid ModuleShape config shape → AreEntitiesValid (features_of config) (shape_types shape) (imported_spaces (shape_imports shape))
+    → MayDefineMore config (space_of shape.groups) (imported_spaces (shape_imports shape)) nothing_defined (length shape.exports)
+may_begin config shape sanitized valid entities = record {
+  sanitized = sanitized;
+  valid = valid.consistent.types;
+  entities = entities;
+  within = record { tags = omega arith; funcs = omega arith; memories = omega arith; globals = omega arith };
+  room = imported_room (shape_imports shape) (length shape.exports) (omega (arith, valid.short.imports, valid.short.exports));
+}
+
+-- what a module shape brings of a kind is what it imports and exports of it
+pub brought_so : (count : Count) (shape : Shape) → (count ≡ counts.Types → ⊥) → (count ≡ counts.Imports → ⊥) → count_in (imported_spaces (shape_imports shape)) count + exported_of count shape ≡ brought_by_module count shape
+brought_so counts.Types shape types imports = absurd (types refl)
+brought_so counts.Imports shape types imports = absurd (imports refl)
+brought_so counts.Tags shape types imports = refl
+brought_so counts.Funcs shape types imports = refl
+brought_so counts.Tables shape types imports = refl
+brought_so counts.Memories shape types imports = refl
+brought_so counts.Globals shape types imports = refl
+brought_so counts.Exports shape types imports = refl
+brought_so counts.ElementSegments shape types imports = refl
+brought_so counts.Elements shape types imports = refl
+brought_so counts.DataSegments shape types imports = refl
+
+of_one : {A : Type 0} (before more all : List A) → All (λ x. Contains before x ⊎ Contains (before ++ more) x) all → All (Contains (before ++ more)) all
+of_one {A = A} before more all h =
+    All-weaker (λ x. Contains before x ⊎ Contains (before ++ more) x) (Contains (before ++ more))
+    (λ x given. elim given [
+      | inl first ↦ Contains-append_left before more x first
+      | inr one ↦ one
+    ]) all h
+
+-- the tables and memories that a module shape brings are its own
+pub tables_of_shape : (shape : Shape) (spaces : IndexSpaces) → AddsLimitsOf shape (imported_spaces (shape_imports shape)) spaces → All (Contains (shape_spaces shape).tables) spaces.tables
+tables_of_shape shape spaces added = of_one (imported_spaces (shape_imports shape)).tables shape.tables spaces.tables added.tables
+
+pub memories_of_shape : (shape : Shape) (spaces : IndexSpaces) → AddsLimitsOf shape (imported_spaces (shape_imports shape)) spaces → All (Contains (shape_spaces shape).memories) spaces.memories
+memories_of_shape shape spaces added = of_one (imported_spaces (shape_imports shape)).memories shape.memories spaces.memories added.memories
+
+-- what is made of a refusal is that refusal
+pub refused_with : {X Y A B : Type 0} (f : A → B) (of_part : X → A × List ℕ) (of_whole : Y → B × List ℕ) (e : Error) (part : Result (A × List ℕ) Error) (result : Result Y Error) → Answers of_part (Err e) part → IsErrAnd result (λ y. y ≡ e) → Answers of_whole result (then_with f part)
+refused_with f of_part of_whole e part result given passed = refused_by of_part of_whole e part (then_with f part) result given (λ one is. ap (then_with f) is) passed

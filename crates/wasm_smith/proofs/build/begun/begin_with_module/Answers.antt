@@ -1,0 +1,65 @@
+use Rattle.std.proofs.Common.{◌≡◌, ◌∙◌, ℕ, ◌+◌, List, ap}
+use Rattle.std.specs.Prelude.{Ok}
+use Rattle.smith_types.specs.Imports.{IndexSpaces, imported_spaces}
+use Rattle.smith_types.specs.IndexSpaces.{spaces_in}
+use Rattle.smith_types.proofs.GroupsAddedLemmas.{valid_following}
+use Rattle.smith_config.specs.Features.{features_of}
+use Rattle.smith_config.specs.Shapes.{shape_imports, space_of}
+use Rattle.smith_contents.specs.Exporting.{Export}
+use Rattle.smith_imports.specs.ShapeImports.{count_in, kept_groups}
+use Rattle.wasm_smith.specs.Begun.{Begun, begun_by_module_at, nothing_defined}
+use Rattle.wasm_smith.specs.Bounds.{exported_of}
+use Rattle.wasm_smith.specs.RequiredExports.{Required, standing_with, then_with}
+use Rattle.wasm_smith.proofs.BegunLemmas.{stands_alone, may_begin, brought_so, tables_of_shape, memories_of_shape, refused_with}
+use Rattle.wasm_smith.proofs.build.begun.begin_with_module.Goals as goal
+
+pub types_of_shape-requires-clause-following : goal.types_of_shape-requires-clause-following
+types_of_shape-requires-clause-following c = valid_following (features_of c.args.config.now) (space_of c.args.shape.now.groups) c.requires.valid.consistent.types
+
+pub exports_of_shape-requires-clause-may : goal.exports_of_shape-requires-clause-may
+exports_of_shape-requires-clause-may c =
+    let kept = c.in_ok-drawn-2.ensures.kept in
+    let nothing : c.args.drawn.now.definitions ≡ nothing_defined = ap (λ (begun : Begun). begun.defined) c.requires.nothing in
+    rw (c.in_ok-drawn.ensures.types, kept.spaces, nothing) (may_begin c.args.config.now c.args.shape.now c.requires.sanitized c.requires.valid kept.entities)
+
+pub returns-in_err-drawn-3-clause-exact : goal.returns-in_err-drawn-3-clause-exact
+unfolding begun_by_module_at
+returns-in_err-drawn-3-clause-exact c =
+    let kept = c.in_ok-drawn-2.ensures.kept in
+    let nothing : c.args.drawn.now.definitions ≡ nothing_defined = ap (λ (begun : Begun). begun.defined) c.requires.nothing in
+    let given = rw (c.in_ok-drawn.ensures.types, kept.spaces, nothing) at c.in_err-drawn-3.ensures.exact in
+    refused_with
+    (λ (made : Required). record { types = made.types; groups = kept_groups c.args.config.now c.args.shape.now; spaces = made.spaces; defined = made.defined; exports = made.exports })
+    (λ (exports : List Export). (standing_with c.exports_of_shape.new.types (spaces_in c.exports_of_shape.new.spaces) c.exports_of_shape.new.definitions exports, c.exports_of_shape.new.u))
+    _ c.in_err-drawn-3.field-0.0 _ c.from_residual-in_err-drawn-3.result given c.from_residual-in_err-drawn-3.ensures.1
+
+pub returns-clause-exact : goal.returns-clause-exact
+unfolding begun_by_module_at
+returns-clause-exact c =
+    let kept = c.in_ok-drawn-2.ensures.kept in
+    let nothing : c.args.drawn.now.definitions ≡ nothing_defined = ap (λ (begun : Begun). begun.defined) c.requires.nothing in
+    let made = rw (c.in_ok-drawn.ensures.types, kept.spaces, nothing) at c.in_ok-drawn-3.ensures.exact in
+    rw kept.groups
+    (ap (then_with (λ (made : Required). record { types = made.types; groups = kept_groups c.args.config.now c.args.shape.now; spaces = made.spaces; defined = made.defined; exports = made.exports })) made)
+
+pub returns-clause-begun : goal.returns-clause-begun
+returns-clause-begun c =
+    let shape = c.args.shape.now in
+    let kept = c.in_ok-drawn-2.ensures.kept in
+    let made = c.in_ok-drawn-3.ensures in
+    let nothing : c.args.drawn.now.definitions ≡ nothing_defined = ap (λ (begun : Begun). begun.defined) c.requires.nothing in
+    let imported = imported_spaces (shape_imports shape) in
+    record {
+      types = made.types ∙ c.in_ok-drawn.ensures.types;
+      groups = kept.groups;
+      flat = kept.flat;
+      count = kept.count;
+      type_size = kept.type_size;
+      valid = kept.valid;
+      stands = made.stands imported (rw (c.in_ok-drawn.ensures.types, kept.spaces, nothing) (stands_alone c.args.config.now (space_of shape.groups) imported c.requires.valid.consistent.types kept.entities kept.counts));
+      counted = λ count types imports. made.counted count types ∙ (ap (λ (spaces : IndexSpaces). count_in spaces count + exported_of count shape) kept.spaces ∙ brought_so count shape types imports);
+      tables = tables_of_shape shape (spaces_in c.exports_of_shape.new.spaces) (rw kept.spaces at made.limits);
+      memories = memories_of_shape shape (spaces_in c.exports_of_shape.new.spaces) (rw kept.spaces at made.limits);
+      exports = made.kept;
+      exports_valid = made.valid;
+    }

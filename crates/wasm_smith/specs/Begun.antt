@@ -1,0 +1,78 @@
+-- What a module begins with, of the shapes that its configuration uses. Rules of this project.
+use Rattle.std.specs.Prelude.{◌≡◌, ℕ, false, List, [], length, All, Result}
+use Rattle.std.specs.List.{AllZip, Contains}
+use Rattle.smith_bytes.specs.declared.error.Error.{Error}
+use Rattle.smith_types.specs.Exports.{AreExportsValid}
+use Rattle.smith_types.specs.Imports.{IndexSpaces, IsImportsValid, flattened, imported_spaces}
+use Rattle.smith_types.specs.IndexSpaces.{spaces_in}
+use Rattle.smith_types.specs.Space.{Space}
+use Rattle.smith_types.specs.declared.imports.Imports.{Imports}
+use Rattle.smith_config.specs.declared.config.Config.{Config}
+use Rattle.smith_config.specs.declared.shape.Shape.{Shape}
+use Rattle.smith_config.specs.Features.{features_of}
+use Rattle.smith_config.specs.Shapes.{shape_imports, shape_spaces, shape_types, space_of}
+use Rattle.smith_imports.specs.AvailableImports.{available_at}
+use Rattle.smith_imports.specs.ShapeImports.{kept_groups, sizes_of, count_in}
+use Rattle.smith_bytes.specs.declared.error.Count.{Count}
+use Rattle.smith_bytes.specs.declared.error.Count.TheVariants as counts
+use Rattle.smith_contents.specs.Exporting.{Export}
+use Rattle.wasm_smith.specs.Bounds.{brought_by_module}
+use Rattle.wasm_smith.specs.Required.{StandsBehind}
+use Rattle.wasm_smith.specs.RequiredExports.{Required, required_at, then_with}
+use Rattle.wasm_smith.specs.ShapesKept.{IsSameExport}
+use Rattle.wasm_smith.specs.declared.build.definitions.Definitions.{Definitions}
+use Rattle.wasm_smith.specs.declared.build.drawn.Drawn.{Drawn}
+
+-- nothing is defined
+abbrev pub nothing_defined : Definitions
+nothing_defined = record { num_tags = 0; num_funcs = 0; tables = []; num_memories = 0; globals = [] }
+
+-- what stands of a module: types, groups of imports, index spaces, what is defined in them, and exports
+pub record Begun : Type 0 where
+  pub types : Space
+  pub groups : List Imports
+  pub spaces : IndexSpaces
+  pub defined : Definitions
+  pub exports : List Export
+
+-- what stands of the parts of a module
+abbrev pub begun_of : Drawn → Begun
+begun_of drawn = record {
+  types = drawn.types;
+  groups = drawn.imported.groups;
+  spaces = spaces_in drawn.imported.spaces;
+  defined = drawn.definitions;
+  exports = drawn.contents.exports;
+}
+
+-- nothing stands
+abbrev pub HasNothing : Drawn → Type 0
+HasNothing drawn = begun_of drawn ≡ record { types = record { types = []; groups = [] }; groups = []; spaces = imported_spaces []; defined = nothing_defined; exports = [] }
+
+-- of a module shape: its types and its imports, and its exports, each of an entity that is defined for it
+unfoldable pub begun_by_module_at : Config → Shape → List ℕ → Result (Begun × List ℕ) Error
+begun_by_module_at config shape bytes =
+    then_with
+    (λ (made : Required). record { types = made.types; groups = kept_groups config shape; spaces = made.spaces; defined = made.defined; exports = made.exports })
+    (required_at false config shape (space_of shape.groups) (imported_spaces (shape_imports shape)) nothing_defined bytes)
+
+-- of available imports: the types of their shape, and those that the bytes take
+unfoldable pub begun_by_imports_at : Config → Shape → List ℕ → Begun × List ℕ
+begun_by_imports_at config shape bytes =
+    let taken = available_at config shape bytes in
+    (record { types = space_of shape.groups; groups = taken.0; spaces = imported_spaces (flattened taken.0); defined = nothing_defined; exports = [] }, taken.1)
+
+-- what stands of a module shape, all of it valid
+pub record IsBegunByModule (config : Config) (shape : Shape) (drawn : Drawn) : Type 0 where
+  pub types : drawn.types ≡ space_of shape.groups
+  pub groups : drawn.imported.groups ≡ kept_groups config shape
+  pub flat : flattened drawn.imported.groups ≡ shape_imports shape
+  pub count : drawn.imported.count ≡ length (shape_imports shape)
+  pub type_size : drawn.imported.type_size ≡ 0
+  pub valid : All (IsImportsValid (features_of config)) drawn.imported.groups
+  pub stands : StandsBehind config (imported_spaces (shape_imports shape)) drawn.types (spaces_in drawn.imported.spaces) drawn.definitions
+  pub counted : (count : Count) → (count ≡ counts.Types → ⊥) → (count ≡ counts.Imports → ⊥) → count_in (spaces_in drawn.imported.spaces) count ≡ brought_by_module count shape
+  pub tables : All (Contains (shape_spaces shape).tables) drawn.imported.spaces.tables
+  pub memories : All (Contains (shape_spaces shape).memories) drawn.imported.spaces.memories
+  pub exports : AllZip (IsSameExport (λ mine yours. mine ≡ yours) (spaces_in drawn.imported.spaces) (shape_spaces shape)) drawn.contents.exports shape.exports
+  pub exports_valid : AreExportsValid (spaces_in drawn.imported.spaces) drawn.contents.exports

@@ -1,0 +1,48 @@
+//! What a module begins with, of the shapes that its configuration uses.
+
+ghost use Rattle.std.specs.Prelude.{IfErr, OnOk};
+ghost use Rattle.smith_bytes.specs.Source.{KeepsPieces};
+ghost use Rattle.smith_bytes.specs.declared.error.Which.TheVariants.{ModuleShape};
+ghost use Rattle.smith_config.specs.Sanitized.{IsSanitized};
+ghost use Rattle.smith_config.specs.Shapes.{IsShapeValid, shape_types};
+ghost use Rattle.wasm_smith.specs.Begun.{begun_of, HasNothing, begun_by_module_at, IsBegunByModule};
+ghost use Rattle.wasm_smith.specs.Required.{MayRefuseRequired};
+ghost use Rattle.wasm_smith.specs.RequiredExports.{Answers};
+
+use crate::build::drawn::Drawn;
+use crate::build::required_exports::exports_of_shape;
+use smith_bytes::{Error, Unstructured};
+use smith_config::{Config, Shape};
+use smith_imports::{imports_of_shape, types_of_shape};
+use std::alloc::Global;
+
+/// Begins a module with the types and the imports of a module shape, and with its exports, each of an entity that is defined for it.
+#[tactic(auto, unfolding(crate::specs::Begun::begun_by_module_at))]
+pub(crate) fn begin_with_module(
+    alloc: Global,
+    config: &Config,
+    shape: &Shape,
+    drawn: &mut Drawn,
+    u: &mut Unstructured<'_>,
+) -> Result<(), Error>
+    requires sanitized { IsSanitized config.now }
+    requires valid { IsShapeValid ModuleShape config.now shape.now }
+    requires nothing { HasNothing drawn.old }
+    ensures exact { Answers (λ _. (begun_of drawn.new, u.new)) result (begun_by_module_at config.now shape.now u.old) }
+    ensures begun { OnOk result (IsBegunByModule config.now shape.now drawn.new) }
+    ensures refusal { IfErr result (MayRefuseRequired config.now (shape_types shape.now) shape.now) }
+    ensures left { KeepsPieces u.old u.new }
+{
+    drawn.types = types_of_shape(alloc, shape)?;
+    drawn.imported = imports_of_shape(alloc, config, shape)?;
+    drawn.contents.exports = exports_of_shape(
+        alloc,
+        config,
+        shape,
+        &mut drawn.types,
+        &mut drawn.imported.spaces,
+        &mut drawn.definitions,
+        u,
+    )?;
+    Ok(())
+}
