@@ -1,6 +1,6 @@
 -- What a module begins with: what a shape imports is valid and not too much, and what is made of an answer is answered.
-use Rattle.std.proofs.Common.{◌≡◌, ◌∙◌, ◌⊎◌, ℕ, zero, suc, ◌+◌, ◌<◌, ◌≤◌, ◌^◌, List, [], ◌∷◌, ◌++◌, length, inl, inr, refl, sym, ap, arith, length-append, append-nil}
-use Rattle.std.specs.Prelude.{All, Result, Ok, Err, IsErrAnd}
+use Rattle.std.proofs.Common.{◌≡◌, ◌∙◌, ◌⊎◌, ℕ, zero, suc, ◌+◌, ◌<◌, ◌≤◌, ◌^◌, List, [], ◌∷◌, ◌++◌, length, inl, inr, refl, sym, ap, arith, lt-ltb, length-append, append-nil}
+use Rattle.std.specs.Prelude.{All, IsTrue, Result, Ok, Err, IsErrAnd}
 use Rattle.std.specs.List.{Contains, flat_map}
 use Rattle.std.proofs.lemmas.List.Elements.{All-weaker, Contains-append_left}
 use Rattle.smith_bytes.specs.declared.error.Count.{Count}
@@ -19,11 +19,13 @@ use Rattle.smith_config.specs.declared.shape.Shape.{Shape}
 use Rattle.smith_config.specs.Features.{features_of}
 use Rattle.smith_config.specs.Sanitized.{IsSanitized}
 use Rattle.smith_config.specs.Shapes.{IsShapeValid, shape_imports, shape_spaces, shape_types, space_of}
+use Rattle.smith_imports.specs.Imported.{AreNumbersWithin}
 use Rattle.smith_imports.specs.ShapeImports.{count_in}
 use Rattle.wasm_smith.specs.Begun.{nothing_defined}
 use Rattle.wasm_smith.specs.Bounds.{brought_by_module, exported_of}
 use Rattle.wasm_smith.specs.Required.{AddsLimitsOf, HasRoom, MayDefineMore, StandsBehind}
 use Rattle.wasm_smith.specs.RequiredExports.{Answers, then_with}
+use Rattle.wasm_smith.proofs.DefinedTableLemmas.{several_by}
 use Rattle.wasm_smith.proofs.RequiredExportsLoop.{refused_by}
 
 -- of one kind there are no more than all imports
@@ -133,3 +135,15 @@ memories_of_shape shape spaces added = of_one (imported_spaces (shape_imports sh
 -- what is made of a refusal is that refusal
 pub refused_with : {X Y A B : Type 0} (f : A → B) (of_part : X → A × List ℕ) (of_whole : Y → B × List ℕ) (e : Error) (part : Result (A × List ℕ) Error) (result : Result Y Error) → Answers of_part (Err e) part → IsErrAnd result (λ y. y ≡ e) → Answers of_whole result (then_with f part)
 refused_with f of_part of_whole e part result given passed = refused_by of_part of_whole e part (then_with f part) result given (λ one is. ap (then_with f) is) passed
+
+-- where there are no more tables and memories than may be, several stand only where that is enabled
+pub taken_enabled : (config : Config) (spaces : IndexSpaces) → IsSanitized config → AreNumbersWithin config spaces → (0 < length spaces.tags → IsTrue config.exceptions_enabled) → AreCountsEnabled (features_of config) spaces
+taken_enabled config spaces sanitized within tags = record {
+  tags = tags;
+  several_tables = λ some. several_by config.reference_types_enabled config.max_tables (length spaces.tables) sanitized.one_table within.tables some;
+  several_memories = λ some. lt-ltb 1 config.max_memories (omega (arith, within.memories, some));
+}
+
+-- of the tables, and of the memories, that a shape offers
+pub offered_all : {A : Type 0} (offered defined taken : List A) → All (Contains offered) taken → All (Contains (offered ++ defined)) taken
+offered_all offered defined taken h = All-weaker (Contains offered) (Contains (offered ++ defined)) (λ x one. Contains-append_left offered defined x one) taken h

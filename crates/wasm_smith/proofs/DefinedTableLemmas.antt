@@ -132,7 +132,7 @@ tables_fill config standing imported space initials old new ordered few exact =
     (parts_filled (λ (one : Table). one.0) (λ (made : List Table). table_at config standing) config.min_tables config.max_tables imported old ordered few)
 
 -- several tables are there only where several may be
-several_by : (on : Bool) (most n : ℕ) → (on ≡ false → most ≤ 1) → n ≤ most → 1 < n → on ≡ true
+pub several_by : (on : Bool) (most n : ℕ) → (on ≡ false → most ≤ 1) → n ≤ most → 1 < n → on ≡ true
 several_by true most n one within several = refl
 several_by false most n one within several = absurd (omega (arith, one refl))
 

@@ -11,8 +11,8 @@ use Rattle.smith_config.specs.declared.config.Config.{Config}
 use Rattle.smith_config.specs.declared.shape.Shape.{Shape}
 use Rattle.smith_config.specs.Features.{features_of}
 use Rattle.smith_config.specs.Shapes.{shape_imports, shape_spaces, shape_types, space_of}
-use Rattle.smith_imports.specs.AvailableImports.{available_at}
-use Rattle.smith_imports.specs.ShapeImports.{kept_groups, sizes_of, count_in}
+use Rattle.smith_imports.specs.AvailableImports.{AreImportsWithin, available_at}
+use Rattle.smith_imports.specs.ShapeImports.{kept_groups, sizes_of, count_in, taken_from}
 use Rattle.smith_bytes.specs.declared.error.Count.{Count}
 use Rattle.smith_bytes.specs.declared.error.Count.TheVariants as counts
 use Rattle.smith_contents.specs.Exporting.{Export}
@@ -76,3 +76,17 @@ pub record IsBegunByModule (config : Config) (shape : Shape) (drawn : Drawn) : T
   pub memories : All (Contains (shape_spaces shape).memories) drawn.imported.spaces.memories
   pub exports : AllZip (IsSameExport (λ mine yours. mine ≡ yours) (spaces_in drawn.imported.spaces) (shape_spaces shape)) drawn.contents.exports shape.exports
   pub exports_valid : AreExportsValid (spaces_in drawn.imported.spaces) drawn.contents.exports
+
+-- what stands of available imports, all of it valid and within the bounds
+pub record IsBegunByImports (config : Config) (shape : Shape) (bytes : List ℕ) (drawn : Drawn) : Type 0 where
+  pub types : drawn.types ≡ space_of shape.groups
+  pub kept : flattened drawn.imported.groups ≡ taken_from config (shape_types shape) bytes 0 [] (shape_imports shape)
+  pub count : drawn.imported.count ≡ length (flattened drawn.imported.groups)
+  pub type_size : drawn.imported.type_size ≡ sizes_of (shape_types shape) (flattened drawn.imported.groups)
+  pub valid : All (IsImportsValid (features_of config)) drawn.imported.groups
+  pub stands : StandsBehind config (imported_spaces (flattened drawn.imported.groups)) drawn.types (spaces_in drawn.imported.spaces) drawn.definitions
+  pub within : AreImportsWithin config (shape_types shape) (flattened drawn.imported.groups)
+  pub tables : All (Contains (shape_spaces shape).tables) drawn.imported.spaces.tables
+  pub memories : All (Contains (shape_spaces shape).memories) drawn.imported.spaces.memories
+  pub spaces : spaces_in drawn.imported.spaces ≡ imported_spaces (flattened drawn.imported.groups)
+  pub exports : drawn.contents.exports ≡ []

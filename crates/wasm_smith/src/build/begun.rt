@@ -1,11 +1,11 @@
 //! What a module begins with, of the shapes that its configuration uses.
 
-ghost use Rattle.std.specs.Prelude.{IfErr, OnOk};
+ghost use Rattle.std.specs.Prelude.{◌≡◌, IfErr, OnOk};
 ghost use Rattle.smith_bytes.specs.Source.{KeepsPieces};
-ghost use Rattle.smith_bytes.specs.declared.error.Which.TheVariants.{ModuleShape};
+ghost use Rattle.smith_bytes.specs.declared.error.Which.TheVariants.{AvailableImports, ModuleShape};
 ghost use Rattle.smith_config.specs.Sanitized.{IsSanitized};
 ghost use Rattle.smith_config.specs.Shapes.{IsShapeValid, shape_types};
-ghost use Rattle.wasm_smith.specs.Begun.{begun_of, HasNothing, begun_by_module_at, IsBegunByModule};
+ghost use Rattle.wasm_smith.specs.Begun.{begun_of, HasNothing, begun_by_module_at, begun_by_imports_at, IsBegunByModule, IsBegunByImports};
 ghost use Rattle.wasm_smith.specs.Required.{MayRefuseRequired};
 ghost use Rattle.wasm_smith.specs.RequiredExports.{Answers};
 
@@ -13,7 +13,7 @@ use crate::build::drawn::Drawn;
 use crate::build::required_exports::exports_of_shape;
 use smith_bytes::{Error, Unstructured};
 use smith_config::{Config, Shape};
-use smith_imports::{imports_of_shape, types_of_shape};
+use smith_imports::{available_imports, imports_of_shape, types_of_shape};
 use std::alloc::Global;
 
 /// Begins a module with the types and the imports of a module shape, and with its exports, each of an entity that is defined for it.
@@ -44,5 +44,28 @@ pub(crate) fn begin_with_module(
         &mut drawn.definitions,
         u,
     )?;
+    Ok(())
+}
+
+/// Begins a module with the types of a shape, and with those of its imports that the bytes pick and that fit.
+#[tactic(auto, unfolding(crate::specs::Begun::begun_by_imports_at))]
+pub(crate) fn begin_with_imports(
+    alloc: Global,
+    config: &Config,
+    shape: &Shape,
+    drawn: &mut Drawn,
+    u: &mut Unstructured<'_>,
+) -> Result<(), Error>
+    requires sanitized { IsSanitized config.now }
+    requires valid { IsShapeValid AvailableImports config.now shape.now }
+    requires nothing { HasNothing drawn.old }
+    ensures exact { OnOk result (begun_by_imports_at config.now shape.now u.old ≡ (begun_of drawn.new, u.new)) }
+    ensures begun { OnOk result (IsBegunByImports config.now shape.now u.old drawn.new) }
+    ensures memory { IfErr result (λ e. e ≡ Error.Memory) }
+    ensures left { KeepsPieces u.old u.new }
+{
+    let (types, imported) = available_imports(alloc, config, shape, u)?;
+    drawn.types = types;
+    drawn.imported = imported;
     Ok(())
 }

@@ -1,0 +1,32 @@
+use Rattle.std.proofs.Common.{◌≡◌, ap, subst, sym}
+use Rattle.std.specs.Prelude.{All}
+use Rattle.std.specs.List.{Contains}
+use Rattle.smith_types.specs.Imports.{IndexSpaces, flattened, imported_spaces}
+use Rattle.smith_config.specs.Shapes.{shape_imports, shape_spaces, space_of}
+use Rattle.wasm_smith.specs.Begun.{Begun, nothing_defined}
+use Rattle.wasm_smith.proofs.BegunLemmas.{stands_alone, taken_enabled, offered_all}
+use Rattle.wasm_smith.proofs.build.begun.begin_with_imports.Goals as goal
+
+pub returns-clause-begun : goal.returns-clause-begun
+returns-clause-begun c =
+    let config = c.args.config.now in
+    let shape = c.args.shape.now in
+    let given = c.in_ok-types.ensures in
+    let taken = imported_spaces (flattened c.in_ok-types.imported.groups) in
+    let offered = imported_spaces (shape_imports shape) in
+    let spaces = given.taken.counts.spaces in
+    let fit = given.taken.fit in
+    let nothing : c.args.drawn.now.definitions ≡ nothing_defined = ap (λ (begun : Begun). begun.defined) c.requires.nothing in
+    record {
+      types = given.types;
+      kept = given.kept;
+      count = given.taken.counts.count;
+      type_size = given.taken.counts.type_size;
+      valid = given.taken.groups;
+      stands = rw (given.types, spaces, nothing) (stands_alone config (space_of shape.groups) taken c.requires.valid.consistent.types fit.entities (taken_enabled config taken c.requires.sanitized fit.within.numbers fit.within.tags));
+      within = fit.within;
+      tables = subst (λ (all : IndexSpaces). All (Contains (shape_spaces shape).tables) all.tables) (sym spaces) (offered_all offered.tables shape.tables taken.tables fit.tables);
+      memories = subst (λ (all : IndexSpaces). All (Contains (shape_spaces shape).memories) all.memories) (sym spaces) (offered_all offered.memories shape.memories taken.memories fit.memories);
+      spaces = spaces;
+      exports = ap (λ (begun : Begun). begun.exports) c.requires.nothing;
+    }
