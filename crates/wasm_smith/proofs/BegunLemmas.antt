@@ -1,12 +1,12 @@
 -- What a module begins with: what a shape imports is valid and not too much, and what is made of an answer is answered.
-use Rattle.std.proofs.Common.{◌≡◌, ◌∙◌, ◌⊎◌, ℕ, zero, suc, ◌+◌, ◌<◌, ◌≤◌, ◌^◌, List, [], ◌∷◌, ◌++◌, length, inl, inr, refl, sym, ap, arith, lt-ltb, length-append, append-nil}
-use Rattle.std.specs.Prelude.{All, IsTrue, Result, Ok, Err, IsErrAnd}
+use Rattle.std.proofs.Common.{◌≡◌, ◌∙◌, ◌⊎◌, ℕ, zero, suc, ◌+◌, ◌<◌, ◌≤◌, ◌^◌, List, [], ◌∷◌, ◌++◌, length, inl, inr, refl, sym, ap, subst, arith, lt-ltb, length-append, append-nil}
+use Rattle.std.specs.Prelude.{All, IsTrue, IfSome, Option, Some, None, Result, Ok, Err, IsErrAnd}
 use Rattle.std.specs.List.{Contains, flat_map}
 use Rattle.std.proofs.lemmas.List.Elements.{All-weaker, Contains-append_left}
 use Rattle.smith_bytes.specs.declared.error.Count.{Count}
 use Rattle.smith_bytes.specs.declared.error.Count.TheVariants as counts
 use Rattle.smith_bytes.specs.declared.error.Error.{Error}
-use Rattle.smith_bytes.specs.declared.error.Which.TheVariants.{ModuleShape}
+use Rattle.smith_bytes.specs.declared.error.Which.TheVariants.{AvailableImports, ModuleShape}
 use Rattle.smith_types.specs.Entities.{AreEntitiesValid, AreCountsEnabled}
 use Rattle.smith_types.specs.Imports.{IndexSpaces, Defines, imported, imported_spaces, tag_of, func_of, table_of, memory_of, global_of}
 use Rattle.smith_types.specs.Space.{Space}
@@ -23,6 +23,7 @@ use Rattle.smith_imports.specs.Imported.{AreNumbersWithin}
 use Rattle.smith_imports.specs.ShapeImports.{count_in}
 use Rattle.wasm_smith.specs.Begun.{nothing_defined}
 use Rattle.wasm_smith.specs.Bounds.{brought_by_module, exported_of}
+use Rattle.wasm_smith.specs.Refusals.{AreShapesValid, shape_for}
 use Rattle.wasm_smith.specs.Required.{AddsLimitsOf, HasRoom, MayDefineMore, StandsBehind}
 use Rattle.wasm_smith.specs.RequiredExports.{Answers, then_with}
 use Rattle.wasm_smith.proofs.DefinedTableLemmas.{several_by}
@@ -147,3 +148,14 @@ taken_enabled config spaces sanitized within tags = record {
 -- of the tables, and of the memories, that a shape offers
 pub offered_all : {A : Type 0} (offered defined taken : List A) → All (Contains offered) taken → All (Contains (offered ++ defined)) taken
 offered_all offered defined taken h = All-weaker (Contains offered) (Contains (offered ++ defined)) (λ x one. Contains-append_left offered defined x one) taken h
+
+-- a module shape is used where it is given, available imports where there is none
+pub module_used : (config : Config) (shape : Shape) → config.module_shape ≡ Some shape → AreShapesValid config → IsShapeValid ModuleShape config shape
+module_used config shape given valid =
+    let used : shape_for config ModuleShape ≡ Some shape = rw given refl in
+    subst (λ (one : Option Shape). IfSome one (λ each. IsShapeValid ModuleShape config each)) used (valid ModuleShape)
+
+pub imports_used : (config : Config) (shape : Shape) → config.module_shape ≡ None → config.available_imports ≡ Some shape → AreShapesValid config → IsShapeValid AvailableImports config shape
+imports_used config shape none given valid =
+    let used : shape_for config AvailableImports ≡ Some shape = rw (none, given) refl in
+    subst (λ (one : Option Shape). IfSome one (λ each. IsShapeValid AvailableImports config each)) used (valid AvailableImports)

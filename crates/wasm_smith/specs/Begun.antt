@@ -1,7 +1,8 @@
 -- What a module begins with, of the shapes that its configuration uses. Rules of this project.
-use Rattle.std.specs.Prelude.{◌≡◌, ℕ, false, List, [], length, All, Result}
+use Rattle.std.specs.Prelude.{◌≡◌, ℕ, false, ◌⊎◌, IfSome, IsSomeAnd, List, [], Option, Some, None, length, All, Result, Ok}
 use Rattle.std.specs.List.{AllZip, Contains}
 use Rattle.smith_bytes.specs.declared.error.Error.{Error}
+use Rattle.smith_bytes.specs.declared.error.Error.TheVariants as errors
 use Rattle.smith_types.specs.Exports.{AreExportsValid}
 use Rattle.smith_types.specs.Imports.{IndexSpaces, IsImportsValid, flattened, imported_spaces}
 use Rattle.smith_types.specs.IndexSpaces.{spaces_in}
@@ -10,6 +11,7 @@ use Rattle.smith_types.specs.declared.imports.Imports.{Imports}
 use Rattle.smith_config.specs.declared.config.Config.{Config}
 use Rattle.smith_config.specs.declared.shape.Shape.{Shape}
 use Rattle.smith_config.specs.Features.{features_of}
+use Rattle.smith_config.specs.InUse.{FixesImports}
 use Rattle.smith_config.specs.Shapes.{shape_imports, shape_spaces, shape_types, space_of}
 use Rattle.smith_imports.specs.AvailableImports.{AreImportsWithin, available_at}
 use Rattle.smith_imports.specs.ShapeImports.{kept_groups, sizes_of, count_in, taken_from}
@@ -17,7 +19,7 @@ use Rattle.smith_bytes.specs.declared.error.Count.{Count}
 use Rattle.smith_bytes.specs.declared.error.Count.TheVariants as counts
 use Rattle.smith_contents.specs.Exporting.{Export}
 use Rattle.wasm_smith.specs.Bounds.{brought_by_module}
-use Rattle.wasm_smith.specs.Required.{StandsBehind}
+use Rattle.wasm_smith.specs.Required.{StandsBehind, MayRefuseRequired}
 use Rattle.wasm_smith.specs.RequiredExports.{Required, required_at, then_with}
 use Rattle.wasm_smith.specs.ShapesKept.{IsSameExport}
 use Rattle.wasm_smith.specs.declared.build.definitions.Definitions.{Definitions}
@@ -46,8 +48,11 @@ begun_of drawn = record {
 }
 
 -- nothing stands
+abbrev pub nothing_begun : Begun
+nothing_begun = record { types = record { types = []; groups = [] }; groups = []; spaces = imported_spaces []; defined = nothing_defined; exports = [] }
+
 abbrev pub HasNothing : Drawn → Type 0
-HasNothing drawn = begun_of drawn ≡ record { types = record { types = []; groups = [] }; groups = []; spaces = imported_spaces []; defined = nothing_defined; exports = [] }
+HasNothing drawn = begun_of drawn ≡ nothing_begun
 
 -- of a module shape: its types and its imports, and its exports, each of an entity that is defined for it
 unfoldable pub begun_by_module_at : Config → Shape → List ℕ → Result (Begun × List ℕ) Error
@@ -61,6 +66,15 @@ unfoldable pub begun_by_imports_at : Config → Shape → List ℕ → Begun × 
 begun_by_imports_at config shape bytes =
     let taken = available_at config shape bytes in
     (record { types = space_of shape.groups; groups = taken.0; spaces = imported_spaces (flattened taken.0); defined = nothing_defined; exports = [] }, taken.1)
+
+-- of the shapes that are used: a module shape, else available imports, else nothing
+abbrev pub begun_for : Config → Option Shape → Option Shape → List ℕ → Result (Begun × List ℕ) Error
+begun_for config (Some shape) available bytes = begun_by_module_at config shape bytes
+begun_for config None (Some shape) bytes = Ok (begun_by_imports_at config shape bytes)
+begun_for config None None bytes = Ok (nothing_begun, bytes)
+
+unfoldable pub begun_at : Config → List ℕ → Result (Begun × List ℕ) Error
+begun_at config bytes = begun_for config config.module_shape config.available_imports bytes
 
 -- what stands of a module shape, all of it valid
 pub record IsBegunByModule (config : Config) (shape : Shape) (drawn : Drawn) : Type 0 where
@@ -90,3 +104,13 @@ pub record IsBegunByImports (config : Config) (shape : Shape) (bytes : List ℕ)
   pub memories : All (Contains (shape_spaces shape).memories) drawn.imported.spaces.memories
   pub spaces : spaces_in drawn.imported.spaces ≡ imported_spaces (flattened drawn.imported.groups)
   pub exports : drawn.contents.exports ≡ []
+
+-- what stands of the shapes that a configuration uses
+pub record IsBegun (config : Config) (bytes : List ℕ) (drawn : Drawn) : Type 0 where
+  pub by_module : IfSome config.module_shape (λ shape. IsBegunByModule config shape drawn)
+  pub by_imports : IfSome config.available_imports (λ shape. IsBegunByImports config shape bytes drawn)
+  pub freely : (FixesImports config → ⊥) → HasNothing drawn
+
+-- why a module may not begin with the shapes that are used: for want of memory, or by the exports of a module shape
+abbrev pub MayRefuseBegun : Config → Error → Type 0
+MayRefuseBegun config e = (e ≡ errors.Memory) ⊎ IsSomeAnd config.module_shape (λ shape. MayRefuseRequired config (shape_types shape) shape e)

@@ -5,7 +5,8 @@ ghost use Rattle.smith_bytes.specs.Source.{KeepsPieces};
 ghost use Rattle.smith_bytes.specs.declared.error.Which.TheVariants.{AvailableImports, ModuleShape};
 ghost use Rattle.smith_config.specs.Sanitized.{IsSanitized};
 ghost use Rattle.smith_config.specs.Shapes.{IsShapeValid, shape_types};
-ghost use Rattle.wasm_smith.specs.Begun.{begun_of, HasNothing, begun_by_module_at, begun_by_imports_at, IsBegunByModule, IsBegunByImports};
+ghost use Rattle.wasm_smith.specs.Begun.{begun_of, HasNothing, begun_by_module_at, begun_by_imports_at, begun_at, IsBegunByModule, IsBegunByImports, IsBegun, MayRefuseBegun};
+ghost use Rattle.wasm_smith.specs.Refusals.{AreShapesValid};
 ghost use Rattle.wasm_smith.specs.Required.{MayRefuseRequired};
 ghost use Rattle.wasm_smith.specs.RequiredExports.{Answers};
 
@@ -67,5 +68,30 @@ pub(crate) fn begin_with_imports(
     let (types, imported) = available_imports(alloc, config, shape, u)?;
     drawn.types = types;
     drawn.imported = imported;
+    Ok(())
+}
+
+/// Begins a module with the shapes that `config` uses: a module shape, else available imports, else nothing.
+#[tactic(auto, unfolding(crate::specs::Begun::begun_at))]
+pub(crate) fn begin(
+    alloc: Global,
+    config: &Config,
+    drawn: &mut Drawn,
+    u: &mut Unstructured<'_>,
+) -> Result<(), Error>
+    requires sanitized { IsSanitized config.now }
+    requires valid { AreShapesValid config.now }
+    requires nothing { HasNothing drawn.old }
+    ensures exact { Answers (λ _. (begun_of drawn.new, u.new)) result (begun_at config.now u.old) }
+    ensures begun { OnOk result (IsBegun config.now u.old drawn.new) }
+    ensures refusal { IfErr result (MayRefuseBegun config.now) }
+    ensures left { KeepsPieces u.old u.new }
+{
+    if let Some(shape) = &config.module_shape {
+        return begin_with_module(alloc, config, shape, drawn, u);
+    }
+    if let Some(shape) = &config.available_imports {
+        return begin_with_imports(alloc, config, shape, drawn, u);
+    }
     Ok(())
 }
