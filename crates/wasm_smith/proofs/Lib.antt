@@ -30,3 +30,4 @@ pub mod RequiredLimitLemmas
 pub mod RequiredMoreLemmas
 pub mod RequiredExportsLoop
 pub mod BegunLemmas
+pub mod TypesGrownLemmas

@@ -35,7 +35,7 @@ use Rattle.wasm_smith.specs.ShapesKept.{Export, IsSameExport, IsSameFuncType}
 use Rattle.wasm_smith.specs.declared.build.definitions.Definitions.{Definitions}
 use Rattle.wasm_smith.proofs.CountingLemmas.{all_kept}
 
-extends_both : {A : Type 0} {first second third : List A} → Extends first second → Extends second third → Extends first third
+pub extends_both : {A : Type 0} {first second third : List A} → Extends first second → Extends second third → Extends first third
 extends_both {first = first} one two = record { more = one.more ++ two.more; parts = two.parts ∙ (ap (λ xs. xs ++ two.more) one.parts ∙ append_assoc first one.more two.more) }
 
 grown_both : {first second third : IndexSpaces} → AreSpacesGrown first second → AreSpacesGrown second third → AreSpacesGrown first third

@@ -1,0 +1,87 @@
+-- Types that stand stay where types are drawn behind them, and where there are as many as may be none is drawn.
+use Rattle.std.proofs.Common.{◌≡◌, ◌∙◌, ℕ, zero, suc, ◌+◌, ◌<◌, ◌≤◌, Bool, true, false, cond, nat_lt, List, [], ◌∷◌, ◌++◌, length, refl, ap, arith, add-one}
+use Rattle.std.proofs.lemmas.Bool.{ltb-true}
+use Rattle.smith_bytes.specs.Growth.{goes_at, grow_at}
+use Rattle.smith_bytes.proofs.GrownLemmas.{cond_both}
+use Rattle.smith_types.specs.Grown.{Extends}
+use Rattle.smith_types.specs.Space.{Space}
+use Rattle.smith_config.specs.declared.config.Config.{Config}
+use Rattle.smith_draw.specs.RecGroups.{types_until_at, group_size_at, types_left, new_group_at, clone_rec_group_at, clone_wanted_at, cloned_or_new_at, rec_group_at, least_types_at, more_types_at, types_at, with_clone, may_be_cloned, members}
+use Rattle.smith_draw.specs.Choices.{chosen_at}
+use Rattle.smith_draw.proofs.RecGroupLemmas.{least_keeps, more_keeps}
+use Rattle.wasm_smith.proofs.CountingLemmas.{all_kept}
+use Rattle.wasm_smith.proofs.RequiredExportsLoop.{extends_both}
+use Rattle.wasm_smith.proofs.StandsBehindLemmas.{one_more}
+
+-- a list that grows extends the one that it was
+grow_extends : {A : Type 0} (draw : List A → List ℕ → A × List ℕ) (least most : ℕ) (made : List A) (bytes : List ℕ) → Extends made (grow_at draw least most made bytes).0
+unfolding grow_at
+grow_extends draw least zero made bytes = all_kept made
+grow_extends {A = A} draw least (suc most) made bytes =
+    let go = goes_at (nat_lt (length made) least) bytes in
+    let x = draw made go.1 in
+    cond_both (λ (r : List A × List ℕ). Extends made r.0) go.0 (grow_at draw least most (made ++ x.0 ∷ []) x.1) (made, go.1)
+    (extends_both (one_more made x.0) (grow_extends draw least most (made ++ x.0 ∷ []) x.1)) (all_kept made)
+
+-- a space has the types and the groups of another, and maybe more
+pub record IsBehind (old new : Space) : Type 0 where
+  pub types : Extends old.types new.types
+  pub groups : Extends old.groups new.groups
+
+same_space : (space : Space) → IsBehind space space
+same_space space = record { types = all_kept space.types; groups = all_kept space.groups }
+
+behind_both : {first second third : Space} → IsBehind first second → IsBehind second third → IsBehind first third
+behind_both one two = record { types = extends_both one.types two.types; groups = extends_both one.groups two.groups }
+
+new_group_behind : (config : Config) (allow_empty : Bool) (space : Space) (bytes : List ℕ) → IsBehind space (new_group_at config allow_empty space bytes).0
+unfolding new_group_at types_until_at
+new_group_behind config allow_empty space bytes = record {
+  types = grow_extends _ _ _ space.types _;
+  groups = one_more space.groups _;
+}
+
+clone_behind : (config : Config) (allow_empty : Bool) (space : Space) (bytes : List ℕ) → IsBehind space (clone_rec_group_at config allow_empty space bytes).1.0
+unfolding clone_rec_group_at
+clone_behind config allow_empty space bytes =
+    let group = chosen_at (record { start = 0; end = 0 }) space.groups bytes in
+    cond_both (IsBehind space) (may_be_cloned config allow_empty space group.0) (with_clone space group.0) space
+    (record { types = record { more = members space.types group.0; parts = refl }; groups = one_more space.groups _ }) (same_space space)
+
+rec_group_behind : (config : Config) (allow_empty : Bool) (space : Space) (bytes : List ℕ) → IsBehind space (rec_group_at config allow_empty space bytes).0
+unfolding rec_group_at
+rec_group_behind config allow_empty space bytes =
+    let wanted = clone_wanted_at config space bytes in
+    let clone = clone_rec_group_at config allow_empty space wanted.1 in
+    let P = λ (r : Space × List ℕ). IsBehind space r.0 in
+    cond_both P wanted.0 (cloned_or_new_at config allow_empty space wanted.1) (new_group_at config allow_empty space wanted.1)
+    (cond_both P _ clone.1 (new_group_at config allow_empty clone.1.0 clone.1.1) (clone_behind config allow_empty space wanted.1)
+    (behind_both (clone_behind config allow_empty space wanted.1) (new_group_behind config allow_empty clone.1.0 clone.1.1)))
+    (new_group_behind config allow_empty space wanted.1)
+
+-- types and groups that stand stay
+pub types_behind : (config : Config) (space : Space) (bytes : List ℕ) → IsBehind space (types_at config space bytes).0
+unfolding types_at
+types_behind config space bytes =
+    let least = least_types_at config config.min_types space bytes in
+    more_keeps config (IsBehind space) (λ s after room h. behind_both h (rec_group_behind config true s after)) (length least.1 + 1) least.0 least.1
+    (least_keeps config (IsBehind space) (λ s after few h. behind_both h (rec_group_behind config false s after)) config.min_types space bytes (same_space space))
+
+not_less : (a b : ℕ) (less : Bool) → nat_lt a b ≡ less → b ≤ a → less ≡ false
+not_less a b true is most = let few = ltb-true a b is in absurd (omega (arith, few, most))
+not_less a b false is most = refl
+
+no_least : (config : Config) (turns : ℕ) (space : Space) (bytes : List ℕ) → config.min_types ≤ length space.types → least_types_at config turns space bytes ≡ (space, bytes)
+unfolding least_types_at
+no_least config zero space bytes enough = refl
+no_least config (suc turns) space bytes enough = rw (not_less (length space.types) config.min_types (nat_lt (length space.types) config.min_types) refl enough) refl
+
+no_more : (config : Config) (turns : ℕ) (space : Space) (bytes : List ℕ) → config.max_types ≤ length space.types → more_types_at config turns space bytes ≡ (space, bytes)
+unfolding more_types_at
+no_more config zero space bytes full = refl
+no_more config (suc turns) space bytes full = rw (not_less (length space.types) config.max_types (nat_lt (length space.types) config.max_types) refl full) refl
+
+-- where there are as many as may be, none is drawn
+pub types_full : (config : Config) (space : Space) (bytes : List ℕ) → config.min_types ≤ config.max_types → config.max_types ≤ length space.types → types_at config space bytes ≡ (space, bytes)
+unfolding types_at
+types_full config space bytes ordered full = rw (no_least config config.min_types space bytes (omega (arith, ordered, full))) (no_more config (length bytes + 1) space bytes full)
