@@ -256,6 +256,23 @@ module _ (config : Config) (imported : IndexSpaces) where
           subst (λ (each : ℕ × List ConstInstr). IsGlobalPlaced ours.types later place each.0 each.1) same (subst (λ (n : ℕ). IsGlobalPlaced ours.types later n (length spaces.globals) given) (sym is) last)
     ]
 
+    -- what stands does so over more types too
+    pub stands_over : StandsBehind config imported ours spaces defined
+    stands_over =
+        let same : AreSpacesGrown spaces spaces = record { tags = all_kept spaces.tags; funcs = all_kept spaces.funcs; tables = all_kept spaces.tables; memories = all_kept spaces.memories; globals = all_kept spaces.globals } in
+        record {
+          types = valid;
+          entities = entities_longer space.types ours.types spaces longer now.entities;
+          counts = now.counts;
+          tags = now.tags;
+          funcs = now.funcs;
+          tables = now.tables;
+          memories = now.memories;
+          globals = now.globals;
+          each_table = λ place initial at. table_kept space.types ours.types spaces spaces longer same place initial (now.each_table place initial at);
+          each_global = λ place index initial at. global_kept space.types ours.types spaces spaces longer same place index initial (now.each_global place index initial at);
+        }
+
     pub stands_more : (added : EntityType) (later : IndexSpaces) (more : Definitions) → AreEntitiesValid (features_of config) ours.types (entity_spaces added) → (0 < length (tag_of added) → IsTrue config.exceptions_enabled)
         → IsDefinedMore config ours.types spaces defined later more added → StandsBehind config imported ours later more
     stands_more (entity.Tag index) later more one enabled made = rw (made.spaces_are, made.initialised) (record {
