@@ -22,6 +22,8 @@ fn tags()
     ensures behind_an_imported_one { tags_at (record two_of_each { min_tags = 2 }) several_types (2 ∷ []) (1 ∷ 1 ∷ 9 ∷ []) ≡ Ok (2 ∷ 3 ∷ [], 9 ∷ []) }
     ensures enough_imported { tags_at (record two_of_each { min_tags = 1 }) several_types (2 ∷ []) (0 ∷ 9 ∷ []) ≡ Ok (2 ∷ [], 9 ∷ []) }
     ensures full { tags_at (record two_of_each { max_tags = 1 }) several_types (2 ∷ []) (1 ∷ 9 ∷ []) ≡ Ok (2 ∷ [], 9 ∷ []) }
+    ensures more_than_the_maximum { tags_at (record two_of_each { max_tags = 1 }) several_types (2 ∷ 3 ∷ []) (1 ∷ 9 ∷ []) ≡ Ok (2 ∷ 3 ∷ [], 9 ∷ []) }
+    ensures none_may_be { tags_at (record two_of_each { max_tags = 0 }) several_types (2 ∷ 3 ∷ []) (1 ∷ 9 ∷ []) ≡ Ok (2 ∷ 3 ∷ [], 1 ∷ 9 ∷ []) }
     ensures without_exceptions { tags_at (record two_of_each { exceptions_enabled = false }) several_types [] (1 ∷ 9 ∷ []) ≡ Ok ([], 1 ∷ 9 ∷ []) }
     ensures asked_for_without_exceptions { tags_at (record two_of_each { min_tags = 1; exceptions_enabled = false }) several_types [] [] ≡ Err (Unmet counts.Tags) }
     ensures of_no_type { tags_at (record two_of_each { min_tags = 1 }) (final giving_two ∷ []) [] [] ≡ Err (Unmet counts.Tags) }

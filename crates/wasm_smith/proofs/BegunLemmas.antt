@@ -1,5 +1,5 @@
 -- What a module begins with: what a shape imports is valid and not too much, and what is made of an answer is answered.
-use Rattle.std.proofs.Common.{◌≡◌, ◌∙◌, ◌⊎◌, ℕ, zero, suc, ◌+◌, ◌<◌, ◌≤◌, ◌^◌, List, [], ◌∷◌, ◌++◌, length, inl, inr, refl, sym, ap, subst, arith, lt-ltb, length-append, append-nil}
+use Rattle.std.proofs.Common.{◌≡◌, ◌∙◌, ◌⊎◌, ℕ, zero, suc, ◌+◌, ◌<◌, ◌≤◌, ◌^◌, Bool, true, false, List, [], ◌∷◌, ◌++◌, length, inl, inr, refl, sym, ap, subst, arith, lt-ltb, length-append, append-nil}
 use Rattle.std.specs.Prelude.{All, IsTrue, IfSome, Option, Some, None, Result, Ok, Err, IsErrAnd}
 use Rattle.std.specs.List.{Contains, flat_map}
 use Rattle.std.proofs.lemmas.List.Elements.{All-weaker, Contains-append_left}
@@ -23,10 +23,10 @@ use Rattle.smith_imports.specs.Imported.{AreNumbersWithin}
 use Rattle.smith_imports.specs.ShapeImports.{count_in}
 use Rattle.wasm_smith.specs.Begun.{nothing_defined}
 use Rattle.wasm_smith.specs.Bounds.{brought_by_module, exported_of}
+use Rattle.wasm_smith.specs.Defined.{HasRoom}
 use Rattle.wasm_smith.specs.Refusals.{AreShapesValid, shape_for}
-use Rattle.wasm_smith.specs.Required.{AddsLimitsOf, HasRoom, MayDefineMore, StandsBehind}
+use Rattle.wasm_smith.specs.Required.{AddsLimitsOf, MayDefineMore, StandsBehind}
 use Rattle.wasm_smith.specs.RequiredExports.{Answers, then_with}
-use Rattle.wasm_smith.proofs.DefinedTableLemmas.{several_by}
 use Rattle.wasm_smith.proofs.RequiredExportsLoop.{refused_by}
 
 -- of one kind there are no more than all imports
@@ -136,6 +136,10 @@ memories_of_shape shape spaces added = of_one (imported_spaces (shape_imports sh
 -- what is made of a refusal is that refusal
 pub refused_with : {X Y A B : Type 0} (f : A → B) (of_part : X → A × List ℕ) (of_whole : Y → B × List ℕ) (e : Error) (part : Result (A × List ℕ) Error) (result : Result Y Error) → Answers of_part (Err e) part → IsErrAnd result (λ y. y ≡ e) → Answers of_whole result (then_with f part)
 refused_with f of_part of_whole e part result given passed = refused_by of_part of_whole e part (then_with f part) result given (λ one is. ap (then_with f) is) passed
+
+several_by : (on : Bool) (most n : ℕ) → (on ≡ false → most ≤ 1) → n ≤ most → 1 < n → on ≡ true
+several_by true most n one within several = refl
+several_by false most n one within several = absurd (omega (arith, one refl))
 
 -- where there are no more tables and memories than may be, several stand only where that is enabled
 pub taken_enabled : (config : Config) (spaces : IndexSpaces) → IsSanitized config → AreNumbersWithin config spaces → (0 < length spaces.tags → IsTrue config.exceptions_enabled) → AreCountsEnabled (features_of config) spaces

@@ -27,6 +27,7 @@ use Rattle.smith_contents.specs.Exported.{MayExport, MayExportFreely, MayDrawExp
 use Rattle.smith_imports.specs.Imported.{HasNullableElements, IsImported, spaces_of}
 use Rattle.wasm_smith.specs.declared.build.definitions.Definitions.{Definitions}
 use Rattle.smith_imports.specs.declared.imported.Imported.{Imported}
+use Rattle.wasm_smith.proofs.DefinedLemmas.{all_behind}
 
 -- contents may be drawn once types, imports and definitions stand
 pub may_hold_contents : {distinct : Bool} {config : Config} {space : Space} {made : Imported} {spaces : IndexSpaces} {defined : Definitions}
@@ -42,12 +43,19 @@ may_hold_contents {made = made} passes sanitized types small nullable so_far sta
       small = small;
       nullable = nullable;
       entities = behind.entities;
-      nullable_tables = behind.nullable_tables;
+      nullable_tables = all_behind HasNullableElements so_far.fit.nullable_tables behind.nullable_tables;
       tags = behind.tags;
       funcs = behind.funcs;
       tables = behind.tables;
       memories = behind.memories;
       globals = behind.globals;
+      room = record {
+        tags = omega (arith, behind.tags.within, so_far.fit.within.tags, passes.few counts.Tags);
+        funcs = omega (arith, behind.funcs.within, so_far.fit.within.funcs, passes.few counts.Funcs);
+        tables = omega (arith, behind.tables.within, so_far.fit.within.tables, passes.few counts.Tables);
+        memories = omega (arith, behind.memories.within, so_far.fit.within.memories, passes.few counts.Memories);
+        globals = omega (arith, behind.globals.within, so_far.fit.within.globals, passes.few counts.Globals);
+      };
       within = omega (arith, so_far.counts.type_size, so_far.fit.type_size);
       small_imports = omega (arith, so_far.counts.type_size, so_far.fit.small, so_far.fit.most);
     }
@@ -67,19 +75,19 @@ both_hold config types tables valid nullable = λ i d inside. record { valid = v
 
 module _ {config : Config} {space : Space} {imported spaces : IndexSpaces} {imports_size : ℕ} (may : MayHoldContents config space imported spaces imports_size) where
   pub few_funcs : length spaces.funcs < 2 ^ 32
-  few_funcs = omega (arith, may.funcs.within, may.passes.few counts.Funcs)
+  few_funcs = omega (arith, may.room.funcs)
 
   few_tables : length spaces.tables < 2 ^ 32
-  few_tables = omega (arith, may.tables.within, may.passes.few counts.Tables)
+  few_tables = omega (arith, may.room.tables)
 
   few_memories : length spaces.memories < 2 ^ 32
-  few_memories = omega (arith, may.memories.within, may.passes.few counts.Memories)
+  few_memories = omega (arith, may.room.memories)
 
   few_tags : length spaces.tags < 2 ^ 32
-  few_tags = omega (arith, may.tags.within, may.passes.few counts.Tags)
+  few_tags = omega (arith, may.room.tags)
 
   few_globals : length spaces.globals < 2 ^ 32
-  few_globals = omega (arith, may.globals.within, may.passes.few counts.Globals)
+  few_globals = omega (arith, may.room.globals)
 
   -- interesting values ask so
   pub pages_small : All (λ (memory : MemoryType). page_log2 memory.page_size_log2 ≤ 16) spaces.memories

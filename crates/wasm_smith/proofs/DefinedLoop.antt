@@ -1,7 +1,7 @@
 -- The turns of a loop that defines items behind imported ones, for every draw.
-use Rattle.std.proofs.Common.{◌≡◌, ℕ, ◌+◌, ◌-◌, ◌<◌, ◌≤◌, Bool, true, false, ◌&&◌, cond, eqb, nat_lt, List, [], ◌∷◌, ◌++◌, length, refl, ap, ◌∙◌, subst, arith, append_assoc}
+use Rattle.std.proofs.Common.{◌≡◌, ℕ, ◌+◌, ◌-◌, ◌<◌, ◌≤◌, Bool, true, false, ◌&&◌, cond, nat_lt, nat_le, List, [], ◌∷◌, ◌++◌, length, refl, ap, ◌∙◌, subst, arith, append_assoc}
 use Rattle.std.specs.Prelude.{if◌then◌else◌}
-use Rattle.std.proofs.lemmas.Bool.{and_right, eq-eqb, ne_eqb}
+use Rattle.std.proofs.lemmas.Bool.{and_right, le-leb, lt-leb}
 use Rattle.std.proofs.lemmas.List.{append-nil}
 use Rattle.smith_bytes.specs.Draws.{bool_at}
 use Rattle.smith_bytes.specs.Growth.{goes_at, grow_at}
@@ -34,25 +34,25 @@ unfolding defined_at
 defined_stop {least = least} {most = most} {imported = imported} {made = made} now lt go even =
     let grown = grow_stop now.growing lt go even in
     let len = now.growing.len in
-    let room : eqb (imported + length made) most ≡ false = ne_eqb (imported + length made) most (λ full. absurd (omega arith)) in
-    rw (grown, and_right (nat_lt 0 imported) (eqb (imported + length made) most) room) refl
+    let room : nat_le most (imported + length made) ≡ false = lt-leb most (imported + length made) (omega arith) in
+    rw (grown, and_right (nat_lt 0 imported && nat_lt 0 most) (nat_le most (imported + length made)) room) refl
 
 full_turn : {A : Type 0} (b : Bool) (made : List A) (bytes after : List ℕ) → after ≡ cond b (bool_at bytes).1 bytes → cond {A = List A × List ℕ} (b && true) (made, (bool_at bytes).1) (made, bytes) ≡ (made, after)
 full_turn true made bytes after is = rw is refl
 full_turn false made bytes after is = rw is refl
 
--- no more may be: behind imported items the bool is drawn once more
+-- no more may be: behind items that stood before the bool is drawn once more
 pub defined_full : {A : Type 0} {draw : List A → List ℕ → A × List ℕ} {least most imported n : ℕ} {made : List A} {start bytes after : List ℕ}
-    → IsDefining draw least most imported n made start bytes → imported ≤ most → most - imported ≤ n → after ≡ (if nat_lt 0 imported then (bool_at bytes).1 else bytes)
+    → IsDefining draw least most imported n made start bytes → most - imported ≤ n → after ≡ (if nat_lt 0 imported && nat_lt 0 most then (bool_at bytes).1 else bytes)
     → defined_at draw least most imported start ≡ (made, after)
 unfolding defined_at
-defined_full {draw = draw} {least = least} {most = most} {imported = imported} {made = made} {start = start} {bytes = bytes} {after = after} now within le is =
+defined_full {draw = draw} {least = least} {most = most} {imported = imported} {made = made} {start = start} {bytes = bytes} {after = after} now le is =
     let grown = grow_full now.growing le in
     let len = now.growing.len in
     let few : length made ≤ most - imported =
     subst (λ (r : List _ × List ℕ). length r.0 ≤ most - imported) grown (grow_most draw (least - imported) (most - imported) (most - imported) [] start (omega arith)) in
-    let full : eqb (imported + length made) most ≡ true = eq-eqb (imported + length made) most (omega arith) in
-    rw (grown, full) (full_turn (nat_lt 0 imported) made bytes after is)
+    let full : nat_le most (imported + length made) ≡ true = le-leb most (imported + length made) (omega arith) in
+    rw (grown, full) (full_turn (nat_lt 0 imported && nat_lt 0 most) made bytes after is)
 
 -- the items that are defined so far stand behind the imported ones
 pub record IsBehind {A : Type 0} (draw : List A → List ℕ → A × List ℕ) (least most : ℕ) (imported space : List A) (n : ℕ) (start bytes : List ℕ) : Type 0 where
@@ -78,6 +78,6 @@ pub behind_stop : {A : Type 0} {draw : List A → List ℕ → A × List ℕ} {l
 behind_stop now lt go even = rw (defined_stop now.defining lt go even, now.parts) refl
 
 pub behind_full : {A : Type 0} {draw : List A → List ℕ → A × List ℕ} {least most n : ℕ} {imported space : List A} {start bytes after : List ℕ}
-    → IsBehind draw least most imported space n start bytes → length imported ≤ most → most - length imported ≤ n → after ≡ (if nat_lt 0 (length imported) then (bool_at bytes).1 else bytes)
+    → IsBehind draw least most imported space n start bytes → most - length imported ≤ n → after ≡ (if nat_lt 0 (length imported) && nat_lt 0 most then (bool_at bytes).1 else bytes)
     → behind imported (defined_at draw least most (length imported) start) ≡ (space, after)
-behind_full now within le is = rw (defined_full now.defining within le is, now.parts) refl
+behind_full now le is = rw (defined_full now.defining le is, now.parts) refl

@@ -31,13 +31,13 @@ use Rattle.smith_draw.specs.TableTypes.{table_type_at}
 use Rattle.smith_draw.specs.declared.spaces.Spaces.{Spaces}
 use Rattle.smith_bytes.specs.Spelling.{SpellsEmpty}
 use Rattle.smith_contents.proofs.PlaceOfListLemmas.{slice_get-behind}
-use Rattle.wasm_smith.specs.Defined.{IsFilled, MayInitialise, AreTablesDefined, standing_of}
+use Rattle.wasm_smith.specs.Defined.{IsFilled, AreAdded, MayInitialise, AreTablesDefined, standing_of}
 use Rattle.wasm_smith.specs.DefinedTables.{IsTableFit, AreTablesDrawn}
 use Rattle.wasm_smith.specs.Definitions.{Standing, Table, table_at, tables_at, table_scope}
 use Rattle.wasm_smith.specs.Module.{IsTableInitialised}
 use Rattle.wasm_smith.specs.Promises.{initial_of}
 use Rattle.smith_bytes.specs.Spelling.{SpellsNone}
-use Rattle.wasm_smith.proofs.DefinedLemmas.{parts_filled, defined_none}
+use Rattle.wasm_smith.proofs.DefinedLemmas.{parts_filled, several_so, all_behind, defined_none}
 
 -- with defined globals out of sight, the imported ones are seen
 imported_seen : (on : Bool) (globals imported : ℕ) → cond (on && false) globals imported ≡ imported
@@ -53,8 +53,8 @@ spaces_valid config spaces may all = record {
   funcs = may.funcs;
   globals = may.globals;
   imported = omega (arith, all);
-  few_funcs = omega (arith, may.few_funcs, may.passes.few counts.Funcs);
-  few_globals = omega (arith, may.few_globals, may.passes.few counts.Globals);
+  few_funcs = may.few_funcs;
+  few_globals = may.few_globals;
 }
 
 -- a table is that of its draws
@@ -82,13 +82,20 @@ only_memory types element e nullable none (inl memory) = memory
 only_memory types element e nullable none (inr (empty, inl strict)) = absurd cc
 only_memory types element e nullable none (inr (empty, inr holds)) = absurd (none holds)
 
--- what holds of the tables that were drawn, and of the imported ones, holds of all
+-- what holds of the tables that were drawn holds of those that were added, and beside imported ones of all
+pub tables_added : (P : TableType → Type 0) {config : Config} {standing : Standing} {imported space : List TableType} {initials : List (Option (List ConstInstr))}
+    → ((one : Table) → IsTableFit config standing one → P one.0) → AreTablesDrawn config standing imported space initials → AreAdded P imported space
+tables_added P {config = config} {standing = standing} {imported = imported} fits so_far =
+    let of_table = λ (one : Table). one.0 in
+    record {
+      more = map of_table so_far.drawn;
+      parts = so_far.tables;
+      each = All-map P of_table so_far.drawn (All-weaker (IsTableFit config standing) (λ (one : Table). P one.0) fits so_far.drawn so_far.fit);
+    }
+
 pub tables_all : (P : TableType → Type 0) {config : Config} {standing : Standing} {imported space : List TableType} {initials : List (Option (List ConstInstr))}
     → ((one : Table) → IsTableFit config standing one → P one.0) → AreTablesDrawn config standing imported space initials → All P imported → All P space
-tables_all P {config = config} {standing = standing} {imported = imported} fits so_far all =
-    let of_table = λ (one : Table). one.0 in
-    rw so_far.tables (All-append P imported (map of_table so_far.drawn) all
-    (All-map P of_table so_far.drawn (All-weaker (IsTableFit config standing) (λ (one : Table). P one.0) fits so_far.drawn so_far.fit)))
+tables_all P fits so_far all = all_behind P all (tables_added P fits so_far)
 
 -- each initialiser is that of the table that was drawn with it
 initialised_at : (P : TableType → Option (List ConstInstr) → Type 0) (drawn : List Table) → Each (λ (one : Table). P one.0 one.1) drawn
@@ -124,20 +131,17 @@ abbrev tables_alone : (List TableType × List (Option (List ConstInstr))) × Lis
 tables_alone drawn = (drawn.0.0, drawn.1)
 
 -- as many stand behind imported ones as are asked for, and no more than may be
-pub tables_fill : (config : Config) (standing : Standing) (imported space : List TableType) (initials : List (Option (List ConstInstr))) (old new : List ℕ) → config.min_tables ≤ config.max_tables → length imported ≤ config.max_tables
+pub tables_fill : (config : Config) (standing : Standing) (imported space : List TableType) (initials : List (Option (List ConstInstr))) (old new : List ℕ) → config.min_tables ≤ config.max_tables
     → tables_at config standing imported old ≡ ((space, initials), new) → IsFilled config.min_tables config.max_tables imported space
 unfolding tables_at
-tables_fill config standing imported space initials old new ordered few exact =
+tables_fill config standing imported space initials old new ordered exact =
     subst (λ (tables : List TableType). IsFilled config.min_tables config.max_tables imported tables) (ap (λ drawn. (tables_alone drawn).0) exact)
-    (parts_filled (λ (one : Table). one.0) (λ (made : List Table). table_at config standing) config.min_tables config.max_tables imported old ordered few)
+    (parts_filled (λ (one : Table). one.0) (λ (made : List Table). table_at config standing) config.min_tables config.max_tables imported old ordered)
 
 -- several tables are there only where several may be
-pub several_by : (on : Bool) (most n : ℕ) → (on ≡ false → most ≤ 1) → n ≤ most → 1 < n → on ≡ true
-several_by true most n one within several = refl
-several_by false most n one within several = absurd (omega (arith, one refl))
-
-pub several_tables : (config : Config) (imported space : List TableType) → IsSanitized config → IsFilled config.min_tables config.max_tables imported space → 1 < length space → config.reference_types_enabled ≡ true
-several_tables config imported space sanitized filled several = several_by config.reference_types_enabled config.max_tables (length space) sanitized.one_table filled.within several
+pub several_tables : (config : Config) (imported space : List TableType) → IsSanitized config → (1 < length imported → config.reference_types_enabled ≡ true) → IsFilled config.min_tables config.max_tables imported space → 1 < length space
+    → config.reference_types_enabled ≡ true
+several_tables config imported space sanitized stood filled several = several_so config.reference_types_enabled config.max_tables (length imported) (length space) sanitized.one_table filled.within stood several
 
 pub no_table_read : (config : Config) (standing : Standing) (imported : List TableType) (piece after : List ℕ) → config.min_tables ≡ 0 → imported ≡ [] → SpellsNone config.max_tables piece → tables_at config standing imported (piece ++ after) ≡ (([], []), after)
 unfolding tables_at

@@ -1,5 +1,5 @@
 -- The turns of the loop that defines tables.
-use Rattle.std.proofs.Common.{◌≡◌, ℕ, ◌+◌, ◌-◌, ◌<◌, ◌≤◌, Bool, true, false, List, [], ◌∷◌, ◌++◌, map, length, refl, append_assoc, nat_lt}
+use Rattle.std.proofs.Common.{◌≡◌, ℕ, ◌+◌, ◌-◌, ◌<◌, ◌≤◌, Bool, true, false, ◌&&◌, List, [], ◌∷◌, ◌++◌, map, length, refl, append_assoc, nat_lt}
 use Rattle.std.specs.Prelude.{Option, if◌then◌else◌}
 use Rattle.std.proofs.lemmas.List.{append-nil, map-append}
 use Rattle.std.proofs.lemmas.List.Elements.{All-nil, All-push}
@@ -57,7 +57,7 @@ module _ {config : Config} {standing : Standing} {imported space : List TableTyp
   -- no more may be
   pub tables_full : {after : List ℕ}
       → IsDefiningTables config standing imported space initials n start bytes
-      → length imported ≤ config.max_tables → config.max_tables - length imported ≤ n → after ≡ (if nat_lt 0 (length imported) then (bool_at bytes).1 else bytes)
+      → config.max_tables - length imported ≤ n → after ≡ (if nat_lt 0 (length imported) && nat_lt 0 config.max_tables then (bool_at bytes).1 else bytes)
       → tables_at config standing imported start ≡ ((space, initials), after)
   unfolding tables_at
-  tables_full now within le is = rw (defined_full now.defining within le is, now.so_far.tables, now.so_far.initialisers) refl
+  tables_full now le is = rw (defined_full now.defining le is, now.so_far.tables, now.so_far.initialisers) refl

@@ -21,6 +21,7 @@ use Rattle.smith_contents.specs.Exporting.{Export, item_size, exported_size}
 use Rattle.smith_imports.specs.ImportedEntities.{sizes}
 use Rattle.wasm_smith.specs.Module.{Parts, module_spaces}
 use Rattle.wasm_smith.specs.declared.build.drawn.Drawn.{Drawn}
+use Rattle.wasm_smith.proofs.DefinedLemmas.{all_behind}
 
 -- what is within the configured most is so beside what shapes bring
 beside_shapes : (n most brought added : ℕ) → n ≤ most → n ≤ max most brought + added
@@ -51,11 +52,11 @@ module _ (distinct : Bool) (config : Config) (drawn : Drawn) (h : IsDrawnFor dis
   most : (count : Count) → HasMost config count → count_of m count ≤ maximum_of config count
   most counts.Types asked = h.most_types
   most counts.Imports asked = omega (arith, h.count, h.imports.most)
-  most counts.Tags asked = h.defined.tags.within
-  most counts.Funcs asked = h.defined.funcs.within
-  most counts.Tables asked = h.defined.tables.within
-  most counts.Memories asked = h.defined.memories.within
-  most counts.Globals asked = h.defined.globals.within
+  most counts.Tags asked = omega (arith, h.defined.tags.within, h.imports.within.tags)
+  most counts.Funcs asked = omega (arith, h.defined.funcs.within, h.imports.within.funcs)
+  most counts.Tables asked = omega (arith, h.defined.tables.within, h.imports.within.tables)
+  most counts.Memories asked = omega (arith, h.defined.memories.within, h.imports.within.memories)
+  most counts.Globals asked = omega (arith, h.defined.globals.within, h.imports.within.globals)
   most counts.Exports asked = h.contents.most_exports asked.1
   most counts.ElementSegments asked = h.contents.segments.most_elements
   most counts.Elements asked = h.contents.segments.most_items
@@ -83,8 +84,8 @@ module _ (distinct : Bool) (config : Config) (drawn : Drawn) (h : IsDrawnFor dis
   pub drawn_bounds : KeepsBounds config m
   drawn_bounds = record {
     most = λ count asked. beside_shapes (count_of m count) (maximum_of config count) (brought config count) (added config count) (most count asked);
-    tables = All-weaker (IsTableWithin config) (λ (table : TableType). Contains (of_shapes (λ spaces. spaces.tables) config) table ⊎ IsTableWithin config table) (λ table within. inr within) m.tables h.defined.each_table;
-    memories = All-weaker (IsMemoryWithin config) (λ (memory : MemoryType). Contains (of_shapes (λ spaces. spaces.memories) config) memory ⊎ IsMemoryWithin config memory) (λ memory within. inr within) m.memories h.defined.each_memory;
+    tables = All-weaker (IsTableWithin config) (λ (table : TableType). Contains (of_shapes (λ spaces. spaces.tables) config) table ⊎ IsTableWithin config table) (λ table within. inr within) m.tables (all_behind (IsTableWithin config) h.imports.within.each_table h.defined.each_table);
+    memories = All-weaker (IsMemoryWithin config) (λ (memory : MemoryType). Contains (of_shapes (λ spaces. spaces.memories) config) memory ⊎ IsMemoryWithin config memory) (λ memory within. inr within) m.memories (all_behind (IsMemoryWithin config) h.imports.within.each_memory h.defined.each_memory);
     type_size = omega (arith, h.contents.type_size, h.type_size, imports_counted, exports_counted);
     type_size_most = h.contents.within;
   }

@@ -1,16 +1,25 @@
 -- What one step of drawing a module hands on to the next.
-use Rattle.std.proofs.Common.{◌≡◌, ◌∙◌, ℕ, ◌+◌, ◌-◌, ◌≤◌, List, length, length-append, refl, ap, arith}
+use Rattle.std.proofs.Common.{◌≡◌, ◌∙◌, ℕ, ◌+◌, ◌-◌, ◌<◌, ◌≤◌, ◌^◌, Bool, true, nat_lt, lt-ltb, max, List, length, length-append, refl, ap, arith}
 use Rattle.std.specs.Prelude.{All}
+use Rattle.smith_bytes.specs.declared.error.Count.TheVariants as counts
 use Rattle.smith_types.specs.Entities.{IsFuncValid}
 use Rattle.smith_types.specs.Grown.{Extends}
-use Rattle.smith_types.specs.Imports.{IndexSpaces}
+use Rattle.smith_types.specs.Imports.{IndexSpaces, flattened, imported_spaces}
 use Rattle.smith_types.specs.Space.{Space}
+use Rattle.smith_types.specs.ValidTypes.{AreTypesValid}
 use Rattle.smith_config.specs.declared.config.Config.{Config}
+use Rattle.smith_config.specs.Faults.{Passes}
+use Rattle.smith_config.specs.Features.{features_of}
+use Rattle.smith_config.specs.Sanitized.{IsSanitized}
+use Rattle.smith_draw.specs.ConstBounds.{HoldsNonNullableField}
+use Rattle.smith_imports.specs.Imported.{IsImported, spaces_of}
+use Rattle.smith_imports.specs.declared.imported.Imported.{Imported}
 use Rattle.wasm_smith.specs.Defined.{MayDefine, MayInitialise}
 use Rattle.wasm_smith.specs.Definitions.{standing_over}
+use Rattle.wasm_smith.proofs.DefinedLemmas.{several_so}
 
 -- what initialisers refer to is valid once functions are defined
-pub may_initialise : (config : Config) (space : Space) (imported : IndexSpaces) (funcs : List ℕ) → MayDefine config space imported → All (IsFuncValid space.types) funcs → length funcs ≤ config.max_funcs
+pub may_initialise : (config : Config) (space : Space) (imported : IndexSpaces) (funcs : List ℕ) → MayDefine config space imported → All (IsFuncValid space.types) funcs → length funcs ≤ max config.max_funcs (length imported.funcs)
     → MayInitialise config space (standing_over space.types funcs (length imported.funcs) imported.globals)
 may_initialise config space imported funcs may valid few = record {
   passes = may.passes;
@@ -20,9 +29,41 @@ may_initialise config space imported funcs may valid few = record {
   nullable = may.nullable;
   funcs = valid;
   globals = may.entities.globals;
-  few_funcs = few;
-  few_globals = may.within.globals;
+  few_funcs = omega (arith, few, may.room.funcs, may.passes.few counts.Funcs);
+  few_globals = omega (arith, may.room.globals);
 }
+
+-- several memories are imported only where several may be
+memories_imported : (most n : ℕ) → n ≤ most → 1 < n → nat_lt 1 most ≡ true
+memories_imported most n within several = lt-ltb 1 most (omega arith)
+
+-- items may be defined behind imports
+pub may_define : {distinct : Bool} {config : Config} {space : Space} {made : Imported} → Passes config → IsSanitized config → AreTypesValid (features_of config) space → config.min_types ≤ length space.types → length space.types < 2 ^ 32
+    → (HoldsNonNullableField space.types → ⊥) → IsImported config space.types distinct made → MayDefine config space (spaces_of made)
+may_define {config = config} {space = space} {made = made} passes sanitized valid least few nullable so_far =
+    let within = so_far.fit.within in
+    let imported = imported_spaces (flattened made.groups) in
+    rw so_far.counts.spaces (record {
+      passes = passes;
+      sanitized = sanitized;
+      valid = valid;
+      least = least;
+      few = few;
+      nullable = nullable;
+      entities = so_far.fit.entities;
+      counts = record {
+        tags = so_far.fit.tags;
+        several_tables = several_so config.reference_types_enabled config.max_tables 0 (length imported.tables) sanitized.one_table (omega (arith, within.tables)) (λ some. absurd (omega (arith, some)));
+        several_memories = memories_imported config.max_memories (length imported.memories) within.memories;
+      };
+      room = record {
+        tags = omega (arith, within.tags, passes.few counts.Tags);
+        funcs = omega (arith, within.funcs, passes.few counts.Funcs);
+        tables = omega (arith, within.tables, passes.few counts.Tables);
+        memories = omega (arith, within.memories, passes.few counts.Memories);
+        globals = omega (arith, within.globals, passes.few counts.Globals);
+      };
+    })
 
 -- as many are defined as stand behind the imported ones
 pub counted : {A : Type 0} (imported space : List A) → Extends imported space → length space - length imported + length imported ≡ length space

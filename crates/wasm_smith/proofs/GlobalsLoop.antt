@@ -1,5 +1,5 @@
 -- One turn of the loop over the globals that are defined.
-use Rattle.std.proofs.Common.{◌≡◌, ℕ, ◌+◌, ◌-◌, ◌≤◌, ◌<◌, Bool, true, false, nat_lt, List, [], ◌∷◌, ◌++◌, length, map, inl, inr, refl, sym, ap, subst, ◌∙◌, arith, append_assoc, length-append, append-nil}
+use Rattle.std.proofs.Common.{◌≡◌, ℕ, ◌+◌, ◌-◌, ◌≤◌, ◌<◌, Bool, true, false, ◌&&◌, nat_lt, List, [], ◌∷◌, ◌++◌, length, map, inl, inr, refl, sym, ap, subst, ◌∙◌, arith, append_assoc, length-append, append-nil}
 use Rattle.std.specs.Prelude.{if◌then◌else◌}
 use Rattle.std.specs.List.{All}
 use Rattle.std.proofs.lemmas.List.{map-append, length-map}
@@ -154,7 +154,7 @@ define_stop now fewer go even = rw (defined_stop now.defining fewer go even, now
 
 -- no more globals may be drawn
 pub define_full : {config : Config} {standing : Standing} {n : ℕ} {globals : List GlobalType} {initials : List (ℕ × List ConstInstr)} {start bytes after : List ℕ}
-    → AreDefining config standing n globals initials start bytes → length standing.imported_globals ≤ config.max_globals → config.max_globals - length standing.imported_globals ≤ n
-    → after ≡ (if nat_lt 0 (length standing.imported_globals) then (bool_at bytes).1 else bytes) → globals_at config standing start ≡ ((globals, initials), after)
+    → AreDefining config standing n globals initials start bytes → config.max_globals - length standing.imported_globals ≤ n
+    → after ≡ (if nat_lt 0 (length standing.imported_globals) && nat_lt 0 config.max_globals then (bool_at bytes).1 else bytes) → globals_at config standing start ≡ ((globals, initials), after)
 unfolding globals_at
-define_full now within all asked = rw (defined_full now.defining within all asked, now.globals_are, now.initials_are) refl
+define_full now all asked = rw (defined_full now.defining all asked, now.globals_are, now.initials_are) refl

@@ -36,16 +36,16 @@ pub record AreTyped (Holds : ℕ → Type 0) (choices : List ℕ) (least most : 
   pub valid : All Holds imported → All Holds items
   pub none : length choices ≡ 0 → items ≡ imported
 
-module _ (Holds : ℕ → Type 0) (count : Count) (choices : List ℕ) (least most : ℕ) (imported : List ℕ) (few : length imported ≤ most) where
+module _ (Holds : ℕ → Type 0) (count : Count) (choices : List ℕ) (least most : ℕ) (imported : List ℕ) where
   some_typed : (bytes : List ℕ) → least ≤ most → All Holds choices → 0 < length choices → AreTyped Holds choices least most imported (imported ++ (defined_at (λ _. chosen_at 0 choices) least most (length imported) bytes).0)
   some_typed bytes le each some = record {
-    filled = defined_filled (λ _. chosen_at 0 choices) least most imported bytes le few;
+    filled = defined_filled (λ _. chosen_at 0 choices) least most imported bytes le;
     valid = λ before. All-append Holds imported _ before (defined_all Holds (λ _. chosen_at 0 choices) (λ made rest. chosen_of Holds 0 choices rest some each) least most (length imported) bytes);
     none = λ no. absurd (omega arith);
   }
 
   none_typed : least ≤ length imported → AreTyped Holds choices least most imported imported
-  none_typed enough = record { filled = record { extends = all_kept imported; enough = enough; within = few }; valid = λ before. before; none = λ no. refl }
+  none_typed enough = record { filled = record { extends = all_kept imported; enough = enough; within = omega arith }; valid = λ before. before; none = λ no. refl }
 
   typed_are : (bytes : List ℕ) → least ≤ most → All Holds choices → IfOk (typed_at count choices least most imported bytes) (λ drawn. AreTyped Holds choices least most imported drawn.0)
   unfolding typed_at
@@ -68,12 +68,12 @@ typed_read count (choice ∷ others) most items piece after h =
 tag_types_usable : (config : Config) (types : List SubType) → All (IsTagValid types) (tag_types config types)
 tag_types_usable config types = cond_both config.exceptions_enabled (types_for Tag types) [] (All (IsTagValid types)) (λ on. types_usable Tag types) (λ off. All-nil (IsTagValid types))
 
-pub tags_are : (config : Config) (types : List SubType) (imported items bytes after : List ℕ) (result : Result (Unit {0}) Error) → config.min_tags ≤ config.max_tags → length imported ≤ config.max_tags → Gives (λ _. (items, after)) result (tags_at config types imported bytes)
+pub tags_are : (config : Config) (types : List SubType) (imported items bytes after : List ℕ) (result : Result (Unit {0}) Error) → config.min_tags ≤ config.max_tags → Gives (λ _. (items, after)) result (tags_at config types imported bytes)
     → OnOk result (AreTyped (IsTagValid types) (tag_types config types) config.min_tags config.max_tags imported items)
 unfolding tags_at
-tags_are config types imported items bytes after result le few given =
+tags_are config types imported items bytes after result le given =
     given_is (AreTyped (IsTagValid types) (tag_types config types) config.min_tags config.max_tags imported) (λ _. items) (tags_at config types imported bytes) after result
-    (typed_are (IsTagValid types) counts.Tags (tag_types config types) config.min_tags config.max_tags imported few bytes le (tag_types_usable config types)) given
+    (typed_are (IsTagValid types) counts.Tags (tag_types config types) config.min_tags config.max_tags imported bytes le (tag_types_usable config types)) given
 
 enabled_by : (on : Bool) (places imported items : List ℕ) → (length (cond on places []) ≡ 0 → items ≡ imported) → (0 < length imported → IsTrue on) → 0 < length items → IsTrue on
 enabled_by true places imported items none before some = refl
@@ -99,12 +99,12 @@ unfolding tags_at
 no_tag_read config types imported items piece after none empty h =
     rw (none, empty, h.none) (typed_read counts.Tags (tag_types config types) config.max_tags [] piece after (no_tag_turn config.exceptions_enabled (list_any is_tag_type types) config.max_tags (types_for Tag types) piece (places_any is_tag_type 0 types) h.spelled))
 
-pub funcs_are : (config : Config) (types : List SubType) (imported items bytes after : List ℕ) (result : Result (Unit {0}) Error) → config.min_funcs ≤ config.max_funcs → length imported ≤ config.max_funcs → Gives (λ _. (items, after)) result (funcs_at config types imported bytes)
+pub funcs_are : (config : Config) (types : List SubType) (imported items bytes after : List ℕ) (result : Result (Unit {0}) Error) → config.min_funcs ≤ config.max_funcs → Gives (λ _. (items, after)) result (funcs_at config types imported bytes)
     → OnOk result (AreTyped (IsFuncValid types) (func_types types) config.min_funcs config.max_funcs imported items)
 unfolding funcs_at
-funcs_are config types imported items bytes after result le few given =
+funcs_are config types imported items bytes after result le given =
     given_is (AreTyped (IsFuncValid types) (func_types types) config.min_funcs config.max_funcs imported) (λ _. items) (funcs_at config types imported bytes) after result
-    (typed_are (IsFuncValid types) counts.Funcs (func_types types) config.min_funcs config.max_funcs imported few bytes le (types_usable DefinedFunc types)) given
+    (typed_are (IsFuncValid types) counts.Funcs (func_types types) config.min_funcs config.max_funcs imported bytes le (types_usable DefinedFunc types)) given
 
 pub funcs_read : (config : Config) (types : List SubType) (imported funcs piece after : List ℕ) → config.min_funcs ≡ 0 → imported ≡ [] → SpellsFuncs config types funcs piece → funcs_at config types imported (piece ++ after) ≡ Ok (funcs, after)
 unfolding funcs_at

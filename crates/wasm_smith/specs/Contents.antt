@@ -12,7 +12,7 @@ use Rattle.smith_config.specs.Sanitized.{IsSanitized}
 use Rattle.smith_draw.specs.ConstBounds.{HoldsNonNullableField}
 use Rattle.smith_draw.specs.FuncSizes.{IsSmall}
 use Rattle.smith_draw.specs.declared.spaces.Spaces.{Spaces}
-use Rattle.wasm_smith.specs.Defined.{IsFilled}
+use Rattle.wasm_smith.specs.Defined.{IsFilled, HasRoom}
 use Rattle.smith_imports.specs.Imported.{HasNullableElements}
 
 -- contents may be drawn over these index spaces, which begin with what is imported, where the imports add this much to the
@@ -31,6 +31,7 @@ pub record MayHoldContents (config : Config) (space : Space) (imported spaces : 
   pub tables : IsFilled config.min_tables config.max_tables imported.tables spaces.tables
   pub memories : IsFilled config.min_memories config.max_memories imported.memories spaces.memories
   pub globals : IsFilled config.min_globals config.max_globals imported.globals spaces.globals
+  pub room : HasRoom spaces 0
   pub within : imports_size ≤ config.max_type_size
   pub small_imports : imports_size ≤ 42 * config.max_imports
 

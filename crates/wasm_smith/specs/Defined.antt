@@ -1,5 +1,5 @@
 -- What holds of an index space once its definitions stand behind its imports.
-use Rattle.std.specs.Prelude.{◌≡◌, ℕ, ◌+◌, ◌<◌, ◌≤◌, ◌^◌, IsTrue, Option, Some, List, map, length, slice_get, All, if◌then◌else◌}
+use Rattle.std.specs.Prelude.{◌≡◌, ℕ, ◌+◌, ◌<◌, ◌≤◌, ◌^◌, max, Option, Some, List, ◌++◌, map, length, slice_get, All, if◌then◌else◌}
 use Rattle.std.specs.List.{flat_map}
 use Rattle.smith_types.specs.Entities.{IsFuncValid, IsGlobalValid, AreEntitiesValid, AreCountsEnabled}
 use Rattle.smith_types.specs.Expressions.{IsConstExpr}
@@ -20,16 +20,30 @@ use Rattle.smith_draw.specs.ConstBounds.{HoldsNonNullableField}
 use Rattle.smith_draw.specs.ConstFloats.{GivesNoFloat}
 use Rattle.smith_draw.specs.declared.spaces.Spaces.{Spaces}
 use Rattle.wasm_smith.specs.Definitions.{Standing, standing_over, context_at, table_scope}
-use Rattle.smith_imports.specs.Imported.{AreSpacesWithin, HasNoFloatValue, HasNullableElements}
+use Rattle.smith_imports.specs.Imported.{HasNoFloatValue, HasNullableElements}
 use Rattle.wasm_smith.specs.Module.{IsTableInitialised}
 use Rattle.wasm_smith.specs.Promises.{initial_of}
 use Rattle.wasm_smith.specs.declared.build.definitions.Definitions.{Definitions}
 
--- imported items come first, and there are as many items as these bounds say
-pub record IsFilled {A : Type 0} (least most : ℕ) (imported space : List A) : Type 0 where
-  pub extends : Extends imported space
+-- items that stood before come first, and there are as many items as these bounds say, or as stood before
+pub record IsFilled {A : Type 0} (least most : ℕ) (before space : List A) : Type 0 where
+  pub extends : Extends before space
   pub enough : least ≤ length space
-  pub within : length space ≤ most
+  pub within : length space ≤ max most (length before)
+
+-- of each item that was added behind those that stood before this holds
+pub record AreAdded {A : Type 0} (Holds : A → Type 0) (before space : List A) : Type 0 where
+  pub more : List A
+  pub parts : space ≡ before ++ more
+  pub each : All Holds more
+
+-- the indices of all entities have 32 bits, with that many more
+pub record HasRoom (spaces : IndexSpaces) (more : ℕ) : Type 0 where
+  pub tags : length spaces.tags + more < 2 ^ 32
+  pub funcs : length spaces.funcs + more < 2 ^ 32
+  pub tables : length spaces.tables + more < 2 ^ 32
+  pub memories : length spaces.memories + more < 2 ^ 32
+  pub globals : length spaces.globals + more < 2 ^ 32
 
 -- what initialisers may refer to is valid, and no type holds a reference that may not be null
 pub record MayInitialise (config : Config) (space : Space) (standing : Standing) : Type 0 where
@@ -40,8 +54,8 @@ pub record MayInitialise (config : Config) (space : Space) (standing : Standing)
   pub nullable : HoldsNonNullableField space.types → ⊥
   pub funcs : All (IsFuncValid space.types) standing.funcs
   pub globals : All (IsGlobalValid (features_of config) space.types) standing.imported_globals
-  pub few_funcs : length standing.funcs ≤ config.max_funcs
-  pub few_globals : length standing.imported_globals ≤ config.max_globals
+  pub few_funcs : length standing.funcs < 2 ^ 32
+  pub few_globals : length standing.imported_globals < 2 ^ 32
 
 -- what the initialisers of tables may refer to, over spaces whose globals are the imported ones
 abbrev pub standing_of : Spaces → Standing
@@ -79,9 +93,8 @@ pub record MayDefine (config : Config) (space : Space) (imported : IndexSpaces) 
   pub few : length space.types < 2 ^ 32
   pub nullable : HoldsNonNullableField space.types → ⊥
   pub entities : AreEntitiesValid (features_of config) space.types imported
-  pub tags : 0 < length imported.tags → IsTrue config.exceptions_enabled
-  pub within : AreSpacesWithin config imported
-  pub nullable_tables : All HasNullableElements imported.tables
+  pub counts : AreCountsEnabled (features_of config) imported
+  pub room : HasRoom imported 0
 
 -- what initialisers refer to, once functions are defined
 abbrev pub standing_in : List SubType → IndexSpaces → IndexSpaces → Standing
@@ -97,9 +110,9 @@ pub record AreDefined (config : Config) (types : List SubType) (imported spaces 
   pub globals : IsFilled config.min_globals config.max_globals imported.globals spaces.globals
   pub entities : AreEntitiesValid (features_of config) types spaces
   pub counts : AreCountsEnabled (features_of config) spaces
-  pub each_table : All (IsTableWithin config) spaces.tables
-  pub each_memory : All (IsMemoryWithin config) spaces.memories
-  pub nullable_tables : All HasNullableElements spaces.tables
+  pub each_table : AreAdded (IsTableWithin config) imported.tables spaces.tables
+  pub each_memory : AreAdded (IsMemoryWithin config) imported.memories spaces.memories
+  pub nullable_tables : AreAdded HasNullableElements imported.tables spaces.tables
   pub initial_tables : AreTablesDefined config (standing_in types imported spaces) imported.tables spaces.tables defined.tables
   pub initial_globals : AreGlobalsDefined config (standing_in types imported spaces) spaces.globals defined.globals
   pub num_tags : defined.num_tags + length imported.tags ≡ length spaces.tags

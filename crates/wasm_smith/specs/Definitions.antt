@@ -1,5 +1,5 @@
 -- Which items of each kind are defined behind imported ones, and which bytes they take. Rules of this project.
-use Rattle.std.specs.Prelude.{ℕ, ◌+◌, ◌-◌, ◌&&◌, ◌==◌, nat_lt, Option, None, List, [], ◌++◌, map, length, Result, Ok, Err, if◌then◌else◌, unwrap_or}
+use Rattle.std.specs.Prelude.{ℕ, ◌+◌, ◌-◌, ◌&&◌, ◌==◌, nat_lt, nat_le, Option, None, List, [], ◌++◌, map, length, Result, Ok, Err, if◌then◌else◌, unwrap_or}
 use Rattle.smith_bytes.specs.declared.error.Count.{Count}
 use Rattle.smith_bytes.specs.declared.error.Count.TheVariants as counts
 use Rattle.smith_bytes.specs.declared.error.Why.{Why}
@@ -22,12 +22,13 @@ use Rattle.smith_draw.specs.TableTypes.{table_type_at}
 use Rattle.smith_draw.specs.TypeUses.{types_for}
 use Rattle.smith_draw.specs.declared.type_use.TypeUse.TheVariants as uses
 
--- the items of a kind that are defined behind as many imported ones: one is drawn after another until there are as many as
--- are asked for, then while a bool asks for one; where some are imported that bool is drawn once more when no more may be
+-- the items of a kind that are defined behind as many that stand: one is drawn after another until there are as many as are
+-- asked for, then while a bool asks for one; where some stood before and some may be, that bool is drawn once more when no more
+-- may be
 unfoldable pub defined_at : {A : Type 0} → (List A → List ℕ → A × List ℕ) → ℕ → ℕ → ℕ → List ℕ → List A × List ℕ
-defined_at draw least most imported bytes =
-    let grown = grow_at draw (least - imported) (most - imported) [] bytes in
-    if nat_lt 0 imported && (imported + length grown.0 == most) then (grown.0, (bool_at grown.1).1) else grown
+defined_at draw least most before bytes =
+    let grown = grow_at draw (least - before) (most - before) [] bytes in
+    if (nat_lt 0 before && nat_lt 0 most) && nat_le most (before + length grown.0) then (grown.0, (bool_at grown.1).1) else grown
 
 -- items behind imported ones
 abbrev pub behind : {A : Type 0} → List A → List A × List ℕ → List A × List ℕ

@@ -29,7 +29,7 @@ use Rattle.smith_config.specs.Shapes.{shape_types, shape_spaces, shape_values, I
 use Rattle.smith_draw.specs.ConstBounds.{IsNonNullable, HoldsNonNullableField}
 use Rattle.wasm_smith.specs.Bounds.{counts_as, exported_of}
 use Rattle.smith_imports.specs.ShapeImports.{count_in}
-use Rattle.wasm_smith.specs.Defined.{standing_in, IsGlobalInitialised}
+use Rattle.wasm_smith.specs.Defined.{HasRoom, standing_in, IsGlobalInitialised}
 use Rattle.wasm_smith.specs.Definitions.{context_at}
 use Rattle.smith_imports.specs.ImportedEntities.{kind_of}
 use Rattle.wasm_smith.specs.Module.{IsTableInitialised}
@@ -43,14 +43,6 @@ pub record AreWithin (spaces : IndexSpaces) (defined : Definitions) : Type 0 whe
   pub funcs : defined.num_funcs ≤ length spaces.funcs
   pub memories : defined.num_memories ≤ length spaces.memories
   pub globals : length defined.globals ≤ length spaces.globals
-
--- the indices of all entities have 32 bits, with that many more
-pub record HasRoom (spaces : IndexSpaces) (more : ℕ) : Type 0 where
-  pub tags : length spaces.tags + more < 2 ^ 32
-  pub funcs : length spaces.funcs + more < 2 ^ 32
-  pub tables : length spaces.tables + more < 2 ^ 32
-  pub memories : length spaces.memories + more < 2 ^ 32
-  pub globals : length spaces.globals + more < 2 ^ 32
 
 -- that many more entities may be defined behind what stands
 pub record MayDefineMore (config : Config) (space : Space) (spaces : IndexSpaces) (defined : Definitions) (more : ℕ) : Type 0 where

@@ -30,7 +30,6 @@ fn drawn_funcs(
     u: &mut Unstructured<'_>,
 ) -> Result<(), Error>
     requires few_types { length types.now.types < 2 ^ 32 }
-    requires imported { length funcs.old ≤ config.now.max_funcs }
     ensures exact { Gives (λ _. (funcs.new, u.new)) result (funcs_at config.now types.now.types funcs.old u.old) }
     ensures refusal { IfErr result (λ e. (e ≡ Error.Memory)
         ⊎ ((e ≡ Error.IncorrectFormat (Why.Unmet Count.Funcs)) × (0 < config.now.min_funcs) × (length (func_types types.now.types) ≡ 0))) }
@@ -60,7 +59,6 @@ pub(crate) fn funcs(
     requires valid { AreTypesValid (features_of config.now) types.now }
     requires least { config.now.min_types ≤ length types.now.types }
     requires few_types { length types.now.types < 2 ^ 32 }
-    requires imported { length funcs.old ≤ config.now.max_funcs }
     ensures exact { Gives (λ _. (funcs.new, u.new)) result (funcs_at config.now types.now.types funcs.old u.old) }
     ensures filled { OnOk result (IsFilled config.now.min_funcs config.now.max_funcs funcs.old funcs.new) }
     ensures valid { All (IsFuncValid types.now.types) funcs.old → OnOk result (All (IsFuncValid types.now.types) funcs.new) }

@@ -68,7 +68,7 @@ fn push_globals<'a>(
     let imported = globals.len();
     let least = config.min_globals.saturating_sub(imported);
     let mut initials = Items::new(alloc);
-    for made in 0..config.max_globals - imported {
+    for made in 0..config.max_globals.saturating_sub(imported) {
         if !goes_on(u, made, least) {
             return Ok(initials);
         }
@@ -83,7 +83,7 @@ fn push_globals<'a>(
         globals.push(global)?;
         initials.push(initial)?;
     }
-    ask_past_full(imported, u);
+    ask_past_full(imported, config.max_globals, u);
     Ok(initials)
 }
 

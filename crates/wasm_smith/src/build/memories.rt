@@ -1,4 +1,4 @@
-ghost use Rattle.std.specs.Prelude.{◌≡◌, ◌<◌, ◌≤◌, [], length, IsTrue, OnOk, All};
+ghost use Rattle.std.specs.Prelude.{◌≡◌, ◌<◌, [], length, IsTrue, OnOk, All};
 ghost use Rattle.smith_bytes.specs.Takes.{Takes};
 ghost use Rattle.smith_types.specs.Entities.{IsMemoryValid};
 ghost use Rattle.smith_config.specs.Faults.{Passes};
@@ -6,7 +6,7 @@ ghost use Rattle.smith_config.specs.Features.{features_of};
 ghost use Rattle.smith_draw.specs.Bounds.{IsMemoryWithin};
 ghost use Rattle.smith_draw.specs.Drawing.{DrawsInto};
 ghost use Rattle.smith_bytes.specs.Spelling.{SpellsEmpty};
-ghost use Rattle.wasm_smith.specs.Defined.{IsFilled};
+ghost use Rattle.wasm_smith.specs.Defined.{IsFilled, AreAdded};
 ghost use Rattle.wasm_smith.specs.Definitions.{memories_at};
 ghost use Rattle.smith_bytes.specs.Spelling.{SpellsNone};
 
@@ -24,21 +24,20 @@ fn drawn_memories(
     u: &mut Unstructured<'_>,
 ) -> Result<(), Error>
     requires passes { Passes config.now }
-    requires imported { length memories.old ≤ config.now.max_memories }
     ensures draws { DrawsInto (memories_at config.now memories.old u.old) memories.new result u.old u.new }
     ensures valid { All (IsMemoryValid (features_of config.now)) memories.old → OnOk result (All (IsMemoryValid (features_of config.now)) memories.new) }
-    ensures within { All (IsMemoryWithin config.now) memories.old → OnOk result (All (IsMemoryWithin config.now) memories.new) }
+    ensures within { OnOk result (AreAdded (IsMemoryWithin config.now) memories.old memories.new) }
 {
     let imported = memories.len();
     let needed = (config.min_memories as usize).saturating_sub(imported);
-    for made in 0..config.max_memories - imported {
+    for made in 0..config.max_memories.saturating_sub(imported) {
         if !goes_on(u, made, needed) {
             return Ok(());
         }
         let memory = arbitrary_memtype(config, u)?;
         memories.push(memory)?;
     }
-    ask_past_full(imported, u);
+    ask_past_full(imported, config.max_memories, u);
     Ok(())
 }
 
@@ -49,12 +48,11 @@ pub(crate) fn memories(
     u: &mut Unstructured<'_>,
 ) -> Result<(), Error>
     requires passes { Passes config.now }
-    requires imported { length memories.old ≤ config.now.max_memories }
     ensures draws { DrawsInto (memories_at config.now memories.old u.old) memories.new result u.old u.new }
     ensures filled { OnOk result (IsFilled config.now.min_memories config.now.max_memories memories.old memories.new) }
     ensures valid { All (IsMemoryValid (features_of config.now)) memories.old → OnOk result (All (IsMemoryValid (features_of config.now)) memories.new) }
-    ensures within { All (IsMemoryWithin config.now) memories.old → OnOk result (All (IsMemoryWithin config.now) memories.new) }
-    ensures several { OnOk result (1 < length memories.new → IsTrue (features_of config.now).multi_memory) }
+    ensures within { OnOk result (AreAdded (IsMemoryWithin config.now) memories.old memories.new) }
+    ensures several { (1 < length memories.old → IsTrue (features_of config.now).multi_memory) → OnOk result (1 < length memories.new → IsTrue (features_of config.now).multi_memory) }
     ensures none { config.now.min_memories ≡ 0 → memories.old ≡ [] → OnOk result (Takes (SpellsEmpty (SpellsNone config.now.max_memories)) u.old memories.new u.new) }
 {
     drawn_memories(config, memories, u)

@@ -1,4 +1,4 @@
-ghost use Rattle.std.specs.Prelude.{◌≡◌, ◌<◌, ◌≤◌, [], length, IsTrue, IfOk, IfErr, OnOk, All};
+ghost use Rattle.std.specs.Prelude.{◌≡◌, ◌<◌, [], length, IsTrue, IfOk, IfErr, OnOk, All};
 ghost use Rattle.std.specs.List.{flat_map};
 ghost use Rattle.smith_bytes.specs.Source.{KeepsPieces};
 ghost use Rattle.smith_bytes.specs.Takes.{Takes};
@@ -9,7 +9,7 @@ ghost use Rattle.smith_draw.specs.Bounds.{IsTableWithin};
 ghost use Rattle.smith_draw.specs.ConstFloats.{GivesNoFloat};
 ghost use Rattle.smith_draw.specs.Drawing.{Draws};
 ghost use Rattle.smith_bytes.specs.Spelling.{SpellsEmpty};
-ghost use Rattle.wasm_smith.specs.Defined.{IsFilled, MayInitialise, AreTablesDefined, standing_of};
+ghost use Rattle.wasm_smith.specs.Defined.{IsFilled, AreAdded, MayInitialise, AreTablesDefined, standing_of};
 ghost use Rattle.wasm_smith.specs.DefinedTables.{IsTableFit, AreTablesDrawn};
 ghost use Rattle.wasm_smith.specs.Definitions.{table_at, tables_at};
 ghost use Rattle.smith_imports.specs.Imported.{HasNullableElements};
@@ -50,7 +50,6 @@ fn drawn_tables(
 ) -> Result<Items<Option<Items<ConstInstr>>>, Error>
     requires may { MayInitialise config.now spaces.now.types.now (standing_of spaces.now) }
     requires imported_globals { spaces.now.entities.imported_globals ≡ length spaces.now.entities.globals.now }
-    requires imported { length tables.old ≤ config.now.max_tables }
     ensures exact { IfOk result (λ initials. tables_at config.now (standing_of spaces.now) tables.old u.old ≡ ((tables.new, initials), u.new)) }
     ensures drawn { IfOk result (AreTablesDrawn config.now (standing_of spaces.now) tables.old tables.new) }
     ensures memory { IfErr result (λ e. e ≡ Error.Memory) }
@@ -58,7 +57,7 @@ fn drawn_tables(
 {
     let imported = tables.len();
     let least = (config.min_tables as usize).saturating_sub(imported);
-    let most = config.max_tables - imported;
+    let most = config.max_tables.saturating_sub(imported);
     let mut initials = Items::new(alloc);
     for made in 0..most {
         if !goes_on(u, made, least) {
@@ -68,7 +67,7 @@ fn drawn_tables(
         tables.push(table)?;
         initials.push(initial)?;
     }
-    ask_past_full(imported, u);
+    ask_past_full(imported, config.max_tables, u);
     Ok(initials)
 }
 
@@ -83,13 +82,12 @@ pub(crate) fn tables(
 ) -> Result<Items<Option<Items<ConstInstr>>>, Error>
     requires may { MayInitialise config.now spaces.now.types.now (standing_of spaces.now) }
     requires imported_globals { spaces.now.entities.imported_globals ≡ length spaces.now.entities.globals.now }
-    requires imported { length tables.old ≤ config.now.max_tables }
     ensures exact { IfOk result (λ initials. tables_at config.now (standing_of spaces.now) tables.old u.old ≡ ((tables.new, initials), u.new)) }
     ensures filled { OnOk result (IsFilled config.now.min_tables config.now.max_tables tables.old tables.new) }
     ensures valid { All (IsTableValid (features_of config.now) spaces.now.types.now.types) tables.old → OnOk result (All (IsTableValid (features_of config.now) spaces.now.types.now.types) tables.new) }
-    ensures within { All (IsTableWithin config.now) tables.old → OnOk result (All (IsTableWithin config.now) tables.new) }
-    ensures nullable { All HasNullableElements tables.old → OnOk result (All HasNullableElements tables.new) }
-    ensures several { OnOk result (1 < length tables.new → IsTrue (features_of config.now).reference_types) }
+    ensures within { OnOk result (AreAdded (IsTableWithin config.now) tables.old tables.new) }
+    ensures nullable { OnOk result (AreAdded HasNullableElements tables.old tables.new) }
+    ensures several { (1 < length tables.old → IsTrue (features_of config.now).reference_types) → OnOk result (1 < length tables.new → IsTrue (features_of config.now).reference_types) }
     ensures defined { IfOk result (AreTablesDefined config.now (standing_of spaces.now) tables.old tables.new) }
     ensures floats { All HasNoFloat spaces.now.types.now.types → IfOk result (λ initials. All (All GivesNoFloat) (flat_map initial_of initials)) }
     ensures none { config.now.min_tables ≡ 0 → tables.old ≡ [] → OnOk result (Takes (SpellsEmpty (SpellsNone config.now.max_tables)) u.old tables.new u.new) }

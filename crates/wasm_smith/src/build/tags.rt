@@ -1,4 +1,4 @@
-ghost use Rattle.std.specs.Prelude.{◌≡◌, ◌<◌, ◌≤◌, ◌^◌, [], length, IsTrue, IfOk, IfErr, OnOk, All};
+ghost use Rattle.std.specs.Prelude.{◌≡◌, ◌<◌, ◌^◌, [], length, IsTrue, IfOk, IfErr, OnOk, All};
 ghost use Rattle.smith_bytes.specs.Source.{KeepsPieces};
 ghost use Rattle.smith_bytes.specs.Takes.{Takes};
 ghost use Rattle.smith_types.specs.Entities.{IsTagValid};
@@ -39,7 +39,6 @@ fn drawn_tags(
     u: &mut Unstructured<'_>,
 ) -> Result<(), Error>
     requires few_types { length types.now.types < 2 ^ 32 }
-    requires imported { length tags.old ≤ config.now.max_tags }
     ensures exact { Gives (λ _. (tags.new, u.new)) result (tags_at config.now types.now.types tags.old u.old) }
     ensures refusal { IfErr result (MayRefuse config.now) }
     ensures left { KeepsPieces u.old u.new }
@@ -65,7 +64,6 @@ pub(crate) fn tags(
 ) -> Result<(), Error>
     requires passes { Passes config.now }
     requires few_types { length types.now.types < 2 ^ 32 }
-    requires imported { length tags.old ≤ config.now.max_tags }
     ensures exact { Gives (λ _. (tags.new, u.new)) result (tags_at config.now types.now.types tags.old u.old) }
     ensures filled { OnOk result (IsFilled config.now.min_tags config.now.max_tags tags.old tags.new) }
     ensures valid { All (IsTagValid types.now.types) tags.old → OnOk result (All (IsTagValid types.now.types) tags.new) }

@@ -1,4 +1,4 @@
-ghost use Rattle.std.specs.Prelude.{◌≡◌, ◌<◌, ◌≤◌, ◌⊎◌, length, IfErr};
+ghost use Rattle.std.specs.Prelude.{◌≡◌, ◌<◌, ◌⊎◌, length, IfErr};
 ghost use Rattle.smith_bytes.specs.Source.{KeepsPieces};
 ghost use Rattle.smith_draw.specs.Choices.{chosen_at};
 ghost use Rattle.smith_draw.specs.Drawing.{DrawsInto};
@@ -19,18 +19,17 @@ fn choose_types(
     u: &mut Unstructured<'_>,
 ) -> Result<(), Error>
     requires some { 0 < length choices.now }
-    requires imported { length items.old ≤ most }
     ensures { DrawsInto (behind items.old (defined_at (λ _. chosen_at 0 choices.now) least most (length items.old) u.old)) items.new result u.old u.new }
 {
     let imported = items.len();
     let needed = least.saturating_sub(imported);
-    for made in 0..most - imported {
+    for made in 0..most.saturating_sub(imported) {
         if !goes_on(u, made, needed) {
             return Ok(());
         }
         items.push(choose(choices, u))?;
     }
-    ask_past_full(imported, u);
+    ask_past_full(imported, most, u);
     Ok(())
 }
 
@@ -45,7 +44,6 @@ pub(crate) fn define_typed(
     items: &mut Items<u32>,
     u: &mut Unstructured<'_>,
 ) -> Result<(), Error>
-    requires imported { length items.old ≤ most }
     ensures exact { Gives (λ _. (items.new, u.new)) result (typed_at count choices.now least most items.old u.old) }
     ensures refusal { IfErr result (λ e. (e ≡ Error.Memory)
         ⊎ ((e ≡ Error.IncorrectFormat (Why.Unmet count)) × (0 < least) × (length choices.now ≡ 0))) }

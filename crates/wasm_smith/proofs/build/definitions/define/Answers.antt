@@ -36,13 +36,13 @@ returns-clause-defined c =
         globals = c.in_ok-globals.ensures.valid;
       };
       counts = record {
-        tags = c.in_ok-tags.ensures.enabled c.requires.may.tags;
-        several_tables = c.in_ok-tables.ensures.several;
-        several_memories = c.in_ok-memories.ensures.several;
+        tags = c.in_ok-tags.ensures.enabled c.requires.may.counts.tags;
+        several_tables = c.in_ok-tables.ensures.several c.requires.may.counts.several_tables;
+        several_memories = c.in_ok-memories.ensures.several c.requires.may.counts.several_memories;
       };
-      each_table = c.in_ok-tables.ensures.within c.requires.may.within.each_table;
-      each_memory = c.in_ok-memories.ensures.within c.requires.may.within.each_memory;
-      nullable_tables = c.in_ok-tables.ensures.nullable c.requires.may.nullable_tables;
+      each_table = c.in_ok-tables.ensures.within;
+      each_memory = c.in_ok-memories.ensures.within;
+      nullable_tables = c.in_ok-tables.ensures.nullable;
       initial_tables = rw (over.types, over.funcs, over.imported_funcs, over.globals, c.as_slice-func_types.ensures, c.as_slice-imported_globals.ensures, c.len-imported_funcs.ensures) at c.in_ok-tables.ensures.defined;
       initial_globals = rw (c.as_slice-func_types.ensures, c.len-imported_funcs.ensures) at c.in_ok-globals.ensures.defined;
       num_tags = rw (c.len.ensures, c.len-imported_tags.ensures) (counted _ _ c.in_ok-tags.ensures.filled.extends);

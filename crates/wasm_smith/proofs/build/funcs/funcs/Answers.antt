@@ -8,10 +8,10 @@ use Rattle.wasm_smith.proofs.TypedLemmas.{funcs_are, funcs_read}
 use Rattle.wasm_smith.proofs.build.funcs.funcs.Goals as goal
 
 pub returns-clause-filled : goal.returns-clause-filled
-returns-clause-filled c = on_ok_weaker c.drawn_funcs.result (λ are. are.filled) (funcs_are _ _ _ _ _ _ c.drawn_funcs.result (c.requires.passes.ordered Funcs tt) c.requires.imported c.drawn_funcs.ensures.exact)
+returns-clause-filled c = on_ok_weaker c.drawn_funcs.result (λ are. are.filled) (funcs_are _ _ _ _ _ _ c.drawn_funcs.result (c.requires.passes.ordered Funcs tt) c.drawn_funcs.ensures.exact)
 
 pub returns-clause-valid : goal.returns-clause-valid
-returns-clause-valid c = λ before. on_ok_weaker c.drawn_funcs.result (λ are. are.valid before) (funcs_are _ _ _ _ _ _ c.drawn_funcs.result (c.requires.passes.ordered Funcs tt) c.requires.imported c.drawn_funcs.ensures.exact)
+returns-clause-valid c = λ before. on_ok_weaker c.drawn_funcs.result (λ are. are.valid before) (funcs_are _ _ _ _ _ _ c.drawn_funcs.result (c.requires.passes.ordered Funcs tt) c.drawn_funcs.ensures.exact)
 
 pub returns-clause-refusal : goal.returns-clause-refusal
 returns-clause-refusal c = funcs_refuse _ _ c.drawn_funcs.result c.requires.sanitized c.requires.valid c.requires.least c.drawn_funcs.ensures.refusal

@@ -10,7 +10,7 @@ loop-made-init c = rw c.new-initials.ensures (none_made c.args.config.now (stand
 
 pub returns-then-not-goes_on-clause-exact : goal.returns-then-not-goes_on-clause-exact
 returns-then-not-goes_on-clause-exact c =
-    define_stop c.loop-made.invariant (rw c.len-imported.ensures at c.loop-made-test.true) (rw (c.saturating_sub-least.ensures, c.len-imported.ensures) at c.goes_on.ensures.exact) c.if-not-goes_on.true
+    define_stop c.loop-made.invariant (rw (c.saturating_sub-made-end.ensures, c.len-imported.ensures) at c.loop-made-test.true) (rw (c.saturating_sub-least.ensures, c.len-imported.ensures) at c.goes_on.ensures.exact) c.if-not-goes_on.true
 
 pub initialised_global-requires-clause-standing : goal.initialised_global-requires-clause-standing
 initialised_global-requires-clause-standing c =
@@ -22,15 +22,15 @@ initialised_global-requires-clause-standing c =
       funcs = may.funcs;
       globals = rw same c.loop-made.invariant.valid;
       imported = rw same (omega (arith, count, c.len-imported.ensures));
-      few_funcs = omega (arith, may.few_funcs, may.passes.few counts.Funcs);
-      few_globals = rw same (omega (arith, count, c.len-imported.ensures, may.few_globals, may.passes.few counts.Globals));
+      few_funcs = may.few_funcs;
+      few_globals = rw same (omega (arith, count, c.len-imported.ensures, c.saturating_sub-made-end.ensures, c.loop-made-test.true, may.few_globals, may.passes.few counts.Globals));
     }
 
 pub loop-made-preserved : goal.loop-made-preserved
 loop-made-preserved c =
     let drawn = c.in_ok-global.ensures in
     let visible = and-true c.args.config.now.gc_enabled in
-    define_more c.loop-made.invariant (rw c.len-imported.ensures at c.loop-made-test.true) (rw (c.saturating_sub-least.ensures, c.len-imported.ensures) at c.goes_on.ensures.exact) c.if-not-goes_on.false
+    define_more c.loop-made.invariant (rw (c.saturating_sub-made-end.ensures, c.len-imported.ensures) at c.loop-made-test.true) (rw (c.saturating_sub-least.ensures, c.len-imported.ensures) at c.goes_on.ensures.exact) c.if-not-goes_on.false
     (rw (c.as_slice.ensures, c.len-imported.ensures, visible) at drawn.draws.exact)
     drawn.valid
     (rw (c.as_slice.ensures, c.len-imported.ensures, visible) at drawn.initialised)
@@ -43,4 +43,4 @@ loop-made-preserved c =
 
 pub returns-clause-exact : goal.returns-clause-exact
 returns-clause-exact c =
-    define_full c.loop-made.invariant c.requires.may.few_globals (rw c.len-imported.ensures at c.loop-made-test.false) (rw c.len-imported.ensures at c.ask_past_full.ensures.exact)
+    define_full c.loop-made.invariant (rw (c.saturating_sub-made-end.ensures, c.len-imported.ensures) at c.loop-made-test.false) (rw c.len-imported.ensures at c.ask_past_full.ensures.exact)

@@ -6,6 +6,7 @@ use Rattle.smith_draw.specs.Bounds.{IsMemoryWithin}
 use Rattle.smith_draw.specs.Memories.{memtype_at}
 use Rattle.smith_draw.proofs.CallerLemmas.{passes_but_imports}
 use Rattle.wasm_smith.specs.Definitions.{memories_at}
+use Rattle.wasm_smith.proofs.DefinedLemmas.{none_added, one_added}
 use Rattle.wasm_smith.proofs.DefinedLoop.{behind_start, behind_go, behind_stop, behind_full}
 use Rattle.wasm_smith.proofs.build.memories.drawn_memories.Goals as goal
 
@@ -13,7 +14,7 @@ pub loop-made-init : goal.loop-made-init
 loop-made-init c = record {
   behind = behind_start (λ _. memtype_at c.args.config.now) c.args.config.now.min_memories c.args.config.now.max_memories c.args.memories.now c.args.u.now;
   valid = λ before. before;
-  within = λ before. before;
+  within = none_added (IsMemoryWithin c.args.config.now) c.args.memories.now;
 }
 
 pub returns-then-not-goes_on-clause-draws : goal.returns-then-not-goes_on-clause-draws
@@ -21,7 +22,7 @@ unfolding memories_at
 returns-then-not-goes_on-clause-draws c =
     let count = c.len-imported.ensures in
     record {
-      exact = behind_stop c.loop-made.invariant.behind (rw count at c.loop-made-test.true) (rw (c.saturating_sub-needed.ensures, count) at c.goes_on.ensures.exact) c.if-not-goes_on.true;
+      exact = behind_stop c.loop-made.invariant.behind (rw (c.saturating_sub-made-end.ensures, count) at c.loop-made-test.true) (rw (c.saturating_sub-needed.ensures, count) at c.goes_on.ensures.exact) c.if-not-goes_on.true;
       memory = search rules;
       left = search rules;
     }
@@ -31,9 +32,9 @@ loop-made-preserved c =
     let count = c.len-imported.ensures in
     let pushed = c.in_ok-push.ensures.ok in
     record {
-      behind = behind_go c.loop-made.invariant.behind (rw count at c.loop-made-test.true) (rw (c.saturating_sub-needed.ensures, count) at c.goes_on.ensures.exact) c.if-not-goes_on.false c.in_ok-memory.ensures.exact pushed c.goes_on.ensures.left c.in_ok-memory.ensures.left;
+      behind = behind_go c.loop-made.invariant.behind (rw (c.saturating_sub-made-end.ensures, count) at c.loop-made-test.true) (rw (c.saturating_sub-needed.ensures, count) at c.goes_on.ensures.exact) c.if-not-goes_on.false c.in_ok-memory.ensures.exact pushed c.goes_on.ensures.left c.in_ok-memory.ensures.left;
       valid = λ before. rw pushed (All-push (IsMemoryValid (features_of c.args.config.now)) _ _ (c.loop-made.invariant.valid before) (c.in_ok-memory.ensures.valid (passes_but_imports c.args.config.now c.requires.passes)));
-      within = λ before. rw pushed (All-push (IsMemoryWithin c.args.config.now) _ _ (c.loop-made.invariant.within before) c.in_ok-memory.ensures.within);
+      within = one_added (IsMemoryWithin c.args.config.now) c.in_ok-memory.memory c.loop-made.invariant.within pushed c.in_ok-memory.ensures.within;
     }
 
 pub returns-clause-draws : goal.returns-clause-draws
@@ -41,7 +42,7 @@ unfolding memories_at
 returns-clause-draws c =
     let count = c.len-imported.ensures in
     record {
-      exact = behind_full c.loop-made.invariant.behind c.requires.imported (rw count at c.loop-made-test.false) (rw count at c.ask_past_full.ensures.exact);
+      exact = behind_full c.loop-made.invariant.behind (rw (c.saturating_sub-made-end.ensures, count) at c.loop-made-test.false) (rw count at c.ask_past_full.ensures.exact);
       memory = search rules;
       left = search rules;
     }

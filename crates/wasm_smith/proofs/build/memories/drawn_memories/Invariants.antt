@@ -3,6 +3,7 @@ use Rattle.smith_types.specs.Entities.{IsMemoryValid}
 use Rattle.smith_config.specs.Features.{features_of}
 use Rattle.smith_draw.specs.Bounds.{IsMemoryWithin}
 use Rattle.smith_draw.specs.Memories.{memtype_at}
+use Rattle.wasm_smith.specs.Defined.{AreAdded}
 use Rattle.wasm_smith.proofs.DefinedLoop.{IsBehind}
 use Rattle.wasm_smith.proofs.build.memories.drawn_memories.Given as goal
 
@@ -10,5 +11,5 @@ abbrev pub invariant-loop-made : goal.invariant-loop-made
 invariant-loop-made l = record {
   behind : IsBehind (λ _. memtype_at l.config) l.config.min_memories l.config.max_memories l.fn.memories l.memories l.made l.fn.u l.u;
   valid : All (IsMemoryValid (features_of l.config)) l.fn.memories → All (IsMemoryValid (features_of l.config)) l.memories;
-  within : All (IsMemoryWithin l.config) l.fn.memories → All (IsMemoryWithin l.config) l.memories;
+  within : AreAdded (IsMemoryWithin l.config) l.fn.memories l.memories;
 }

@@ -9,12 +9,12 @@ use Rattle.wasm_smith.proofs.build.memories.memories.Goals as goal
 
 pub returns-clause-filled : goal.returns-clause-filled
 returns-clause-filled c =
-    of_state (IsFilled c.args.config.now.min_memories c.args.config.now.max_memories c.args.memories.now) c.drawn_memories.ensures.draws (memories_filled _ _ _ (c.requires.passes.ordered Memories tt) c.requires.imported)
+    of_state (IsFilled c.args.config.now.min_memories c.args.config.now.max_memories c.args.memories.now) c.drawn_memories.ensures.draws (memories_filled _ _ _ (c.requires.passes.ordered Memories tt))
 
 pub returns-clause-several : goal.returns-clause-several
-returns-clause-several c =
-    on_ok_weaker c.drawn_memories.result (memories_several c.args.config.now c.args.memories.now c.drawn_memories.new.memories)
-    (of_state (IsFilled c.args.config.now.min_memories c.args.config.now.max_memories c.args.memories.now) c.drawn_memories.ensures.draws (memories_filled _ _ _ (c.requires.passes.ordered Memories tt) c.requires.imported))
+returns-clause-several c = λ stood.
+    on_ok_weaker c.drawn_memories.result (memories_several c.args.config.now c.args.memories.now c.drawn_memories.new.memories stood)
+    (of_state (IsFilled c.args.config.now.min_memories c.args.config.now.max_memories c.args.memories.now) c.drawn_memories.ensures.draws (memories_filled _ _ _ (c.requires.passes.ordered Memories tt)))
 
 pub returns-clause-none : goal.returns-clause-none
 returns-clause-none c = λ none empty.

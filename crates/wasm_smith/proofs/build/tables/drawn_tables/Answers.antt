@@ -8,15 +8,15 @@ loop-made-init c = rw c.new-initials.ensures (tables_start c.args.config.now (st
 pub returns-then-not-goes_on-clause-exact : goal.returns-then-not-goes_on-clause-exact
 returns-then-not-goes_on-clause-exact c =
     let count = c.len-imported.ensures in
-    tables_stop c.loop-made.invariant (rw count at c.loop-made-test.true) (rw (c.saturating_sub-least.ensures, count) at c.goes_on.ensures.exact) c.if-not-goes_on.true
+    tables_stop c.loop-made.invariant (rw (c.saturating_sub-most.ensures, count) at c.loop-made-test.true) (rw (c.saturating_sub-least.ensures, count) at c.goes_on.ensures.exact) c.if-not-goes_on.true
 
 pub loop-made-preserved : goal.loop-made-preserved
 loop-made-preserved c =
     let count = c.len-imported.ensures in
-    tables_go c.loop-made.invariant (rw count at c.loop-made-test.true) (rw (c.saturating_sub-least.ensures, count) at c.goes_on.ensures.exact) c.if-not-goes_on.false
+    tables_go c.loop-made.invariant (rw (c.saturating_sub-most.ensures, count) at c.loop-made-test.true) (rw (c.saturating_sub-least.ensures, count) at c.goes_on.ensures.exact) c.if-not-goes_on.false
     c.in_ok-table.ensures.draws.exact c.in_ok-table.ensures.fit c.in_ok-push.ensures.ok c.in_ok-push-2.ensures.ok c.goes_on.ensures.left c.in_ok-table.ensures.draws.left
 
 pub returns-clause-exact : goal.returns-clause-exact
 returns-clause-exact c =
     let count = c.len-imported.ensures in
-    tables_full c.loop-made.invariant c.requires.imported (rw count at c.loop-made-test.false) (rw count at c.ask_past_full.ensures.exact)
+    tables_full c.loop-made.invariant (rw (c.saturating_sub-most.ensures, count) at c.loop-made-test.false) (rw count at c.ask_past_full.ensures.exact)

@@ -5,17 +5,17 @@ use Rattle.smith_config.specs.Features.{features_of}
 use Rattle.smith_draw.specs.Bounds.{IsTableWithin}
 use Rattle.wasm_smith.specs.Defined.{standing_of}
 use Rattle.smith_imports.specs.Imported.{HasNullableElements}
-use Rattle.wasm_smith.proofs.DefinedTableLemmas.{tables_fill, several_tables, tables_all, tables_defined, tables_no_float, no_table_taken}
+use Rattle.wasm_smith.proofs.DefinedTableLemmas.{tables_fill, several_tables, tables_added, tables_all, tables_defined, tables_no_float, no_table_taken}
 use Rattle.wasm_smith.proofs.build.tables.tables.Goals as goal
 
 pub returns-clause-filled : goal.returns-clause-filled
 returns-clause-filled c =
-    IfOk-weaker c.drawn_tables.result _ _ (λ initials. tables_fill c.args.config.now (standing_of c.args.spaces.now) _ _ initials _ _ (c.requires.may.passes.ordered Tables tt) c.requires.imported) c.drawn_tables.ensures.exact
+    IfOk-weaker c.drawn_tables.result _ _ (λ initials. tables_fill c.args.config.now (standing_of c.args.spaces.now) _ _ initials _ _ (c.requires.may.passes.ordered Tables tt)) c.drawn_tables.ensures.exact
 
 pub returns-clause-several : goal.returns-clause-several
-returns-clause-several c =
+returns-clause-several c = λ stood.
     IfOk-weaker c.drawn_tables.result _ _
-    (λ initials exact. several_tables c.args.config.now _ _ c.requires.may.sanitized (tables_fill c.args.config.now (standing_of c.args.spaces.now) _ _ initials _ _ (c.requires.may.passes.ordered Tables tt) c.requires.imported exact))
+    (λ initials exact. several_tables c.args.config.now _ _ c.requires.may.sanitized stood (tables_fill c.args.config.now (standing_of c.args.spaces.now) _ _ initials _ _ (c.requires.may.passes.ordered Tables tt) exact))
     c.drawn_tables.ensures.exact
 
 pub returns-clause-valid : goal.returns-clause-valid
@@ -23,10 +23,10 @@ returns-clause-valid c = λ all.
     IfOk-weaker c.drawn_tables.result _ _ (λ initials drawn. tables_all (IsTableValid (features_of c.args.config.now) c.args.spaces.now.types.now.types) (λ one fit. fit.valid) drawn all) c.drawn_tables.ensures.drawn
 
 pub returns-clause-within : goal.returns-clause-within
-returns-clause-within c = λ all. IfOk-weaker c.drawn_tables.result _ _ (λ initials drawn. tables_all (IsTableWithin c.args.config.now) (λ one fit. fit.within) drawn all) c.drawn_tables.ensures.drawn
+returns-clause-within c = IfOk-weaker c.drawn_tables.result _ _ (λ initials drawn. tables_added (IsTableWithin c.args.config.now) (λ one fit. fit.within) drawn) c.drawn_tables.ensures.drawn
 
 pub returns-clause-nullable : goal.returns-clause-nullable
-returns-clause-nullable c = λ all. IfOk-weaker c.drawn_tables.result _ _ (λ initials drawn. tables_all HasNullableElements (λ one fit. fit.nullable) drawn all) c.drawn_tables.ensures.drawn
+returns-clause-nullable c = IfOk-weaker c.drawn_tables.result _ _ (λ initials drawn. tables_added HasNullableElements (λ one fit. fit.nullable) drawn) c.drawn_tables.ensures.drawn
 
 pub returns-clause-defined : goal.returns-clause-defined
 returns-clause-defined c = IfOk-weaker c.drawn_tables.result _ _ (λ initials drawn. tables_defined drawn) c.drawn_tables.ensures.drawn

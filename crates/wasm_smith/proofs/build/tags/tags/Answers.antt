@@ -8,13 +8,13 @@ use Rattle.wasm_smith.proofs.TypedLemmas.{tags_are, tags_enabled, no_tag_read}
 use Rattle.wasm_smith.proofs.build.tags.tags.Goals as goal
 
 pub returns-clause-filled : goal.returns-clause-filled
-returns-clause-filled c = on_ok_weaker c.drawn_tags.result (λ are. are.filled) (tags_are _ _ _ _ _ _ c.drawn_tags.result (c.requires.passes.ordered Tags tt) c.requires.imported c.drawn_tags.ensures.exact)
+returns-clause-filled c = on_ok_weaker c.drawn_tags.result (λ are. are.filled) (tags_are _ _ _ _ _ _ c.drawn_tags.result (c.requires.passes.ordered Tags tt) c.drawn_tags.ensures.exact)
 
 pub returns-clause-valid : goal.returns-clause-valid
-returns-clause-valid c = λ before. on_ok_weaker c.drawn_tags.result (λ are. are.valid before) (tags_are _ _ _ _ _ _ c.drawn_tags.result (c.requires.passes.ordered Tags tt) c.requires.imported c.drawn_tags.ensures.exact)
+returns-clause-valid c = λ before. on_ok_weaker c.drawn_tags.result (λ are. are.valid before) (tags_are _ _ _ _ _ _ c.drawn_tags.result (c.requires.passes.ordered Tags tt) c.drawn_tags.ensures.exact)
 
 pub returns-clause-enabled : goal.returns-clause-enabled
-returns-clause-enabled c = λ before. on_ok_weaker c.drawn_tags.result (λ are. tags_enabled c.args.config.now c.args.types.now.types _ _ are before) (tags_are _ _ _ _ _ _ c.drawn_tags.result (c.requires.passes.ordered Tags tt) c.requires.imported c.drawn_tags.ensures.exact)
+returns-clause-enabled c = λ before. on_ok_weaker c.drawn_tags.result (λ are. tags_enabled c.args.config.now c.args.types.now.types _ _ are before) (tags_are _ _ _ _ _ _ c.drawn_tags.result (c.requires.passes.ordered Tags tt) c.drawn_tags.ensures.exact)
 
 pub returns-clause-none : goal.returns-clause-none
 returns-clause-none c = λ none empty.

@@ -1,0 +1,14 @@
+use Rattle.std.proofs.Common.{arith}
+use Rattle.smith_bytes.specs.declared.error.Count.TheVariants.{Types}
+use Rattle.wasm_smith.proofs.ContentsLemmas.{may_hold_contents}
+use Rattle.wasm_smith.proofs.DrawnStepLemmas.{may_define}
+use Rattle.wasm_smith.proofs.build.drawn.parts.Goals as goal
+
+pub define-requires : goal.define-requires
+define-requires c = record {
+  may = may_define c.requires.passes c.requires.sanitized c.in_ok-drawn.ensures.valid c.in_ok-drawn.ensures.least (omega (arith, c.in_ok-drawn.ensures.most, c.requires.passes.few Types)) c.in_ok-drawn.ensures.nullable c.in_ok-imports.ensures.so_far;
+}
+
+pub draw_contents-requires-clause-may : goal.draw_contents-requires-clause-may
+draw_contents-requires-clause-may c =
+    may_hold_contents c.requires.passes c.requires.sanitized c.in_ok-drawn.ensures.valid c.in_ok-drawn.ensures.small c.in_ok-drawn.ensures.nullable c.in_ok-imports.ensures.so_far c.in_ok-drawn-2.ensures.defined
