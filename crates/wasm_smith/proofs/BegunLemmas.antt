@@ -1,7 +1,7 @@
 -- What a module begins with: what a shape imports is valid and not too much, and what is made of an answer is answered.
-use Rattle.std.proofs.Common.{◌≡◌, ◌∙◌, ◌⊎◌, ℕ, zero, suc, ◌+◌, ◌<◌, ◌≤◌, ◌^◌, Bool, true, false, List, [], ◌∷◌, ◌++◌, length, inl, inr, refl, sym, ap, subst, arith, lt-ltb, length-append, append-nil}
-use Rattle.std.specs.Prelude.{All, IsTrue, IfSome, Option, Some, None, Result, Ok, Err, IsErrAnd}
-use Rattle.std.specs.List.{Contains, flat_map}
+use Rattle.std.proofs.Common.{◌≡◌, ◌⊎◌, ℕ, ◌+◌, ◌<◌, ◌≤◌, ◌^◌, Bool, true, false, List, [], ◌∷◌, ◌++◌, length, inl, inr, refl, sym, ap, subst, arith, lt-ltb, length-append, append-nil}
+use Rattle.std.specs.Prelude.{All, IsTrue, IfSome, Option, Some, None, Result, Err, IsErrAnd}
+use Rattle.std.specs.List.{Contains}
 use Rattle.std.proofs.lemmas.List.Elements.{All-weaker, Contains-append_left}
 use Rattle.smith_bytes.specs.declared.error.Count.{Count}
 use Rattle.smith_bytes.specs.declared.error.Count.TheVariants as counts

@@ -4,8 +4,7 @@ use Rattle.std.specs.Prelude.{Option, Some, None, All, IfSome, IsSome, IsTrue, s
 use Rattle.std.specs.List.{flat_map, AllByRecursion as Each}
 use Rattle.std.proofs.lemmas.Bool.{and_right}
 use Rattle.std.proofs.lemmas.List.{length-map}
-use Rattle.std.proofs.lemmas.List.Elements.{All-nil, All-cons, All-append, All-map, All-weaker, recursion_from_All}
-use Rattle.smith_bytes.specs.declared.error.Count.TheVariants as counts
+use Rattle.std.proofs.lemmas.List.Elements.{All-nil, All-cons, All-map, All-weaker, recursion_from_All}
 use Rattle.smith_bytes.specs.declared.error.Error.{Error}
 use Rattle.smith_bytes.specs.declared.error.Error.TheVariants.{Memory}
 use Rattle.smith_bytes.specs.Takes.{Takes}

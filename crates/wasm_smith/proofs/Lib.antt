@@ -31,3 +31,4 @@ pub mod RequiredMoreLemmas
 pub mod RequiredExportsLoop
 pub mod BegunLemmas
 pub mod TypesGrownLemmas
+pub mod GrownSizeLemmas

@@ -1,12 +1,12 @@
 -- Types that stand stay where types are drawn behind them, and where there are as many as may be none is drawn.
-use Rattle.std.proofs.Common.{◌≡◌, ◌∙◌, ℕ, zero, suc, ◌+◌, ◌<◌, ◌≤◌, Bool, true, false, cond, nat_lt, List, [], ◌∷◌, ◌++◌, length, refl, ap, arith, add-one}
+use Rattle.std.proofs.Common.{◌≡◌, ℕ, zero, suc, ◌+◌, ◌≤◌, Bool, true, false, nat_lt, List, [], ◌∷◌, ◌++◌, length, refl, arith}
 use Rattle.std.proofs.lemmas.Bool.{ltb-true}
 use Rattle.smith_bytes.specs.Growth.{goes_at, grow_at}
 use Rattle.smith_bytes.proofs.GrownLemmas.{cond_both}
 use Rattle.smith_types.specs.Grown.{Extends}
 use Rattle.smith_types.specs.Space.{Space}
 use Rattle.smith_config.specs.declared.config.Config.{Config}
-use Rattle.smith_draw.specs.RecGroups.{types_until_at, group_size_at, types_left, new_group_at, clone_rec_group_at, clone_wanted_at, cloned_or_new_at, rec_group_at, least_types_at, more_types_at, types_at, with_clone, may_be_cloned, members}
+use Rattle.smith_draw.specs.RecGroups.{types_until_at, new_group_at, clone_rec_group_at, clone_wanted_at, cloned_or_new_at, rec_group_at, least_types_at, more_types_at, types_at, with_clone, may_be_cloned, members}
 use Rattle.smith_draw.specs.Choices.{chosen_at}
 use Rattle.smith_draw.proofs.RecGroupLemmas.{least_keeps, more_keeps}
 use Rattle.wasm_smith.proofs.CountingLemmas.{all_kept}

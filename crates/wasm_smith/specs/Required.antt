@@ -1,5 +1,5 @@
 -- What the exports that a shape fixes need and keep, and when they may be refused. Rules of this project.
-use Rattle.std.specs.Prelude.{◌≡◌, false, ℕ, ◌+◌, ◌<◌, ◌≤◌, ◌^◌, ◌⊎◌, Bool, true, Option, Some, None, List, length, slice_get, All}
+use Rattle.std.specs.Prelude.{◌≡◌, false, ℕ, ◌+◌, ◌<◌, ◌≤◌, ◌⊎◌, Bool, true, Option, Some, None, List, length, slice_get, All}
 use Rattle.std.specs.List.{Any, AllZip, Contains}
 use Rattle.smith_bytes.specs.declared.error.Count.{Count}
 use Rattle.smith_bytes.specs.declared.error.Count.TheVariants as counts

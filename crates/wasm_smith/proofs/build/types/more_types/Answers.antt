@@ -1,7 +1,6 @@
-use Rattle.std.proofs.Common.{◌≡◌, ℕ, List, ap, subst, sym}
+use Rattle.std.proofs.Common.{◌≡◌, ℕ, List, ap}
 use Rattle.smith_bytes.specs.declared.error.Count.TheVariants.{Types}
 use Rattle.smith_types.specs.Space.{Space}
-use Rattle.smith_draw.specs.RecGroups.{types_at}
 use Rattle.std.proofs.lemmas.Result.{on_ok_weaker}
 use Rattle.wasm_smith.proofs.TypesGrownLemmas.{types_behind, types_full}
 use Rattle.wasm_smith.proofs.build.types.more_types.Goals as goal
