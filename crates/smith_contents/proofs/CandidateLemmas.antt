@@ -13,14 +13,12 @@ use Rattle.smith_types.specs.declared.entity_type.EntityType.TheVariants as enti
 use Rattle.smith_types.specs.declared.entity_type.ExportKind.{ExportKind}
 use Rattle.smith_types.specs.declared.entity_type.ExportKind.TheVariants as kind
 use Rattle.smith_draw.specs.Choices.{chosen_at}
-use Rattle.smith_draw.specs.FuncSizes.{IsSmall}
 use Rattle.smith_draw.specs.TypeUses.{places_from}
 use Rattle.smith_draw.proofs.EnabledLemmas.{enabled_all}
 use Rattle.smith_draw.proofs.SupertypeLemmas.{chosen_of}
 use Rattle.smith_draw.proofs.TypeUseLemmas.{IsPassing, places_pass}
 use Rattle.smith_contents.specs.Exporting.{is_func_below, candidates, candidate_rows, offered_kinds}
-use Rattle.smith_contents.specs.Exported.{MayExport, IsCandidate}
-use Rattle.smith_imports.proofs.ImportedEntityLemmas.{small_at}
+use Rattle.smith_contents.specs.Exported.{IsSized, IsFuncWithin, MayExport, MayOffer, IsCandidate}
 
 -- a test that all items pass gives all places
 pub length_all : {A : Type 0} (test : A → Bool) (n : ℕ) (xs : List A) → All (λ x. test x ≡ true) xs → length (places_from test n xs) ≡ length xs
@@ -47,15 +45,17 @@ pub at_alike : {A : Type 0} (b : Bool) (xs : List A) (place : ℕ) → place < l
 at_alike true xs place below = at_all (λ x. true) 0 xs place (λ i d under. refl) (rw (length_alike true 0 xs) at below) ∙ omega arith
 at_alike false xs place below = absurd (omega (arith, length_alike false 0 xs))
 
--- a function has a size of at most 41
-pub func_small : (types : List SubType) (func : ℕ) → All IsSmall types → IsFuncValid types func → size_in types (entity.Func func) ≤ 41
-func_small types func small (function, (t, at, is)) = small_at types small func t at
+-- the size of a function, and one more, has 32 bits
+pub func_sized : (types : List SubType) (func : ℕ) → All IsSized types → IsFuncValid types func → size_in types (entity.Func func) + 1 < 2 ^ 32
+func_sized types func all (function, (t, at, is)) =
+    let one : IsSized t = rw (get_or_from_slice_get types func t t at) at (all func t (slice_get_within types func t at)) in
+    rw at (omega (arith, one))
 
--- where more than 42 is left each function may be exported
-pub all_below : (types : List SubType) (left : ℕ) (funcs : List ℕ) → All IsSmall types → All (IsFuncValid types) funcs → 42 < left → All (λ func. is_func_below types left func ≡ true) funcs
-all_below types left funcs small valid much =
-    All-weaker (IsFuncValid types) (λ func. is_func_below types left func ≡ true)
-    (λ func h. lt-ltb (size_in types (entity.Func func) + 1) left (omega (arith, func_small types func small h))) funcs valid
+-- where more is left than the greatest size of a function each may be exported
+pub all_below : (types : List SubType) (most left : ℕ) (funcs : List ℕ) → All (IsFuncWithin types most) funcs → most < left → All (λ func. is_func_below types left func ≡ true) funcs
+all_below types most left funcs within much =
+    All-weaker (IsFuncWithin types most) (λ func. is_func_below types left func ≡ true)
+    (λ func h. lt-ltb (size_in types (entity.Func func) + 1) left (omega (arith, h))) funcs within
 
 -- a kind that is chosen among those that are offered has a candidate
 pub chosen_offered : (types : List SubType) (spaces : IndexSpaces) (left : ℕ) (bytes : List ℕ) (of_kind : ExportKind) (after : List ℕ) → 0 < length (offered_kinds types spaces left) → chosen_at kind.Memory (offered_kinds types spaces left) bytes ≡ (of_kind, after)
@@ -88,28 +88,28 @@ other_place types spaces left kind.Tag place may other below = absurd (omega ari
 func_valid_at : (types : List SubType) (spaces : IndexSpaces) (index func : ℕ) → MayExport types spaces → slice_get spaces.funcs index ≡ Some func → IsFuncValid types func
 func_valid_at types spaces index func may at = rw (get_or_from_slice_get spaces.funcs index func func at) at (may.funcs index func (slice_get_within spaces.funcs index func at))
 
--- a function that stands has a size of at most 41
-pub func_small_at : (types : List SubType) (spaces : IndexSpaces) (index func : ℕ) → MayExport types spaces → slice_get spaces.funcs index ≡ Some func → size_in types (entity.Func func) ≤ 41
-func_small_at types spaces index func may at = func_small types func may.small (func_valid_at types spaces index func may at)
+-- the size of a function that stands, and one more, has 32 bits
+pub func_sized_at : (types : List SubType) (spaces : IndexSpaces) (index func : ℕ) → MayExport types spaces → slice_get spaces.funcs index ≡ Some func → size_in types (entity.Func func) + 1 < 2 ^ 32
+func_sized_at types spaces index func may at = func_sized types func may.sized (func_valid_at types spaces index func may at)
 
 each_place : {A : Type 0} (test : A → Bool) (xs : List A) (P : ℕ → Type 0) → ((n : ℕ) → IsPassing test xs n → P n) → All P (places_from test 0 xs)
 each_place test xs P each = All-weaker (IsPassing test xs) P each (places_from test 0 xs) (places_pass test xs)
 
--- each candidate stands and is small enough
-pub candidates_fit : (types : List SubType) (spaces : IndexSpaces) (left : ℕ) (of_kind : ExportKind) → MayExport types spaces → All (IsCandidate types spaces left of_kind) (candidates types spaces left of_kind)
-candidates_fit types spaces left kind.Func may =
+-- each candidate stands and is below what is left
+pub candidates_fit : (types : List SubType) (spaces : IndexSpaces) (left : ℕ) (of_kind : ExportKind) → All (IsCandidate types spaces left of_kind) (candidates types spaces left of_kind)
+candidates_fit types spaces left kind.Func =
     each_place (is_func_below types left) spaces.funcs (IsCandidate types spaces left kind.Func)
-    (λ n h. record { stands = (entity.Func h.item, (h.item, h.stands, refl)); fits = rw h.stands (ltb-true (size_in types (entity.Func h.item) + 1) left h.passes); small = rw h.stands (func_small_at types spaces n h.item may h.stands) })
-candidates_fit types spaces left kind.Table may =
+    (λ n h. record { stands = (entity.Func h.item, (h.item, h.stands, refl)); fits = rw h.stands (ltb-true (size_in types (entity.Func h.item) + 1) left h.passes) })
+candidates_fit types spaces left kind.Table =
     each_place (λ table. nat_lt 2 left) spaces.tables (IsCandidate types spaces left kind.Table)
-    (λ n h. record { stands = (entity.Table h.item, (h.item, h.stands, refl)); fits = ltb-true 2 left h.passes; small = omega arith })
-candidates_fit types spaces left kind.Memory may =
+    (λ n h. record { stands = (entity.Table h.item, (h.item, h.stands, refl)); fits = ltb-true 2 left h.passes })
+candidates_fit types spaces left kind.Memory =
     each_place (λ memory. nat_lt 2 left) spaces.memories (IsCandidate types spaces left kind.Memory)
-    (λ n h. record { stands = (entity.Memory h.item, (h.item, h.stands, refl)); fits = ltb-true 2 left h.passes; small = omega arith })
-candidates_fit types spaces left kind.Global may =
+    (λ n h. record { stands = (entity.Memory h.item, (h.item, h.stands, refl)); fits = ltb-true 2 left h.passes })
+candidates_fit types spaces left kind.Global =
     each_place (λ global. nat_lt 2 left) spaces.globals (IsCandidate types spaces left kind.Global)
-    (λ n h. record { stands = (entity.Global h.item, (h.item, h.stands, refl)); fits = ltb-true 2 left h.passes; small = omega arith })
-candidates_fit types spaces left kind.Tag may = All-nil (IsCandidate types spaces left kind.Tag)
+    (λ n h. record { stands = (entity.Global h.item, (h.item, h.stands, refl)); fits = ltb-true 2 left h.passes })
+candidates_fit types spaces left kind.Tag = All-nil (IsCandidate types spaces left kind.Tag)
 
 -- the type of a function that stands is there
 pub func_typed_at : (types : List SubType) (spaces : IndexSpaces) (index func : ℕ) → MayExport types spaces → slice_get spaces.funcs index ≡ Some func → func < length types

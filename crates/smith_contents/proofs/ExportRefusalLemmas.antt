@@ -1,26 +1,33 @@
 -- Where exports run out, when they are refused, and which bytes none takes.
-use Rattle.std.proofs.Common.{◌≡◌, ℕ, zero, suc, ◌-◌, ◌<◌, Bool, true, false, List, [], ◌∷◌, ◌++◌, length, refl, ap, arith, nat_lt, lt-ltb, inl, inr, ◌∙◌}
-use Rattle.std.specs.Prelude.{Result, Ok, IfOk, if◌then◌else◌}
+use Rattle.std.proofs.Common.{◌≡◌, ℕ, zero, suc, ◌+◌, ◌*◌, ◌-◌, ◌<◌, ◌≤◌, Bool, true, false, List, [], ◌∷◌, ◌++◌, length, refl, ap, arith, nat_lt, lt-ltb, inl, inr, ◌∙◌}
+use Rattle.std.specs.Prelude.{Result, Ok, IfOk, All, Option, Some, None, slice_get, if◌then◌else◌}
+use Rattle.std.specs.Option.{option_map, unwrap_or}
 use Rattle.std.proofs.lemmas.Bool.{ltb-true, ltb-false}
+use Rattle.std.proofs.lemmas.List.Sums.{sum_by-cons}
 use Rattle.smith_bytes.specs.Spelling.{SpellsBool, SpellsNone}
 use Rattle.smith_bytes.specs.Takes.{Takes}
 use Rattle.smith_bytes.specs.declared.error.Error.{Error}
 use Rattle.smith_bytes.proofs.SpelledLemmas.{bool_read}
 use Rattle.smith_types.specs.Imports.{IndexSpaces}
+use Rattle.smith_types.specs.Sizes.{size_in}
 use Rattle.smith_types.specs.declared.composite_type.SubType.{SubType}
+use Rattle.smith_types.specs.declared.entity_type.EntityType.TheVariants as entity
 use Rattle.smith_types.specs.declared.entity_type.ExportKind.{ExportKind}
 use Rattle.smith_types.specs.declared.entity_type.ExportKind.TheVariants as kind
 use Rattle.smith_config.specs.declared.config.Config.{Config}
+use Rattle.smith_config.specs.InUse.{HasNoShapes}
+use Rattle.smith_draw.specs.FuncSizes.{IsSmall}
 use Rattle.smith_draw.specs.Choices.{enabled}
 use Rattle.smith_draw.specs.TypeUses.{places_from}
 use Rattle.smith_imports.specs.Steps.{Gives}
 use Rattle.smith_bytes.specs.Spelling.{SpellsEmpty}
-use Rattle.smith_contents.specs.Exporting.{Export, candidates, candidate_row, offered_kinds, exports_from, free_exports_at}
+use Rattle.smith_contents.specs.Exporting.{Export, item_size, exported_size, candidates, candidate_row, offered_kinds, exports_from, free_exports_at}
 use Rattle.smith_contents.specs.Exported.{MayExportFreely, AreExported, MayRunOut}
 use Rattle.smith_contents.specs.AllExports.{everything_at, exports_at}
 use Rattle.smith_contents.specs.declared.exported.Exports.{Exports}
 use Rattle.smith_contents.proofs.CandidateLemmas.{length_alike}
 use Rattle.smith_imports.proofs.GivenLemmas.{given_takes}
+use Rattle.smith_imports.proofs.ImportedEntityLemmas.{small_at}
 
 -- where nothing is enabled the first is not, nor another
 off_by : {A : Type 0} (x : A) (b : Bool) (rest : List (A × Bool)) → length (enabled ((x, b) ∷ rest)) ≡ 0 → (b ≡ false) × (length (enabled rest) ≡ 0)
@@ -35,12 +42,35 @@ none_of_kind left xs much none =
     let few = ltb-false 0 (length (places_from (λ x. nat_lt 2 left) 0 xs)) none in
     omega (arith, few, all)
 
-run_out_by : (config : Config) (types : List SubType) (spaces : IndexSpaces) (imports : ℕ) (exports : List Export) (size : ℕ) (much : Bool) → nat_lt 42 (config.max_type_size - size) ≡ much → MayExportFreely config types spaces imports → AreExported config types spaces imports exports size → length exports < config.min_exports
+-- a function of a small type has a size of at most 41, and what does not stand has 1
+small_size : (types : List SubType) (func : ℕ) (found : Option SubType) → All IsSmall types → slice_get types func ≡ found → size_in types (entity.Func func) ≤ 41
+small_size types func (Some t) small at = small_at types small func t at
+small_size types func None small at = rw at (omega arith)
+
+small_func : (types : List SubType) → All IsSmall types → (found : Option ℕ) → unwrap_or (option_map (λ func. size_in types (entity.Func func)) found) 1 ≤ 41
+small_func types small (Some func) = small_size types func (slice_get types func) small refl
+small_func types small None = omega arith
+
+-- over small types an export adds at most 42 to the type size
+small_item : (types : List SubType) (spaces : IndexSpaces) (of_kind : ExportKind) (index : ℕ) → All IsSmall types → item_size types spaces of_kind index ≤ 41
+small_item types spaces kind.Func index small = small_func types small (slice_get spaces.funcs index)
+small_item types spaces kind.Table index small = omega arith
+small_item types spaces kind.Memory index small = omega arith
+small_item types spaces kind.Global index small = omega arith
+small_item types spaces kind.Tag index small = omega arith
+
+small_exports : (types : List SubType) (spaces : IndexSpaces) (exports : List Export) → All IsSmall types → exported_size types spaces exports ≤ 42 * length exports
+small_exports types spaces [] small = omega arith
+small_exports types spaces (one ∷ exports) small =
+    let parts = sum_by-cons (λ (each : Export). item_size types spaces each.1 each.2 + 1) one exports in
+    omega (arith, parts, small_item types spaces one.1 one.2 small, small_exports types spaces exports small)
+
+run_out_by : (config : Config) (types : List SubType) (spaces : IndexSpaces) (imports : ℕ) (exports : List Export) (size : ℕ) (much : Bool) → nat_lt 42 (config.max_type_size - size) ≡ much → MayExportFreely config types spaces imports → AreExported config types spaces imports exports size → HasNoShapes config → length exports < config.min_exports
     → nat_lt 0 (length (offered_kinds types spaces (config.max_type_size - size))) ≡ false → MayRunOut config
-run_out_by config types spaces imports exports size false much may kept few none =
+run_out_by config types spaces imports exports size false much may kept no_shapes few none =
     let little = ltb-false 42 (config.max_type_size - size) much in
-    inl (omega (arith, little, kept.fit.type_size, kept.small, may.small))
-run_out_by config types spaces imports exports size true much may kept few none =
+    inl (omega (arith, little, kept.fit.type_size, small_exports types spaces exports (may.small no_shapes), may.small_imports no_shapes))
+run_out_by config types spaces imports exports size true much may kept no_shapes few none =
     let left = config.max_type_size - size in
     let more = ltb-true 42 left much in
     let nothing = ltb-false 0 (length (offered_kinds types spaces left)) none in
@@ -60,10 +90,10 @@ run_out_by config types spaces imports exports size true much may kept few none 
       globals = omega (arith, none_of_kind left spaces.globals more global.0, may.globals);
     })
 
--- where exports end for want of a candidate they are too large together, or there may be no item
-pub run_out : (config : Config) (types : List SubType) (spaces : IndexSpaces) (imports : ℕ) (exports : List Export) (size : ℕ) → MayExportFreely config types spaces imports → AreExported config types spaces imports exports size → length exports < config.min_exports
+-- where exports end for want of a candidate, without shapes, they are too large together, or there may be no item
+pub run_out : (config : Config) (types : List SubType) (spaces : IndexSpaces) (imports : ℕ) (exports : List Export) (size : ℕ) → MayExportFreely config types spaces imports → AreExported config types spaces imports exports size → HasNoShapes config → length exports < config.min_exports
     → nat_lt 0 (length (offered_kinds types spaces (config.max_type_size - size))) ≡ false → MayRunOut config
-run_out config types spaces imports exports size may kept few none = run_out_by config types spaces imports exports size (nat_lt 42 (config.max_type_size - size)) refl may kept few none
+run_out config types spaces imports exports size may kept no_shapes few none = run_out_by config types spaces imports exports size (nat_lt 42 (config.max_type_size - size)) refl may kept no_shapes few none
 
 no_exports_by : (config : Config) (types : List SubType) (spaces : IndexSpaces) (imports most : ℕ) (piece after : List ℕ) → config.min_exports ≡ 0 → SpellsNone most piece → exports_from config types spaces imports most [] (piece ++ after) ≡ ([], after)
 unfolding exports_from

@@ -27,7 +27,7 @@ none_exported {names = names} config types spaces imports start within empty =
     let all : config.max_exports - 0 ≡ config.max_exports = omega arith in
     record {
       count_is = refl;
-      kept = record { fit = none_fit config types spaces imports within; most = omega arith; small = omega arith };
+      kept = record { fit = none_fit config types spaces imports within; most = omega arith };
       names_are = record { has = λ name. rw empty refl; size = rw empty refl };
       so_far = rw all refl;
       left = λ whole h. h;
@@ -38,11 +38,9 @@ kept_more : {config : Config} {types : List SubType} {spaces : IndexSpaces} {imp
     → IsCandidate types spaces left one.1 one.2 → AreExported config types spaces imports (exports ++ one ∷ []) (size + (item_size types spaces one.1 one.2 + 1))
 kept_more {types = types} {spaces = spaces} {exports = exports} one kept room left_is fresh candidate =
     let longer = length-append exports (one ∷ []) in
-    let more = sum_by-append (λ (each : Export). item_size types spaces each.1 each.2 + 1) exports (one ∷ []) in
     record {
       fit = fit_push one kept.fit fresh candidate.stands (omega (arith, kept.fit.within, candidate.fits));
       most = omega (arith, longer);
-      small = omega (arith, more, longer, candidate.small, kept.small);
     }
 
 module _ {S : Type 0} {config : Config} {types : List SubType} {spaces : IndexSpaces} {imports count : ℕ} {exports : List Export} {size : ℕ} {names : HashSet (String Global) S} {start bytes : List ℕ} where

@@ -1,4 +1,5 @@
 pub mod PlaceOfListLemmas
+pub mod SizedLemmas
 pub mod AllExportsLemmas
 pub mod AllExportsLoop
 pub mod CandidateLemmas

@@ -7,11 +7,13 @@ use Rattle.smith_bytes.specs.declared.error.Count.TheVariants as counts
 use Rattle.smith_types.specs.Entities.{IsFuncValid}
 use Rattle.smith_types.specs.Exports.{IsEntityAt, AreExportsValid}
 use Rattle.smith_types.specs.Imports.{IndexSpaces}
+use Rattle.smith_types.specs.Sizes.{size_in, value_count}
 use Rattle.smith_types.specs.declared.composite_type.SubType.{SubType}
 use Rattle.smith_types.specs.declared.entity_type.EntityType.{EntityType}
+use Rattle.smith_types.specs.declared.entity_type.EntityType.TheVariants as entity
 use Rattle.smith_types.specs.declared.entity_type.ExportKind.{ExportKind}
 use Rattle.smith_config.specs.declared.config.Config.{Config}
-use Rattle.smith_config.specs.InUse.{FixesExports}
+use Rattle.smith_config.specs.InUse.{FixesExports, HasNoShapes}
 use Rattle.smith_draw.specs.FuncSizes.{IsSmall}
 use Rattle.smith_contents.specs.Exporting.{Export, item_size, exported_size}
 
@@ -23,19 +25,33 @@ pub record IsIndexed (spaces : IndexSpaces) : Type 0 where
   pub globals : length spaces.globals < 2 ^ 32
   pub tags : length spaces.tags < 2 ^ 32
 
--- items of index spaces may be exported over these types: the functions have small types, and indices have 32 bits
+-- a type whose functions have a size that has 32 bits, with one more
+abbrev pub IsSized : SubType → Type 0
+IsSized t = value_count t.composite_type.inner + 2 < 2 ^ 32
+
+-- items of index spaces may be exported over these types: sizes of functions, and indices, have 32 bits
 pub record MayExport (types : List SubType) (spaces : IndexSpaces) : Type 0 where
-  pub small : All IsSmall types
+  pub sized : All IsSized types
   pub funcs : All (IsFuncValid types) spaces.funcs
   pub few : IsIndexed spaces
 
+-- the size of a function, and one more, is at most that much
+abbrev pub IsFuncWithin : List SubType → ℕ → ℕ → Type 0
+IsFuncWithin types most func = size_in types (entity.Func func) + 1 ≤ most
+
+-- items may be offered for exports, where no function has a greater size, with one more
+pub record MayOffer (types : List SubType) (spaces : IndexSpaces) (most : ℕ) : Type 0 where
+  pub items : MayExport types spaces
+  pub within : All (IsFuncWithin types most) spaces.funcs
+
 -- exports may be drawn beside what the imports add to the type size: there are as many tables, memories and globals as are
--- asked for, and an import adds at most 42
+-- asked for, and without shapes function types are small, and an import adds at most 42
 pub record MayExportFreely (config : Config) (types : List SubType) (spaces : IndexSpaces) (imports : ℕ) : Type 0 where
   pub items : MayExport types spaces
   pub ordered : config.min_exports ≤ config.max_exports
   pub within : imports ≤ config.max_type_size
-  pub small : imports ≤ 42 * config.max_imports
+  pub small : HasNoShapes config → All IsSmall types
+  pub small_imports : HasNoShapes config → imports ≤ 42 * config.max_imports
   pub tables : config.min_tables ≤ length spaces.tables
   pub memories : config.min_memories ≤ length spaces.memories
   pub globals : config.min_globals ≤ length spaces.globals
@@ -48,7 +64,6 @@ IsStanding spaces of_kind index = (ty : EntityType) × IsEntityAt spaces of_kind
 pub record IsCandidate (types : List SubType) (spaces : IndexSpaces) (left : ℕ) (of_kind : ExportKind) (index : ℕ) : Type 0 where
   pub stands : IsStanding spaces of_kind index
   pub fits : item_size types spaces of_kind index + 1 < left
-  pub small : item_size types spaces of_kind index ≤ 41
 
 -- exports are valid; the type size is that of imports and exports, and within the bound
 pub record AreExportsFit (config : Config) (types : List SubType) (spaces : IndexSpaces) (imports : ℕ) (exports : List Export) (size : ℕ) : Type 0 where
@@ -56,11 +71,10 @@ pub record AreExportsFit (config : Config) (types : List SubType) (spaces : Inde
   pub type_size : size ≡ imports + exported_size types spaces exports
   pub within : size ≤ config.max_type_size
 
--- exports that are drawn freely: no more than may be, and each adds at most 42 to the type size
+-- exports that are drawn freely: no more than may be
 pub record AreExported (config : Config) (types : List SubType) (spaces : IndexSpaces) (imports : ℕ) (exports : List Export) (size : ℕ) : Type 0 where
   pub fit : AreExportsFit config types spaces imports exports size
   pub most : length exports ≤ config.max_exports
-  pub small : exported_size types spaces exports ≤ 42 * length exports
 
 -- where no table, no memory and no global is asked for, so that there may be nothing to export
 pub record MayHaveNoExports (config : Config) : Type 0 where
@@ -68,13 +82,14 @@ pub record MayHaveNoExports (config : Config) : Type 0 where
   pub memories : config.min_memories ≡ 0
   pub globals : config.min_globals ≡ 0
 
--- where exports may end before there are as many as are asked for: they may be too large together, or there may be no item
+-- where exports may end, without shapes, before there are as many as are asked for: they may be too large together, or there may
+-- be no item
 abbrev pub MayRunOut : Config → Type 0
 MayRunOut config = (config.max_type_size ≤ 42 * (config.max_imports + config.min_exports)) ⊎ MayHaveNoExports config
 
 -- when exports that are drawn freely may be refused: for want of memory, or where a minimum above zero may stay unmet
 abbrev pub MayRefuseFree : Config → Error → Type 0
-MayRefuseFree config e = (e ≡ errors.Memory) ⊎ ((e ≡ errors.IncorrectFormat (Unmet counts.Exports)) × (0 < config.min_exports) × MayRunOut config)
+MayRefuseFree config e = (e ≡ errors.Memory) ⊎ ((e ≡ errors.IncorrectFormat (Unmet counts.Exports)) × (0 < config.min_exports) × (HasNoShapes config → MayRunOut config))
 
 -- when the exports of every item may be refused: for want of memory, or where they are too large together
 abbrev pub MayRefuseAll : Error → Type 0

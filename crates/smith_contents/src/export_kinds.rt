@@ -1,35 +1,57 @@
-ghost use Rattle.std.specs.Prelude.{◌≡◌, ◌<◌, ◌^◌, nat_lt, length, slice_index_or, All, if◌then◌else◌};
+ghost use Rattle.std.specs.Prelude.{◌≡◌, ◌+◌, ◌<◌, ◌^◌, nat_lt, length, slice_index_or, All, if◌then◌else◌};
 ghost use Rattle.smith_types.specs.Entities.{IsFuncValid};
 ghost use Rattle.smith_types.specs.IndexSpaces.{spaces_in};
+ghost use Rattle.smith_types.specs.Sizes.{size_in};
 ghost use Rattle.smith_draw.specs.Choices.{chosen_at};
 ghost use Rattle.smith_draw.specs.Drawing.{AlwaysDraws};
-ghost use Rattle.smith_draw.specs.FuncSizes.{IsSmall};
 ghost use Rattle.smith_draw.specs.TypeUses.{places_from};
 ghost use Rattle.smith_contents.specs.Exporting.{is_func_below, candidates, candidate_row, candidate_rows, offered_kinds};
-ghost use Rattle.smith_contents.specs.Exported.{MayExport, IsCandidate};
+ghost use Rattle.smith_contents.specs.Exported.{IsSized, IsFuncWithin, MayOffer, IsCandidate};
 
 use smith_bytes::Unstructured;
 use smith_imports::{choose_enabled, count_enabled};
 use smith_types::{EntityType, ExportKind, IndexSpaces, TypeSpace};
 
-/// The size of a function and one more, at most.
-const MOST_OF_FUNC: u32 = 42;
-
 /// The size of a table, a memory or a global, and one more.
 const SIZE_OF_OTHER: u32 = 2;
 
+/// The size of a function of the type of this index, and one more.
+fn func_size(types: &TypeSpace, func: u32) -> u32
+    requires sized { All IsSized types.now.types }
+    requires valid { IsFuncValid types.now.types func }
+    ensures { result ≡ size_in types.now.types (EntityType.Func func) + 1 }
+{
+    types.size_of(&EntityType::Func(func)) + 1
+}
+
 /// Whether the size of a function of the type of this index, and one more, is below what is left.
 fn is_func_below(types: &TypeSpace, left: u32, func: u32) -> bool
-    requires small { All IsSmall types.now.types }
+    requires sized { All IsSized types.now.types }
     requires valid { IsFuncValid types.now.types func }
     ensures { result ≡ is_func_below types.now.types left func }
 {
-    types.size_of(&EntityType::Func(func)) + 1 < left
+    func_size(types, func) < left
+}
+
+/// The greatest size of a function, and one more: 0 where there is no function.
+pub(crate) fn most_of_funcs(types: &TypeSpace, funcs: &[u32]) -> u32
+    requires sized { All IsSized types.now.types }
+    requires valid { All (IsFuncValid types.now.types) funcs.now }
+    ensures { All (IsFuncWithin types.now.types result) funcs.now }
+{
+    let mut most = 0;
+    for func in funcs {
+        let size = func_size(types, *func);
+        if size > most {
+            most = size;
+        }
+    }
+    most
 }
 
 /// Counts the functions whose size, and one more, is below what is left.
 fn count_funcs(types: &TypeSpace, funcs: &[u32], left: u32) -> usize
-    requires small { All IsSmall types.now.types }
+    requires sized { All IsSized types.now.types }
     requires valid { All (IsFuncValid types.now.types) funcs.now }
     ensures { result ≡ length (places_from (is_func_below types.now.types left) 0 funcs.now) }
 {
@@ -44,7 +66,7 @@ fn count_funcs(types: &TypeSpace, funcs: &[u32], left: u32) -> usize
 
 /// The index of the function at a place among those whose size, and one more, is below what is left.
 fn func_at(types: &TypeSpace, funcs: &[u32], left: u32, mut place: usize) -> u32
-    requires small { All IsSmall types.now.types }
+    requires sized { All IsSized types.now.types }
     requires valid { All (IsFuncValid types.now.types) funcs.now }
     requires few { length funcs.now < 2 ^ 32 }
     ensures { result ≡ slice_index_or (places_from (is_func_below types.now.types left) 0 funcs.now) place 0 }
@@ -61,27 +83,30 @@ fn func_at(types: &TypeSpace, funcs: &[u32], left: u32, mut place: usize) -> u32
     0
 }
 
-/// Counts the functions that may be exported. Where more than the size of any function is left, none is looked at.
-fn count_func_candidates(types: &TypeSpace, funcs: &[u32], left: u32) -> usize
-    requires small { All IsSmall types.now.types }
+/// Counts the functions that may be exported. Where more than `most`, the greatest size of one and one more, is left, none is looked
+/// at.
+fn count_func_candidates(types: &TypeSpace, funcs: &[u32], most: u32, left: u32) -> usize
+    requires sized { All IsSized types.now.types }
     requires valid { All (IsFuncValid types.now.types) funcs.now }
+    requires most { All (IsFuncWithin types.now.types most) funcs.now }
     ensures { result ≡ length (places_from (is_func_below types.now.types left) 0 funcs.now) }
 {
-    if left > MOST_OF_FUNC {
+    if left > most {
         return funcs.len();
     }
     count_funcs(types, funcs, left)
 }
 
 /// The index of the function at a place among those that may be exported.
-fn func_candidate_at(types: &TypeSpace, funcs: &[u32], left: u32, place: usize) -> u32
-    requires small { All IsSmall types.now.types }
+fn func_candidate_at(types: &TypeSpace, funcs: &[u32], most: u32, left: u32, place: usize) -> u32
+    requires sized { All IsSized types.now.types }
     requires valid { All (IsFuncValid types.now.types) funcs.now }
+    requires most { All (IsFuncWithin types.now.types most) funcs.now }
     requires few { length funcs.now < 2 ^ 32 }
     requires within { place < length (places_from (is_func_below types.now.types left) 0 funcs.now) }
     ensures { result ≡ slice_index_or (places_from (is_func_below types.now.types left) 0 funcs.now) place 0 }
 {
-    if left > MOST_OF_FUNC {
+    if left > most {
         return place as u32;
     }
     func_at(types, funcs, left, place)
@@ -95,12 +120,18 @@ fn count_others(count: usize, left: u32) -> usize
 }
 
 /// Counts the items of a kind that may be exported where that much of the type size is left.
-fn count_candidates(types: &TypeSpace, spaces: &IndexSpaces, left: u32, kind: ExportKind) -> usize
-    requires { MayExport types.now.types (spaces_in spaces.now) }
+fn count_candidates(
+    types: &TypeSpace,
+    spaces: &IndexSpaces,
+    most: u32,
+    left: u32,
+    kind: ExportKind,
+) -> usize
+    requires { MayOffer types.now.types (spaces_in spaces.now) most }
     ensures { result ≡ length (candidates types.now.types (spaces_in spaces.now) left kind) }
 {
     match kind {
-        ExportKind::Func => count_func_candidates(types, spaces.funcs.as_slice(), left),
+        ExportKind::Func => count_func_candidates(types, spaces.funcs.as_slice(), most, left),
         ExportKind::Table => count_others(spaces.tables.len(), left),
         ExportKind::Memory => count_others(spaces.memories.len(), left),
         ExportKind::Global => count_others(spaces.globals.len(), left),
@@ -112,16 +143,17 @@ fn count_candidates(types: &TypeSpace, spaces: &IndexSpaces, left: u32, kind: Ex
 fn candidate_at(
     types: &TypeSpace,
     spaces: &IndexSpaces,
+    most: u32,
     left: u32,
     kind: ExportKind,
     place: usize,
 ) -> u32
-    requires may { MayExport types.now.types (spaces_in spaces.now) }
+    requires may { MayOffer types.now.types (spaces_in spaces.now) most }
     requires within { place < length (candidates types.now.types (spaces_in spaces.now) left kind) }
     ensures { result ≡ slice_index_or (candidates types.now.types (spaces_in spaces.now) left kind) place 0 }
 {
     match kind {
-        ExportKind::Func => func_candidate_at(types, spaces.funcs.as_slice(), left, place),
+        ExportKind::Func => func_candidate_at(types, spaces.funcs.as_slice(), most, left, place),
         _ => place as u32,
     }
 }
@@ -131,65 +163,73 @@ fn candidate_at(
 pub(crate) fn choose_candidate(
     types: &TypeSpace,
     spaces: &IndexSpaces,
+    most: u32,
     left: u32,
     kind: ExportKind,
     u: &mut Unstructured<'_>,
 ) -> u32
-    requires may { MayExport types.now.types (spaces_in spaces.now) }
+    requires may { MayOffer types.now.types (spaces_in spaces.now) most }
     requires some { 0 < length (candidates types.now.types (spaces_in spaces.now) left kind) }
     ensures draws { AlwaysDraws (chosen_at 0 (candidates types.now.types (spaces_in spaces.now) left kind) u.old) result u.old u.new }
     ensures candidate { IsCandidate types.now.types (spaces_in spaces.now) left kind result }
 {
-    let last = count_candidates(types, spaces, left, kind) - 1;
+    let last = count_candidates(types, spaces, most, left, kind) - 1;
     let place = u.int_in_range(0..=last);
-    candidate_at(types, spaces, left, kind, place)
+    candidate_at(types, spaces, most, left, kind, place)
 }
 
 /// A kind, with whether an item of it may be exported.
 fn candidate_row(
     types: &TypeSpace,
     spaces: &IndexSpaces,
+    most: u32,
     left: u32,
     kind: ExportKind,
 ) -> (ExportKind, bool)
-    requires { MayExport types.now.types (spaces_in spaces.now) }
+    requires { MayOffer types.now.types (spaces_in spaces.now) most }
     ensures { result ≡ candidate_row types.now.types (spaces_in spaces.now) left kind }
 {
-    (kind, count_candidates(types, spaces, left, kind) > 0)
+    (kind, count_candidates(types, spaces, most, left, kind) > 0)
 }
 
 /// The kinds in order, each with whether an item of it may be exported.
-fn candidate_rows(types: &TypeSpace, spaces: &IndexSpaces, left: u32) -> [(ExportKind, bool); 4]
-    requires { MayExport types.now.types (spaces_in spaces.now) }
+fn candidate_rows(
+    types: &TypeSpace,
+    spaces: &IndexSpaces,
+    most: u32,
+    left: u32,
+) -> [(ExportKind, bool); 4]
+    requires { MayOffer types.now.types (spaces_in spaces.now) most }
     ensures { result ≡ candidate_rows types.now.types (spaces_in spaces.now) left }
 {
     [
-        candidate_row(types, spaces, left, ExportKind::Func),
-        candidate_row(types, spaces, left, ExportKind::Table),
-        candidate_row(types, spaces, left, ExportKind::Memory),
-        candidate_row(types, spaces, left, ExportKind::Global),
+        candidate_row(types, spaces, most, left, ExportKind::Func),
+        candidate_row(types, spaces, most, left, ExportKind::Table),
+        candidate_row(types, spaces, most, left, ExportKind::Memory),
+        candidate_row(types, spaces, most, left, ExportKind::Global),
     ]
 }
 
 /// Whether there is an item that may be exported.
-pub(crate) fn has_candidates(types: &TypeSpace, spaces: &IndexSpaces, left: u32) -> bool
-    requires { MayExport types.now.types (spaces_in spaces.now) }
+pub(crate) fn has_candidates(types: &TypeSpace, spaces: &IndexSpaces, most: u32, left: u32) -> bool
+    requires { MayOffer types.now.types (spaces_in spaces.now) most }
     ensures { result ≡ nat_lt 0 (length (offered_kinds types.now.types (spaces_in spaces.now) left)) }
 {
-    count_enabled(&candidate_rows(types, spaces, left)) > 0
+    count_enabled(&candidate_rows(types, spaces, most, left)) > 0
 }
 
 /// Chooses a kind among those of which an item may be exported.
 pub(crate) fn export_kind(
     types: &TypeSpace,
     spaces: &IndexSpaces,
+    most: u32,
     left: u32,
     u: &mut Unstructured<'_>,
 ) -> ExportKind
-    requires may { MayExport types.now.types (spaces_in spaces.now) }
+    requires may { MayOffer types.now.types (spaces_in spaces.now) most }
     requires some { 0 < length (offered_kinds types.now.types (spaces_in spaces.now) left) }
     ensures draws { AlwaysDraws (chosen_at ExportKind.Memory (offered_kinds types.now.types (spaces_in spaces.now) left) u.old) result u.old u.new }
     ensures offered { 0 < length (candidates types.now.types (spaces_in spaces.now) left result) }
 {
-    choose_enabled(&candidate_rows(types, spaces, left), u)
+    choose_enabled(&candidate_rows(types, spaces, most, left), u)
 }

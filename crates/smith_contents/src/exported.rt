@@ -1,4 +1,4 @@
-ghost use Rattle.std.specs.Prelude.{◌≡◌, ◌≤◌};
+ghost use Rattle.std.specs.Prelude.{◌≡◌, ◌+◌, ◌<◌, ◌^◌};
 ghost use Rattle.smith_types.specs.IndexSpaces.{spaces_in};
 ghost use Rattle.smith_contents.specs.Exporting.{item_size};
 ghost use Rattle.smith_contents.specs.Exported.{MayExport};
@@ -23,7 +23,7 @@ pub(crate) fn item_size(
 ) -> u32
     requires { MayExport types.now.types (spaces_in spaces.now) }
     ensures exact { result ≡ item_size types.now.types (spaces_in spaces.now) kind index }
-    ensures small { result ≤ 41 }
+    ensures few { result + 1 < 2 ^ 32 }
 {
     let ExportKind::Func = kind else {
         return 1;

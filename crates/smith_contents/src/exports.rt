@@ -7,12 +7,12 @@ ghost use Rattle.smith_imports.specs.Steps.{Gives};
 ghost use Rattle.smith_bytes.specs.Spelling.{SpellsEmpty};
 ghost use Rattle.smith_bytes.specs.Spelling.{SpellsNone};
 ghost use Rattle.smith_contents.specs.Exporting.{Export, is_exported, HasNames, exported_size, export_at, offered_kinds, exports_from, free_exports_at};
-ghost use Rattle.smith_contents.specs.Exported.{MayExport, MayExportFreely, MayDrawExports, IsCandidate, AreExported, MayRefuseFree, MayRefuseExports};
+ghost use Rattle.smith_contents.specs.Exported.{MayOffer, MayExportFreely, MayDrawExports, IsCandidate, AreExported, MayRefuseFree, MayRefuseExports};
 ghost use Rattle.smith_contents.specs.ExportedItems.{AreAllExported};
 ghost use Rattle.smith_contents.specs.AllExports.{exports_at};
 
 use crate::all_exports::export_everything;
-use crate::export_kinds::{choose_candidate, export_kind, has_candidates};
+use crate::export_kinds::{choose_candidate, export_kind, has_candidates, most_of_funcs};
 use crate::export_names::export_name;
 use crate::exported::{Exports, item_size};
 use smith_bytes::{Count, Error, Unstructured, Why, goes_on};
@@ -21,17 +21,19 @@ use smith_types::{ExportKind, IndexSpaces, Items, Name, TypeSpace};
 use std::alloc::Global;
 use std::collections::HashSet;
 
-/// Draws an export of an item that may be exported where that much of the type size is left.
+/// Draws an export of an item that may be exported where that much of the type size is left. No function has a greater size than
+/// `most`, with one more.
 #[tactic(auto, unfolding(crate::specs::Exporting::export_at))]
 fn export(
     alloc: Global,
     types: &TypeSpace,
     spaces: &IndexSpaces,
+    most: u32,
     left: u32,
     names: &mut HashSet<String>,
     u: &mut Unstructured<'_>,
 ) -> Result<(Name, ExportKind, u32), Error>
-    requires may { MayExport types.now.types (spaces_in spaces.now) }
+    requires may { MayOffer types.now.types (spaces_in spaces.now) most }
     requires some { 0 < length (offered_kinds types.now.types (spaces_in spaces.now) left) }
     ensures exact { (exports : List Export) → HasNames names.old exports → length exports < 2 ^ 64
         → IfOk result (λ one. export_at types.now.types (spaces_in spaces.now) left exports u.old ≡ (one, u.new)) }
@@ -42,8 +44,8 @@ fn export(
     ensures left { KeepsPieces u.old u.new }
 {
     let name = export_name(alloc, names, u)?;
-    let kind = export_kind(types, spaces, left, u);
-    let index = choose_candidate(types, spaces, left, kind, u);
+    let kind = export_kind(types, spaces, most, left, u);
+    let index = choose_candidate(types, spaces, most, left, kind, u);
     Ok((name, kind, index))
 }
 
@@ -67,15 +69,16 @@ fn push_exports(
     let mut exports = Items::new(alloc);
     let mut names = HashSet::new(alloc);
     let mut type_size = imports_size;
+    let most = most_of_funcs(types, spaces.funcs.as_slice());
     for made in 0..config.max_exports {
         if !goes_on(u, made, config.min_exports) {
             return Ok(Exports { exports, type_size });
         }
         let left = config.max_type_size - type_size;
-        if !has_candidates(types, spaces, left) {
+        if !has_candidates(types, spaces, most, left) {
             return Ok(Exports { exports, type_size });
         }
-        let one = export(alloc, types, spaces, left, &mut names, u)?;
+        let one = export(alloc, types, spaces, most, left, &mut names, u)?;
         type_size += item_size(types, spaces, one.1, one.2) + 1;
         exports.push(one)?;
     }

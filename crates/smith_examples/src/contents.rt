@@ -33,7 +33,7 @@ fn contents()
 {}
 
 fn drawn_over()
-    ensures nothing { MayHoldContents default_config (space_of []) no_imports no_imports 0 }
-    ensures no_table_where_one_is_asked_for { ¬ MayHoldContents (record default_config { min_tables = 1 }) (space_of []) no_imports no_imports 0 }
-    ensures imports_past_the_type_size { ¬ MayHoldContents default_config (space_of []) no_imports no_imports 1001 }
+    ensures nothing { MayHoldContents default_config (space_of []) no_imports 0 }
+    ensures no_table_where_one_is_asked_for { ¬ MayHoldContents (record default_config { min_tables = 1 }) (space_of []) no_imports 0 }
+    ensures imports_past_the_type_size { ¬ MayHoldContents default_config (space_of []) no_imports 1001 }
 {}

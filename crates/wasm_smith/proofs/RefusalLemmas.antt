@@ -1,6 +1,6 @@
--- When functions and imports are refused: functions without garbage collection only where no type is asked for.
+-- When functions, imports and exports are refused: functions without garbage collection only where no type is asked for.
 use Rattle.std.proofs.Common.{◌≡◌, ◌⊎◌, ℕ, zero, suc, ◌<◌, ◌≤◌, Bool, true, false, not, ◌&&◌, cond, List, [], ◌∷◌, length, refl, sym, ap, subst, arith, inl, inr}
-use Rattle.std.specs.Prelude.{slice_get, Result, Ok, Err, IfErr}
+use Rattle.std.specs.Prelude.{slice_get, Option, Some, None, Result, Ok, Err, IfErr}
 use Rattle.smith_types.specs.Space.{Space}
 use Rattle.smith_types.specs.Flags.{IsInnerEnabled}
 use Rattle.smith_types.specs.ValidTypes.{IsTypeValid, AreTypesValid}
@@ -9,15 +9,18 @@ use Rattle.smith_types.specs.declared.composite_type.CompositeInnerType.TheVaria
 use Rattle.smith_types.specs.declared.composite_type.SubType.{SubType}
 use Rattle.smith_types.proofs.ValidityLemmas.{AreTypesValid-at}
 use Rattle.smith_config.specs.declared.config.Config.{Config}
+use Rattle.smith_config.specs.declared.shape.Shape.{Shape}
 use Rattle.smith_config.specs.Features.{features_of}
-use Rattle.smith_config.specs.InUse.{FixesImports}
+use Rattle.smith_config.specs.InUse.{FixesImports, FixesExports, HasNoShapes}
 use Rattle.smith_config.specs.Sanitized.{IsSanitized}
 use Rattle.smith_bytes.specs.declared.error.Error.{Error}
 use Rattle.smith_bytes.specs.declared.error.Error.TheVariants as errors
 use Rattle.smith_bytes.specs.declared.error.Why.TheVariants.{Unmet}
 use Rattle.smith_bytes.specs.declared.error.Count.TheVariants as counts
+use Rattle.smith_bytes.specs.declared.error.Which.TheVariants as which
+use Rattle.smith_contents.specs.Exported.{MayRunOut, MayRefuseExports}
 use Rattle.smith_imports.specs.Imported.{MayRefuseImports}
-use Rattle.wasm_smith.specs.Refusals.{MayRefuse}
+use Rattle.wasm_smith.specs.Refusals.{HasShape, MayLackExports, MayRefuse}
 use Rattle.smith_draw.specs.TypeUses.{is_function, places_from, is_unshared_function}
 use Rattle.smith_spell.specs.FuncTypes.{func_types}
 
@@ -73,6 +76,29 @@ pub funcs_refuse : {X : Type 0} (config : Config) (space : Space) (r : Result X 
 funcs_refuse config space (Ok funcs) sanitized valid le h = tt
 funcs_refuse config space (Err e) sanitized valid le (inl memory) = subst (MayRefuse config) (sym memory) tt
 funcs_refuse config space (Err e) sanitized valid le (inr (unmet, some, none)) = subst (MayRefuse config) (sym unmet) (tt, (some, λ off. no_type_asked config space sanitized off valid le none))
+
+-- a configuration has no shapes, or one that is used
+shapes_by : (config : Config) (of_module available exports : Option Shape) → config.module_shape ≡ of_module → config.available_imports ≡ available → config.exports ≡ exports → HasNoShapes config ⊎ HasShape config
+shapes_by config (Some shape) available exports of_module free fixed = inr (which.ModuleShape, rw of_module refl)
+shapes_by config None (Some shape) exports of_module free fixed = inr (which.AvailableImports, rw (of_module, free) refl)
+shapes_by config None None (Some shape) of_module free fixed = inr (which.Exports, rw (of_module, fixed) refl)
+shapes_by config None None None of_module free fixed = inl (record { available_imports = free; exports = fixed; module_shape = of_module })
+
+pub has_shapes : (config : Config) → HasNoShapes config ⊎ HasShape config
+has_shapes config = shapes_by config config.module_shape config.available_imports config.exports refl refl refl
+
+lack_exports : (config : Config) → (HasNoShapes config → MayRunOut config) → MayLackExports config
+lack_exports config short = elim (has_shapes config) [
+  | inl none ↦ inr (short none)
+  | inr some ↦ inl some
+]
+
+-- where no shape fixes them, exports are refused where a module may be
+pub exports_refuse : (config : Config) (e : Error) → (FixesExports config → ⊥) → MayRefuseExports config e → MayRefuse config e
+exports_refuse config e free (inl (all, inl memory)) = subst (MayRefuse config) (sym memory) tt
+exports_refuse config e free (inl (all, inr size)) = subst (MayRefuse config) (sym size) (all, free)
+exports_refuse config e free (inr (some, inl memory)) = subst (MayRefuse config) (sym memory) tt
+exports_refuse config e free (inr (some, inr (unmet, asked, short))) = subst (MayRefuse config) (sym unmet) ((free, some), (asked, lack_exports config short))
 
 -- without a shape for them, imports are refused where a module may be
 pub imports_refuse : (config : Config) (e : Error) → (FixesImports config → ⊥) → MayRefuseImports config e → MayRefuse config e

@@ -59,7 +59,7 @@ pub(crate) fn draw_contents(
     u: &mut Unstructured<'_>,
 ) -> Result<Contents, Error>
     requires not_fixed { FixesExports config.now → ⊥ }
-    requires may { MayHoldContents config.now types.now (imported_in imported.now) (spaces_of imported.now) imported.now.type_size }
+    requires may { MayHoldContents config.now types.now (spaces_of imported.now) imported.now.type_size }
     requires told { TellsImported (imported_in imported.now) (spaces_of imported.now) definitions.now }
     ensures exact { Gives (λ contents. (contents, u.new)) result (contents_at config.now types.now.types (imported_in imported.now) (spaces_of imported.now) imported.now.type_size u.old) }
     ensures kept { IfOk result (AreContents config.now types.now.types (imported_in imported.now) (spaces_of imported.now) imported.now.type_size) }

@@ -43,7 +43,7 @@ pub(crate) fn all_segments(
     definitions: &Definitions,
     u: &mut Unstructured<'_>,
 ) -> Result<Segments, Error>
-    requires may { MayHoldContents config.now types.now (imported_in imported.now) (spaces_of imported.now) imported.now.type_size }
+    requires may { MayHoldContents config.now types.now (spaces_of imported.now) imported.now.type_size }
     requires told { TellsImported (imported_in imported.now) (spaces_of imported.now) definitions.now }
     ensures exact { Gives (λ segments. (segments, u.new)) result (all_segments_at config.now types.now.types (imported_in imported.now) (spaces_of imported.now) u.old) }
     ensures fit { IfOk result (AreSegmentsFit config.now types.now.types (imported_in imported.now) (spaces_of imported.now)) }

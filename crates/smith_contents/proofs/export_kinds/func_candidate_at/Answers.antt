@@ -8,15 +8,15 @@ overflow_cast-result c =
     let types = c.args.types.now.types in
     let funcs = c.args.funcs.now in
     let test = is_func_below types c.args.left in
-    let all = all_below types c.args.left funcs c.requires.small c.requires.valid (omega (arith, c.if-left-gt-MOST_OF_FUNC.true)) in
+    let all = all_below types c.args.most c.args.left funcs c.requires.most (omega (arith, c.if-left-most.true)) in
     let below : c.args.place < length funcs = rw (length_all test 0 funcs all) at c.requires.within in
     omega (arith, below, c.requires.few)
 
-pub returns-then-left-gt-MOST_OF_FUNC : goal.returns-then-left-gt-MOST_OF_FUNC
-returns-then-left-gt-MOST_OF_FUNC c =
+pub returns-then-left-most : goal.returns-then-left-most
+returns-then-left-most c =
     let types = c.args.types.now.types in
     let funcs = c.args.funcs.now in
     let test = is_func_below types c.args.left in
-    let all = all_below types c.args.left funcs c.requires.small c.requires.valid (omega (arith, c.if-left-gt-MOST_OF_FUNC.true)) in
+    let all = all_below types c.args.most c.args.left funcs c.requires.most (omega (arith, c.if-left-most.true)) in
     let below : c.args.place < length funcs = rw (length_all test 0 funcs all) at c.requires.within in
     sym (at_all test 0 funcs c.args.place all below ∙ omega arith)

@@ -8,10 +8,10 @@ use Rattle.wasm_smith.proofs.SegmentScopeLemmas.{seen_over}
 use Rattle.wasm_smith.proofs.build.segments.all_segments.Goals as goal
 
 pub arbitrary_elements-requires : goal.arbitrary_elements-requires
-arbitrary_elements-requires c = record { may = may_draw_elements c.requires.may c.segment_spaces-spaces.ensures (omega (arith, c.requires.told.globals, c.len-2.ensures, c.len-3.ensures)) }
+arbitrary_elements-requires c = record { may = may_draw_elements c.requires.may c.segment_spaces-spaces.ensures (omega (arith, c.len-2.ensures)) }
 
 pub arbitrary_data-requires-clause-standing : goal.arbitrary_data-requires-clause-standing
-arbitrary_data-requires-clause-standing c = spaces_valid c.requires.may c.segment_spaces-spaces.ensures (omega (arith, c.requires.told.globals, c.len-2.ensures, c.len-3.ensures))
+arbitrary_data-requires-clause-standing c = spaces_valid c.requires.may c.segment_spaces-spaces.ensures (omega (arith, c.len-2.ensures))
 
 pub arbitrary_data-requires-clause-few : goal.arbitrary_data-requires-clause-few
 arbitrary_data-requires-clause-few c = memories_few c.requires.may c.segment_spaces-spaces.ensures

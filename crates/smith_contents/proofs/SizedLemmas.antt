@@ -1,0 +1,30 @@
+-- Types whose functions have a size of 32 bits: small ones, and those of shapes.
+use Rattle.std.proofs.Common.{◌+◌, ◌<◌, ◌^◌, List, arith}
+use Rattle.std.specs.Prelude.{All}
+use Rattle.std.proofs.lemmas.List.Elements.{All-weaker}
+use Rattle.smith_types.specs.Sizes.{value_count}
+use Rattle.smith_types.specs.declared.composite_type.CompositeInnerType.{CompositeInnerType}
+use Rattle.smith_types.specs.declared.composite_type.CompositeInnerType.TheVariants as inners
+use Rattle.smith_types.specs.declared.composite_type.SubType.{SubType}
+use Rattle.smith_config.specs.Shapes.{IsInnerShort, IsShort, shape_types}
+use Rattle.smith_config.specs.declared.shape.Shape.{Shape}
+use Rattle.smith_draw.specs.FuncSizes.{IsSmall, IsSmallInner}
+use Rattle.smith_contents.specs.Exported.{IsSized}
+
+small_inner : (inner : CompositeInnerType) → IsSmallInner inner → value_count inner + 2 < 2 ^ 32
+small_inner (inners.Func function) small = omega (arith, small.params, small.results)
+small_inner (inners.Array array) small = omega arith
+small_inner (inners.Struct structure) small = omega arith
+
+short_inner : (inner : CompositeInnerType) → IsInnerShort inner → value_count inner + 2 < 2 ^ 32
+short_inner (inners.Func function) (params, results) = omega (arith, params, results)
+short_inner (inners.Array array) short = omega arith
+short_inner (inners.Struct structure) short = omega arith
+
+-- small types are such
+pub small_sized : (types : List SubType) → All IsSmall types → All IsSized types
+small_sized types small = All-weaker IsSmall IsSized (λ t h. small_inner t.composite_type.inner h) types small
+
+-- and the types of a shape whose lists are short
+pub shape_sized : (shape : Shape) → IsShort shape → All IsSized (shape_types shape)
+shape_sized shape short = All-weaker (λ (t : SubType). IsInnerShort t.composite_type.inner) IsSized (λ t h. short_inner t.composite_type.inner h) (shape_types shape) short.inner
