@@ -32,3 +32,4 @@ pub mod RequiredExportsLoop
 pub mod BegunLemmas
 pub mod TypesGrownLemmas
 pub mod GrownSizeLemmas
+pub mod BegunStandsLemmas

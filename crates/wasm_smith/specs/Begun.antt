@@ -1,24 +1,32 @@
 -- What a module begins with, of the shapes that its configuration uses. Rules of this project.
-use Rattle.std.specs.Prelude.{◌≡◌, ℕ, false, ◌⊎◌, IfSome, IsSomeAnd, List, [], Option, Some, None, length, All, Result, Ok}
+use Rattle.std.specs.Prelude.{◌≡◌, ℕ, ◌+◌, ◌≤◌, max, false, ◌⊎◌, ⊤, is_some, IfSome, IsSomeAnd, List, [], Option, Some, None, length, sum_by, All, Result, Ok, if◌then◌else◌}
 use Rattle.std.specs.List.{AllZip, Contains}
 use Rattle.smith_bytes.specs.declared.error.Error.{Error}
 use Rattle.smith_bytes.specs.declared.error.Error.TheVariants as errors
 use Rattle.smith_types.specs.Exports.{AreExportsValid}
 use Rattle.smith_types.specs.Imports.{IndexSpaces, IsImportsValid, flattened, imported_spaces}
 use Rattle.smith_types.specs.IndexSpaces.{spaces_in}
+use Rattle.smith_types.specs.Sizes.{size_in}
 use Rattle.smith_types.specs.Space.{Space}
+use Rattle.smith_types.specs.declared.composite_type.SubType.{SubType}
+use Rattle.smith_types.specs.declared.entity_type.MemoryType.{MemoryType}
+use Rattle.smith_types.specs.declared.entity_type.TableType.{TableType}
+use Rattle.smith_types.specs.declared.imports.Import.{Import}
 use Rattle.smith_types.specs.declared.imports.Imports.{Imports}
 use Rattle.smith_config.specs.declared.config.Config.{Config}
 use Rattle.smith_config.specs.declared.shape.Shape.{Shape}
+use Rattle.smith_config.specs.Faults.{maximum_of}
 use Rattle.smith_config.specs.Features.{features_of}
 use Rattle.smith_config.specs.InUse.{FixesImports}
 use Rattle.smith_config.specs.Shapes.{shape_imports, shape_spaces, shape_types, space_of}
 use Rattle.smith_imports.specs.AvailableImports.{AreImportsWithin, available_at}
+use Rattle.smith_imports.specs.Imported.{HasNoImports}
 use Rattle.smith_imports.specs.ShapeImports.{kept_groups, sizes_of, count_in, taken_from}
 use Rattle.smith_bytes.specs.declared.error.Count.{Count}
 use Rattle.smith_bytes.specs.declared.error.Count.TheVariants as counts
+use Rattle.smith_draw.specs.Bounds.{IsTableWithin, IsMemoryWithin}
 use Rattle.smith_contents.specs.Exporting.{Export}
-use Rattle.wasm_smith.specs.Bounds.{brought_by_module}
+use Rattle.wasm_smith.specs.Bounds.{brought, brought_by_module, of_shapes}
 use Rattle.wasm_smith.specs.Required.{StandsBehind, MayRefuseRequired}
 use Rattle.wasm_smith.specs.RequiredExports.{Required, required_at, then_with}
 use Rattle.wasm_smith.specs.ShapesKept.{IsSameExport}
@@ -51,8 +59,9 @@ begun_of drawn = record {
 abbrev pub nothing_begun : Begun
 nothing_begun = record { types = record { types = []; groups = [] }; groups = []; spaces = imported_spaces []; defined = nothing_defined; exports = [] }
 
-abbrev pub HasNothing : Drawn → Type 0
-HasNothing drawn = begun_of drawn ≡ nothing_begun
+pub record HasNothing (drawn : Drawn) : Type 0 where
+  pub begun : begun_of drawn ≡ nothing_begun
+  pub imports : HasNoImports drawn.imported
 
 -- of a module shape: its types and its imports, and its exports, each of an entity that is defined for it
 unfoldable pub begun_by_module_at : Config → Shape → List ℕ → Result (Begun × List ℕ) Error
@@ -114,3 +123,40 @@ pub record IsBegun (config : Config) (bytes : List ℕ) (drawn : Drawn) : Type 0
 -- why a module may not begin with the shapes that are used: for want of memory, or by the exports of a module shape
 abbrev pub MayRefuseBegun : Config → Error → Type 0
 MayRefuseBegun config e = (e ≡ errors.Memory) ⊎ IsSomeAnd config.module_shape (λ shape. MayRefuseRequired config (shape_types shape) shape e)
+
+-- a kind of entities
+abbrev pub IsOfEntities : Count → Type 0
+IsOfEntities counts.Tags = ⊤
+IsOfEntities counts.Funcs = ⊤
+IsOfEntities counts.Tables = ⊤
+IsOfEntities counts.Memories = ⊤
+IsOfEntities counts.Globals = ⊤
+IsOfEntities _ = ⊥
+
+-- what imports add to the type size over these types: nothing where a module shape fixes them, else their sizes, and one more each
+-- where they are drawn freely
+abbrev pub size_of_imports : Config → List SubType → List Import → ℕ
+size_of_imports config types imports =
+    if is_some config.module_shape then 0
+    else if is_some config.available_imports then sum_by (λ (one : Import). size_in types one.entity_type) imports
+    else sum_by (λ (one : Import). size_in types one.entity_type + 1) imports
+
+-- a table, or a memory, is of a shape's types or within the configured bounds
+abbrev pub IsTableKept : Config → TableType → Type 0
+IsTableKept config table = Contains (of_shapes (λ spaces. spaces.tables) config) table ⊎ IsTableWithin config table
+
+abbrev pub IsMemoryKept : Config → MemoryType → Type 0
+IsMemoryKept config memory = Contains (of_shapes (λ spaces. spaces.memories) config) memory ⊎ IsMemoryWithin config memory
+
+-- what stands so far of a module, whichever shapes it uses: all of it valid, and no more than these and the configuration allow
+pub record StandsSoFar (config : Config) (drawn : Drawn) : Type 0 where
+  pub groups : All (IsImportsValid (features_of config)) drawn.imported.groups
+  pub count : drawn.imported.count ≡ length (flattened drawn.imported.groups)
+  pub stands : StandsBehind config (imported_spaces (flattened drawn.imported.groups)) drawn.types (spaces_in drawn.imported.spaces) drawn.definitions
+  pub most : (count : Count) → IsOfEntities count → count_in (spaces_in drawn.imported.spaces) count ≤ max (maximum_of config count) (brought config count)
+  pub most_types : length drawn.types.types ≤ max config.max_types (brought config counts.Types)
+  pub most_imports : length (flattened drawn.imported.groups) ≤ max config.max_imports (brought config counts.Imports)
+  pub tables : All (IsTableKept config) drawn.imported.spaces.tables
+  pub memories : All (IsMemoryKept config) drawn.imported.spaces.memories
+  pub type_size : drawn.imported.type_size ≡ size_of_imports config drawn.types.types (flattened drawn.imported.groups)
+  pub within : drawn.imported.type_size ≤ config.max_type_size

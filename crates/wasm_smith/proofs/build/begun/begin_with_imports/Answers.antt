@@ -16,7 +16,7 @@ returns-clause-begun c =
     let offered = imported_spaces (shape_imports shape) in
     let spaces = given.taken.counts.spaces in
     let fit = given.taken.fit in
-    let nothing : c.args.drawn.now.definitions ≡ nothing_defined = ap (λ (begun : Begun). begun.defined) c.requires.nothing in
+    let nothing : c.args.drawn.now.definitions ≡ nothing_defined = ap (λ (begun : Begun). begun.defined) c.requires.nothing.begun in
     record {
       types = given.types;
       kept = given.kept;
@@ -28,5 +28,5 @@ returns-clause-begun c =
       tables = subst (λ (all : IndexSpaces). All (Contains (shape_spaces shape).tables) all.tables) (sym spaces) (offered_all offered.tables shape.tables taken.tables fit.tables);
       memories = subst (λ (all : IndexSpaces). All (Contains (shape_spaces shape).memories) all.memories) (sym spaces) (offered_all offered.memories shape.memories taken.memories fit.memories);
       spaces = spaces;
-      exports = ap (λ (begun : Begun). begun.exports) c.requires.nothing;
+      exports = ap (λ (begun : Begun). begun.exports) c.requires.nothing.begun;
     }

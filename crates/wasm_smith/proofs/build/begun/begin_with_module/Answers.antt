@@ -18,14 +18,14 @@ types_of_shape-requires-clause-following c = valid_following (features_of c.args
 pub exports_of_shape-requires-clause-may : goal.exports_of_shape-requires-clause-may
 exports_of_shape-requires-clause-may c =
     let kept = c.in_ok-drawn-2.ensures.kept in
-    let nothing : c.args.drawn.now.definitions ≡ nothing_defined = ap (λ (begun : Begun). begun.defined) c.requires.nothing in
+    let nothing : c.args.drawn.now.definitions ≡ nothing_defined = ap (λ (begun : Begun). begun.defined) c.requires.nothing.begun in
     rw (c.in_ok-drawn.ensures.types, kept.spaces, nothing) (may_begin c.args.config.now c.args.shape.now c.requires.sanitized c.requires.valid kept.entities)
 
 pub returns-in_err-drawn-3-clause-exact : goal.returns-in_err-drawn-3-clause-exact
 unfolding begun_by_module_at
 returns-in_err-drawn-3-clause-exact c =
     let kept = c.in_ok-drawn-2.ensures.kept in
-    let nothing : c.args.drawn.now.definitions ≡ nothing_defined = ap (λ (begun : Begun). begun.defined) c.requires.nothing in
+    let nothing : c.args.drawn.now.definitions ≡ nothing_defined = ap (λ (begun : Begun). begun.defined) c.requires.nothing.begun in
     let given = rw (c.in_ok-drawn.ensures.types, kept.spaces, nothing) at c.in_err-drawn-3.ensures.exact in
     refused_with
     (λ (made : Required). record { types = made.types; groups = kept_groups c.args.config.now c.args.shape.now; spaces = made.spaces; defined = made.defined; exports = made.exports })
@@ -36,7 +36,7 @@ pub returns-clause-exact : goal.returns-clause-exact
 unfolding begun_by_module_at
 returns-clause-exact c =
     let kept = c.in_ok-drawn-2.ensures.kept in
-    let nothing : c.args.drawn.now.definitions ≡ nothing_defined = ap (λ (begun : Begun). begun.defined) c.requires.nothing in
+    let nothing : c.args.drawn.now.definitions ≡ nothing_defined = ap (λ (begun : Begun). begun.defined) c.requires.nothing.begun in
     let made = rw (c.in_ok-drawn.ensures.types, kept.spaces, nothing) at c.in_ok-drawn-3.ensures.exact in
     rw kept.groups
     (ap (then_with (λ (made : Required). record { types = made.types; groups = kept_groups c.args.config.now c.args.shape.now; spaces = made.spaces; defined = made.defined; exports = made.exports })) made)
@@ -46,7 +46,7 @@ returns-clause-begun c =
     let shape = c.args.shape.now in
     let kept = c.in_ok-drawn-2.ensures.kept in
     let made = c.in_ok-drawn-3.ensures in
-    let nothing : c.args.drawn.now.definitions ≡ nothing_defined = ap (λ (begun : Begun). begun.defined) c.requires.nothing in
+    let nothing : c.args.drawn.now.definitions ≡ nothing_defined = ap (λ (begun : Begun). begun.defined) c.requires.nothing.begun in
     let imported = imported_spaces (shape_imports shape) in
     record {
       types = made.types ∙ c.in_ok-drawn.ensures.types;

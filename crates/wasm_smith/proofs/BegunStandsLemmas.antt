@@ -1,0 +1,138 @@
+-- What stands once a module has begun with its shapes is valid, and no more than these and the configuration allow.
+use Rattle.std.proofs.Common.{◌≡◌, ◌∙◌, ◌⊎◌, ℕ, ◌+◌, ◌≤◌, max, List, [], ◌∷◌, ◌++◌, length, inl, inr, refl, sym, ap, subst, arith}
+use Rattle.std.specs.Prelude.{All, IfSome, IsSome, Option, Some, None, sum_by, is_some, if◌then◌else◌}
+use Rattle.std.specs.List.{Contains}
+use Rattle.std.proofs.lemmas.List.Elements.{All-nil, All-weaker, Contains-append_left}
+use Rattle.smith_bytes.specs.declared.error.Count.{Count}
+use Rattle.smith_bytes.specs.declared.error.Count.TheVariants as counts
+use Rattle.smith_types.specs.Entities.{AreEntitiesValid, AreCountsEnabled, IsTagValid, IsFuncValid, IsTableValid, IsMemoryValid, IsGlobalValid}
+use Rattle.smith_types.specs.Imports.{IndexSpaces, IsImportsValid, flattened, imported_spaces}
+use Rattle.smith_types.specs.IndexSpaces.{spaces_in}
+use Rattle.smith_types.specs.Sizes.{size_in}
+use Rattle.smith_types.specs.Space.{Space}
+use Rattle.smith_types.specs.ValidTypes.{AreTypesValid}
+use Rattle.smith_types.specs.declared.entity_type.MemoryType.{MemoryType}
+use Rattle.smith_types.specs.declared.entity_type.TableType.{TableType}
+use Rattle.smith_types.specs.declared.imports.Import.{Import}
+use Rattle.smith_types.specs.declared.imports.Imports.{Imports}
+use Rattle.smith_types.proofs.ValidityLemmas.{no_types}
+use Rattle.smith_config.specs.declared.config.Config.{Config}
+use Rattle.smith_config.specs.declared.shape.Shape.{Shape}
+use Rattle.smith_config.specs.Faults.{maximum_of}
+use Rattle.smith_config.specs.Features.{features_of}
+use Rattle.smith_config.specs.Shapes.{shape_imports, shape_spaces, shape_types, space_of}
+use Rattle.smith_draw.specs.Bounds.{IsTableWithin, IsMemoryWithin}
+use Rattle.smith_imports.specs.Imported.{AreNumbersWithin}
+use Rattle.smith_imports.specs.ShapeImports.{count_in, sizes_of}
+use Rattle.wasm_smith.specs.Begun.{Begun, HasNothing, IsBegun, IsBegunByModule, IsBegunByImports, IsOfEntities, IsTableKept, IsMemoryKept, StandsSoFar, size_of_imports}
+use Rattle.wasm_smith.specs.Bounds.{brought, brought_by_module, brought_by_imports, of_shapes}
+use Rattle.wasm_smith.specs.Required.{StandsBehind}
+use Rattle.wasm_smith.specs.declared.build.drawn.Drawn.{Drawn}
+use Rattle.wasm_smith.proofs.BegunLemmas.{stands_alone}
+
+-- what a module shape brings, beside which no other shape counts
+module_brings : (config : Config) (shape : Shape) (count : Count) → config.module_shape ≡ Some shape → brought config count ≡ brought_by_module count shape
+module_brings config shape count given = rw given (omega arith)
+
+imports_bring : (config : Config) (shape : Shape) (count : Count) → config.module_shape ≡ None → config.available_imports ≡ Some shape → brought config count ≡ brought_by_imports count shape
+imports_bring config shape count none given = rw (none, given) (omega arith)
+
+module_entities : (shape : Shape) (spaces : IndexSpaces) → ((count : Count) → (count ≡ counts.Types → ⊥) → (count ≡ counts.Imports → ⊥) → count_in spaces count ≡ brought_by_module count shape) → (count : Count) → IsOfEntities count
+    → count_in spaces count ≡ brought_by_module count shape
+module_entities shape spaces counted counts.Tags is = counted counts.Tags (λ e. cc) (λ e. cc)
+module_entities shape spaces counted counts.Funcs is = counted counts.Funcs (λ e. cc) (λ e. cc)
+module_entities shape spaces counted counts.Tables is = counted counts.Tables (λ e. cc) (λ e. cc)
+module_entities shape spaces counted counts.Memories is = counted counts.Memories (λ e. cc) (λ e. cc)
+module_entities shape spaces counted counts.Globals is = counted counts.Globals (λ e. cc) (λ e. cc)
+module_entities shape spaces counted _ is = absurd is
+
+module _ (config : Config) (shape : Shape) (drawn : Drawn) where
+  by_module : config.module_shape ≡ Some shape → IsBegunByModule config shape drawn → StandsSoFar config drawn
+  by_module given begun = record {
+    groups = begun.valid;
+    count = begun.count ∙ sym (ap (λ (imports : List Import). length imports) begun.flat);
+    stands = rw begun.flat begun.stands;
+    most = λ count is. let brings = module_brings config shape count given in let here = module_entities shape (spaces_in drawn.imported.spaces) begun.counted count is in omega (arith, brings, here);
+    most_types = let brings = module_brings config shape counts.Types given in let here = ap (λ (space : Space). length space.types) begun.types in omega (arith, brings, here);
+    most_imports = let brings = module_brings config shape counts.Imports given in let here = ap (λ (imports : List Import). length imports) begun.flat in omega (arith, brings, here);
+    tables = All-weaker (Contains (shape_spaces shape).tables) (IsTableKept config) (λ table h. inl (rw given h)) drawn.imported.spaces.tables begun.tables;
+    memories = All-weaker (Contains (shape_spaces shape).memories) (IsMemoryKept config) (λ memory h. inl (rw given h)) drawn.imported.spaces.memories begun.memories;
+    type_size = rw given begun.type_size;
+    within = omega (arith, begun.type_size);
+  }
+
+-- of each kind as many stand as may
+taken_most : (config : Config) (imports : List Import) (spaces : IndexSpaces) → AreNumbersWithin config (imported_spaces imports) → spaces ≡ imported_spaces imports → (count : Count) → IsOfEntities count → count_in spaces count ≤ maximum_of config count
+taken_most config imports spaces within are counts.Tags is = rw are within.tags
+taken_most config imports spaces within are counts.Funcs is = rw are within.funcs
+taken_most config imports spaces within are counts.Tables is = rw are within.tables
+taken_most config imports spaces within are counts.Memories is = rw are within.memories
+taken_most config imports spaces within are counts.Globals is = rw are within.globals
+taken_most config imports spaces within are _ is = absurd is
+
+module _ (config : Config) (shape : Shape) (bytes : List ℕ) (drawn : Drawn) where
+  by_imports : config.module_shape ≡ None → config.available_imports ≡ Some shape → IsBegunByImports config shape bytes drawn → StandsSoFar config drawn
+  by_imports none given begun = record {
+    groups = begun.valid;
+    count = begun.count;
+    stands = begun.stands;
+    most = λ count is. let here = taken_most config (flattened drawn.imported.groups) (spaces_in drawn.imported.spaces) begun.within.numbers begun.spaces count is in omega (arith, here);
+    most_types = let brings = imports_bring config shape counts.Types none given in let here = ap (λ (space : Space). length space.types) begun.types in omega (arith, brings, here);
+    most_imports = let here = begun.within.most in omega (arith, here);
+    tables = All-weaker (Contains (shape_spaces shape).tables) (IsTableKept config) (λ table h. inl (rw (none, given) (Contains-append_left (shape_spaces shape).tables _ table h))) drawn.imported.spaces.tables begun.tables;
+    memories = All-weaker (Contains (shape_spaces shape).memories) (IsMemoryKept config) (λ memory h. inl (rw (none, given) (Contains-append_left (shape_spaces shape).memories _ memory h))) drawn.imported.spaces.memories begun.memories;
+    type_size = rw (none, given, begun.types) begun.type_size;
+    within = let here = begun.within.type_size in let is = begun.type_size in omega (arith, here, is);
+  }
+
+no_entities : (config : Config) → AreEntitiesValid (features_of config) [] (imported_spaces [])
+no_entities config = record {
+  tags = All-nil (IsTagValid []);
+  funcs = All-nil (IsFuncValid []);
+  tables = All-nil (IsTableValid (features_of config) []);
+  memories = All-nil (IsMemoryValid (features_of config));
+  globals = All-nil (IsGlobalValid (features_of config) []);
+}
+
+none_counted : (config : Config) → AreCountsEnabled (features_of config) (imported_spaces [])
+none_counted config = record { tags = λ some. absurd (omega (arith, some)); several_tables = λ some. absurd (omega (arith, some)); several_memories = λ some. absurd (omega (arith, some)) }
+
+nothing_in : (count : Count) → IsOfEntities count → count_in (imported_spaces []) count ≡ 0
+nothing_in counts.Tags is = refl
+nothing_in counts.Funcs is = refl
+nothing_in counts.Tables is = refl
+nothing_in counts.Memories is = refl
+nothing_in counts.Globals is = refl
+nothing_in _ is = absurd is
+
+-- nothing stands
+freely : (config : Config) (drawn : Drawn) → config.module_shape ≡ None → config.available_imports ≡ None → HasNothing drawn → StandsSoFar config drawn
+freely config drawn none free begun =
+    let groups : drawn.imported.groups ≡ [] = ap (λ (b : Begun). b.groups) begun.begun in
+    let spaces : spaces_in drawn.imported.spaces ≡ imported_spaces [] = ap (λ (b : Begun). b.spaces) begun.begun in
+    let types : drawn.types ≡ record { types = []; groups = [] } = ap (λ (b : Begun). b.types) begun.begun in
+    let defined = ap (λ (b : Begun). b.defined) begun.begun in
+    record {
+      groups = rw groups (All-nil (IsImportsValid (features_of config)));
+      count = rw groups begun.imports.count;
+      stands = rw (groups, spaces, types, defined) (stands_alone config (record { types = []; groups = [] }) (imported_spaces []) (no_types (features_of config)) (no_entities config) (none_counted config));
+      most = λ count is. let none_there = nothing_in count is in let here = ap (λ (all : IndexSpaces). count_in all count) spaces in omega (arith, here, none_there);
+      most_types = let here = ap (λ (space : Space). length space.types) types in omega (arith, here);
+      most_imports = rw groups (omega arith);
+      tables = subst (λ (all : IndexSpaces). All (IsTableKept config) all.tables) (sym spaces) (All-nil (IsTableKept config));
+      memories = subst (λ (all : IndexSpaces). All (IsMemoryKept config) all.memories) (sym spaces) (All-nil (IsMemoryKept config));
+      type_size = rw (none, free, groups) begun.imports.type_size;
+      within = omega (arith, begun.imports.type_size);
+    }
+
+begun_by : (config : Config) (bytes : List ℕ) (drawn : Drawn) (of_module available : Option Shape) → config.module_shape ≡ of_module → config.available_imports ≡ available → IsBegun config bytes drawn → StandsSoFar config drawn
+begun_by config bytes drawn (Some shape) available given also begun = by_module config shape drawn given (subst (λ (one : Option Shape). IfSome one (λ each. IsBegunByModule config each drawn)) given begun.by_module)
+begun_by config bytes drawn None (Some shape) none given begun = by_imports config shape bytes drawn none given (subst (λ (one : Option Shape). IfSome one (λ each. IsBegunByImports config each bytes drawn)) given begun.by_imports)
+begun_by config bytes drawn None None none free begun = freely config drawn none free (begun.freely (λ fixes. elim fixes [
+  | inl available ↦ subst (λ (one : Option Shape). IsSome one) free available
+  | inr of_module ↦ subst (λ (one : Option Shape). IsSome one) none of_module
+]))
+
+-- whatever shapes a module has begun with, what stands is valid and not too much
+pub begun_stands : (config : Config) (bytes : List ℕ) (drawn : Drawn) → IsBegun config bytes drawn → StandsSoFar config drawn
+begun_stands config bytes drawn begun = begun_by config bytes drawn config.module_shape config.available_imports refl refl begun
