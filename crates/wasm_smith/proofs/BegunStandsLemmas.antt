@@ -1,6 +1,6 @@
 -- What stands once a module has begun with its shapes is valid, and no more than these and the configuration allow.
-use Rattle.std.proofs.Common.{◌≡◌, ◌∙◌, ◌⊎◌, ℕ, ◌+◌, ◌≤◌, max, List, [], ◌∷◌, ◌++◌, length, inl, inr, refl, sym, ap, subst, arith}
-use Rattle.std.specs.Prelude.{All, IfSome, IsSome, Option, Some, None, sum_by, is_some, if◌then◌else◌}
+use Rattle.std.proofs.Common.{◌≡◌, ◌∙◌, ℕ, ◌≤◌, List, [], length, inl, inr, refl, sym, ap, subst, arith}
+use Rattle.std.specs.Prelude.{All, IfSome, IsSome, Option, Some, None}
 use Rattle.std.specs.List.{Contains}
 use Rattle.std.proofs.lemmas.List.Elements.{All-nil, All-weaker, Contains-append_left}
 use Rattle.smith_bytes.specs.declared.error.Count.{Count}
@@ -8,25 +8,18 @@ use Rattle.smith_bytes.specs.declared.error.Count.TheVariants as counts
 use Rattle.smith_types.specs.Entities.{AreEntitiesValid, AreCountsEnabled, IsTagValid, IsFuncValid, IsTableValid, IsMemoryValid, IsGlobalValid}
 use Rattle.smith_types.specs.Imports.{IndexSpaces, IsImportsValid, flattened, imported_spaces}
 use Rattle.smith_types.specs.IndexSpaces.{spaces_in}
-use Rattle.smith_types.specs.Sizes.{size_in}
 use Rattle.smith_types.specs.Space.{Space}
-use Rattle.smith_types.specs.ValidTypes.{AreTypesValid}
-use Rattle.smith_types.specs.declared.entity_type.MemoryType.{MemoryType}
-use Rattle.smith_types.specs.declared.entity_type.TableType.{TableType}
 use Rattle.smith_types.specs.declared.imports.Import.{Import}
-use Rattle.smith_types.specs.declared.imports.Imports.{Imports}
 use Rattle.smith_types.proofs.ValidityLemmas.{no_types}
 use Rattle.smith_config.specs.declared.config.Config.{Config}
 use Rattle.smith_config.specs.declared.shape.Shape.{Shape}
 use Rattle.smith_config.specs.Faults.{maximum_of}
 use Rattle.smith_config.specs.Features.{features_of}
-use Rattle.smith_config.specs.Shapes.{shape_imports, shape_spaces, shape_types, space_of}
-use Rattle.smith_draw.specs.Bounds.{IsTableWithin, IsMemoryWithin}
+use Rattle.smith_config.specs.Shapes.{shape_spaces}
 use Rattle.smith_imports.specs.Imported.{AreNumbersWithin}
-use Rattle.smith_imports.specs.ShapeImports.{count_in, sizes_of}
-use Rattle.wasm_smith.specs.Begun.{Begun, HasNothing, IsBegun, IsBegunByModule, IsBegunByImports, IsOfEntities, IsTableKept, IsMemoryKept, StandsSoFar, size_of_imports}
-use Rattle.wasm_smith.specs.Bounds.{brought, brought_by_module, brought_by_imports, of_shapes}
-use Rattle.wasm_smith.specs.Required.{StandsBehind}
+use Rattle.smith_imports.specs.ShapeImports.{count_in}
+use Rattle.wasm_smith.specs.Begun.{Begun, HasNothing, IsBegun, IsBegunByModule, IsBegunByImports, IsOfEntities, IsTableKept, IsMemoryKept, StandsSoFar}
+use Rattle.wasm_smith.specs.Bounds.{brought, brought_by_module, brought_by_imports}
 use Rattle.wasm_smith.specs.declared.build.drawn.Drawn.{Drawn}
 use Rattle.wasm_smith.proofs.BegunLemmas.{stands_alone}
 
@@ -129,8 +122,8 @@ begun_by : (config : Config) (bytes : List ℕ) (drawn : Drawn) (of_module avail
 begun_by config bytes drawn (Some shape) available given also begun = by_module config shape drawn given (subst (λ (one : Option Shape). IfSome one (λ each. IsBegunByModule config each drawn)) given begun.by_module)
 begun_by config bytes drawn None (Some shape) none given begun = by_imports config shape bytes drawn none given (subst (λ (one : Option Shape). IfSome one (λ each. IsBegunByImports config each bytes drawn)) given begun.by_imports)
 begun_by config bytes drawn None None none free begun = freely config drawn none free (begun.freely (λ fixes. elim fixes [
-  | inl available ↦ subst (λ (one : Option Shape). IsSome one) free available
-  | inr of_module ↦ subst (λ (one : Option Shape). IsSome one) none of_module
+  | inl available ↦ let none_given = subst (λ (one : Option Shape). IsSome one) free available in absurd cc
+  | inr of_module ↦ let none_given = subst (λ (one : Option Shape). IsSome one) none of_module in absurd cc
 ]))
 
 -- whatever shapes a module has begun with, what stands is valid and not too much
