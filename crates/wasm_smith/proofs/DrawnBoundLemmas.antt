@@ -21,6 +21,7 @@ use Rattle.smith_contents.specs.Exporting.{Export, item_size, exported_size}
 use Rattle.smith_imports.specs.ImportedEntities.{sizes}
 use Rattle.wasm_smith.specs.Module.{Parts, module_spaces}
 use Rattle.wasm_smith.specs.declared.build.drawn.Drawn.{Drawn}
+use Rattle.wasm_smith.proofs.NoShapeLemmas.{none_fixed}
 
 -- what is within the configured most is so beside what shapes bring
 beside_shapes : (n most brought added : ℕ) → n ≤ most → n ≤ max most brought + added
@@ -56,7 +57,7 @@ module _ (distinct : Bool) (config : Config) (drawn : Drawn) (h : IsDrawnFor dis
   most counts.Tables asked = h.defined.tables.within
   most counts.Memories asked = h.defined.memories.within
   most counts.Globals asked = h.defined.globals.within
-  most counts.Exports asked = h.contents.most_exports asked.1
+  most counts.Exports asked = h.contents.exports.most asked.0 asked.1
   most counts.ElementSegments asked = h.contents.segments.most_elements
   most counts.Elements asked = h.contents.segments.most_items
   most counts.DataSegments asked = h.contents.segments.most_data
@@ -69,7 +70,7 @@ module _ (distinct : Bool) (config : Config) (drawn : Drawn) (h : IsDrawnFor dis
   least counts.Tables asked = h.defined.tables.enough
   least counts.Memories asked = h.defined.memories.enough
   least counts.Globals asked = h.defined.globals.enough
-  least counts.Exports asked = h.contents.least_exports asked.1
+  least counts.Exports asked = h.contents.exports.least asked.0 asked.1
   least counts.ElementSegments asked = h.contents.segments.least_elements
   least counts.Elements asked = absurd asked
   least counts.DataSegments asked = h.contents.segments.least_data
@@ -85,8 +86,8 @@ module _ (distinct : Bool) (config : Config) (drawn : Drawn) (h : IsDrawnFor dis
     most = λ count asked. beside_shapes (count_of m count) (maximum_of config count) (brought config count) (added config count) (most count asked);
     tables = All-weaker (IsTableWithin config) (λ (table : TableType). Contains (of_shapes (λ spaces. spaces.tables) config) table ⊎ IsTableWithin config table) (λ table within. inr within) m.tables h.defined.each_table;
     memories = All-weaker (IsMemoryWithin config) (λ (memory : MemoryType). Contains (of_shapes (λ spaces. spaces.memories) config) memory ⊎ IsMemoryWithin config memory) (λ memory within. inr within) m.memories h.defined.each_memory;
-    type_size = omega (arith, h.contents.type_size, h.type_size, imports_counted, exports_counted);
-    type_size_most = h.contents.within;
+    type_size = omega (arith, h.contents.exports.type_size (none_fixed config h.no_shapes), h.type_size, imports_counted, exports_counted);
+    type_size_most = h.contents.exports.within;
   }
 
   pub drawn_minimums : MeetsMinimums config m
