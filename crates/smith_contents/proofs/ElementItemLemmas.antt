@@ -1,10 +1,13 @@
 -- What the items of element segments are like.
-use Rattle.std.proofs.Common.{◌≡◌, ◌∙◌, ℕ, ◌≤◌, Bool, true, false, List, [], length, refl, arith}
+use Rattle.std.proofs.Common.{◌≡◌, ◌∙◌, ℕ, ◌≤◌, Bool, true, false, List, [], length, refl, sym, inl, inr, arith}
 use Rattle.std.specs.Prelude.{All, slice_index_or}
-use Rattle.std.proofs.lemmas.Option.{slice_get-get_or}
+use Rattle.std.proofs.lemmas.Option.{slice_get-get_or, slice_get_within, get_or_from_slice_get}
+use Rattle.smith_bytes.specs.declared.error.Error.{Error}
 use Rattle.smith_bytes.proofs.GrownLemmas.{grow_most}
 use Rattle.smith_types.specs.Expressions.{Context}
 use Rattle.smith_types.specs.Flags.{IsElementEnabled}
+use Rattle.smith_types.specs.Segments.{table_index}
+use Rattle.smith_types.specs.declared.entity_type.TableType.{TableType}
 use Rattle.smith_types.specs.declared.composite_type.SubType.{SubType}
 use Rattle.smith_types.specs.declared.value_type.RefType.{RefType}
 use Rattle.smith_types.proofs.GroupGrowthLemmas.{AreTypesOpen-at, AreTypesOpen-start}
@@ -20,7 +23,7 @@ use Rattle.smith_draw.proofs.MatchingLemmas.{matching_ref_below, matching_ref_va
 use Rattle.smith_draw.proofs.NullableLemmas.{ref_type_nullable}
 use Rattle.smith_draw.proofs.TableTypeLemmas.{element_enabled}
 use Rattle.smith_draw.proofs.ValueTypeLemmas.{ref_type_drawn}
-use Rattle.smith_contents.specs.DrawnElements.{IsOffered, FitsAddresses, FitsTable, MayDrawElements, MayHoldItems}
+use Rattle.smith_contents.specs.DrawnElements.{IsOffered, FitsAddresses, FitsTable, HasNonNullableElements, MayDrawElements, MayHoldItems, MayRefuseItems, MayRefuseSegment}
 use Rattle.smith_contents.specs.ElementSegments.{KindChoice, item_type_at, chosen_functions_at, expression_item_at, drawn_expressions_at}
 use Rattle.smith_contents.specs.declared.element_kinds.KindChoice.TheVariants as choice
 
@@ -48,25 +51,34 @@ item_type_may config spaces choice.Passive bytes may offered = record {
   standing = may.standing;
   valid = (ref_type_drawn config spaces.types.now.types false (length spaces.types.now.types) bytes may.sanitized (λ never. cc)).valid;
   enabled = element_enabled config spaces.types.now.types false (length spaces.types.now.types) bytes;
-  not_needed = ref_type_nullable config spaces.types.now.types false (length spaces.types.now.types) bytes;
-  nullable = may.nullable;
 }
 item_type_may config spaces choice.Declared bytes may offered = record {
   standing = may.standing;
   valid = (ref_type_drawn config spaces.types.now.types false (length spaces.types.now.types) bytes may.sanitized (λ never. cc)).valid;
   enabled = element_enabled config spaces.types.now.types false (length spaces.types.now.types) bytes;
-  not_needed = ref_type_nullable config spaces.types.now.types false (length spaces.types.now.types) bytes;
-  nullable = may.nullable;
 }
 item_type_may config spaces (choice.Active index table) bytes may offered =
     let types = spaces.types.now.types in
     record {
       standing = may.standing;
-      valid = (matching_ref_valid config types table.element_type bytes).against (length types) (omega arith) (sharing config spaces may) offered.fit.valid.element;
-      enabled = matching_enabled config types table.element_type bytes config.gc_enabled refl may.sanitized offered.fit.valid.element_enabled;
-      not_needed = matching_ref_nullable config types table.element_type bytes ∙ offered.fit.nullable;
-      nullable = may.nullable;
+      valid = (matching_ref_valid config types table.element_type bytes).against (length types) (omega arith) (sharing config spaces may) offered.valid.element;
+      enabled = matching_enabled config types table.element_type bytes config.gc_enabled refl may.sanitized offered.valid.element_enabled;
     }
+
+-- a reference that is needed, and may not be null, is an element of a table
+pub item_type_needed : (config : Config) (types : List SubType) (tables : List TableType) (kind : KindChoice) (bytes : List ℕ) → IsOffered config types tables kind → (item_type_at config types kind bytes).0.nullable ≡ false → HasNonNullableElements tables
+unfolding item_type_at
+item_type_needed config types tables choice.Passive bytes offered needed = absurd (cc (sym (ref_type_nullable config types false (length types) bytes) ∙ needed))
+item_type_needed config types tables choice.Declared bytes offered needed = absurd (cc (sym (ref_type_nullable config types false (length types) bytes) ∙ needed))
+item_type_needed config types tables (choice.Active index table) bytes offered needed =
+    let place = table_index index in
+    (place, table, slice_get_within tables place table offered.stands, get_or_from_slice_get tables place table table offered.stands, sym (matching_ref_nullable config types table.element_type bytes) ∙ needed)
+
+-- a segment is refused where its items are
+pub segment_refused : (config : Config) (types : List SubType) (tables : List TableType) (ty : RefType) (e : Error) → (ty.nullable ≡ false → HasNonNullableElements tables) → MayRefuseItems config types ty e → MayRefuseSegment config types tables e
+segment_refused config types tables ty e from_table (inl unmet) = inl unmet
+segment_refused config types tables ty e from_table (inr (empty, inl needed)) = inr (empty, inr (from_table needed))
+segment_refused config types tables ty e from_table (inr (empty, inr field)) = inr (empty, inl field)
 
 -- the type that is drawn fits the table
 pub item_type_fits : (config : Config) (types : List SubType) (kind : KindChoice) (bytes : List ℕ) → FitsTable types kind (item_type_at config types kind bytes).0
@@ -79,7 +91,7 @@ item_type_fits config types (choice.Active index table) bytes = matching_ref_bel
 pub fits_addresses : (config : Config) (spaces : Spaces) (kind : KindChoice) → IsOffered config spaces.types.now.types spaces.entities.tables.now kind → FitsAddresses kind
 fits_addresses config spaces choice.Passive offered = tt
 fits_addresses config spaces choice.Declared offered = tt
-fits_addresses config spaces (choice.Active index table) offered = offered.fit.valid.limits.minimum_fits
+fits_addresses config spaces (choice.Active index table) offered = offered.valid.limits.minimum_fits
 
 -- as many items as may be, or fewer
 pub functions_few : (config : Config) (funcs : List ℕ) (most : ℕ) (bytes : List ℕ) → length (chosen_functions_at config funcs most bytes).0 ≤ most

@@ -1,8 +1,9 @@
 -- What element segments are drawn over, and what each keeps. Rules of this project.
-use Rattle.std.specs.Prelude.{◌≡◌, ◌⊎◌, ℕ, ◌<◌, ◌≤◌, ◌^◌, true, false, IsTrue, IsSome, IsSomeAnd, Option, Some, List, length, slice_get, All}
+use Rattle.std.specs.Prelude.{◌≡◌, ◌⊎◌, ℕ, ◌<◌, ◌≤◌, ◌^◌, false, IsTrue, IsSome, IsSomeAnd, Option, Some, List, length, slice_get, All}
+use Rattle.std.specs.List.{Any}
 use Rattle.smith_bytes.specs.declared.error.Count.TheVariants as counts
 use Rattle.smith_bytes.specs.declared.error.Error.{Error}
-use Rattle.smith_bytes.specs.declared.error.Error.TheVariants.{IncorrectFormat, Memory}
+use Rattle.smith_bytes.specs.declared.error.Error.TheVariants.{EmptyChoose, IncorrectFormat, Memory}
 use Rattle.smith_bytes.specs.declared.error.Why.TheVariants.{Unmet}
 use Rattle.smith_types.specs.Entities.{IsTableValid, most_elements}
 use Rattle.smith_types.specs.Expressions.{Context}
@@ -19,11 +20,12 @@ use Rattle.smith_types.specs.declared.segments.Elements.{Elements}
 use Rattle.smith_types.specs.declared.segments.ElementSegment.{ElementSegment}
 use Rattle.smith_types.specs.declared.segments.Offset.{Offset}
 use Rattle.smith_types.specs.declared.value_type.RefType.{RefType}
+use Rattle.smith_types.specs.declared.value_type.ValType.TheVariants.{Ref}
 use Rattle.smith_config.specs.declared.config.Config.{Config}
 use Rattle.smith_config.specs.Faults.{Passes}
 use Rattle.smith_config.specs.Features.{features_of}
 use Rattle.smith_config.specs.Sanitized.{IsSanitized}
-use Rattle.smith_draw.specs.ConstBounds.{HoldsNonNullableField}
+use Rattle.smith_draw.specs.ConstBounds.{HoldsNonNullableField, MayLack}
 use Rattle.smith_draw.specs.ConstFloats.{GivesNoFloat}
 use Rattle.smith_draw.specs.ConstScopes.{AreSpacesValid}
 use Rattle.smith_draw.specs.declared.spaces.Spaces.{Spaces}
@@ -32,14 +34,9 @@ use Rattle.smith_contents.specs.Held.{expressions_of}
 use Rattle.smith_contents.specs.declared.element_kinds.KindChoice.{KindChoice}
 use Rattle.smith_contents.specs.declared.element_kinds.KindChoice.TheVariants as choice
 
--- a valid table whose elements may be null
-pub record IsTableNullable (config : Config) (types : List SubType) (table : TableType) : Type 0 where
-  pub valid : IsTableValid (features_of config) types table
-  pub nullable : table.element_type.nullable ≡ true
-
--- a table that a segment may be copied into, if it names it so
+-- a valid table that a segment may be copied into, if it names it so
 pub record IsTarget (config : Config) (types : List SubType) (tables : List TableType) (index : Option ℕ) (table : TableType) : Type 0 where
-  pub fit : IsTableNullable config types table
+  pub valid : IsTableValid (features_of config) types table
   pub stands : slice_get tables (table_index index) ≡ Some table
   pub named : IsSome index → IsTrue config.bulk_memory_enabled
 
@@ -48,13 +45,12 @@ abbrev pub IsOffered : Config → List SubType → List TableType → KindChoice
 IsOffered config types tables (choice.Active index table) = IsTarget config types tables index table
 IsOffered config types tables _ = IsTrue config.bulk_memory_enabled
 
--- element segments may be drawn over these spaces: all of them are valid, and no reference that is needed may not be null
+-- element segments may be drawn over these spaces: all of them are valid
 pub record MayDrawElements (config : Config) (spaces : Spaces) : Type 0 where
   pub passes : Passes config
   pub sanitized : IsSanitized config
   pub standing : AreSpacesValid config spaces
-  pub nullable : HoldsNonNullableField spaces.types.now.types → ⊥
-  pub tables : All (IsTableNullable config spaces.types.now.types) spaces.entities.tables.now
+  pub tables : All (IsTableValid (features_of config) spaces.types.now.types) spaces.entities.tables.now
   pub few_tables : length spaces.entities.tables.now < 2 ^ 32
 
 -- the minimum of the table, if a segment is copied into one, is not above what its addresses reach
@@ -78,13 +74,11 @@ abbrev pub FitsTable : List SubType → KindChoice → RefType → Type 0
 FitsTable types (choice.Active index table) ty = IsRefBelow types ty table.element_type
 FitsTable types _ ty = Unit {0}
 
--- items of a type may be drawn over spaces: both are valid, and no reference that is needed may not be null
+-- items of a type may be drawn over spaces: both are valid
 pub record MayHoldItems (config : Config) (spaces : Spaces) (ty : RefType) : Type 0 where
   pub standing : AreSpacesValid config spaces
   pub valid : IsRefTypeValid (features_of config) (length spaces.types.now.types) ty
   pub enabled : IsElementEnabled (features_of config) ty
-  pub not_needed : ty.nullable ≡ true
-  pub nullable : HoldsNonNullableField spaces.types.now.types → ⊥
 
 -- items of a type: valid, enough, and without a float's constant where no type holds a float
 pub record AreItemsFit (config : Config) (context : Context) (ty : RefType) (items : Elements) : Type 0 where
@@ -100,13 +94,29 @@ pub record IsElementFit (config : Config) (context : Context) (tables : List Tab
   pub enough : HasItems config context.types context.funcs segment.items
   pub floats : All HasNoFloat context.types → All (All GivesNoFloat) (expressions_of segment.items)
 
--- when items are refused: memory runs out, or more are asked for than may be
-abbrev pub MayRefuseItems : Config → Error → Type 0
-MayRefuseItems config e = (e ≡ Memory) ⊎ ((e ≡ IncorrectFormat (Unmet counts.Elements)) × (0 < config.min_elements))
+-- the elements of a table may not be null
+abbrev pub HasNonNullableElements : List TableType → Type 0
+HasNonNullableElements tables = Any (λ (table : TableType). table.element_type.nullable ≡ false) tables
 
--- when element segments are refused: memory runs out, no kind is offered, or a segment may not have as many items as are asked
--- for
-abbrev pub MayRefuseElements : Config → Error → Type 0
-MayRefuseElements config e =
-    (e ≡ Memory) ⊎ (((e ≡ IncorrectFormat (Unmet counts.Elements)) × (0 < config.min_elements))
-    ⊎ ((e ≡ IncorrectFormat (Unmet counts.ElementSegments)) × (0 < config.min_element_segments) × (config.bulk_memory_enabled ≡ false)))
+-- where there may be nothing to choose from for an item of a segment: a field of a type, or an element of a table, is a reference
+-- that may not be null
+abbrev pub MayLackItem : List SubType → List TableType → Type 0
+MayLackItem types tables = HoldsNonNullableField types ⊎ HasNonNullableElements tables
+
+-- when items that are functions are refused: memory runs out, or more are asked for than may be
+abbrev pub MayRefuseFunctions : Config → Error → Type 0
+MayRefuseFunctions config e = (e ≡ Memory) ⊎ ((e ≡ IncorrectFormat (Unmet counts.Elements)) × (0 < config.min_elements))
+
+-- when items of a type are refused: so, or there is nothing to choose from
+abbrev pub MayRefuseItems : Config → List SubType → RefType → Error → Type 0
+MayRefuseItems config types ty e = MayRefuseFunctions config e ⊎ ((e ≡ EmptyChoose) × MayLack types (Ref ty))
+
+-- when a segment beside these tables is refused
+abbrev pub MayRefuseSegment : Config → List SubType → List TableType → Error → Type 0
+MayRefuseSegment config types tables e = MayRefuseFunctions config e ⊎ ((e ≡ EmptyChoose) × MayLackItem types tables)
+
+-- when element segments are refused: one of them is, or no kind is offered
+abbrev pub MayRefuseElements : Config → List SubType → List TableType → Error → Type 0
+MayRefuseElements config types tables e =
+    MayRefuseSegment config types tables e
+    ⊎ ((e ≡ IncorrectFormat (Unmet counts.ElementSegments)) × (0 < config.min_element_segments) × (config.bulk_memory_enabled ≡ false))

@@ -7,11 +7,12 @@ ghost use Rattle.smith_types.specs.declared.segments.Elements.TheVariants as lis
 ghost use Rattle.smith_types.specs.declared.value_type.RefType.{RefType};
 ghost use Rattle.smith_types.specs.declared.value_type.ValType.TheVariants.{Ref};
 ghost use Rattle.smith_config.specs.Sanitized.{IsSanitized};
+ghost use Rattle.smith_draw.specs.ConstBounds.{MayRefuseConstExpr};
 ghost use Rattle.smith_draw.specs.ConstFloats.{GivesNoFloat};
 ghost use Rattle.smith_draw.specs.ConstScopes.{AreSpacesValid, seen_by};
 ghost use Rattle.smith_draw.specs.Drawing.{AlwaysDraws, Draws};
 ghost use Rattle.smith_imports.specs.Steps.{Gives};
-ghost use Rattle.smith_contents.specs.DrawnElements.{IsOffered, FitsTable, AreItemsFit, MayDrawElements, MayHoldItems, MayRefuseItems};
+ghost use Rattle.smith_contents.specs.DrawnElements.{IsOffered, FitsTable, AreItemsFit, MayDrawElements, MayHoldItems, MayRefuseFunctions, MayRefuseItems, HasNonNullableElements};
 ghost use Rattle.smith_contents.specs.ElementSegments.{
   item_type_at,
   is_funcref,
@@ -68,6 +69,7 @@ pub(crate) fn item_type(
     ensures draws { Draws (item_type_at config.now spaces.now.types.now.types choice u.old) result u.old u.new }
     ensures may { IfOk result (MayHoldItems config.now spaces.now) }
     ensures fits { IfOk result (FitsTable spaces.now.types.now.types choice) }
+    ensures needed { IfOk result (λ ty. ty.nullable ≡ false → HasNonNullableElements spaces.now.entities.tables.now) }
 {
     drawn_item_type(alloc, config, spaces, choice, u)
 }
@@ -156,7 +158,7 @@ fn drawn_functions(
     requires few { length spaces.now.entities.funcs.now < 2 ^ 32 }
     ensures exact { Gives (λ items. (items, u.new)) result (functions_at config.now (seen_by config.now spaces.now true) most u.old) }
     ensures few { IfOk result (λ items. length items ≤ most) }
-    ensures refusal { IfErr result (MayRefuseItems config.now) }
+    ensures refusal { IfErr result (MayRefuseFunctions config.now) }
     ensures left { KeepsPieces u.old u.new }
 {
     let funcs = unshared_funcs(alloc, spaces.types.types(), spaces.entities.funcs)?;
@@ -179,7 +181,7 @@ fn functions(
     ensures exact { Gives (λ items. (items, u.new)) result (functions_at config.now (seen_by config.now spaces.now true) most u.old) }
     ensures few { IfOk result (λ items. length items ≤ most) }
     ensures fit { (ty : RefType) → IsTrue (is_funcref ty) → IfOk result (λ items. AreItemsFit config.now (seen_by config.now spaces.now true) ty (listed.Functions items)) }
-    ensures refusal { IfErr result (MayRefuseItems config.now) }
+    ensures refusal { IfErr result (MayRefuseFunctions config.now) }
     ensures left { KeepsPieces u.old u.new }
 {
     drawn_functions(alloc, config, spaces, most, u)
@@ -196,9 +198,11 @@ fn expression_item(
 ) -> Result<Items<ConstInstr>, Error>
     requires references { IsTrue config.now.reference_types_enabled }
     requires may { MayHoldItems config.now spaces.now ty }
-    ensures draws { Draws (expression_item_at config.now (seen_by config.now spaces.now true) ty u.old) result u.old u.new }
+    ensures exact { IfOk result (λ drawn. expression_item_at config.now (seen_by config.now spaces.now true) ty u.old ≡ (drawn, u.new)) }
     ensures typed { IfOk result (IsConstExpr (seen_by config.now spaces.now true) (Ref ty)) }
     ensures floats { All HasNoFloat spaces.now.types.now.types → IfOk result (All GivesNoFloat) }
+    ensures refusal { IfErr result (MayRefuseConstExpr spaces.now.types.now.types (Ref ty)) }
+    ensures left { KeepsPieces u.old u.new }
 {
     arbitrary_const_expr(alloc, config, spaces, ValType::Ref(ty), true, u)
 }
@@ -214,9 +218,11 @@ fn drawn_expressions(
 ) -> Result<Items<Items<ConstInstr>>, Error>
     requires references { IsTrue config.now.reference_types_enabled }
     requires may { MayHoldItems config.now spaces.now ty }
-    ensures draws { Draws (drawn_expressions_at config.now (seen_by config.now spaces.now true) ty most u.old) result u.old u.new }
+    ensures exact { IfOk result (λ drawn. drawn_expressions_at config.now (seen_by config.now spaces.now true) ty most u.old ≡ (drawn, u.new)) }
     ensures typed { IfOk result (All (IsConstExpr (seen_by config.now spaces.now true) (Ref ty))) }
     ensures floats { All HasNoFloat spaces.now.types.now.types → IfOk result (All (All GivesNoFloat)) }
+    ensures refusal { IfErr result (MayRefuseConstExpr spaces.now.types.now.types (Ref ty)) }
+    ensures left { KeepsPieces u.old u.new }
 {
     let mut items = Items::new(alloc);
     for made in 0..most {
@@ -242,7 +248,7 @@ fn expressions(
     ensures exact { Gives (λ items. (items, u.new)) result (expressions_at config.now (seen_by config.now spaces.now true) ty most u.old) }
     ensures few { IfOk result (λ items. length items ≤ most) }
     ensures fit { IfOk result (λ items. AreItemsFit config.now (seen_by config.now spaces.now true) ty (listed.Expressions items)) }
-    ensures refusal { IfErr result (MayRefuseItems config.now) }
+    ensures refusal { IfErr result (MayRefuseItems config.now spaces.now.types.now.types ty) }
     ensures left { KeepsPieces u.old u.new }
 {
     ask_enough(config, most)?;
@@ -263,7 +269,7 @@ pub(crate) fn items(
     ensures exact { Gives (λ items. (items, u.new)) result (items_at config.now (seen_by config.now spaces.now true) ty most u.old) }
     ensures few { IfOk result (λ items. item_count items ≤ most) }
     ensures fit { IfOk result (AreItemsFit config.now (seen_by config.now spaces.now true) ty) }
-    ensures refusal { IfErr result (MayRefuseItems config.now) }
+    ensures refusal { IfErr result (MayRefuseItems config.now spaces.now.types.now.types ty) }
     ensures left { KeepsPieces u.old u.new }
 {
     if are_functions(config, ty, u) {

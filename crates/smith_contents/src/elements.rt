@@ -10,7 +10,7 @@ ghost use Rattle.smith_draw.specs.ConstScopes.{seen_by};
 ghost use Rattle.smith_bytes.specs.Spelling.{SpellsEmpty};
 ghost use Rattle.smith_imports.specs.Steps.{Gives};
 ghost use Rattle.smith_contents.specs.Held.{HasItems};
-ghost use Rattle.smith_contents.specs.DrawnElements.{IsOffered, IsElementFit, MayDrawElements, MayRefuseItems, MayRefuseElements};
+ghost use Rattle.smith_contents.specs.DrawnElements.{IsOffered, IsElementFit, MayDrawElements, MayRefuseSegment, MayRefuseElements};
 ghost use Rattle.smith_contents.specs.ElementSegments.{most_items, items_in, element_segment_at, element_segments_at, elements_at};
 ghost use Rattle.smith_contents.specs.Held.{expressions_of};
 ghost use Rattle.smith_bytes.specs.Spelling.{SpellsNone};
@@ -38,7 +38,7 @@ fn most_items(config: &Config, hint: Option<u64>, total: usize) -> usize
 }
 
 /// Draws a segment of one of these kinds, behind `total` items in all segments before it.
-#[tactic(auto, unfolding(crate::specs::ElementSegments::element_segment_at))]
+#[tactic(auto, unfolding(crate::specs::ElementSegments::element_segment_at), using(crate::proofs::ElementItemLemmas::segment_refused))]
 fn segment(
     alloc: Global,
     config: &Config,
@@ -54,7 +54,7 @@ fn segment(
     ensures within { IfOk result (λ segment. total + item_count segment.items ≤ config.now.max_elements) }
     ensures exact { Gives (λ segment. (segment, u.new)) result (element_segment_at config.now (seen_by config.now spaces.now true) kinds.now total u.old) }
     ensures fit { IfOk result (IsElementFit config.now (seen_by config.now spaces.now true) spaces.now.entities.tables.now) }
-    ensures refusal { IfErr result (MayRefuseItems config.now) }
+    ensures refusal { IfErr result (MayRefuseSegment config.now spaces.now.types.now.types spaces.now.entities.tables.now) }
     ensures left { KeepsPieces u.old u.new }
 {
     let choice = choose(kinds, u);
@@ -89,7 +89,7 @@ fn segments(
     ensures exact { Gives (λ segments. (segments, u.new)) result (element_segments_at config.now (seen_by config.now spaces.now true) kinds.now config.now.max_element_segments [] u.old) }
     ensures fit { IfOk result (All (IsElementFit config.now (seen_by config.now spaces.now true) spaces.now.entities.tables.now)) }
     ensures most { IfOk result (λ segments. (length segments ≤ config.now.max_element_segments) × (items_in segments ≤ config.now.max_elements)) }
-    ensures refusal { IfErr result (MayRefuseItems config.now) }
+    ensures refusal { IfErr result (MayRefuseSegment config.now spaces.now.types.now.types spaces.now.entities.tables.now) }
     ensures left { KeepsPieces u.old u.new }
 {
     let mut segments = Items::new(alloc);
@@ -127,7 +127,7 @@ fn drawn_elements(
     ensures exact { Gives (λ segments. (segments, u.new)) result (elements_at config.now (seen_by config.now spaces.now true) spaces.now.entities.tables.now u.old) }
     ensures fit { IfOk result (All (IsElementFit config.now (seen_by config.now spaces.now true) spaces.now.entities.tables.now)) }
     ensures most { IfOk result (λ segments. (length segments ≤ config.now.max_element_segments) × (items_in segments ≤ config.now.max_elements)) }
-    ensures refusal { IfErr result (MayRefuseElements config.now) }
+    ensures refusal { IfErr result (MayRefuseElements config.now spaces.now.types.now.types spaces.now.entities.tables.now) }
     ensures left { KeepsPieces u.old u.new }
 {
     let kinds = kinds(alloc, config, spaces, u)?;
@@ -143,7 +143,8 @@ fn drawn_elements(
 /// # Errors
 ///
 /// `Unmet(ElementSegments)` where some are asked for, there is no bulk memory, and no table is offered; `Unmet(Elements)` where
-/// a segment may not have as many items as are asked for.
+/// a segment may not have as many items as are asked for; `EmptyChoose` where nothing gives an item, which comes only where a field
+/// of a type, or an element of a table, is a reference that may not be null.
 pub fn arbitrary_elements(
     alloc: Global,
     config: &Config,
@@ -160,7 +161,7 @@ pub fn arbitrary_elements(
     ensures floats { All HasNoFloat spaces.now.types.now.types → IfOk result (λ segments. All (All GivesNoFloat) (flat_map (λ (segment : ElementSegment). expressions_of segment.items) segments)) }
     ensures none { config.now.min_element_segments ≡ 0 → spaces.now.entities.tables.now ≡ []
         → IfOk result (λ segments. Takes (SpellsEmpty (SpellsNone (if config.now.bulk_memory_enabled then config.now.max_element_segments else 0))) u.old segments u.new) }
-    ensures refusal { IfErr result (MayRefuseElements config.now) }
+    ensures refusal { IfErr result (MayRefuseElements config.now spaces.now.types.now.types spaces.now.entities.tables.now) }
     ensures left { KeepsPieces u.old u.new }
 {
     drawn_elements(alloc, config, spaces, u)

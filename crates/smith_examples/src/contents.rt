@@ -2,16 +2,20 @@
 // nothing calls these functions.
 
 ghost use Rattle.std.specs.Prelude.{[], ◌∷◌, true, pos, None, Some};
+ghost use Rattle.smith_bytes.specs.declared.error.Error.TheVariants.{EmptyChoose, Memory, NotEnoughData};
+ghost use Rattle.smith_types.specs.ExampleTypes.{not_null, plain};
 ghost use Rattle.smith_types.specs.Flags.{funcref};
+ghost use Rattle.smith_types.specs.declared.value_type.AbstractHeapType.TheVariants as heap;
 ghost use Rattle.smith_types.specs.declared.segments.Offset.TheVariants.{Const32, Const64};
 ghost use Rattle.smith_config.specs.Config.{default_config};
 ghost use Rattle.smith_config.specs.Shapes.{space_of};
-ghost use Rattle.wasm_smith.specs.Contents.{MayHoldContents};
+ghost use Rattle.wasm_smith.specs.Contents.{MayHoldContents, MayRefuseContents};
 ghost use Rattle.wasm_smith.specs.Definitions.{table_scope};
-ghost use Rattle.wasm_smith.specs.DrawnContents.{AreSegmentsFit, AreContents};
+ghost use Rattle.wasm_smith.specs.DrawnContents.{AreSegmentsFit, AreExportsMade, AreContents};
 ghost use Rattle.smith_contents.specs.DrawnElements.{IsPlaced};
 ghost use Rattle.smith_examples.specs.ExampleDefinitions.{beside_globals, no_imports};
 ghost use Rattle.smith_examples.specs.ExampleParts.{table};
+ghost use Rattle.smith_examples.specs.ExampleShapes.{for_exports, empty_shape};
 
 fn placed()
     ensures past_the_minimum { IsPlaced default_config (table_scope default_config (beside_globals [])) (table funcref 5 None) (Const32 (pos 6)) None }
@@ -24,6 +28,20 @@ fn placed()
 fn segments()
     ensures none { AreSegmentsFit default_config [] no_imports no_imports (record { elements = []; data_segments = [] }) }
     ensures none_where_one_is_asked_for { ¬ AreSegmentsFit (record default_config { min_data_segments = 1 }) [] no_imports no_imports (record { elements = []; data_segments = [] }) }
+{}
+
+fn exports()
+    ensures none { AreExportsMade default_config [] no_imports 3 (record { exports = []; type_size = 3 }) }
+    ensures of_a_shape { AreExportsMade (for_exports empty_shape (record default_config { min_exports = 1 })) [] no_imports 3 (record { exports = []; type_size = 3 }) }
+    ensures that_add_what_is_not_counted { ¬ AreExportsMade (for_exports empty_shape default_config) [] no_imports 3 (record { exports = []; type_size = 2 }) }
+    ensures past_the_type_size { ¬ AreExportsMade (for_exports empty_shape default_config) [] no_imports 1001 (record { exports = []; type_size = 1001 }) }
+{}
+
+fn refused()
+    ensures no_choice { MayRefuseContents default_config [] (record no_imports { tables = table (not_null (plain heap.Extern)) 1 None ∷ [] }) EmptyChoose }
+    ensures no_table { ¬ MayRefuseContents default_config [] no_imports EmptyChoose }
+    ensures as_a_module { MayRefuseContents default_config [] no_imports Memory }
+    ensures too_few_bytes { ¬ MayRefuseContents default_config [] no_imports NotEnoughData }
 {}
 
 fn contents()

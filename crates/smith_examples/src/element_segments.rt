@@ -2,9 +2,10 @@
 
 ghost use Rattle.std.specs.Prelude.{◌≡◌, [], ◌∷◌, true, false, pos, None, Some, Ok, Err};
 ghost use Rattle.smith_bytes.specs.declared.error.Count.TheVariants as counts;
+ghost use Rattle.smith_bytes.specs.declared.error.Error.TheVariants as errors;
 ghost use Rattle.smith_bytes.specs.declared.error.Why.TheVariants.{Unmet};
 ghost use Rattle.smith_types.specs.Flags.{funcref};
-ghost use Rattle.smith_types.specs.ExampleTypes.{nullable, plain, shared_type, plain_func};
+ghost use Rattle.smith_types.specs.ExampleTypes.{nullable, not_null, plain, shared_type, plain_func};
 ghost use Rattle.smith_types.specs.declared.segments.Offset.TheVariants.{Const32};
 ghost use Rattle.smith_types.specs.declared.segments.ElementKind.TheVariants as element;
 ghost use Rattle.smith_types.specs.declared.segments.Elements.TheVariants.{Functions, Expressions};
@@ -13,6 +14,7 @@ ghost use Rattle.smith_config.specs.Config.{default_config};
 ghost use Rattle.smith_spell.specs.ExampleMembers.{final, plain_function};
 ghost use Rattle.wasm_smith.specs.Definitions.{table_scope};
 ghost use Rattle.smith_contents.specs.Held.{HasItems};
+ghost use Rattle.smith_contents.specs.DrawnElements.{MayRefuseElements};
 ghost use Rattle.smith_contents.specs.ElementSegments.{elements_at, constant_offset_at, are_functions_at, most_items, unshared_funcs};
 ghost use Rattle.smith_examples.specs.ExampleDefinitions.{beside_globals};
 ghost use Rattle.smith_examples.specs.ExampleParts.{passive_elements, table};
@@ -59,4 +61,14 @@ fn enough()
     ensures of_shared_functions { HasItems (record default_config { min_elements = 1 }) (shared_type plain_func ∷ []) (0 ∷ []) (Functions []) }
     ensures of_one_that_is_not { ¬ HasItems (record default_config { min_elements = 1 }) (final plain_function ∷ []) (0 ∷ []) (Functions []) }
     ensures of_expressions { ¬ HasItems (record default_config { min_elements = 1 }) [] [] (Expressions []) }
+{}
+
+fn refused()
+    ensures want_of_memory { MayRefuseElements default_config [] [] errors.Memory }
+    ensures elements_that_may_not_be_null { MayRefuseElements default_config [] (table (not_null (plain heap.Extern)) 1 None ∷ []) errors.EmptyChoose }
+    ensures no_table { ¬ MayRefuseElements default_config [] [] errors.EmptyChoose }
+    ensures no_item_where_one_is_asked_for { MayRefuseElements (record default_config { min_elements = 1 }) [] [] (errors.IncorrectFormat (Unmet counts.Elements)) }
+    ensures none_asked_for { ¬ MayRefuseElements default_config [] [] (errors.IncorrectFormat (Unmet counts.Elements)) }
+    ensures no_kind { MayRefuseElements (record default_config { min_element_segments = 1; bulk_memory_enabled = false }) [] [] (errors.IncorrectFormat (Unmet counts.ElementSegments)) }
+    ensures passive_ones { ¬ MayRefuseElements (record default_config { min_element_segments = 1 }) [] [] (errors.IncorrectFormat (Unmet counts.ElementSegments)) }
 {}

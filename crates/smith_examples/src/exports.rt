@@ -1,4 +1,4 @@
-ghost use Rattle.std.specs.Prelude.{◌≡◌, [], ◌∷◌, true, false, None, Ok, Err, codes};
+ghost use Rattle.std.specs.Prelude.{◌≡◌, ◌-◌, ◌^◌, [], ◌∷◌, true, false, List, length, None, Ok, Err, codes};
 ghost use Rattle.smith_bytes.specs.declared.error.Count.TheVariants as counts;
 ghost use Rattle.smith_bytes.specs.declared.error.Why.TheVariants.{Unmet, TypeSize};
 ghost use Rattle.smith_types.specs.Imports.{imported_spaces};
@@ -8,6 +8,9 @@ ghost use Rattle.smith_config.specs.Config.{default_config};
 ghost use Rattle.smith_spell.specs.ExampleMembers.{final, taking_a_number, plain_function};
 ghost use Rattle.smith_contents.specs.Exporting.{is_exported, export_name_at, candidates, offered_kinds, exported_size, free_exports_at};
 ghost use Rattle.smith_contents.specs.AllExports.{exports_at};
+ghost use Rattle.smith_contents.specs.Exported.{IsSized, IsFuncWithin};
+ghost use Rattle.smith_types.specs.declared.composite_type.CompositeInnerType.TheVariants as inner;
+ghost use Rattle.smith_types.specs.declared.value_type.ValType.{ValType};
 ghost use Rattle.smith_examples.specs.ExampleParts.{memory, number, import_named};
 
 fn drawn_exports()
@@ -55,4 +58,11 @@ fn names()
     ensures number_behind { export_name_at (([], Global, 0) ∷ []) [] ≡ (codes "1", []) }
     ensures number_twice { export_name_at (([], Global, 0) ∷ (codes "2", Global, 0) ∷ []) [] ≡ (codes "22", []) }
     ensures new_as_it_is { export_name_at ((codes "b", Global, 0) ∷ []) [] ≡ ([], []) }
+{}
+
+fn sizes()
+    ensures as_many_values_as_may_be { (params : List ValType) → length params ≡ 2 ^ 32 - 3 → IsSized (final (inner.Func (record { params = params; results = [] }))) }
+    ensures too_many_values { (params : List ValType) → length params ≡ 2 ^ 32 - 2 → ¬ IsSized (final (inner.Func (record { params = params; results = [] }))) }
+    ensures within { IsFuncWithin (final taking_a_number ∷ []) 3 0 }
+    ensures not_within { ¬ IsFuncWithin (final taking_a_number ∷ []) 2 0 }
 {}

@@ -1,5 +1,5 @@
 -- What exports, segments, a start function and interesting values ask of types, imports and definitions.
-use Rattle.std.proofs.Common.{◌≡◌, ℕ, ◌^◌, ◌<◌, ◌≤◌, Bool, false, List, length, Option, Some, None, arith, inl, inr}
+use Rattle.std.proofs.Common.{◌≡◌, ◌∙◌, ℕ, ◌^◌, ◌<◌, ◌≤◌, Bool, false, List, length, Option, Some, None, Ok, ap, sym, ◌+◌, arith, length-append, inl, inr}
 use Rattle.std.specs.Prelude.{◌⊎◌, All, IfSome, IsTrue}
 use Rattle.std.proofs.lemmas.List.Elements.{All-weaker}
 use Rattle.smith_bytes.specs.declared.error.Count.TheVariants as counts
@@ -22,8 +22,12 @@ use Rattle.smith_draw.specs.FuncSizes.{IsSmall}
 use Rattle.smith_draw.specs.declared.spaces.Spaces.{Spaces}
 use Rattle.wasm_smith.specs.Contents.{MayHoldContents, AreSpacesOver}
 use Rattle.wasm_smith.specs.Defined.{AreDefined, IsFilled}
-use Rattle.smith_contents.specs.DrawnElements.{MayDrawElements, IsTableNullable}
+use Rattle.smith_contents.specs.DrawnElements.{MayDrawElements}
 use Rattle.smith_contents.specs.Exported.{MayExport, MayExportFreely, MayDrawExports}
+use Rattle.smith_contents.specs.AllExports.{exports_at}
+use Rattle.smith_contents.specs.Exporting.{exported_size}
+use Rattle.smith_contents.specs.declared.exported.Exports.{Exports}
+use Rattle.wasm_smith.specs.DrawnContents.{behind_exports_at, contents_at}
 use Rattle.smith_contents.proofs.SizedLemmas.{small_sized}
 use Rattle.smith_imports.specs.Imported.{HasNullableElements, IsImported, spaces_of}
 use Rattle.wasm_smith.specs.declared.build.definitions.Definitions.{Definitions}
@@ -36,10 +40,10 @@ few_filled filled few most_few = omega (arith, filled.within, few, most_few)
 
 -- contents may be drawn once types, imports and definitions stand
 pub may_hold_contents : {distinct : Bool} {config : Config} {space : Space} {made : Imported} {spaces : IndexSpaces} {defined : Definitions}
-    → Passes config → IsSanitized config → AreTypesValid (features_of config) space → All IsSmall space.types → (HoldsNonNullableField space.types → ⊥)
+    → Passes config → IsSanitized config → AreTypesValid (features_of config) space → All IsSmall space.types
     → IsImported config space.types distinct made → AreDefined config space.types (spaces_of made) spaces defined
     → MayHoldContents config space spaces made.type_size
-may_hold_contents {space = space} {made = made} passes sanitized types small nullable so_far stand =
+may_hold_contents {space = space} {made = made} passes sanitized types small so_far stand =
     let behind = rw so_far.counts.spaces at stand in
     record {
       passes = passes;
@@ -47,9 +51,7 @@ may_hold_contents {space = space} {made = made} passes sanitized types small nul
       types = types;
       sized = small_sized space.types small;
       small = λ no_shapes. small;
-      nullable = nullable;
       entities = behind.entities;
-      nullable_tables = all_behind HasNullableElements so_far.fit.nullable_tables behind.nullable_tables;
       few = record {
         funcs = few_filled behind.funcs so_far.fit.within.funcs (passes.few counts.Funcs);
         tables = few_filled behind.tables so_far.fit.within.tables (passes.few counts.Tables);
@@ -64,14 +66,18 @@ may_hold_contents {space = space} {made = made} passes sanitized types small nul
       small_imports = λ no_shapes. omega (arith, so_far.counts.type_size, so_far.fit.small, so_far.fit.most);
     }
 
+-- what is drawn freely is what is drawn behind exports that are
+pub behind_drawn : (config : Config) (types : List SubType) (imported spaces : IndexSpaces) (size : ℕ) (bytes after : List ℕ) (made : Exports) → exports_at config types spaces size bytes ≡ Ok (made.exports, after)
+    → made.type_size ≡ size + exported_size types spaces made.exports → contents_at config types imported spaces size bytes ≡ behind_exports_at config types imported spaces made after
+unfolding contents_at
+behind_drawn config types imported spaces size bytes after made drawn sized =
+    rw drawn (ap (λ (n : ℕ). behind_exports_at config types imported spaces (record { exports = made.exports; type_size = n }) after) (sym sized))
+
 -- a page has 64 KiB at most
 page_small : (features : Features) (stated : Option ℕ) → IfSome stated (λ log2. ((log2 ≡ 0) ⊎ (log2 ≡ 16)) × IsTrue features.custom_page_sizes) → page_log2 stated ≤ 16
 page_small features None h = omega arith
 page_small features (Some log2) (inl byte, on) = omega (arith, byte)
 page_small features (Some log2) (inr whole, on) = omega (arith, whole)
-
-both_hold : (config : Config) (types : List SubType) (tables : List TableType) → All (IsTableValid (features_of config) types) tables → All HasNullableElements tables → All (IsTableNullable config types) tables
-both_hold config types tables valid nullable = λ i d inside. record { valid = valid i d inside; nullable = nullable i d inside }
 
 module _ {config : Config} {space : Space} {spaces : IndexSpaces} {imports_size : ℕ} (may : MayHoldContents config space spaces imports_size) where
   -- interesting values ask so
@@ -113,8 +119,7 @@ module _ {config : Config} {space : Space} {spaces : IndexSpaces} {imports_size 
       passes = may.passes;
       sanitized = may.sanitized;
       standing = spaces_valid count;
-      nullable = rw seen.types may.nullable;
-      tables = rw (seen.types, seen.tables) (both_hold config space.types spaces.tables may.entities.tables may.nullable_tables);
+      tables = rw (seen.types, seen.tables) may.entities.tables;
       few_tables = rw seen.tables may.few.tables;
     }
 

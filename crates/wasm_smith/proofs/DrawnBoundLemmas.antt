@@ -22,6 +22,7 @@ use Rattle.smith_imports.specs.ImportedEntities.{sizes}
 use Rattle.wasm_smith.specs.Module.{Parts, module_spaces}
 use Rattle.wasm_smith.specs.declared.build.drawn.Drawn.{Drawn}
 use Rattle.wasm_smith.proofs.DefinedLemmas.{all_behind}
+use Rattle.wasm_smith.proofs.NoShapeLemmas.{none_fixed}
 
 -- what is within the configured most is so beside what shapes bring
 beside_shapes : (n most brought added : ℕ) → n ≤ most → n ≤ max most brought + added
@@ -57,7 +58,7 @@ module _ (distinct : Bool) (config : Config) (drawn : Drawn) (h : IsDrawnFor dis
   most counts.Tables asked = omega (arith, h.defined.tables.within, h.imports.within.tables)
   most counts.Memories asked = omega (arith, h.defined.memories.within, h.imports.within.memories)
   most counts.Globals asked = omega (arith, h.defined.globals.within, h.imports.within.globals)
-  most counts.Exports asked = h.contents.most_exports asked.1
+  most counts.Exports asked = h.contents.exports.most asked.0 asked.1
   most counts.ElementSegments asked = h.contents.segments.most_elements
   most counts.Elements asked = h.contents.segments.most_items
   most counts.DataSegments asked = h.contents.segments.most_data
@@ -70,7 +71,7 @@ module _ (distinct : Bool) (config : Config) (drawn : Drawn) (h : IsDrawnFor dis
   least counts.Tables asked = h.defined.tables.enough
   least counts.Memories asked = h.defined.memories.enough
   least counts.Globals asked = h.defined.globals.enough
-  least counts.Exports asked = h.contents.least_exports asked.1
+  least counts.Exports asked = h.contents.exports.least asked.0 asked.1
   least counts.ElementSegments asked = h.contents.segments.least_elements
   least counts.Elements asked = absurd asked
   least counts.DataSegments asked = h.contents.segments.least_data
@@ -86,8 +87,8 @@ module _ (distinct : Bool) (config : Config) (drawn : Drawn) (h : IsDrawnFor dis
     most = λ count asked. beside_shapes (count_of m count) (maximum_of config count) (brought config count) (added config count) (most count asked);
     tables = All-weaker (IsTableWithin config) (λ (table : TableType). Contains (of_shapes (λ spaces. spaces.tables) config) table ⊎ IsTableWithin config table) (λ table within. inr within) m.tables (all_behind (IsTableWithin config) h.imports.within.each_table h.defined.each_table);
     memories = All-weaker (IsMemoryWithin config) (λ (memory : MemoryType). Contains (of_shapes (λ spaces. spaces.memories) config) memory ⊎ IsMemoryWithin config memory) (λ memory within. inr within) m.memories (all_behind (IsMemoryWithin config) h.imports.within.each_memory h.defined.each_memory);
-    type_size = omega (arith, h.contents.type_size, h.type_size, imports_counted, exports_counted);
-    type_size_most = h.contents.within;
+    type_size = omega (arith, h.contents.exports.type_size (none_fixed config h.no_shapes), h.type_size, imports_counted, exports_counted);
+    type_size_most = h.contents.exports.within;
   }
 
   pub drawn_minimums : MeetsMinimums config m

@@ -78,7 +78,7 @@ module _ (distinct : Bool) (config : Config) (drawn : Drawn) (h : IsDrawnFor dis
     entities = h.defined.entities;
     counts = h.defined.counts;
     definitions = record { tables = tables_defined; globals = globals_defined };
-    exports = h.contents.exports;
+    exports = h.contents.exports.valid;
     start = h.contents.start;
     elements = h.contents.segments.elements;
     data_segments = h.contents.segments.data_segments;

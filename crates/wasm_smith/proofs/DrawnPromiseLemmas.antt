@@ -12,7 +12,7 @@ pub drawn_promises : (distinct : Bool) (config : Config) (drawn : Drawn) → IsD
 drawn_promises distinct config drawn h = record {
   names = λ asked free. h.imports.apart asked;
   no_floats = λ off none. no_floats_drawn config drawn (h.floats off);
-  everything = λ all free. h.contents.everything all;
+  everything = λ all free. h.contents.exports.everything free all;
   no_start = h.contents.no_start;
   inside = λ on. record { elements = h.contents.segments.elements_inside on; data_segments = h.contents.segments.data_inside on };
   sections = record { types = h.contents.encodes_types; imports = h.encodes_imports };

@@ -6,7 +6,7 @@ use Rattle.smith_bytes.specs.declared.error.Which.{Which}
 use Rattle.smith_bytes.specs.declared.error.Which.TheVariants as which
 use Rattle.smith_config.specs.declared.config.Config.{Config}
 use Rattle.smith_config.specs.declared.shape.Shape.{Shape}
-use Rattle.smith_config.specs.InUse.{HasNoShapes, shapes_of}
+use Rattle.smith_config.specs.InUse.{FixesExports, HasNoShapes, shapes_of}
 use Rattle.smith_config.specs.Shapes.{Shapes, in_use, no_shapes}
 use Rattle.smith_config.specs.Sanitized.{sanitized}
 use Rattle.wasm_smith.specs.Bounds.{where_given, exported_of, brought_by_module}
@@ -37,6 +37,11 @@ none_for config which.Exports none = ap (λ (used : Shapes). used.exports) (none
 -- no shape that is used has a property
 pub none_used : (P : Shape → Type 0) (config : Config) (for_use : Which) → HasNoShapes config → IsSomeAnd (shape_for config for_use) P → ⊥
 none_used P config for_use none h = subst (λ (given : Option Shape). IsSomeAnd given P) (none_for config for_use none) h
+
+-- and none fixes exports
+pub none_fixed : (config : Config) → HasNoShapes config → FixesExports config → ⊥
+none_fixed config none (inl fixed) = let given = rw none.exports at fixed in search rules
+none_fixed config none (inr fixed) = let given = rw none.module_shape at fixed in search rules
 
 -- and none brings an item
 pub none_brought : (config : Config) (count : Count) → HasNoShapes config → Brings config count → ⊥

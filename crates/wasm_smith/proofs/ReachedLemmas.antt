@@ -27,7 +27,7 @@ use Rattle.smith_spell.specs.Spelling.{SpellsMember, SpellsRest, SpellsNoTag, Sp
 use Rattle.smith_spell.proofs.FamilyFitLemmas.{family_fits}
 use Rattle.wasm_smith.specs.Build.{IsGiven, defined_in, definitions_at, module_of, module_at, as_drawn}
 use Rattle.wasm_smith.specs.Definitions.{standing_over, tables_at, memories_at, globals_at}
-use Rattle.wasm_smith.specs.DrawnContents.{segment_scope, all_segments_at, contents_at}
+use Rattle.wasm_smith.specs.DrawnContents.{segment_scope, all_segments_at, behind_exports_at, contents_at}
 use Rattle.smith_imports.specs.ImportedEntities.{sizes}
 use Rattle.wasm_smith.specs.Members.{HasMember, HasRest}
 use Rattle.wasm_smith.specs.Module.{Parts}
@@ -145,7 +145,7 @@ SpellsBehindGlobals config types funcs passive =
 
 contents_read : (config : Config) (types : List SubType) (imported spaces : IndexSpaces) (size : ℕ) (passive : List (List ℕ)) (piece after : List ℕ) → HasNoMinimums config → config.export_everything ≡ false
     → spaces.tables ≡ [] → spaces.memories ≡ [] → SpellsBehindGlobals config types spaces.funcs passive piece → IfOk (contents_at config types imported spaces size (piece ++ after)) (λ drawn. IsBare passive drawn.0)
-unfolding contents_at
+unfolding contents_at behind_exports_at
 contents_read config types imported spaces size passive piece after least some tables memories h =
     let flag = h.is_second in
     let start = flag.is_second in

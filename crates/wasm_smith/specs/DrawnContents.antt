@@ -13,6 +13,7 @@ use Rattle.smith_types.specs.declared.segments.ElementSegment.{ElementSegment}
 use Rattle.smith_types.specs.declared.code.Code.{Code}
 use Rattle.smith_config.specs.declared.config.Config.{Config}
 use Rattle.smith_config.specs.Features.{features_of}
+use Rattle.smith_config.specs.InUse.{FixesExports}
 use Rattle.smith_draw.specs.ConstFloats.{GivesNoFloat}
 use Rattle.smith_contents.specs.Held.{HasItems}
 use Rattle.smith_contents.specs.ExportedItems.{AreAllExported}
@@ -25,6 +26,7 @@ use Rattle.smith_contents.specs.ElementSegments.{elements_at, items_in}
 use Rattle.smith_contents.specs.Exporting.{exported_size}
 use Rattle.smith_contents.specs.Held.{expressions_of}
 use Rattle.smith_contents.specs.Start.{start_at}
+use Rattle.smith_contents.specs.declared.exported.Exports.{Exports}
 use Rattle.smith_imports.specs.Steps.{◌>>=◌, section_flag_at}
 use Rattle.wasm_smith.specs.declared.build.contents.Contents.{Contents}
 use Rattle.wasm_smith.specs.declared.build.definitions.Definitions.{Definitions}
@@ -51,19 +53,18 @@ all_segments_at config types imported spaces bytes = do
   data_segments ← data_at config (segment_scope config types imported spaces) spaces.memories elements.1
   Ok (record { elements = elements.0; data_segments = data_segments.0 }, data_segments.1)
 
--- what the bytes give over types and index spaces, of which some is imported, beside what the imports add to the type size:
--- exports, whether a section of types is written, a start function, segments and bodies
-unfoldable pub contents_at : Config → List SubType → IndexSpaces → IndexSpaces → ℕ → List ℕ → Result (Contents × List ℕ) Why
-contents_at config types imported spaces imports_size bytes = do
-  exports ← exports_at config types spaces imports_size bytes
-  let type_flag = section_flag_at (length types) exports.1
+-- what the bytes give behind exports that were made, over types and index spaces, of which some is imported: whether a section of
+-- types is written, a start function, segments and bodies
+unfoldable pub behind_exports_at : Config → List SubType → IndexSpaces → IndexSpaces → Exports → List ℕ → Result (Contents × List ℕ) Why
+behind_exports_at config types imported spaces made bytes = do
+  let type_flag = section_flag_at (length types) bytes
   let start = start_at config types spaces.funcs type_flag.1
   segments ← all_segments_at config types imported spaces start.1
   let code = bodies_at config types (length spaces.funcs - length imported.funcs) segments.1
   Ok (
     record {
-      exports = exports.0;
-      type_size = imports_size + exported_size types spaces exports.0;
+      exports = made.exports;
+      type_size = made.type_size;
       encodes_types = type_flag.0;
       start = start.0;
       segments = segments.0;
@@ -71,6 +72,24 @@ contents_at config types imported spaces imports_size bytes = do
     },
     code.1,
   )
+
+-- what the bytes give where no shape fixes the exports, beside what the imports add to the type size: exports, and what is drawn
+-- behind them
+unfoldable pub contents_at : Config → List SubType → IndexSpaces → IndexSpaces → ℕ → List ℕ → Result (Contents × List ℕ) Why
+contents_at config types imported spaces imports_size bytes = do
+  exports ← exports_at config types spaces imports_size bytes
+  behind_exports_at config types imported spaces (record { exports = exports.0; type_size = imports_size + exported_size types spaces exports.0 }) exports.1
+
+-- exports are valid, and within the type size beside what the imports add to it: as they are asked for where no shape fixes them,
+-- and else they add nothing
+pub record AreExportsMade (config : Config) (types : List SubType) (spaces : IndexSpaces) (imports_size : ℕ) (made : Exports) : Type 0 where
+  pub valid : AreExportsValid spaces made.exports
+  pub most : (FixesExports config → ⊥) → config.export_everything ≡ false → length made.exports ≤ config.max_exports
+  pub least : (FixesExports config → ⊥) → config.export_everything ≡ false → config.min_exports ≤ length made.exports
+  pub everything : (FixesExports config → ⊥) → IsTrue config.export_everything → AreAllExported spaces made.exports
+  pub type_size : (FixesExports config → ⊥) → made.type_size ≡ imports_size + exported_size types spaces made.exports
+  pub fixed_size : FixesExports config → made.type_size ≡ imports_size
+  pub within : made.type_size ≤ config.max_type_size
 
 -- segments are valid, as many as are asked for and no more than may be, and where nothing may trap, what is copied fits
 pub record AreSegmentsFit (config : Config) (types : List SubType) (imported spaces : IndexSpaces) (segments : Segments) : Type 0 where
@@ -85,15 +104,10 @@ pub record AreSegmentsFit (config : Config) (types : List SubType) (imported spa
   pub least_data : config.min_data_segments ≤ length segments.data_segments
   pub data_inside : IsTrue config.disallow_traps → All (IsDataInside spaces.memories) segments.data_segments
 
--- exports as they are asked for, a section of types where there are types, a valid start function where one is allowed,
+-- exports, a section of types where there are types, a valid start function where one is allowed,
 -- segments, and a body for each function that is defined
 pub record AreContents (config : Config) (types : List SubType) (imported spaces : IndexSpaces) (imports_size : ℕ) (contents : Contents) : Type 0 where
-  pub exports : AreExportsValid spaces contents.exports
-  pub most_exports : config.export_everything ≡ false → length contents.exports ≤ config.max_exports
-  pub least_exports : config.export_everything ≡ false → config.min_exports ≤ length contents.exports
-  pub everything : IsTrue config.export_everything → AreAllExported spaces contents.exports
-  pub type_size : contents.type_size ≡ imports_size + exported_size types spaces contents.exports
-  pub within : contents.type_size ≤ config.max_type_size
+  pub exports : AreExportsMade config types spaces imports_size (record { exports = contents.exports; type_size = contents.type_size })
   pub encodes_types : 0 < length types → IsTrue contents.encodes_types
   pub start : IsStartValid types spaces.funcs contents.start
   pub no_start : config.allow_start_export ≡ false → contents.start ≡ None

@@ -4,9 +4,10 @@ ghost use Rattle.std.specs.Prelude.{◌≡◌, false, IfOk, IfErr, All};
 ghost use Rattle.smith_bytes.specs.Source.{KeepsPieces};
 ghost use Rattle.smith_types.specs.Floats.{HasNoFloat};
 ghost use Rattle.smith_config.specs.InUse.{FixesExports};
-ghost use Rattle.wasm_smith.specs.Contents.{MayHoldContents};
-ghost use Rattle.wasm_smith.specs.DrawnContents.{TellsImported, AreContents, HasNoFloatContents, imported_in, contents_at};
-ghost use Rattle.smith_imports.specs.Imported.{spaces_of};
+ghost use Rattle.smith_draw.specs.ConstBounds.{HoldsNonNullableField};
+ghost use Rattle.wasm_smith.specs.Contents.{MayHoldContents, MayRefuseContents};
+ghost use Rattle.wasm_smith.specs.DrawnContents.{TellsImported, AreExportsMade, AreContents, HasNoFloatContents, imported_in, behind_exports_at, contents_at};
+ghost use Rattle.smith_imports.specs.Imported.{HasNullableElements, spaces_of};
 ghost use Rattle.wasm_smith.specs.Refusals.{MayRefuse};
 ghost use Rattle.smith_imports.specs.Steps.{Gives};
 
@@ -15,7 +16,7 @@ use crate::build::section_flag::section_flag;
 use crate::build::segments::{Segments, all_segments};
 use smith_bytes::{Error, Unstructured};
 use smith_config::Config;
-use smith_contents::{arbitrary_bodies, arbitrary_exports, arbitrary_start};
+use smith_contents::{Exports, arbitrary_bodies, arbitrary_exports, arbitrary_start};
 use smith_imports::Imported;
 use smith_types::{Code, ExportKind, Items, Name, TypeSpace};
 use std::alloc::Global;
@@ -47,10 +48,44 @@ impl Contents {
     }
 }
 
-/// Draws exports, whether a section of types is written, a start function, segments and bodies, in this order, over all that is
-/// imported and defined.
+/// Draws, behind exports that were made, whether a section of types is written, a start function, segments and bodies, in this
+/// order, over all that is imported and defined.
+#[tactic(auto, unfolding(crate::specs::DrawnContents::behind_exports_at))]
+pub(crate) fn behind_exports(
+    alloc: Global,
+    config: &Config,
+    types: &TypeSpace,
+    imported: &Imported,
+    definitions: &Definitions,
+    made: Exports,
+    u: &mut Unstructured<'_>,
+) -> Result<Contents, Error>
+    requires may { MayHoldContents config.now types.now (spaces_of imported.now) imported.now.type_size }
+    requires told { TellsImported (imported_in imported.now) (spaces_of imported.now) definitions.now }
+    requires made { AreExportsMade config.now types.now.types (spaces_of imported.now) imported.now.type_size made }
+    ensures exact { Gives (λ contents. (contents, u.new)) result (behind_exports_at config.now types.now.types (imported_in imported.now) (spaces_of imported.now) made u.old) }
+    ensures kept { IfOk result (AreContents config.now types.now.types (imported_in imported.now) (spaces_of imported.now) imported.now.type_size) }
+    ensures floats { config.now.allow_floats ≡ false → All HasNoFloat types.now.types → IfOk result HasNoFloatContents }
+    ensures refusal { IfErr result (MayRefuseContents config.now types.now.types (spaces_of imported.now)) }
+    ensures left { KeepsPieces u.old u.new }
+{
+    let encodes_types = section_flag(types.types().len(), u);
+    let start = arbitrary_start(config, types.types(), imported.spaces.funcs.as_slice(), u);
+    let segments = all_segments(alloc, config, types, imported, definitions, u)?;
+    let code = arbitrary_bodies(alloc, config, types, definitions.num_funcs, u)?;
+    Ok(Contents {
+        exports: made.exports,
+        type_size: made.type_size,
+        encodes_types,
+        start,
+        segments,
+        code,
+    })
+}
+
+/// Draws exports, and what stands behind them, where no shape fixes the exports.
 #[tactic(auto, unfolding(crate::specs::DrawnContents::contents_at))]
-pub(crate) fn draw_contents(
+pub(crate) fn free_contents(
     alloc: Global,
     config: &Config,
     types: &TypeSpace,
@@ -64,10 +99,10 @@ pub(crate) fn draw_contents(
     ensures exact { Gives (λ contents. (contents, u.new)) result (contents_at config.now types.now.types (imported_in imported.now) (spaces_of imported.now) imported.now.type_size u.old) }
     ensures kept { IfOk result (AreContents config.now types.now.types (imported_in imported.now) (spaces_of imported.now) imported.now.type_size) }
     ensures floats { config.now.allow_floats ≡ false → All HasNoFloat types.now.types → IfOk result HasNoFloatContents }
-    ensures refusal { IfErr result (MayRefuse config.now) }
+    ensures refusal { IfErr result (MayRefuseContents config.now types.now.types (spaces_of imported.now)) }
     ensures left { KeepsPieces u.old u.new }
 {
-    let exports = arbitrary_exports(
+    let made = arbitrary_exports(
         alloc,
         config,
         types,
@@ -75,16 +110,28 @@ pub(crate) fn draw_contents(
         imported.type_size,
         u,
     )?;
-    let encodes_types = section_flag(types.types().len(), u);
-    let start = arbitrary_start(config, types.types(), imported.spaces.funcs.as_slice(), u);
-    let segments = all_segments(alloc, config, types, imported, definitions, u)?;
-    let code = arbitrary_bodies(alloc, config, types, definitions.num_funcs, u)?;
-    Ok(Contents {
-        exports: exports.exports,
-        type_size: exports.type_size,
-        encodes_types,
-        start,
-        segments,
-        code,
-    })
+    behind_exports(alloc, config, types, imported, definitions, made, u)
+}
+
+/// Draws the same over types and tables without references that may not be null, so that there always is something to choose from.
+pub(crate) fn draw_contents(
+    alloc: Global,
+    config: &Config,
+    types: &TypeSpace,
+    imported: &Imported,
+    definitions: &Definitions,
+    u: &mut Unstructured<'_>,
+) -> Result<Contents, Error>
+    requires not_fixed { FixesExports config.now → ⊥ }
+    requires may { MayHoldContents config.now types.now (spaces_of imported.now) imported.now.type_size }
+    requires told { TellsImported (imported_in imported.now) (spaces_of imported.now) definitions.now }
+    requires nullable { HoldsNonNullableField types.now.types → ⊥ }
+    requires nullable_tables { All HasNullableElements imported.now.spaces.tables }
+    ensures exact { Gives (λ contents. (contents, u.new)) result (contents_at config.now types.now.types (imported_in imported.now) (spaces_of imported.now) imported.now.type_size u.old) }
+    ensures kept { IfOk result (AreContents config.now types.now.types (imported_in imported.now) (spaces_of imported.now) imported.now.type_size) }
+    ensures floats { config.now.allow_floats ≡ false → All HasNoFloat types.now.types → IfOk result HasNoFloatContents }
+    ensures refusal { IfErr result (MayRefuse config.now) }
+    ensures left { KeepsPieces u.old u.new }
+{
+    free_contents(alloc, config, types, imported, definitions, u)
 }

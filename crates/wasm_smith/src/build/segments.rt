@@ -1,10 +1,9 @@
 ghost use Rattle.std.specs.Prelude.{IfOk, IfErr, All};
 ghost use Rattle.smith_bytes.specs.Source.{KeepsPieces};
 ghost use Rattle.smith_types.specs.Floats.{HasNoFloat};
-ghost use Rattle.wasm_smith.specs.Contents.{MayHoldContents};
+ghost use Rattle.wasm_smith.specs.Contents.{MayHoldContents, MayRefuseContents};
 ghost use Rattle.wasm_smith.specs.DrawnContents.{TellsImported, AreSegmentsFit, HaveNoFloatItems, imported_in, all_segments_at};
 ghost use Rattle.smith_imports.specs.Imported.{spaces_of};
-ghost use Rattle.wasm_smith.specs.Refusals.{MayRefuse};
 ghost use Rattle.smith_imports.specs.Steps.{Gives};
 
 use crate::build::definitions::Definitions;
@@ -48,7 +47,7 @@ pub(crate) fn all_segments(
     ensures exact { Gives (λ segments. (segments, u.new)) result (all_segments_at config.now types.now.types (imported_in imported.now) (spaces_of imported.now) u.old) }
     ensures fit { IfOk result (AreSegmentsFit config.now types.now.types (imported_in imported.now) (spaces_of imported.now)) }
     ensures floats { All HasNoFloat types.now.types → IfOk result (λ segments. HaveNoFloatItems segments.elements) }
-    ensures refusal { IfErr result (MayRefuse config.now) }
+    ensures refusal { IfErr result (MayRefuseContents config.now types.now.types (spaces_of imported.now)) }
     ensures left { KeepsPieces u.old u.new }
 {
     let imported_funcs = imported.spaces.funcs.len() - definitions.num_funcs;

@@ -4,6 +4,9 @@ use Rattle.smith_types.specs.Expressions.{Context}
 use Rattle.smith_types.specs.Segments.{IsElementValid, IsDataValid}
 use Rattle.wasm_smith.specs.DrawnContents.{imported_in}
 use Rattle.wasm_smith.proofs.ContentsLemmas.{may_draw_elements, spaces_valid, memories_few}
+use Rattle.smith_draw.proofs.ConstStepLemmas.{passed_on}
+use Rattle.smith_imports.specs.Imported.{spaces_of}
+use Rattle.wasm_smith.proofs.RefusalLemmas.{elements_refuse}
 use Rattle.wasm_smith.proofs.SegmentScopeLemmas.{seen_over}
 use Rattle.wasm_smith.proofs.build.segments.all_segments.Goals as goal
 
@@ -35,3 +38,9 @@ returns-clause-fit c =
       least_data = data_segments.least;
       data_inside = λ on. rw over.memories at (data_segments.inside on);
     }
+
+pub returns-in_err-elements-clause-refusal : goal.returns-in_err-elements-clause-refusal
+returns-in_err-elements-clause-refusal c =
+    let over = c.segment_spaces-spaces.ensures in
+    passed_on _ c.from_residual.result c.in_err-elements.field-0.0 c.from_residual.ensures.1
+    (elements_refuse c.args.config.now c.args.types.now.types (spaces_of c.args.imported.now) c.in_err-elements.field-0.0 (rw (over.types, over.tables) at c.in_err-elements.ensures.refusal))
