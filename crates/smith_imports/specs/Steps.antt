@@ -5,10 +5,12 @@ use Rattle.smith_bytes.specs.declared.error.Error.{Error}
 use Rattle.smith_bytes.specs.declared.error.Error.TheVariants as errors
 use Rattle.smith_bytes.specs.declared.error.Why.{Why}
 
--- What a step gave, with what it left, is what reading gives, unless memory ran out.
+-- What a step gave, with what it left, is what reading gives, unless memory ran out, or there was nothing to choose from: when
+-- that may come is said apart.
 abbrev pub Gives : {X Y : Type 0} → (X → Y) → Result X Error → Result Y Why → Type 0
 Gives view (Ok x) read = read ≡ Ok (view x)
 Gives view (Err errors.Memory) read = Unit {0}
+Gives view (Err errors.EmptyChoose) read = Unit {0}
 Gives view (Err (errors.IncorrectFormat why)) read = read ≡ Err why
 Gives view (Err _) read = ⊥
 
