@@ -6,7 +6,6 @@ use Rattle.std.proofs.lemmas.Bool.{and_right}
 use Rattle.std.proofs.lemmas.List.{length-map}
 use Rattle.std.proofs.lemmas.List.Elements.{All-nil, All-cons, All-map, All-weaker, recursion_from_All}
 use Rattle.smith_bytes.specs.declared.error.Error.{Error}
-use Rattle.smith_bytes.specs.declared.error.Error.TheVariants.{Memory}
 use Rattle.smith_bytes.specs.Takes.{Takes}
 use Rattle.smith_bytes.proofs.SpelledLemmas.{takes_by}
 use Rattle.smith_types.specs.Entities.{IsTableValid}
@@ -22,7 +21,7 @@ use Rattle.smith_config.specs.declared.config.Config.{Config}
 use Rattle.smith_config.specs.Features.{features_of}
 use Rattle.smith_config.specs.Sanitized.{IsSanitized}
 use Rattle.smith_draw.specs.Bounds.{IsTableWithin}
-use Rattle.smith_draw.specs.ConstBounds.{HoldsNonNullableField, MayRefuseConstExpr}
+use Rattle.smith_draw.specs.ConstBounds.{MayRefuseConstExpr}
 use Rattle.smith_draw.specs.ConstExprs.{table_init_at}
 use Rattle.smith_draw.specs.ConstFloats.{GivesNoFloat}
 use Rattle.smith_draw.specs.ConstScopes.{AreSpacesValid, seen_by}
@@ -30,7 +29,7 @@ use Rattle.smith_draw.specs.TableTypes.{table_type_at}
 use Rattle.smith_draw.specs.declared.spaces.Spaces.{Spaces}
 use Rattle.smith_bytes.specs.Spelling.{SpellsEmpty}
 use Rattle.smith_contents.proofs.PlaceOfListLemmas.{slice_get-behind}
-use Rattle.wasm_smith.specs.Defined.{IsFilled, AreAdded, MayInitialise, AreTablesDefined, standing_of}
+use Rattle.wasm_smith.specs.Defined.{IsFilled, AreAdded, MayInitialise, MayRefuseDrawn, AreTablesDefined, standing_of}
 use Rattle.wasm_smith.specs.DefinedTables.{IsTableFit, AreTablesDrawn}
 use Rattle.wasm_smith.specs.Definitions.{Standing, Table, table_at, tables_at, table_scope}
 use Rattle.wasm_smith.specs.Module.{IsTableInitialised}
@@ -75,11 +74,11 @@ table_fit config spaces table (Some expression) all valid within nullable typed 
   floats = λ calm. All-cons (All GivesNoFloat) expression [] (floats calm) (All-nil (All GivesNoFloat));
 }
 
--- the initialiser of a table is refused for want of memory alone, where no reference is there that may not be null
-pub only_memory : (types : List SubType) (element : RefType) (e : Error) → element.nullable ≡ true → (HoldsNonNullableField types → ⊥) → MayRefuseConstExpr types (Ref element) e → e ≡ Memory
-only_memory types element e nullable none (inl memory) = memory
-only_memory types element e nullable none (inr (empty, inl strict)) = absurd cc
-only_memory types element e nullable none (inr (empty, inr holds)) = absurd (none holds)
+-- the initialiser of a table, whose elements may be null, is refused as any that is drawn
+pub table_refused : (types : List SubType) (element : RefType) (e : Error) → element.nullable ≡ true → MayRefuseConstExpr types (Ref element) e → MayRefuseDrawn types e
+table_refused types element e nullable (inl memory) = inl memory
+table_refused types element e nullable (inr (empty, inl strict)) = absurd cc
+table_refused types element e nullable (inr (empty, inr holds)) = inr (empty, holds)
 
 -- what holds of the tables that were drawn holds of those that were added, and beside imported ones of all
 pub tables_added : (P : TableType → Type 0) {config : Config} {standing : Standing} {imported space : List TableType} {initials : List (Option (List ConstInstr))}

@@ -11,7 +11,6 @@ use Rattle.smith_config.specs.declared.config.Config.{Config}
 use Rattle.smith_config.specs.Faults.{Passes}
 use Rattle.smith_config.specs.Features.{features_of}
 use Rattle.smith_config.specs.Sanitized.{IsSanitized}
-use Rattle.smith_draw.specs.ConstBounds.{HoldsNonNullableField}
 use Rattle.smith_imports.specs.Imported.{IsImported, spaces_of}
 use Rattle.smith_imports.specs.declared.imported.Imported.{Imported}
 use Rattle.wasm_smith.specs.Defined.{MayDefine, MayInitialise}
@@ -26,7 +25,6 @@ may_initialise config space imported funcs may valid few = record {
   sanitized = may.sanitized;
   valid = may.valid;
   types = refl;
-  nullable = may.nullable;
   funcs = valid;
   globals = may.entities.globals;
   few_funcs = omega (arith, few, may.room.funcs, may.passes.few counts.Funcs);
@@ -39,8 +37,8 @@ memories_imported most n within several = lt-ltb 1 most (omega arith)
 
 -- items may be defined behind imports
 pub may_define : {distinct : Bool} {config : Config} {space : Space} {made : Imported} → Passes config → IsSanitized config → AreTypesValid (features_of config) space → config.min_types ≤ length space.types → length space.types < 2 ^ 32
-    → (HoldsNonNullableField space.types → ⊥) → IsImported config space.types distinct made → MayDefine config space (spaces_of made)
-may_define {config = config} {space = space} {made = made} passes sanitized valid least few nullable so_far =
+    → IsImported config space.types distinct made → MayDefine config space (spaces_of made)
+may_define {config = config} {space = space} {made = made} passes sanitized valid least few so_far =
     let within = so_far.fit.within in
     let imported = imported_spaces (flattened made.groups) in
     rw so_far.counts.spaces (record {
@@ -49,7 +47,6 @@ may_define {config = config} {space = space} {made = made} passes sanitized vali
       valid = valid;
       least = least;
       few = few;
-      nullable = nullable;
       entities = so_far.fit.entities;
       counts = record {
         tags = so_far.fit.tags;

@@ -1,6 +1,8 @@
 -- What holds of an index space once its definitions stand behind its imports.
-use Rattle.std.specs.Prelude.{◌≡◌, ℕ, ◌+◌, ◌<◌, ◌≤◌, ◌^◌, max, Option, Some, List, ◌++◌, map, length, slice_get, All, if◌then◌else◌}
+use Rattle.std.specs.Prelude.{◌≡◌, ℕ, ◌+◌, ◌<◌, ◌≤◌, ◌^◌, ◌⊎◌, max, Option, Some, List, ◌++◌, map, length, slice_get, All, if◌then◌else◌}
 use Rattle.std.specs.List.{flat_map}
+use Rattle.smith_bytes.specs.declared.error.Error.{Error}
+use Rattle.smith_bytes.specs.declared.error.Error.TheVariants as errors
 use Rattle.smith_types.specs.Entities.{IsFuncValid, IsGlobalValid, AreEntitiesValid, AreCountsEnabled}
 use Rattle.smith_types.specs.Expressions.{IsConstExpr}
 use Rattle.smith_types.specs.Grown.{Extends}
@@ -23,6 +25,7 @@ use Rattle.wasm_smith.specs.Definitions.{Standing, standing_over, context_at, ta
 use Rattle.smith_imports.specs.Imported.{HasNoFloatValue, HasNullableElements}
 use Rattle.wasm_smith.specs.Module.{IsTableInitialised}
 use Rattle.wasm_smith.specs.Promises.{initial_of}
+use Rattle.wasm_smith.specs.Refusals.{MayRefuse}
 use Rattle.wasm_smith.specs.declared.build.definitions.Definitions.{Definitions}
 
 -- items that stood before come first, and there are as many items as these bounds say, or as stood before
@@ -45,17 +48,20 @@ pub record HasRoom (spaces : IndexSpaces) (more : ℕ) : Type 0 where
   pub memories : length spaces.memories + more < 2 ^ 32
   pub globals : length spaces.globals + more < 2 ^ 32
 
--- what initialisers may refer to is valid, and no type holds a reference that may not be null
+-- what initialisers may refer to is valid
 pub record MayInitialise (config : Config) (space : Space) (standing : Standing) : Type 0 where
   pub passes : Passes config
   pub sanitized : IsSanitized config
   pub valid : AreTypesValid (features_of config) space
   pub types : standing.types ≡ space.types
-  pub nullable : HoldsNonNullableField space.types → ⊥
   pub funcs : All (IsFuncValid space.types) standing.funcs
   pub globals : All (IsGlobalValid (features_of config) space.types) standing.imported_globals
   pub few_funcs : length standing.funcs < 2 ^ 32
   pub few_globals : length standing.imported_globals < 2 ^ 32
+
+-- why an initialiser that is drawn may be refused: for want of memory, or where there may be nothing to choose from
+abbrev pub MayRefuseDrawn : List SubType → Error → Type 0
+MayRefuseDrawn types e = (e ≡ errors.Memory) ⊎ ((e ≡ errors.EmptyChoose) × HoldsNonNullableField types)
 
 -- what the initialisers of tables may refer to, over spaces whose globals are the imported ones
 abbrev pub standing_of : Spaces → Standing
@@ -91,10 +97,13 @@ pub record MayDefine (config : Config) (space : Space) (imported : IndexSpaces) 
   pub valid : AreTypesValid (features_of config) space
   pub least : config.min_types ≤ length space.types
   pub few : length space.types < 2 ^ 32
-  pub nullable : HoldsNonNullableField space.types → ⊥
   pub entities : AreEntitiesValid (features_of config) space.types imported
   pub counts : AreCountsEnabled (features_of config) imported
   pub room : HasRoom imported 0
+
+-- why definitions may be refused: so may a module be, or an initialiser that is drawn
+abbrev pub MayRefuseDefined : Config → List SubType → Error → Type 0
+MayRefuseDefined config types e = MayRefuse config e ⊎ MayRefuseDrawn types e
 
 -- what initialisers refer to, once functions are defined
 abbrev pub standing_in : List SubType → IndexSpaces → IndexSpaces → Standing

@@ -4,9 +4,8 @@ ghost use Rattle.smith_types.specs.Floats.{HasNoFloat};
 ghost use Rattle.smith_types.specs.IndexSpaces.{spaces_in};
 ghost use Rattle.wasm_smith.specs.Build.{definitions_at};
 ghost use Rattle.smith_imports.specs.Steps.{Gives};
-ghost use Rattle.wasm_smith.specs.Defined.{MayDefine, AreDefined, HaveNoFloats};
+ghost use Rattle.wasm_smith.specs.Defined.{MayDefine, MayRefuseDefined, AreDefined, HaveNoFloats};
 ghost use Rattle.smith_imports.specs.Imported.{HasNoFloatValue};
-ghost use Rattle.wasm_smith.specs.Refusals.{MayRefuse};
 
 use crate::build::funcs::funcs;
 use crate::build::globals::globals;
@@ -55,7 +54,7 @@ pub(crate) fn define(
     ensures exact { Gives (λ defined. ((spaces_in spaces.new, defined), u.new)) result (definitions_at config.now types.now.types (spaces_in spaces.old) u.old) }
     ensures defined { IfOk result (AreDefined config.now types.now.types (spaces_in spaces.old) (spaces_in spaces.new)) }
     ensures floats { config.now.allow_floats ≡ false → All HasNoFloat types.now.types → All HasNoFloatValue spaces.old.globals → IfOk result (HaveNoFloats (spaces_in spaces.new)) }
-    ensures refusal { IfErr result (MayRefuse config.now) }
+    ensures refusal { IfErr result (MayRefuseDefined config.now types.now.types) }
     ensures left { KeepsPieces u.old u.new }
 {
     let imported_tags = spaces.tags.len();

@@ -8,11 +8,9 @@ ghost use Rattle.smith_types.specs.declared.const_instr.ConstInstr.{ConstInstr};
 ghost use Rattle.smith_types.specs.declared.entity_type.GlobalType.{GlobalType};
 ghost use Rattle.smith_config.specs.Features.{features_of};
 ghost use Rattle.smith_config.specs.Sanitized.{IsSanitized};
-ghost use Rattle.smith_draw.specs.ConstBounds.{HoldsNonNullableField};
 ghost use Rattle.smith_draw.specs.ConstFloats.{GivesNoFloat};
 ghost use Rattle.smith_draw.specs.ConstScopes.{AreSpacesValid, seen_by};
-ghost use Rattle.smith_draw.specs.Drawing.{Draws};
-ghost use Rattle.wasm_smith.specs.Defined.{IsFilled, MayInitialise, AreGlobalsDefined};
+ghost use Rattle.wasm_smith.specs.Defined.{IsFilled, MayInitialise, MayRefuseDrawn, AreGlobalsDefined};
 ghost use Rattle.wasm_smith.specs.Definitions.{standing_over, initialised_at, globals_at};
 ghost use Rattle.wasm_smith.specs.NumberedGlobals.{SpellsGlobals};
 
@@ -33,12 +31,13 @@ fn initialised_global(
 ) -> Result<(GlobalType, (u32, Items<ConstInstr>)), Error>
     requires sanitized { IsSanitized config.now }
     requires standing { AreSpacesValid config.now spaces.now }
-    requires nullable { HoldsNonNullableField spaces.now.types.now.types → ⊥ }
-    ensures draws { Draws (initialised_at config.now (seen_by config.now spaces.now true) u.old) result u.old u.new }
+    ensures exact { IfOk result (λ drawn. initialised_at config.now (seen_by config.now spaces.now true) u.old ≡ (drawn, u.new)) }
     ensures valid { IfOk result (λ drawn. IsGlobalValid (features_of config.now) spaces.now.types.now.types drawn.0) }
     ensures initialised { IfOk result (λ drawn. IsConstExpr (seen_by config.now spaces.now true) drawn.0.val_type drawn.1.1) }
     ensures floats { config.now.allow_floats ≡ false → IfOk result (λ drawn. IsNoFloat drawn.0.val_type) }
     ensures constants { config.now.allow_floats ≡ false → All HasNoFloat spaces.now.types.now.types → IfOk result (λ drawn. All GivesNoFloat drawn.1.1) }
+    ensures refusal { IfErr result (MayRefuseDrawn spaces.now.types.now.types) }
+    ensures left { KeepsPieces u.old u.new }
 {
     let global = arbitrary_global_type(alloc, config, spaces, u)?;
     let initial = arbitrary_const_expr(alloc, config, spaces, global.val_type, true, u)?;
@@ -62,7 +61,7 @@ fn push_globals<'a>(
     ensures defined { IfOk result (AreGlobalsDefined config.now (standing_over types.now.types funcs.now imported_funcs globals.old) globals.new) }
     ensures floats { config.now.allow_floats ≡ false → All (λ (global : GlobalType). IsNoFloat global.val_type) globals.old → OnOk result (All (λ (global : GlobalType). IsNoFloat global.val_type) globals.new) }
     ensures constants { config.now.allow_floats ≡ false → All HasNoFloat types.now.types → IfOk result (λ initials. All (All GivesNoFloat) (map (λ (one : ℕ × List ConstInstr). one.1) initials)) }
-    ensures memory { IfErr result (λ e. e ≡ Error.Memory) }
+    ensures refusal { IfErr result (MayRefuseDrawn types.now.types) }
     ensures left { KeepsPieces u.old u.new }
 {
     let imported = globals.len();
@@ -106,7 +105,7 @@ pub(crate) fn globals<'a>(
     ensures floats { config.now.allow_floats ≡ false → All (λ (global : GlobalType). IsNoFloat global.val_type) globals.old → OnOk result (All (λ (global : GlobalType). IsNoFloat global.val_type) globals.new) }
     ensures constants { config.now.allow_floats ≡ false → All HasNoFloat types.now.types → IfOk result (λ initials. All (All GivesNoFloat) (map (λ (one : ℕ × List ConstInstr). one.1) initials)) }
     ensures reach { config.now.min_globals ≡ 0 → globals.old ≡ [] → IfOk result (λ initials. Takes (SpellsGlobals config.now) u.old (globals.new, map (λ (one : ℕ × List ConstInstr). one.1) initials) u.new) }
-    ensures memory { IfErr result (λ e. e ≡ Error.Memory) }
+    ensures refusal { IfErr result (MayRefuseDrawn types.now.types) }
     ensures left { KeepsPieces u.old u.new }
 {
     push_globals(alloc, config, types, funcs, imported_funcs, globals, u)

@@ -7,9 +7,8 @@ ghost use Rattle.smith_types.specs.Floats.{HasNoFloat};
 ghost use Rattle.smith_config.specs.Features.{features_of};
 ghost use Rattle.smith_draw.specs.Bounds.{IsTableWithin};
 ghost use Rattle.smith_draw.specs.ConstFloats.{GivesNoFloat};
-ghost use Rattle.smith_draw.specs.Drawing.{Draws};
 ghost use Rattle.smith_bytes.specs.Spelling.{SpellsEmpty};
-ghost use Rattle.wasm_smith.specs.Defined.{IsFilled, AreAdded, MayInitialise, AreTablesDefined, standing_of};
+ghost use Rattle.wasm_smith.specs.Defined.{IsFilled, AreAdded, MayInitialise, MayRefuseDrawn, AreTablesDefined, standing_of};
 ghost use Rattle.wasm_smith.specs.DefinedTables.{IsTableFit, AreTablesDrawn};
 ghost use Rattle.wasm_smith.specs.Definitions.{table_at, tables_at};
 ghost use Rattle.smith_imports.specs.Imported.{HasNullableElements};
@@ -32,8 +31,10 @@ fn initialised_table(
 ) -> Result<(TableType, Option<Items<ConstInstr>>), Error>
     requires may { MayInitialise config.now spaces.now.types.now (standing_of spaces.now) }
     requires imported_globals { spaces.now.entities.imported_globals ≡ length spaces.now.entities.globals.now }
-    ensures draws { Draws (table_at config.now (standing_of spaces.now) u.old) result u.old u.new }
+    ensures exact { IfOk result (λ drawn. table_at config.now (standing_of spaces.now) u.old ≡ (drawn, u.new)) }
     ensures fit { IfOk result (IsTableFit config.now (standing_of spaces.now)) }
+    ensures refusal { IfErr result (MayRefuseDrawn spaces.now.types.now.types) }
+    ensures left { KeepsPieces u.old u.new }
 {
     let table = arbitrary_table_type(alloc, config, spaces, u)?;
     let initial = arbitrary_table_init(alloc, config, spaces, table.element_type, u)?;
@@ -52,7 +53,7 @@ fn drawn_tables(
     requires imported_globals { spaces.now.entities.imported_globals ≡ length spaces.now.entities.globals.now }
     ensures exact { IfOk result (λ initials. tables_at config.now (standing_of spaces.now) tables.old u.old ≡ ((tables.new, initials), u.new)) }
     ensures drawn { IfOk result (AreTablesDrawn config.now (standing_of spaces.now) tables.old tables.new) }
-    ensures memory { IfErr result (λ e. e ≡ Error.Memory) }
+    ensures refusal { IfErr result (MayRefuseDrawn spaces.now.types.now.types) }
     ensures left { KeepsPieces u.old u.new }
 {
     let imported = tables.len();
@@ -91,7 +92,7 @@ pub(crate) fn tables(
     ensures defined { IfOk result (AreTablesDefined config.now (standing_of spaces.now) tables.old tables.new) }
     ensures floats { All HasNoFloat spaces.now.types.now.types → IfOk result (λ initials. All (All GivesNoFloat) (flat_map initial_of initials)) }
     ensures none { config.now.min_tables ≡ 0 → tables.old ≡ [] → OnOk result (Takes (SpellsEmpty (SpellsNone config.now.max_tables)) u.old tables.new u.new) }
-    ensures memory { IfErr result (λ e. e ≡ Error.Memory) }
+    ensures refusal { IfErr result (MayRefuseDrawn spaces.now.types.now.types) }
     ensures left { KeepsPieces u.old u.new }
 {
     drawn_tables(alloc, config, spaces, tables, u)

@@ -6,7 +6,7 @@ use Rattle.wasm_smith.proofs.build.drawn.parts.Goals as goal
 
 pub define-requires : goal.define-requires
 define-requires c = record {
-  may = may_define c.requires.passes c.requires.sanitized c.in_ok-drawn.ensures.valid c.in_ok-drawn.ensures.least (omega (arith, c.in_ok-drawn.ensures.most, c.requires.passes.few Types)) c.in_ok-drawn.ensures.nullable c.in_ok-imports.ensures.so_far;
+  may = may_define c.requires.passes c.requires.sanitized c.in_ok-drawn.ensures.valid c.in_ok-drawn.ensures.least (omega (arith, c.in_ok-drawn.ensures.most, c.requires.passes.few Types)) c.in_ok-imports.ensures.so_far;
 }
 
 pub draw_contents-requires-clause-may : goal.draw_contents-requires-clause-may

@@ -31,7 +31,7 @@ loop-made-preserved c =
     let drawn = c.in_ok-global.ensures in
     let visible = and-true c.args.config.now.gc_enabled in
     define_more c.loop-made.invariant (rw (c.saturating_sub-made-end.ensures, c.len-imported.ensures) at c.loop-made-test.true) (rw (c.saturating_sub-least.ensures, c.len-imported.ensures) at c.goes_on.ensures.exact) c.if-not-goes_on.false
-    (rw (c.as_slice.ensures, c.len-imported.ensures, visible) at drawn.draws.exact)
+    (rw (c.as_slice.ensures, c.len-imported.ensures, visible) at drawn.exact)
     drawn.valid
     (rw (c.as_slice.ensures, c.len-imported.ensures, visible) at drawn.initialised)
     drawn.floats
@@ -39,7 +39,7 @@ loop-made-preserved c =
     c.in_ok-push.ensures.ok
     c.in_ok-push-2.ensures.ok
     c.goes_on.ensures.left
-    drawn.draws.left
+    drawn.left
 
 pub returns-clause-exact : goal.returns-clause-exact
 returns-clause-exact c =

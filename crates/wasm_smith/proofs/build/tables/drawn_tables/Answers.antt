@@ -14,7 +14,7 @@ pub loop-made-preserved : goal.loop-made-preserved
 loop-made-preserved c =
     let count = c.len-imported.ensures in
     tables_go c.loop-made.invariant (rw (c.saturating_sub-most.ensures, count) at c.loop-made-test.true) (rw (c.saturating_sub-least.ensures, count) at c.goes_on.ensures.exact) c.if-not-goes_on.false
-    c.in_ok-table.ensures.draws.exact c.in_ok-table.ensures.fit c.in_ok-push.ensures.ok c.in_ok-push-2.ensures.ok c.goes_on.ensures.left c.in_ok-table.ensures.draws.left
+    c.in_ok-table.ensures.exact c.in_ok-table.ensures.fit c.in_ok-push.ensures.ok c.in_ok-push-2.ensures.ok c.goes_on.ensures.left c.in_ok-table.ensures.left
 
 pub returns-clause-exact : goal.returns-clause-exact
 returns-clause-exact c =
