@@ -1,19 +1,26 @@
--- The sizes of imports stay what they are where types are added behind those that stand.
-use Rattle.std.proofs.Common.{◌≡◌, ◌∙◌, ℕ, zero, suc, ◌+◌, ◌<◌, List, [], ◌∷◌, ◌++◌, length, refl, ap, arith}
-use Rattle.std.specs.Prelude.{All, Option, option_map, slice_get, sum_by, unwrap_or}
+-- The sizes of imports stay what they are where types are added behind those that stand, and so does what stands over them.
+use Rattle.std.proofs.Common.{◌≡◌, ◌∙◌, ℕ, zero, suc, ◌+◌, ◌<◌, ◌≤◌, max, List, [], ◌∷◌, ◌++◌, length, refl, sym, ap, arith}
+use Rattle.std.specs.Prelude.{All, Option, option_map, slice_get, sum_by, unwrap_or, is_some, if◌then◌else◌}
 use Rattle.std.proofs.lemmas.List.Elements.{All-head}
 use Rattle.std.proofs.lemmas.List.Sums.{sum_by-cons}
 use Rattle.std.proofs.lemmas.Option.{slice_get_within}
-use Rattle.smith_types.specs.Entities.{IsFuncValid, AreEntitiesValid}
-use Rattle.smith_types.specs.Features.{Features}
+use Rattle.smith_types.specs.Entities.{IsFuncValid}
 use Rattle.smith_types.specs.Grown.{Extends}
-use Rattle.smith_types.specs.Imports.{imported, imported_spaces, func_of}
+use Rattle.smith_types.specs.Imports.{flattened, imported, imported_spaces, func_of}
+use Rattle.smith_types.specs.IndexSpaces.{spaces_in}
 use Rattle.smith_types.specs.Sizes.{IsTyped, size_in, value_count}
+use Rattle.smith_types.specs.Space.{Space}
+use Rattle.smith_types.specs.ValidTypes.{AreTypesValid}
 use Rattle.smith_types.specs.declared.composite_type.SubType.{SubType}
 use Rattle.smith_types.specs.declared.entity_type.EntityType.{EntityType}
 use Rattle.smith_types.specs.declared.entity_type.EntityType.TheVariants as entity
 use Rattle.smith_types.specs.declared.imports.Import.{Import}
 use Rattle.smith_types.proofs.HeldValueLemmas.{all_apart}
+use Rattle.smith_config.specs.declared.config.Config.{Config}
+use Rattle.smith_config.specs.Features.{features_of}
+use Rattle.wasm_smith.specs.Begun.{StandsSoFar, size_of_imports}
+use Rattle.wasm_smith.specs.declared.build.drawn.Drawn.{Drawn}
+use Rattle.wasm_smith.proofs.StandsBehindLemmas.{stands_over}
 
 same_place : {A : Type 0} (xs more : List A) (i : ℕ) → i < length xs → slice_get (xs ++ more) i ≡ slice_get xs i
 same_place [] more i inside = absurd (omega arith)
@@ -39,18 +46,40 @@ typed_by types (entity.Table table) valid = tt
 typed_by types (entity.Memory memory) valid = tt
 typed_by types (entity.Global global) valid = tt
 
-sizes_grown_by : (types more : List SubType) (extra : ℕ) (imports : List Import) → Extends types more → All (IsFuncValid types) (imported func_of imports)
-    → sum_by (λ (one : Import). size_in more one.entity_type + extra) imports ≡ sum_by (λ (one : Import). size_in types one.entity_type + extra) imports
-sizes_grown_by types more extra [] longer valid = refl
-sizes_grown_by types more extra (one ∷ imports) longer valid =
+-- so do imports together, whatever is counted for a size
+sizes_grown : (count : ℕ → ℕ) (types more : List SubType) (imports : List Import) → Extends types more → All (IsFuncValid types) (imported func_of imports)
+    → sum_by (λ (one : Import). count (size_in more one.entity_type)) imports ≡ sum_by (λ (one : Import). count (size_in types one.entity_type)) imports
+sizes_grown count types more [] longer valid = refl
+sizes_grown count types more (one ∷ imports) longer valid =
     let both = all_apart (IsFuncValid types) (func_of one.entity_type) (imported func_of imports) valid in
-    let here = size_grown types more one.entity_type longer (typed_by types one.entity_type both.0) in
-    let rest = sizes_grown_by types more extra imports longer both.1 in
-    let new = sum_by-cons (λ (each : Import). size_in more each.entity_type + extra) one imports in
-    let old = sum_by-cons (λ (each : Import). size_in types each.entity_type + extra) one imports in
+    let here = ap count (size_grown types more one.entity_type longer (typed_by types one.entity_type both.0)) in
+    let rest = sizes_grown count types more imports longer both.1 in
+    let new = sum_by-cons (λ (each : Import). count (size_in more each.entity_type)) one imports in
+    let old = sum_by-cons (λ (each : Import). count (size_in types each.entity_type)) one imports in
     omega (arith, here, rest, new, old)
 
--- so do valid imports together, with as much more for each
-pub sizes_grown : (features : Features) (types more : List SubType) (extra : ℕ) (imports : List Import) → Extends types more → AreEntitiesValid features types (imported_spaces imports)
-    → sum_by (λ (one : Import). size_in more one.entity_type + extra) imports ≡ sum_by (λ (one : Import). size_in types one.entity_type + extra) imports
-sizes_grown features types more extra imports longer valid = sizes_grown_by types more extra imports longer valid.funcs
+-- what imports add to the type size stays
+pub imports_grown : (config : Config) (types more : List SubType) (imports : List Import) → Extends types more → All (IsFuncValid types) (imported func_of imports) → size_of_imports config more imports ≡ size_of_imports config types imports
+imports_grown config types more imports longer valid =
+    let plain = sizes_grown (λ n. n) types more imports longer valid in
+    let one_more = sizes_grown (λ n. n + 1) types more imports longer valid in
+    λ i. if is_some config.module_shape then 0 else if is_some config.available_imports then plain i else one_more i
+
+-- with more types behind them, what stands still does, and is not too much
+pub stands_typed : (config : Config) (drawn : Drawn) (types : Space) → StandsSoFar config drawn → AreTypesValid (features_of config) types → Extends drawn.types.types types.types → length types.types ≤ max config.max_types (length drawn.types.types) → StandsSoFar config (record drawn { types = types })
+stands_typed config drawn types now valid longer few =
+    let spaces = spaces_in drawn.imported.spaces in
+    let all = imported_spaces (flattened drawn.imported.groups) in
+    let funcs : All (IsFuncValid drawn.types.types) (all.funcs ++ now.stands.funcs.defined) = rw now.stands.funcs.parts at now.stands.entities.funcs in
+    record {
+      groups = now.groups;
+      count = now.count;
+      stands = stands_over config all drawn.types types spaces drawn.definitions now.stands valid longer;
+      most = now.most;
+      most_types = let before = now.most_types in omega (arith, before, few);
+      most_imports = now.most_imports;
+      tables = now.tables;
+      memories = now.memories;
+      type_size = now.type_size ∙ sym (imports_grown config drawn.types.types types.types (flattened drawn.imported.groups) longer (all_apart (IsFuncValid drawn.types.types) all.funcs now.stands.funcs.defined funcs).0);
+      within = now.within;
+    }
