@@ -55,7 +55,7 @@ module _ (config : Config) (shape : Shape) (drawn : Drawn) where
   }
 
 -- of each kind as many stand as may
-taken_most : (config : Config) (imports : List Import) (spaces : IndexSpaces) → AreNumbersWithin config (imported_spaces imports) → spaces ≡ imported_spaces imports → (count : Count) → IsOfEntities count → count_in spaces count ≤ maximum_of config count
+pub taken_most : (config : Config) (imports : List Import) (spaces : IndexSpaces) → AreNumbersWithin config (imported_spaces imports) → spaces ≡ imported_spaces imports → (count : Count) → IsOfEntities count → count_in spaces count ≤ maximum_of config count
 taken_most config imports spaces within are counts.Tags is = rw are within.tags
 taken_most config imports spaces within are counts.Funcs is = rw are within.funcs
 taken_most config imports spaces within are counts.Tables is = rw are within.tables

@@ -33,3 +33,4 @@ pub mod BegunLemmas
 pub mod TypesGrownLemmas
 pub mod GrownSizeLemmas
 pub mod BegunStandsLemmas
+pub mod FreelyImportedLemmas
