@@ -1,5 +1,5 @@
 -- The items that may be exported: which of them there are where much of the type size is left, and where little is.
-use Rattle.std.proofs.Common.{◌≡◌, ℕ, zero, suc, ◌+◌, ◌<◌, ◌≤◌, ◌^◌, Bool, true, false, List, [], ◌∷◌, length, refl, sym, ap, subst, arith, ◌∙◌, nat_lt, lt-ltb, get_or}
+use Rattle.std.proofs.Common.{◌≡◌, ℕ, zero, suc, ◌+◌, ◌<◌, ◌^◌, Bool, true, false, List, [], ◌∷◌, length, refl, sym, ap, subst, arith, ◌∙◌, nat_lt, lt-ltb, get_or}
 use Rattle.std.specs.Prelude.{All, IsTrue, slice_get, Some, if◌then◌else◌}
 use Rattle.std.specs.List.{AllByRecursion as ByRecursion}
 use Rattle.std.proofs.lemmas.Bool.{ltb-true}
@@ -18,7 +18,7 @@ use Rattle.smith_draw.proofs.EnabledLemmas.{enabled_all}
 use Rattle.smith_draw.proofs.SupertypeLemmas.{chosen_of}
 use Rattle.smith_draw.proofs.TypeUseLemmas.{IsPassing, places_pass}
 use Rattle.smith_contents.specs.Exporting.{is_func_below, candidates, candidate_rows, offered_kinds}
-use Rattle.smith_contents.specs.Exported.{IsSized, IsFuncWithin, MayExport, MayOffer, IsCandidate}
+use Rattle.smith_contents.specs.Exported.{IsSized, IsFuncWithin, MayExport, IsCandidate}
 
 -- a test that all items pass gives all places
 pub length_all : {A : Type 0} (test : A → Bool) (n : ℕ) (xs : List A) → All (λ x. test x ≡ true) xs → length (places_from test n xs) ≡ length xs

@@ -3,7 +3,6 @@ use Rattle.std.proofs.Common.{◌≡◌, ℕ, suc, ◌+◌, ◌-◌, ◌<◌, �
 use Rattle.std.specs.HashSet.{HashSet, IsEmpty}
 use Rattle.std.specs.declared.string.String.{String}
 use Rattle.std.specs.declared.alloc.Global.{Global}
-use Rattle.std.proofs.lemmas.List.Sums.{sum_by-append}
 use Rattle.smith_bytes.specs.Growth.{goes_at}
 use Rattle.smith_bytes.specs.Source.{KeepsPieces}
 use Rattle.smith_types.specs.Imports.{IndexSpaces}
