@@ -32,7 +32,7 @@ use Rattle.wasm_smith.proofs.DefinedLemmas.{all_behind}
 -- contents may be drawn once types, imports and definitions stand
 pub may_hold_contents : {distinct : Bool} {config : Config} {space : Space} {made : Imported} {spaces : IndexSpaces} {defined : Definitions}
     → Passes config → IsSanitized config → AreTypesValid (features_of config) space → All IsSmall space.types → (HoldsNonNullableField space.types → ⊥)
-    → IsImported config space.types distinct made → AreDefined config space.types (spaces_of made) spaces defined
+    → IsImported config space.types distinct made → AreDefined config space (spaces_of made) spaces defined
     → MayHoldContents config space (imported_spaces (flattened made.groups)) spaces made.type_size
 may_hold_contents {made = made} passes sanitized types small nullable so_far stand =
     let behind = rw so_far.counts.spaces at stand in
@@ -42,19 +42,19 @@ may_hold_contents {made = made} passes sanitized types small nullable so_far sta
       types = types;
       small = small;
       nullable = nullable;
-      entities = behind.entities;
-      nullable_tables = all_behind HasNullableElements so_far.fit.nullable_tables behind.nullable_tables;
-      tags = behind.tags;
-      funcs = behind.funcs;
-      tables = behind.tables;
-      memories = behind.memories;
-      globals = behind.globals;
+      entities = behind.stands.entities;
+      nullable_tables = all_behind HasNullableElements so_far.fit.nullable_tables behind.filled.nullable_tables;
+      tags = behind.filled.tags;
+      funcs = behind.filled.funcs;
+      tables = behind.filled.tables;
+      memories = behind.filled.memories;
+      globals = behind.filled.globals;
       room = record {
-        tags = omega (arith, behind.tags.within, so_far.fit.within.tags, passes.few counts.Tags);
-        funcs = omega (arith, behind.funcs.within, so_far.fit.within.funcs, passes.few counts.Funcs);
-        tables = omega (arith, behind.tables.within, so_far.fit.within.tables, passes.few counts.Tables);
-        memories = omega (arith, behind.memories.within, so_far.fit.within.memories, passes.few counts.Memories);
-        globals = omega (arith, behind.globals.within, so_far.fit.within.globals, passes.few counts.Globals);
+        tags = omega (arith, behind.filled.tags.within, so_far.fit.within.tags, passes.few counts.Tags);
+        funcs = omega (arith, behind.filled.funcs.within, so_far.fit.within.funcs, passes.few counts.Funcs);
+        tables = omega (arith, behind.filled.tables.within, so_far.fit.within.tables, passes.few counts.Tables);
+        memories = omega (arith, behind.filled.memories.within, so_far.fit.within.memories, passes.few counts.Memories);
+        globals = omega (arith, behind.filled.globals.within, so_far.fit.within.globals, passes.few counts.Globals);
       };
       within = omega (arith, so_far.counts.type_size, so_far.fit.type_size);
       small_imports = omega (arith, so_far.counts.type_size, so_far.fit.small, so_far.fit.most);

@@ -26,5 +26,6 @@ pub mod RequiredEntityLemmas
 pub mod PlainEntityLemmas
 pub mod GroupedTypeLemmas
 pub mod StandsBehindLemmas
+pub mod DefinedMoreLemmas
 pub mod RequiredMoreLemmas
 pub mod RequiredExportsLoop

@@ -28,7 +28,8 @@ use Rattle.smith_draw.specs.ConstBounds.{IsNonNullable, HoldsNonNullableField}
 use Rattle.wasm_smith.specs.Bounds.{counts_as}
 use Rattle.smith_imports.specs.ShapeImports.{count_in}
 use Rattle.smith_contents.specs.Exported.{IsStanding}
-use Rattle.wasm_smith.specs.Required.{IsKeptType, MayRequire, MayDefineMore, StandsBehind, IsRequiredMore, AreRequired, MayLackIn, MayRefuseExported, MayRefuseRequired}
+use Rattle.wasm_smith.specs.Defined.{StandsBehind}
+use Rattle.wasm_smith.specs.Required.{IsKeptType, MayRequire, MayDefineMore, IsRequiredMore, AreRequired, MayLackIn, MayRefuseExported, MayRefuseRequired}
 use Rattle.wasm_smith.specs.RequiredExports.{Answers, Required, entity_of, standing_with, export_required_at, required_from, required_at}
 use Rattle.wasm_smith.specs.ShapesKept.{Export, IsSameExport, IsSameFuncType}
 use Rattle.wasm_smith.specs.declared.build.definitions.Definitions.{Definitions}

@@ -1,5 +1,5 @@
 -- Which items of each kind are defined behind imported ones, and which bytes they take. Rules of this project.
-use Rattle.std.specs.Prelude.{ℕ, ◌+◌, ◌-◌, ◌&&◌, ◌==◌, nat_lt, nat_le, Option, None, List, [], ◌++◌, map, length, Result, Ok, Err, if◌then◌else◌, unwrap_or}
+use Rattle.std.specs.Prelude.{ℕ, ◌+◌, ◌-◌, ◌&&◌, ◌==◌, nat_lt, nat_le, Option, None, List, [], ◌++◌, map, take, length, Result, Ok, Err, if◌then◌else◌, unwrap_or}
 use Rattle.smith_bytes.specs.declared.error.Count.{Count}
 use Rattle.smith_bytes.specs.declared.error.Count.TheVariants as counts
 use Rattle.smith_bytes.specs.declared.error.Why.{Why}
@@ -68,6 +68,10 @@ abbrev pub standing_over : List SubType → List ℕ → ℕ → List GlobalType
 standing_over types funcs imported_funcs imported_globals =
     record { types = types; funcs = funcs; imported_funcs = imported_funcs; imported_globals = imported_globals }
 
+-- what stands, where so many of the functions and globals are imported
+abbrev pub standing_among : List SubType → List ℕ → ℕ → ℕ → List GlobalType → Standing
+standing_among types funcs imported_funcs imported_globals globals = standing_over types funcs imported_funcs (take imported_globals globals)
+
 -- the context of an initialiser beside these globals, which may read those below an end
 abbrev pub context_at : Config → Standing → List GlobalType → ℕ → Context
 context_at config standing globals visible = record {
@@ -98,19 +102,19 @@ table_at config standing bytes =
     let initial = unwrap_or (table_init_at config (table_scope config standing) table.0.element_type table.1) (None, table.1) in
     ((table.0, initial.0), initial.1)
 
--- the tables behind imported ones, and the initialisers of those that are defined
-unfoldable pub tables_at : Config → Standing → List TableType → List ℕ → (List TableType × List (Option (List ConstInstr))) × List ℕ
-tables_at config standing imported bytes =
-    let drawn = defined_at (λ _. table_at config standing) config.min_tables config.max_tables (length imported) bytes in
-    ((imported ++ map (λ (one : Table). one.0) drawn.0, map (λ (one : Table). one.1) drawn.0), drawn.1)
+-- the tables behind those that stood before, and their initialisers behind those that there were
+unfoldable pub tables_at : Config → Standing → List TableType → List (Option (List ConstInstr)) → List ℕ → (List TableType × List (Option (List ConstInstr))) × List ℕ
+tables_at config standing before initials bytes =
+    let drawn = defined_at (λ _. table_at config standing) config.min_tables config.max_tables (length before) bytes in
+    ((before ++ map (λ (one : Table). one.0) drawn.0, initials ++ map (λ (one : Table). one.1) drawn.0), drawn.1)
 
 -- a global that is defined, its index and its initialiser
 abbrev pub Global : Type 0
 Global = GlobalType × (ℕ × List ConstInstr)
 
--- the globals so far
-abbrev pub globals_of : Standing → List Global → List GlobalType
-globals_of standing defined = standing.imported_globals ++ map (λ (one : Global). one.0) defined
+-- the globals so far, behind those that stood before
+abbrev pub globals_of : List GlobalType → List Global → List GlobalType
+globals_of before defined = before ++ map (λ (one : Global). one.0) defined
 
 -- a global behind those of a context, its index and its initialiser
 unfoldable pub initialised_at : Config → Context → List ℕ → Global × List ℕ
@@ -120,11 +124,11 @@ initialised_at config context bytes =
     ((global.0, (length context.globals, initial.0)), initial.1)
 
 -- a global behind those that are defined so far
-unfoldable pub global_at : Config → Standing → List Global → List ℕ → Global × List ℕ
-global_at config standing defined = initialised_at config (global_scope config standing (globals_of standing defined))
+unfoldable pub global_at : Config → Standing → List GlobalType → List Global → List ℕ → Global × List ℕ
+global_at config standing before defined = initialised_at config (global_scope config standing (globals_of before defined))
 
--- the globals behind imported ones, and the indices and initialisers of those that are defined
-unfoldable pub globals_at : Config → Standing → List ℕ → (List GlobalType × List (ℕ × List ConstInstr)) × List ℕ
-globals_at config standing bytes =
-    let drawn = defined_at (global_at config standing) config.min_globals config.max_globals (length standing.imported_globals) bytes in
-    ((globals_of standing drawn.0, map (λ (one : Global). one.1) drawn.0), drawn.1)
+-- the globals behind those that stood before, and their indices and initialisers behind those that there were
+unfoldable pub globals_at : Config → Standing → List GlobalType → List (ℕ × List ConstInstr) → List ℕ → (List GlobalType × List (ℕ × List ConstInstr)) × List ℕ
+globals_at config standing before initials bytes =
+    let drawn = defined_at (global_at config standing before) config.min_globals config.max_globals (length before) bytes in
+    ((globals_of before drawn.0, initials ++ map (λ (one : Global). one.1) drawn.0), drawn.1)

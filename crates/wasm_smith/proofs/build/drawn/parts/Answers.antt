@@ -4,8 +4,8 @@ use Rattle.wasm_smith.proofs.ContentsLemmas.{may_hold_contents}
 use Rattle.wasm_smith.proofs.DrawnStepLemmas.{may_define}
 use Rattle.wasm_smith.proofs.build.drawn.parts.Goals as goal
 
-pub define-requires : goal.define-requires
-define-requires c = record {
+pub define_behind_imports-requires : goal.define_behind_imports-requires
+define_behind_imports-requires c = record {
   may = may_define c.requires.passes c.requires.sanitized c.in_ok-drawn.ensures.valid c.in_ok-drawn.ensures.least (omega (arith, c.in_ok-drawn.ensures.most, c.requires.passes.few Types)) c.in_ok-imports.ensures.so_far;
 }
 
