@@ -1,21 +1,15 @@
 -- A module that is put together of drawn parts is valid.
-use Rattle.std.proofs.Common.{rules, ◌≡◌, ◌∙◌, ℕ, ◌+◌, Bool, List, [], Some, length, refl, ap, arith, length-append}
+use Rattle.std.proofs.Common.{◌≡◌, ℕ, Bool, List, Some, length, arith}
 use Rattle.std.specs.Prelude.{slice_get, Option}
 use Rattle.std.proofs.lemmas.List.Elements.{All-nil}
-use Rattle.smith_types.specs.Grown.{Extends, IsContextGrown}
-use Rattle.smith_types.specs.Imports.{Defines, IndexSpaces, flattened, imported_spaces}
-use Rattle.smith_types.specs.IndexSpaces.{spaces_in}
 use Rattle.smith_types.specs.Bodies.{IsFuel}
 use Rattle.smith_types.specs.declared.const_instr.ConstInstr.{ConstInstr}
 use Rattle.smith_config.specs.declared.config.Config.{Config}
 use Rattle.wasm_smith.specs.Build.{parts_of}
-use Rattle.wasm_smith.specs.Defined.{standing_in}
-use Rattle.wasm_smith.specs.Definitions.{table_scope}
 use Rattle.wasm_smith.specs.DrawnParts.{IsDrawnFor}
-use Rattle.wasm_smith.specs.Module.{Parts, IsValid, AreSpacesMade, IsTableDefined, IsGlobalDefined, module_imports, table_context}
+use Rattle.wasm_smith.specs.Module.{Parts, IsValid, AreSpacesMade, IsTableDefined, IsGlobalDefined, module_imports}
 use Rattle.wasm_smith.specs.declared.build.drawn.Drawn.{Drawn}
 use Rattle.wasm_smith.proofs.StandsBehindLemmas.{defined_end}
-use Rattle.wasm_smith.proofs.InitialLemmas.{IsTableInitialised-grown}
 
 module _ (distinct : Bool) (config : Config) (drawn : Drawn) (h : IsDrawnFor distinct config drawn) where
   abbrev m : Parts

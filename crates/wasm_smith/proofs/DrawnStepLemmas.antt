@@ -1,5 +1,5 @@
 -- What one step of drawing a module hands on to the next.
-use Rattle.std.proofs.Common.{◌≡◌, ◌∙◌, ℕ, ◌+◌, ◌-◌, ◌<◌, ◌≤◌, ◌^◌, Bool, true, nat_lt, lt-ltb, max, List, length, length-append, refl, ap, arith}
+use Rattle.std.proofs.Common.{◌≡◌, ℕ, ◌-◌, ◌<◌, ◌≤◌, ◌^◌, Bool, true, nat_lt, lt-ltb, max, List, length, refl, arith}
 use Rattle.std.specs.Prelude.{All}
 use Rattle.smith_bytes.specs.declared.error.Count.TheVariants as counts
 use Rattle.std.proofs.lemmas.List.{length-take}

@@ -1,5 +1,5 @@
 -- What segments may refer to, once all is imported and defined.
-use Rattle.std.proofs.Common.{◌≡◌, ℕ, Bool, true, false, ◌&&◌, cond, List, length, refl, arith}
+use Rattle.std.proofs.Common.{◌≡◌, ℕ, Bool, true, false, ◌&&◌, cond, length, refl, arith}
 use Rattle.smith_types.specs.Imports.{IndexSpaces, flattened, imported_spaces}
 use Rattle.smith_types.specs.Space.{Space}
 use Rattle.smith_config.specs.declared.config.Config.{Config}

@@ -1,4 +1,4 @@
--- Which items of each kind are defined behind imported ones, and which bytes they take. Rules of this project.
+-- Which items of each kind are defined behind those that stand, and which bytes they take. Rules of this project.
 use Rattle.std.specs.Prelude.{ℕ, ◌+◌, ◌-◌, ◌&&◌, ◌==◌, nat_lt, nat_le, Option, None, List, [], ◌++◌, map, take, length, Result, Ok, Err, if◌then◌else◌, unwrap_or}
 use Rattle.smith_bytes.specs.declared.error.Count.{Count}
 use Rattle.smith_bytes.specs.declared.error.Count.TheVariants as counts
@@ -30,31 +30,31 @@ defined_at draw least most before bytes =
     let grown = grow_at draw (least - before) (most - before) [] bytes in
     if (nat_lt 0 before && nat_lt 0 most) && nat_le most (before + length grown.0) then (grown.0, (bool_at grown.1).1) else grown
 
--- items behind imported ones
+-- items behind those that stood before
 abbrev pub behind : {A : Type 0} → List A → List A × List ℕ → List A × List ℕ
-behind imported drawn = (imported ++ drawn.0, drawn.1)
+behind before drawn = (before ++ drawn.0, drawn.1)
 
--- tags or functions behind imported ones, each by the index of its type, which is chosen among these; where there is none to
+-- tags or functions behind those that stood before, each by the index of its type, which is chosen among these; where there is none to
 -- choose, none is defined, and too few are refused
 unfoldable pub typed_at : Count → List ℕ → ℕ → ℕ → List ℕ → List ℕ → Result (List ℕ × List ℕ) Why
-typed_at count choices least most imported bytes =
-    if length choices == 0 then (if nat_lt (length imported) least then Err (Unmet count) else Ok (imported, bytes))
-    else Ok (behind imported (defined_at (λ _. chosen_at 0 choices) least most (length imported) bytes))
+typed_at count choices least most before bytes =
+    if length choices == 0 then (if nat_lt (length before) least then Err (Unmet count) else Ok (before, bytes))
+    else Ok (behind before (defined_at (λ _. chosen_at 0 choices) least most (length before) bytes))
 
 -- the types that tags may have: function types without results, where exceptions are enabled
 abbrev pub tag_types : Config → List SubType → List ℕ
 tag_types config types = if config.exceptions_enabled then types_for uses.Tag types else []
 
 unfoldable pub tags_at : Config → List SubType → List ℕ → List ℕ → Result (List ℕ × List ℕ) Why
-tags_at config types imported bytes = typed_at counts.Tags (tag_types config types) config.min_tags config.max_tags imported bytes
+tags_at config types before bytes = typed_at counts.Tags (tag_types config types) config.min_tags config.max_tags before bytes
 
 -- functions have types of functions that are not shared
 unfoldable pub funcs_at : Config → List SubType → List ℕ → List ℕ → Result (List ℕ × List ℕ) Why
-funcs_at config types imported bytes = typed_at counts.Funcs (types_for uses.DefinedFunc types) config.min_funcs config.max_funcs imported bytes
+funcs_at config types before bytes = typed_at counts.Funcs (types_for uses.DefinedFunc types) config.min_funcs config.max_funcs before bytes
 
 unfoldable pub memories_at : Config → List MemoryType → List ℕ → List MemoryType × List ℕ
-memories_at config imported bytes =
-    behind imported (defined_at (λ _. memtype_at config) config.min_memories config.max_memories (length imported) bytes)
+memories_at config before bytes =
+    behind before (defined_at (λ _. memtype_at config) config.min_memories config.max_memories (length before) bytes)
 
 -- what initialisers may refer to: types, functions, and globals, the imported ones of which come first
 pub record Standing : Type 0 where
