@@ -10,6 +10,7 @@ ghost use Rattle.smith_types.specs.declared.entity_type.EntityType.TheVariants.{
 ghost use Rattle.smith_types.specs.declared.imports.Imports.TheVariants.{Single};
 ghost use Rattle.smith_spell.specs.ExampleMembers.{final, giving_two, plain_function};
 ghost use Rattle.wasm_smith.specs.Build.{definitions_at, module_at};
+ghost use Rattle.wasm_smith.specs.Defined.{nothing_defined};
 ghost use Rattle.wasm_smith.specs.Definitions.{tags_at, funcs_at, tables_at, memories_at, globals_at};
 ghost use Rattle.smith_examples.specs.ExampleDefinitions.{several_types, two_of_each, one_of_each_kind, two_at_least_of_each, one_import_of_a_function, beside_globals, up_to_three, no_imports, one_imported_of_each};
 ghost use Rattle.smith_examples.specs.ExampleModules.{empty_module, group_of};
@@ -41,16 +42,16 @@ fn funcs()
 
 #[tactic(auto, unfolding(wasm_smith::specs::Definitions::defined_at, smith_bytes::specs::Growth::grow_at, wasm_smith::specs::Definitions::tables_at, wasm_smith::specs::Definitions::table_at, smith_draw::specs::TableTypes::table_type_at, smith_draw::specs::TableTypes::drawn_elements, smith_draw::specs::Memories::memory64_at, smith_draw::specs::ConstExprs::table_init_at, smith_draw::specs::Limits::limits64_at, smith_draw::specs::Limits::gradually_at, smith_draw::specs::Limits::gradual, smith_draw::specs::Limits::sixth_power, smith_draw::specs::Limits::scaled, smith_draw::specs::ValueTypes::val_type_at, smith_draw::specs::ValueTypes::ref_type_at, smith_draw::specs::ValueTypes::heap_type_at, smith_draw::specs::ValueTypes::type_index_at, smith_draw::specs::ValueTypes::abstract_heap_type_at, smith_draw::specs::ValueTypes::sharedness_at, smith_draw::specs::Choices::chosen_at, smith_draw::specs::ConstExprs::expression_alone_at, smith_draw::specs::ConstExprs::expression_at, smith_draw::specs::ConstNodes::node_at, smith_draw::specs::Constants::constant_at, smith_draw::specs::ConstOffers::offers, smith_draw::specs::Offered::ancestors, smith_draw::specs::Below::is_heap_below, smith_bytes::specs::Draws::choose_at, smith_bytes::specs::Draws::whole_at, smith_bytes::specs::Draws::bool_at, smith_bytes::specs::Draws::range_at, smith_bytes::specs::Draws::digit_count))]
 fn tables()
-    ensures without_an_initialiser { tables_at two_of_each (beside_globals []) [] (1 ∷ 0 ∷ 0 ∷ 0 ∷ 0 ∷ 0 ∷ 0 ∷ 1 ∷ 0 ∷ 9 ∷ []) ≡ ((table funcref 0 None ∷ [], None ∷ []), 9 ∷ []) }
-    ensures with_an_initialiser { tables_at (record two_of_each { min_tables = 1 }) (beside_globals []) [] (0 ∷ 0 ∷ 0 ∷ 0 ∷ 0 ∷ 0 ∷ 0 ∷ 0 ∷ 9 ∷ [])
+    ensures without_an_initialiser { tables_at two_of_each (beside_globals []) [] [] (1 ∷ 0 ∷ 0 ∷ 0 ∷ 0 ∷ 0 ∷ 0 ∷ 1 ∷ 0 ∷ 9 ∷ []) ≡ ((table funcref 0 None ∷ [], None ∷ []), 9 ∷ []) }
+    ensures with_an_initialiser { tables_at (record two_of_each { min_tables = 1 }) (beside_globals []) [] [] (0 ∷ 0 ∷ 0 ∷ 0 ∷ 0 ∷ 0 ∷ 0 ∷ 0 ∷ 9 ∷ [])
         ≡ ((table funcref 0 None ∷ [], Some no_function ∷ []), 9 ∷ []) }
-    ensures without_garbage_collection { tables_at (record two_of_each { min_tables = 1; gc_enabled = false }) (beside_globals []) [] (0 ∷ 0 ∷ 0 ∷ 0 ∷ 0 ∷ 0 ∷ 0 ∷ 9 ∷ [])
+    ensures without_garbage_collection { tables_at (record two_of_each { min_tables = 1; gc_enabled = false }) (beside_globals []) [] [] (0 ∷ 0 ∷ 0 ∷ 0 ∷ 0 ∷ 0 ∷ 0 ∷ 9 ∷ [])
         ≡ ((table funcref 0 None ∷ [], None ∷ []), 9 ∷ []) }
-    ensures reading_an_imported_global { tables_at (record two_of_each { min_tables = 1 }) (beside_globals (global (Ref funcref) false ∷ [])) [] (0 ∷ 0 ∷ 0 ∷ 0 ∷ 0 ∷ 0 ∷ 0 ∷ 0 ∷ 0 ∷ 9 ∷ [])
+    ensures reading_an_imported_global { tables_at (record two_of_each { min_tables = 1 }) (beside_globals (global (Ref funcref) false ∷ [])) [] [] (0 ∷ 0 ∷ 0 ∷ 0 ∷ 0 ∷ 0 ∷ 0 ∷ 0 ∷ 0 ∷ 9 ∷ [])
         ≡ ((table funcref 0 None ∷ [], Some (GlobalGet 0 ∷ []) ∷ []), 9 ∷ []) }
-    ensures behind_an_imported_one { tables_at (record two_of_each { min_tables = 2 }) (beside_globals []) (table funcref 5 None ∷ []) (0 ∷ 0 ∷ 0 ∷ 0 ∷ 0 ∷ 0 ∷ 1 ∷ 0 ∷ 9 ∷ [])
+    ensures behind_an_imported_one { tables_at (record two_of_each { min_tables = 2 }) (beside_globals []) (table funcref 5 None ∷ []) [] (0 ∷ 0 ∷ 0 ∷ 0 ∷ 0 ∷ 0 ∷ 1 ∷ 0 ∷ 9 ∷ [])
         ≡ ((table funcref 5 None ∷ table funcref 0 None ∷ [], None ∷ []), 9 ∷ []) }
-    ensures enough_imported { tables_at (record two_of_each { min_tables = 1 }) (beside_globals []) (table funcref 5 None ∷ []) (0 ∷ 9 ∷ []) ≡ ((table funcref 5 None ∷ [], []), 9 ∷ []) }
+    ensures enough_imported { tables_at (record two_of_each { min_tables = 1 }) (beside_globals []) (table funcref 5 None ∷ []) [] (0 ∷ 9 ∷ []) ≡ ((table funcref 5 None ∷ [], []), 9 ∷ []) }
 {}
 
 #[tactic(auto, unfolding(wasm_smith::specs::Definitions::defined_at, smith_bytes::specs::Growth::grow_at, wasm_smith::specs::Definitions::memories_at, smith_draw::specs::Memories::memtype_at, smith_draw::specs::Memories::shared_memory_at, smith_draw::specs::Memories::memory64_at, smith_draw::specs::Memories::page_size_at, smith_draw::specs::Memories::drawn_pages, smith_draw::specs::Memories::likely_pages, smith_draw::specs::Limits::limits64_at, smith_draw::specs::Limits::gradually_at, smith_draw::specs::Limits::gradual, smith_draw::specs::Limits::sixth_power, smith_draw::specs::Limits::scaled, smith_bytes::specs::Draws::whole_at, smith_bytes::specs::Draws::bool_at, smith_bytes::specs::Draws::range_at, smith_bytes::specs::Draws::digit_count))]
@@ -63,18 +64,22 @@ fn memories()
 
 #[tactic(auto, unfolding(wasm_smith::specs::Definitions::defined_at, smith_bytes::specs::Growth::grow_at, wasm_smith::specs::Definitions::globals_at, wasm_smith::specs::Definitions::global_at, wasm_smith::specs::Definitions::initialised_at, smith_draw::specs::GlobalTypes::global_type_at, smith_draw::specs::ValueTypes::val_type_at, smith_draw::specs::ValueTypes::ref_type_at, smith_draw::specs::ValueTypes::heap_type_at, smith_draw::specs::ValueTypes::type_index_at, smith_draw::specs::ValueTypes::abstract_heap_type_at, smith_draw::specs::ValueTypes::sharedness_at, smith_draw::specs::Choices::chosen_at, smith_draw::specs::ConstExprs::expression_alone_at, smith_draw::specs::ConstExprs::expression_at, smith_draw::specs::ConstNodes::node_at, smith_draw::specs::Constants::constant_at, smith_draw::specs::ConstOffers::offers, smith_draw::specs::Offered::ancestors, smith_draw::specs::Below::is_heap_below, smith_bytes::specs::Draws::choose_at, smith_bytes::specs::Draws::whole_at, smith_bytes::specs::Draws::bool_at, smith_bytes::specs::Draws::range_at, smith_bytes::specs::Draws::digit_count))]
 fn globals()
-    ensures reading_the_one_before { globals_at (record two_of_each { min_globals = 1 }) (beside_globals []) (0 ∷ 0 ∷ 7 ∷ 0 ∷ 0 ∷ 0 ∷ 1 ∷ 0 ∷ 1 ∷ 0 ∷ 9 ∷ [])
+    ensures reading_the_one_before { globals_at (record two_of_each { min_globals = 1 }) (beside_globals []) [] [] (0 ∷ 0 ∷ 7 ∷ 0 ∷ 0 ∷ 0 ∷ 1 ∷ 0 ∷ 1 ∷ 0 ∷ 9 ∷ [])
         ≡ ((number ∷ global I32 true ∷ [], (0, I32Const (pos 7) ∷ []) ∷ (1, GlobalGet 0 ∷ []) ∷ []), 9 ∷ []) }
-    ensures without_garbage_collection { globals_at (record two_of_each { min_globals = 1; gc_enabled = false }) (beside_globals []) (0 ∷ 0 ∷ 7 ∷ 0 ∷ 0 ∷ 0 ∷ 1 ∷ 0 ∷ 1 ∷ 8 ∷ 0 ∷ 0 ∷ 0 ∷ 9 ∷ [])
+    ensures without_garbage_collection { globals_at (record two_of_each { min_globals = 1; gc_enabled = false }) (beside_globals []) [] [] (0 ∷ 0 ∷ 7 ∷ 0 ∷ 0 ∷ 0 ∷ 1 ∷ 0 ∷ 1 ∷ 8 ∷ 0 ∷ 0 ∷ 0 ∷ 9 ∷ [])
         ≡ ((number ∷ global I32 true ∷ [], (0, I32Const (pos 7) ∷ []) ∷ (1, I32Const (pos 8) ∷ []) ∷ []), 9 ∷ []) }
-    ensures reading_an_imported_one { globals_at (record two_of_each { min_globals = 2; gc_enabled = false }) (beside_globals (number ∷ [])) (0 ∷ 1 ∷ 0 ∷ 1 ∷ 9 ∷ [])
+    ensures reading_an_imported_one { globals_at (record two_of_each { min_globals = 2; gc_enabled = false }) (beside_globals (number ∷ [])) (number ∷ []) [] (0 ∷ 1 ∷ 0 ∷ 1 ∷ 9 ∷ [])
         ≡ ((number ∷ global I32 true ∷ [], (1, GlobalGet 0 ∷ []) ∷ []), 9 ∷ []) }
-    ensures enough_imported { globals_at (record two_of_each { min_globals = 1 }) (beside_globals (number ∷ [])) (0 ∷ 9 ∷ []) ≡ ((number ∷ [], []), 9 ∷ []) }
+    ensures reading_a_defined_one { globals_at (record two_of_each { min_globals = 2 }) (beside_globals []) (number ∷ []) ((0, I32Const (pos 7) ∷ []) ∷ []) (0 ∷ 1 ∷ 0 ∷ 1 ∷ 9 ∷ [])
+        ≡ ((number ∷ global I32 true ∷ [], (0, I32Const (pos 7) ∷ []) ∷ (1, GlobalGet 0 ∷ []) ∷ []), 9 ∷ []) }
+    ensures a_defined_one_is_not_seen { globals_at (record two_of_each { min_globals = 2; gc_enabled = false }) (beside_globals []) (number ∷ []) ((0, I32Const (pos 7) ∷ []) ∷ []) (0 ∷ 1 ∷ 8 ∷ 0 ∷ 0 ∷ 0 ∷ 1 ∷ 9 ∷ [])
+        ≡ ((number ∷ global I32 true ∷ [], (0, I32Const (pos 7) ∷ []) ∷ (1, I32Const (pos 8) ∷ []) ∷ []), 9 ∷ []) }
+    ensures enough_imported { globals_at (record two_of_each { min_globals = 1 }) (beside_globals (number ∷ [])) (number ∷ []) [] (0 ∷ 9 ∷ []) ≡ ((number ∷ [], []), 9 ∷ []) }
 {}
 
 #[tactic(auto, unfolding(wasm_smith::specs::Build::definitions_at, wasm_smith::specs::Definitions::defined_at, smith_bytes::specs::Growth::grow_at, wasm_smith::specs::Definitions::typed_at, wasm_smith::specs::Definitions::tags_at, wasm_smith::specs::Definitions::funcs_at, smith_draw::specs::TypeUses::is_tag_type, smith_draw::specs::TypeUses::is_unshared_function, wasm_smith::specs::Definitions::tables_at, wasm_smith::specs::Definitions::table_at, smith_draw::specs::TableTypes::table_type_at, smith_draw::specs::TableTypes::drawn_elements, smith_draw::specs::Memories::memory64_at, smith_draw::specs::ConstExprs::table_init_at, wasm_smith::specs::Definitions::memories_at, smith_draw::specs::Memories::memtype_at, smith_draw::specs::Memories::shared_memory_at, smith_draw::specs::Memories::page_size_at, smith_draw::specs::Memories::drawn_pages, smith_draw::specs::Memories::likely_pages, wasm_smith::specs::Definitions::globals_at, wasm_smith::specs::Definitions::global_at, wasm_smith::specs::Definitions::initialised_at, smith_draw::specs::GlobalTypes::global_type_at, smith_draw::specs::Limits::limits64_at, smith_draw::specs::Limits::gradually_at, smith_draw::specs::Limits::gradual, smith_draw::specs::Limits::sixth_power, smith_draw::specs::Limits::scaled, smith_draw::specs::ValueTypes::val_type_at, smith_draw::specs::ValueTypes::ref_type_at, smith_draw::specs::ValueTypes::heap_type_at, smith_draw::specs::ValueTypes::type_index_at, smith_draw::specs::ValueTypes::abstract_heap_type_at, smith_draw::specs::ValueTypes::sharedness_at, smith_draw::specs::Choices::chosen_at, smith_draw::specs::ConstExprs::expression_alone_at, smith_draw::specs::ConstExprs::expression_at, smith_draw::specs::ConstNodes::node_at, smith_draw::specs::Constants::constant_at, smith_draw::specs::ConstOffers::offers, smith_draw::specs::Offered::ancestors, smith_draw::specs::Below::is_heap_below, smith_bytes::specs::Draws::choose_at, smith_bytes::specs::Draws::whole_at, smith_bytes::specs::Draws::bool_at, smith_bytes::specs::Draws::range_at, smith_bytes::specs::Draws::digit_count))]
 fn spaces()
-    ensures one_of_each { definitions_at one_of_each_kind several_types no_imports (1 ∷ 0 ∷ 0 ∷ 0 ∷ 0 ∷ 0 ∷ 0 ∷ 1 ∷ 0 ∷ 0 ∷ 0 ∷ 0 ∷ 1 ∷ 0 ∷ 0 ∷ 3 ∷ 0 ∷ 1 ∷ 7 ∷ 0 ∷ 0 ∷ 0 ∷ 9 ∷ [])
+    ensures one_of_each { definitions_at one_of_each_kind several_types no_imports nothing_defined (1 ∷ 0 ∷ 0 ∷ 0 ∷ 0 ∷ 0 ∷ 0 ∷ 1 ∷ 0 ∷ 0 ∷ 0 ∷ 0 ∷ 1 ∷ 0 ∷ 0 ∷ 3 ∷ 0 ∷ 1 ∷ 7 ∷ 0 ∷ 0 ∷ 0 ∷ 9 ∷ [])
         ≡ Ok (
           (
             record { tags = 3 ∷ []; funcs = 0 ∷ []; tables = table (nullable (plain heap.Extern)) 0 None ∷ []; memories = up_to_three ∷ []; globals = global I32 true ∷ [] },
@@ -82,9 +87,11 @@ fn spaces()
           ),
           9 ∷ [],
         ) }
-    ensures all_imported { definitions_at one_of_each_kind several_types one_imported_of_each (0 ∷ 1 ∷ 0 ∷ 1 ∷ 0 ∷ 9 ∷ [])
+    ensures all_imported { definitions_at one_of_each_kind several_types one_imported_of_each nothing_defined (0 ∷ 1 ∷ 0 ∷ 1 ∷ 0 ∷ 9 ∷ [])
         ≡ Ok ((one_imported_of_each, record { num_tags = 0; num_funcs = 0; tables = []; num_memories = 0; globals = [] }), 9 ∷ []) }
-    ensures behind_one_imported_of_each { definitions_at (record two_at_least_of_each { gc_enabled = false }) several_types one_imported_of_each (1 ∷ 0 ∷ 0 ∷ 0 ∷ 0 ∷ 0 ∷ 0 ∷ 0 ∷ 0 ∷ 0 ∷ 0 ∷ 0 ∷ 0 ∷ 0 ∷ 0 ∷ 1 ∷ 0 ∷ 0 ∷ 3 ∷ 0 ∷ 0 ∷ 1 ∷ 0 ∷ 0 ∷ 9 ∷ [])
+    ensures all_defined { definitions_at one_of_each_kind several_types one_imported_of_each (record { num_tags = 1; num_funcs = 1; tables = None ∷ []; num_memories = 1; globals = (0, I32Const (pos 7) ∷ []) ∷ [] }) (0 ∷ 1 ∷ 0 ∷ 1 ∷ 0 ∷ 9 ∷ [])
+        ≡ Ok ((one_imported_of_each, record { num_tags = 1; num_funcs = 1; tables = None ∷ []; num_memories = 1; globals = (0, I32Const (pos 7) ∷ []) ∷ [] }), 9 ∷ []) }
+    ensures behind_one_imported_of_each { definitions_at (record two_at_least_of_each { gc_enabled = false }) several_types one_imported_of_each nothing_defined (1 ∷ 0 ∷ 0 ∷ 0 ∷ 0 ∷ 0 ∷ 0 ∷ 0 ∷ 0 ∷ 0 ∷ 0 ∷ 0 ∷ 0 ∷ 0 ∷ 0 ∷ 1 ∷ 0 ∷ 0 ∷ 3 ∷ 0 ∷ 0 ∷ 1 ∷ 0 ∷ 0 ∷ 9 ∷ [])
         ≡ Ok (
           (
             record {
@@ -98,7 +105,7 @@ fn spaces()
           ),
           9 ∷ [],
         ) }
-    ensures a_table_of_a_defined_function { definitions_at (record two_of_each { min_funcs = 1; max_funcs = 1; min_tables = 1; max_tables = 1; max_tags = 0; max_memories = 0; max_globals = 0 }) (final plain_function ∷ []) no_imports (0 ∷ 0 ∷ 0 ∷ 0 ∷ 0 ∷ 0 ∷ 0 ∷ 0 ∷ 1 ∷ 9 ∷ [])
+    ensures a_table_of_a_defined_function { definitions_at (record two_of_each { min_funcs = 1; max_funcs = 1; min_tables = 1; max_tables = 1; max_tags = 0; max_memories = 0; max_globals = 0 }) (final plain_function ∷ []) no_imports nothing_defined (0 ∷ 0 ∷ 0 ∷ 0 ∷ 0 ∷ 0 ∷ 0 ∷ 0 ∷ 1 ∷ 9 ∷ [])
         ≡ Ok (
           (
             record { tags = []; funcs = 0 ∷ []; tables = table funcref 0 None ∷ []; memories = []; globals = [] },

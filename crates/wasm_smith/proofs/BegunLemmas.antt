@@ -25,7 +25,8 @@ use Rattle.wasm_smith.specs.Begun.{nothing_defined}
 use Rattle.wasm_smith.specs.Bounds.{brought_by_module, exported_of}
 use Rattle.wasm_smith.specs.Defined.{HasRoom}
 use Rattle.wasm_smith.specs.Refusals.{AreShapesValid, shape_for}
-use Rattle.wasm_smith.specs.Required.{AddsLimitsOf, MayDefineMore, StandsBehind}
+use Rattle.wasm_smith.specs.Defined.{StandsBehind}
+use Rattle.wasm_smith.specs.Required.{AddsLimitsOf, MayDefineMore}
 use Rattle.wasm_smith.specs.RequiredExports.{Answers, then_with}
 use Rattle.wasm_smith.proofs.RequiredExportsLoop.{refused_by}
 

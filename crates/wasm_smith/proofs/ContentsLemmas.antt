@@ -18,6 +18,7 @@ use Rattle.smith_config.specs.Sanitized.{IsSanitized}
 use Rattle.smith_draw.specs.ConstScopes.{AreSpacesValid}
 use Rattle.smith_draw.specs.FuncSizes.{IsSmall}
 use Rattle.smith_draw.specs.declared.spaces.Spaces.{Spaces}
+use Rattle.wasm_smith.proofs.DefinedLemmas.{all_behind}
 use Rattle.wasm_smith.specs.Contents.{MayHoldContents, AreSpacesOver}
 use Rattle.wasm_smith.specs.Defined.{AreDefined, IsFilled}
 use Rattle.smith_contents.specs.DrawnElements.{MayDrawElements}
@@ -27,7 +28,7 @@ use Rattle.smith_contents.specs.Exporting.{exported_size}
 use Rattle.smith_contents.specs.declared.exported.Exports.{Exports}
 use Rattle.wasm_smith.specs.DrawnContents.{behind_exports_at, contents_at}
 use Rattle.smith_contents.proofs.SizedLemmas.{small_sized}
-use Rattle.smith_imports.specs.Imported.{IsImported, spaces_of}
+use Rattle.smith_imports.specs.Imported.{HasNullableElements, IsImported, spaces_of}
 use Rattle.wasm_smith.specs.declared.build.definitions.Definitions.{Definitions}
 use Rattle.smith_imports.specs.declared.imported.Imported.{Imported}
 
@@ -38,7 +39,7 @@ few_filled filled few most_few = omega (arith, filled.within, few, most_few)
 -- contents may be drawn once types, imports and definitions stand
 pub may_hold_contents : {distinct : Bool} {config : Config} {space : Space} {made : Imported} {spaces : IndexSpaces} {defined : Definitions}
     → Passes config → IsSanitized config → AreTypesValid (features_of config) space → All IsSmall space.types
-    → IsImported config space.types distinct made → AreDefined config space.types (spaces_of made) spaces defined
+    → IsImported config space.types distinct made → AreDefined config space (spaces_of made) spaces defined
     → MayHoldContents config space spaces made.type_size
 may_hold_contents {space = space} {made = made} passes sanitized types small so_far stand =
     let behind = rw so_far.counts.spaces at stand in
@@ -48,20 +49,25 @@ may_hold_contents {space = space} {made = made} passes sanitized types small so_
       types = types;
       sized = small_sized space.types small;
       small = λ no_shapes. small;
-      entities = behind.entities;
+      entities = behind.stands.entities;
       few = record {
-        funcs = few_filled behind.funcs so_far.fit.within.funcs (passes.few counts.Funcs);
-        tables = few_filled behind.tables so_far.fit.within.tables (passes.few counts.Tables);
-        memories = few_filled behind.memories so_far.fit.within.memories (passes.few counts.Memories);
-        globals = few_filled behind.globals so_far.fit.within.globals (passes.few counts.Globals);
-        tags = few_filled behind.tags so_far.fit.within.tags (passes.few counts.Tags);
+        funcs = few_filled behind.filled.funcs so_far.fit.within.funcs (passes.few counts.Funcs);
+        tables = few_filled behind.filled.tables so_far.fit.within.tables (passes.few counts.Tables);
+        memories = few_filled behind.filled.memories so_far.fit.within.memories (passes.few counts.Memories);
+        globals = few_filled behind.filled.globals so_far.fit.within.globals (passes.few counts.Globals);
+        tags = few_filled behind.filled.tags so_far.fit.within.tags (passes.few counts.Tags);
       };
-      tables = behind.tables.enough;
-      memories = behind.memories.enough;
-      globals = behind.globals.enough;
+      tables = behind.filled.tables.enough;
+      memories = behind.filled.memories.enough;
+      globals = behind.filled.globals.enough;
       within = omega (arith, so_far.counts.type_size, so_far.fit.type_size);
       small_imports = λ no_shapes. omega (arith, so_far.counts.type_size, so_far.fit.small, so_far.fit.most);
     }
+
+-- no element of a table is then a reference that may not be null
+pub all_nullable : {distinct : Bool} {config : Config} {space : Space} {made : Imported} {spaces : IndexSpaces} {defined : Definitions} → IsImported config space.types distinct made → AreDefined config space (spaces_of made) spaces defined
+    → All HasNullableElements spaces.tables
+all_nullable so_far stand = let behind = rw so_far.counts.spaces at stand in all_behind HasNullableElements so_far.fit.nullable_tables behind.filled.nullable_tables
 
 -- what is drawn freely is what is drawn behind exports that are
 pub behind_drawn : (config : Config) (types : List SubType) (imported spaces : IndexSpaces) (size : ℕ) (bytes after : List ℕ) (made : Exports) → exports_at config types spaces size bytes ≡ Ok (made.exports, after)

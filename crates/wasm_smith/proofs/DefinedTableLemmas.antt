@@ -1,10 +1,11 @@
 -- What tables are like that stand behind imported ones, with their initialisers.
-use Rattle.std.proofs.Common.{◌≡◌, ◌∙◌, ℕ, zero, suc, ◌<◌, ◌≤◌, Bool, true, false, ◌&&◌, cond, List, [], ◌∷◌, ◌++◌, map, length, refl, ap, subst, arith, length-append, inl, inr}
+use Rattle.std.proofs.Common.{◌≡◌, ℕ, zero, suc, ◌<◌, ◌≤◌, Bool, true, false, ◌&&◌, cond, List, [], ◌∷◌, ◌++◌, map, length, refl, ap, subst, arith, inl, inr}
 use Rattle.std.specs.Prelude.{Option, Some, None, All, IfSome, IsSome, IsTrue, slice_get}
 use Rattle.std.specs.List.{flat_map, AllByRecursion as Each}
 use Rattle.std.proofs.lemmas.Bool.{and_right}
-use Rattle.std.proofs.lemmas.List.{length-map}
-use Rattle.std.proofs.lemmas.List.Elements.{All-nil, All-cons, All-map, All-weaker, recursion_from_All}
+use Rattle.std.proofs.lemmas.List.{append-nil, length-map}
+use Rattle.std.proofs.lemmas.Grind.{flat_map-append}
+use Rattle.std.proofs.lemmas.List.Elements.{All-nil, All-cons, All-append, All-map, All-weaker, recursion_from_All}
 use Rattle.smith_bytes.specs.declared.error.Error.{Error}
 use Rattle.smith_bytes.specs.Takes.{Takes}
 use Rattle.smith_bytes.proofs.SpelledLemmas.{takes_by}
@@ -28,11 +29,9 @@ use Rattle.smith_draw.specs.ConstScopes.{AreSpacesValid, seen_by}
 use Rattle.smith_draw.specs.TableTypes.{table_type_at}
 use Rattle.smith_draw.specs.declared.spaces.Spaces.{Spaces}
 use Rattle.smith_bytes.specs.Spelling.{SpellsEmpty}
-use Rattle.smith_contents.proofs.PlaceOfListLemmas.{slice_get-behind}
-use Rattle.wasm_smith.specs.Defined.{IsFilled, AreAdded, MayInitialise, MayRefuseDrawn, AreTablesDefined, standing_of}
+use Rattle.wasm_smith.specs.Defined.{IsFilled, AreAdded, MayInitialise, MayRefuseDrawn, standing_of}
 use Rattle.wasm_smith.specs.DefinedTables.{IsTableFit, AreTablesDrawn}
 use Rattle.wasm_smith.specs.Definitions.{Standing, Table, table_at, tables_at, table_scope}
-use Rattle.wasm_smith.specs.Module.{IsTableInitialised}
 use Rattle.wasm_smith.specs.Promises.{initial_of}
 use Rattle.smith_bytes.specs.Spelling.{SpellsNone}
 use Rattle.wasm_smith.proofs.DefinedLemmas.{parts_filled, several_so, all_behind, defined_none}
@@ -81,8 +80,8 @@ table_refused types element e nullable (inr (empty, inl strict)) = absurd cc
 table_refused types element e nullable (inr (empty, inr holds)) = inr (empty, holds)
 
 -- what holds of the tables that were drawn holds of those that were added, and beside imported ones of all
-pub tables_added : (P : TableType → Type 0) {config : Config} {standing : Standing} {imported space : List TableType} {initials : List (Option (List ConstInstr))}
-    → ((one : Table) → IsTableFit config standing one → P one.0) → AreTablesDrawn config standing imported space initials → AreAdded P imported space
+pub tables_added : (P : TableType → Type 0) {config : Config} {standing : Standing} {imported space : List TableType} {old initials : List (Option (List ConstInstr))}
+    → ((one : Table) → IsTableFit config standing one → P one.0) → AreTablesDrawn config standing imported space old initials → AreAdded P imported space
 tables_added P {config = config} {standing = standing} {imported = imported} fits so_far =
     let of_table = λ (one : Table). one.0 in
     record {
@@ -91,64 +90,55 @@ tables_added P {config = config} {standing = standing} {imported = imported} fit
       each = All-map P of_table so_far.drawn (All-weaker (IsTableFit config standing) (λ (one : Table). P one.0) fits so_far.drawn so_far.fit);
     }
 
-pub tables_all : (P : TableType → Type 0) {config : Config} {standing : Standing} {imported space : List TableType} {initials : List (Option (List ConstInstr))}
-    → ((one : Table) → IsTableFit config standing one → P one.0) → AreTablesDrawn config standing imported space initials → All P imported → All P space
+pub tables_all : (P : TableType → Type 0) {config : Config} {standing : Standing} {imported space : List TableType} {old initials : List (Option (List ConstInstr))}
+    → ((one : Table) → IsTableFit config standing one → P one.0) → AreTablesDrawn config standing imported space old initials → All P imported → All P space
 tables_all P fits so_far all = all_behind P all (tables_added P fits so_far)
 
 -- each initialiser is that of the table that was drawn with it
-initialised_at : (P : TableType → Option (List ConstInstr) → Type 0) (drawn : List Table) → Each (λ (one : Table). P one.0 one.1) drawn
+pub initialised_at : (P : TableType → Option (List ConstInstr) → Type 0) (drawn : List Table) → Each (λ (one : Table). P one.0 one.1) drawn
     → (place : ℕ) (initial : Option (List ConstInstr)) → slice_get (map (λ (one : Table). one.1) drawn) place ≡ Some initial
     → (table : TableType) × (slice_get (map (λ (one : Table). one.0) drawn) place ≡ Some table) × P table initial
 initialised_at P [] each place initial at = cc
 initialised_at P (one ∷ drawn) each zero initial at = let same : one.1 ≡ initial = cc in (one.0, refl, subst (λ (given : Option (List ConstInstr)). P one.0 given) same each.0)
 initialised_at P (one ∷ drawn) each (suc place) initial at = initialised_at P drawn each.1 place initial at
 
-pub tables_defined : {config : Config} {standing : Standing} {imported space : List TableType} {initials : List (Option (List ConstInstr))} → AreTablesDrawn config standing imported space initials → AreTablesDefined config standing imported space initials
-tables_defined {config = config} {standing = standing} {imported = imported} so_far =
-    let of_table = λ (one : Table). one.0 in
-    let of_initial = λ (one : Table). one.1 in
-    let all = All-weaker (IsTableFit config standing) (λ (one : Table). IsTableInitialised (table_scope config standing) one.0 one.1) (λ one fit. fit.initialised) so_far.drawn so_far.fit in
-    record {
-      count = rw (so_far.tables, so_far.initialisers) (omega (arith, length-append imported (map of_table so_far.drawn), length-map so_far.drawn of_table, length-map so_far.drawn of_initial));
-      each = λ place initial at.
-          let (table, stands, initialised) = initialised_at (IsTableInitialised (table_scope config standing)) so_far.drawn (recursion_from_All _ so_far.drawn all) place initial (rw so_far.initialisers at at) in
-          (table, rw so_far.tables (slice_get-behind imported (map of_table so_far.drawn) place ∙ stands), initialised);
-    }
-
 -- without floats among the types no constant is a float's
-pub tables_no_float : {config : Config} {standing : Standing} {imported space : List TableType} {initials : List (Option (List ConstInstr))} → All HasNoFloat standing.types → AreTablesDrawn config standing imported space initials
-    → All (All GivesNoFloat) (flat_map initial_of initials)
-tables_no_float {config = config} {standing = standing} calm so_far =
+pub tables_no_float : {config : Config} {standing : Standing} {imported space : List TableType} {old initials : List (Option (List ConstInstr))} → All HasNoFloat standing.types → All (All GivesNoFloat) (flat_map initial_of old)
+    → AreTablesDrawn config standing imported space old initials → All (All GivesNoFloat) (flat_map initial_of initials)
+tables_no_float {config = config} {standing = standing} {old = old} calm before so_far =
     let of_initial = λ (one : Table). one.1 in
     let calm_initial = λ (initial : Option (List ConstInstr)). All (All GivesNoFloat) (initial_of initial) in
-    rw so_far.initialisers (all_of_parts (All GivesNoFloat) initial_of (map of_initial so_far.drawn) (recursion_from_All calm_initial (map of_initial so_far.drawn)
-    (All-map calm_initial of_initial so_far.drawn (All-weaker (IsTableFit config standing) (λ (one : Table). calm_initial one.1) (λ one fit. fit.floats calm) so_far.drawn so_far.fit))))
+    let drawn = map of_initial so_far.drawn in
+    let calm_drawn = all_of_parts (All GivesNoFloat) initial_of drawn (recursion_from_All calm_initial drawn
+    (All-map calm_initial of_initial so_far.drawn (All-weaker (IsTableFit config standing) (λ (one : Table). calm_initial one.1) (λ one fit. fit.floats calm) so_far.drawn so_far.fit))) in
+    rw (so_far.initialisers, flat_map-append initial_of old drawn) (All-append (All GivesNoFloat) (flat_map initial_of old) (flat_map initial_of drawn) before calm_drawn)
 
 -- the tables, and the bytes that are left
 abbrev tables_alone : (List TableType × List (Option (List ConstInstr))) × List ℕ → List TableType × List ℕ
 tables_alone drawn = (drawn.0.0, drawn.1)
 
 -- as many stand behind imported ones as are asked for, and no more than may be
-pub tables_fill : (config : Config) (standing : Standing) (imported space : List TableType) (initials : List (Option (List ConstInstr))) (old new : List ℕ) → config.min_tables ≤ config.max_tables
-    → tables_at config standing imported old ≡ ((space, initials), new) → IsFilled config.min_tables config.max_tables imported space
+pub tables_fill : (config : Config) (standing : Standing) (imported space : List TableType) (old initials : List (Option (List ConstInstr))) (start new : List ℕ) → config.min_tables ≤ config.max_tables
+    → tables_at config standing imported old start ≡ ((space, initials), new) → IsFilled config.min_tables config.max_tables imported space
 unfolding tables_at
-tables_fill config standing imported space initials old new ordered exact =
+tables_fill config standing imported space old initials start new ordered exact =
     subst (λ (tables : List TableType). IsFilled config.min_tables config.max_tables imported tables) (ap (λ drawn. (tables_alone drawn).0) exact)
-    (parts_filled (λ (one : Table). one.0) (λ (made : List Table). table_at config standing) config.min_tables config.max_tables imported old ordered)
+    (parts_filled (λ (one : Table). one.0) (λ (made : List Table). table_at config standing) config.min_tables config.max_tables imported start ordered)
 
 -- several tables are there only where several may be
 pub several_tables : (config : Config) (imported space : List TableType) → IsSanitized config → (1 < length imported → config.reference_types_enabled ≡ true) → IsFilled config.min_tables config.max_tables imported space → 1 < length space
     → config.reference_types_enabled ≡ true
 several_tables config imported space sanitized stood filled several = several_so config.reference_types_enabled config.max_tables (length imported) (length space) sanitized.one_table filled.within stood several
 
-pub no_table_read : (config : Config) (standing : Standing) (imported : List TableType) (piece after : List ℕ) → config.min_tables ≡ 0 → imported ≡ [] → SpellsNone config.max_tables piece → tables_at config standing imported (piece ++ after) ≡ (([], []), after)
+pub no_table_read : (config : Config) (standing : Standing) (imported : List TableType) (old : List (Option (List ConstInstr))) (piece after : List ℕ) → config.min_tables ≡ 0 → imported ≡ [] → SpellsNone config.max_tables piece
+    → tables_at config standing imported old (piece ++ after) ≡ (([], old), after)
 unfolding tables_at
-no_table_read config standing imported piece after asked none spelled =
+no_table_read config standing imported old piece after asked none spelled =
     let drawn = defined_none (λ (made : List Table). table_at config standing) config.min_tables config.max_tables (length imported) piece after asked (rw none refl) spelled in
-    rw (drawn, none) refl
+    rw (drawn, none, append-nil old) refl
 
 -- a piece that spells that there is no table is taken
-pub no_table_taken : (config : Config) (standing : Standing) (imported space : List TableType) (initials : List (Option (List ConstInstr))) (old new : List ℕ) → config.min_tables ≡ 0 → imported ≡ []
-    → tables_at config standing imported old ≡ ((space, initials), new) → Takes (SpellsEmpty (SpellsNone config.max_tables)) old space new
-no_table_taken config standing imported space initials old new asked none exact =
-    takes_by (λ bytes. tables_alone (tables_at config standing imported bytes)) (λ value piece after h. rw (no_table_read config standing imported piece after asked none h.spelled, h.none) refl) (ap tables_alone exact)
+pub no_table_taken : (config : Config) (standing : Standing) (imported space : List TableType) (old initials : List (Option (List ConstInstr))) (start new : List ℕ) → config.min_tables ≡ 0 → imported ≡ []
+    → tables_at config standing imported old start ≡ ((space, initials), new) → Takes (SpellsEmpty (SpellsNone config.max_tables)) start space new
+no_table_taken config standing imported space old initials start new asked none exact =
+    takes_by (λ bytes. tables_alone (tables_at config standing imported old bytes)) (λ value piece after h. rw (no_table_read config standing imported old piece after asked none h.spelled, h.none) refl) (ap tables_alone exact)

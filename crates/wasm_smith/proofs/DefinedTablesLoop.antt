@@ -14,24 +14,24 @@ use Rattle.wasm_smith.specs.Definitions.{Standing, Table, table_at, tables_at}
 use Rattle.wasm_smith.proofs.DefinedLoop.{IsDefining, defined_start, defined_go, defined_stop, defined_full}
 
 -- the tables that are defined so far, and their initialisers
-pub record IsDefiningTables (config : Config) (standing : Standing) (imported space : List TableType) (initials : List (Option (List ConstInstr))) (n : ℕ) (start bytes : List ℕ) : Type 0 where
-  pub so_far : AreTablesDrawn config standing imported space initials
+pub record IsDefiningTables (config : Config) (standing : Standing) (imported space : List TableType) (old initials : List (Option (List ConstInstr))) (n : ℕ) (start bytes : List ℕ) : Type 0 where
+  pub so_far : AreTablesDrawn config standing imported space old initials
   pub defining : IsDefining (λ _. table_at config standing) config.min_tables config.max_tables (length imported) n so_far.drawn start bytes
 
 -- none is defined yet
-pub tables_start : (config : Config) (standing : Standing) (imported : List TableType) (start : List ℕ) → IsDefiningTables config standing imported imported [] 0 start start
-tables_start config standing imported start = record {
-  so_far = record { drawn = []; tables = rw append-nil refl; initialisers = refl; fit = All-nil (IsTableFit config standing) };
+pub tables_start : (config : Config) (standing : Standing) (imported : List TableType) (old : List (Option (List ConstInstr))) (start : List ℕ) → IsDefiningTables config standing imported imported old old 0 start start
+tables_start config standing imported old start = record {
+  so_far = record { drawn = []; tables = rw append-nil refl; initialisers = rw append-nil refl; fit = All-nil (IsTableFit config standing) };
   defining = defined_start (λ _. table_at config standing) config.min_tables config.max_tables (length imported) start;
 }
 
-module _ {config : Config} {standing : Standing} {imported space : List TableType} {initials : List (Option (List ConstInstr))} {n : ℕ} {start bytes : List ℕ} where
+module _ {config : Config} {standing : Standing} {imported space : List TableType} {old initials : List (Option (List ConstInstr))} {n : ℕ} {start bytes : List ℕ} where
   -- one more was defined
   pub tables_go : {mid after : List ℕ} {b : Bool} {one : Table} {more : List TableType} {longer : List (Option (List ConstInstr))}
-      → IsDefiningTables config standing imported space initials n start bytes
+      → IsDefiningTables config standing imported space old initials n start bytes
       → n < config.max_tables - length imported → goes_at (nat_lt n (config.min_tables - length imported)) bytes ≡ (b, mid) → b ≡ true
       → table_at config standing mid ≡ (one, after) → IsTableFit config standing one → more ≡ space ++ one.0 ∷ [] → longer ≡ initials ++ one.1 ∷ []
-      → KeepsPieces bytes mid → KeepsPieces mid after → IsDefiningTables config standing imported more longer (n + 1) start after
+      → KeepsPieces bytes mid → KeepsPieces mid after → IsDefiningTables config standing imported more old longer (n + 1) start after
   tables_go {one = one} now lt go on drawn fit next last p q =
       let made = now.so_far.drawn in
       let of_table = λ (each : Table). each.0 in
@@ -40,7 +40,7 @@ module _ {config : Config} {standing : Standing} {imported space : List TableTyp
         so_far = record {
           drawn = made ++ one ∷ [];
           tables = rw (next, now.so_far.tables, map-append of_table made (one ∷ [])) (append_assoc imported (map of_table made) (one.0 ∷ []));
-          initialisers = rw (last, now.so_far.initialisers, map-append of_initial made (one ∷ [])) refl;
+          initialisers = rw (last, now.so_far.initialisers, map-append of_initial made (one ∷ [])) (append_assoc old (map of_initial made) (one.1 ∷ []));
           fit = All-push (IsTableFit config standing) made one now.so_far.fit fit;
         };
         defining = defined_go now.defining lt go on drawn refl p q;
@@ -48,16 +48,16 @@ module _ {config : Config} {standing : Standing} {imported space : List TableTyp
 
   -- no more is asked for, where more may be
   pub tables_stop : {b : Bool} {after : List ℕ}
-      → IsDefiningTables config standing imported space initials n start bytes
+      → IsDefiningTables config standing imported space old initials n start bytes
       → n < config.max_tables - length imported → goes_at (nat_lt n (config.min_tables - length imported)) bytes ≡ (b, after) → b ≡ false
-      → tables_at config standing imported start ≡ ((space, initials), after)
+      → tables_at config standing imported old start ≡ ((space, initials), after)
   unfolding tables_at
   tables_stop now lt go off = rw (defined_stop now.defining lt go off, now.so_far.tables, now.so_far.initialisers) refl
 
   -- no more may be
   pub tables_full : {after : List ℕ}
-      → IsDefiningTables config standing imported space initials n start bytes
+      → IsDefiningTables config standing imported space old initials n start bytes
       → config.max_tables - length imported ≤ n → after ≡ (if nat_lt 0 (length imported) && nat_lt 0 config.max_tables then (bool_at bytes).1 else bytes)
-      → tables_at config standing imported start ≡ ((space, initials), after)
+      → tables_at config standing imported old start ≡ ((space, initials), after)
   unfolding tables_at
   tables_full now le is = rw (defined_full now.defining le is, now.so_far.tables, now.so_far.initialisers) refl

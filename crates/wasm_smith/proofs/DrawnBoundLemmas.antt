@@ -53,11 +53,11 @@ module _ (distinct : Bool) (config : Config) (drawn : Drawn) (h : IsDrawnFor dis
   most : (count : Count) → HasMost config count → count_of m count ≤ maximum_of config count
   most counts.Types asked = h.most_types
   most counts.Imports asked = omega (arith, h.count, h.imports.most)
-  most counts.Tags asked = omega (arith, h.defined.tags.within, h.imports.within.tags)
-  most counts.Funcs asked = omega (arith, h.defined.funcs.within, h.imports.within.funcs)
-  most counts.Tables asked = omega (arith, h.defined.tables.within, h.imports.within.tables)
-  most counts.Memories asked = omega (arith, h.defined.memories.within, h.imports.within.memories)
-  most counts.Globals asked = omega (arith, h.defined.globals.within, h.imports.within.globals)
+  most counts.Tags asked = omega (arith, h.defined.filled.tags.within, h.imports.within.tags)
+  most counts.Funcs asked = omega (arith, h.defined.filled.funcs.within, h.imports.within.funcs)
+  most counts.Tables asked = omega (arith, h.defined.filled.tables.within, h.imports.within.tables)
+  most counts.Memories asked = omega (arith, h.defined.filled.memories.within, h.imports.within.memories)
+  most counts.Globals asked = omega (arith, h.defined.filled.globals.within, h.imports.within.globals)
   most counts.Exports asked = h.contents.exports.most asked.0 asked.1
   most counts.ElementSegments asked = h.contents.segments.most_elements
   most counts.Elements asked = h.contents.segments.most_items
@@ -66,11 +66,11 @@ module _ (distinct : Bool) (config : Config) (drawn : Drawn) (h : IsDrawnFor dis
   least : (count : Count) → HasLeast config count → minimum_of config count ≤ count_of m count
   least counts.Types asked = h.least_types
   least counts.Imports asked = h.least_imports
-  least counts.Tags asked = h.defined.tags.enough
-  least counts.Funcs asked = h.defined.funcs.enough
-  least counts.Tables asked = h.defined.tables.enough
-  least counts.Memories asked = h.defined.memories.enough
-  least counts.Globals asked = h.defined.globals.enough
+  least counts.Tags asked = h.defined.filled.tags.enough
+  least counts.Funcs asked = h.defined.filled.funcs.enough
+  least counts.Tables asked = h.defined.filled.tables.enough
+  least counts.Memories asked = h.defined.filled.memories.enough
+  least counts.Globals asked = h.defined.filled.globals.enough
   least counts.Exports asked = h.contents.exports.least asked.0 asked.1
   least counts.ElementSegments asked = h.contents.segments.least_elements
   least counts.Elements asked = absurd asked
@@ -85,8 +85,8 @@ module _ (distinct : Bool) (config : Config) (drawn : Drawn) (h : IsDrawnFor dis
   pub drawn_bounds : KeepsBounds config m
   drawn_bounds = record {
     most = λ count asked. beside_shapes (count_of m count) (maximum_of config count) (brought config count) (added config count) (most count asked);
-    tables = All-weaker (IsTableWithin config) (λ (table : TableType). Contains (of_shapes (λ spaces. spaces.tables) config) table ⊎ IsTableWithin config table) (λ table within. inr within) m.tables (all_behind (IsTableWithin config) h.imports.within.each_table h.defined.each_table);
-    memories = All-weaker (IsMemoryWithin config) (λ (memory : MemoryType). Contains (of_shapes (λ spaces. spaces.memories) config) memory ⊎ IsMemoryWithin config memory) (λ memory within. inr within) m.memories (all_behind (IsMemoryWithin config) h.imports.within.each_memory h.defined.each_memory);
+    tables = All-weaker (IsTableWithin config) (λ (table : TableType). Contains (of_shapes (λ spaces. spaces.tables) config) table ⊎ IsTableWithin config table) (λ table within. inr within) m.tables (all_behind (IsTableWithin config) h.imports.within.each_table h.defined.filled.each_table);
+    memories = All-weaker (IsMemoryWithin config) (λ (memory : MemoryType). Contains (of_shapes (λ spaces. spaces.memories) config) memory ⊎ IsMemoryWithin config memory) (λ memory within. inr within) m.memories (all_behind (IsMemoryWithin config) h.imports.within.each_memory h.defined.filled.each_memory);
     type_size = omega (arith, h.contents.exports.type_size (none_fixed config h.no_shapes), h.type_size, imports_counted, exports_counted);
     type_size_most = h.contents.exports.within;
   }

@@ -1,9 +1,10 @@
 -- What one step of drawing a module hands on to the next.
-use Rattle.std.proofs.Common.{◌≡◌, ◌∙◌, ℕ, ◌+◌, ◌-◌, ◌<◌, ◌≤◌, ◌^◌, Bool, true, nat_lt, lt-ltb, max, List, length, length-append, refl, ap, arith}
+use Rattle.std.proofs.Common.{◌≡◌, ℕ, ◌-◌, ◌<◌, ◌≤◌, ◌^◌, Bool, true, nat_lt, lt-ltb, max, List, length, refl, arith}
 use Rattle.std.specs.Prelude.{All}
 use Rattle.smith_bytes.specs.declared.error.Count.TheVariants as counts
-use Rattle.smith_types.specs.Entities.{IsFuncValid}
-use Rattle.smith_types.specs.Grown.{Extends}
+use Rattle.std.proofs.lemmas.List.{length-take}
+use Rattle.std.proofs.lemmas.List.Elements.{All-take}
+use Rattle.smith_types.specs.Entities.{IsFuncValid, IsGlobalValid}
 use Rattle.smith_types.specs.Imports.{IndexSpaces, flattened, imported_spaces}
 use Rattle.smith_types.specs.Space.{Space}
 use Rattle.smith_types.specs.ValidTypes.{AreTypesValid}
@@ -13,23 +14,26 @@ use Rattle.smith_config.specs.Features.{features_of}
 use Rattle.smith_config.specs.Sanitized.{IsSanitized}
 use Rattle.smith_imports.specs.Imported.{IsImported, spaces_of}
 use Rattle.smith_imports.specs.declared.imported.Imported.{Imported}
-use Rattle.wasm_smith.specs.Defined.{MayDefine, MayInitialise}
-use Rattle.wasm_smith.specs.Definitions.{standing_over}
+use Rattle.wasm_smith.specs.Defined.{nothing_defined, MayDefine, MayInitialise}
+use Rattle.wasm_smith.specs.Definitions.{standing_among}
+use Rattle.wasm_smith.specs.declared.build.definitions.Definitions.{Definitions}
 use Rattle.wasm_smith.proofs.DefinedLemmas.{several_so}
 
 -- what initialisers refer to is valid once functions are defined
-pub may_initialise : (config : Config) (space : Space) (imported : IndexSpaces) (funcs : List ℕ) → MayDefine config space imported → All (IsFuncValid space.types) funcs → length funcs ≤ max config.max_funcs (length imported.funcs)
-    → MayInitialise config space (standing_over space.types funcs (length imported.funcs) imported.globals)
-may_initialise config space imported funcs may valid few = record {
-  passes = may.passes;
-  sanitized = may.sanitized;
-  valid = may.valid;
-  types = refl;
-  funcs = valid;
-  globals = may.entities.globals;
-  few_funcs = omega (arith, few, may.room.funcs, may.passes.few counts.Funcs);
-  few_globals = omega (arith, may.room.globals);
-}
+pub may_initialise : (config : Config) (space : Space) (before : IndexSpaces) (so_far : Definitions) (funcs : List ℕ) → MayDefine config space before so_far → All (IsFuncValid space.types) funcs → length funcs ≤ max config.max_funcs (length before.funcs)
+    → MayInitialise config space (standing_among space.types funcs (length before.funcs - so_far.num_funcs) (length before.globals - length so_far.globals) before.globals)
+may_initialise config space before so_far funcs may valid few =
+    let imported = length before.globals - length so_far.globals in
+    record {
+      passes = may.passes;
+      sanitized = may.sanitized;
+      valid = may.valid;
+      types = refl;
+      funcs = valid;
+      globals = All-take (IsGlobalValid (features_of config) space.types) imported before.globals may.entities.globals;
+      few_funcs = omega (arith, few, may.room.funcs, may.passes.few counts.Funcs);
+      few_globals = omega (arith, length-take imported before.globals, may.room.globals);
+    }
 
 -- several memories are imported only where several may be
 memories_imported : (most n : ℕ) → n ≤ most → 1 < n → nat_lt 1 most ≡ true
@@ -37,7 +41,7 @@ memories_imported most n within several = lt-ltb 1 most (omega arith)
 
 -- items may be defined behind imports
 pub may_define : {distinct : Bool} {config : Config} {space : Space} {made : Imported} → Passes config → IsSanitized config → AreTypesValid (features_of config) space → config.min_types ≤ length space.types → length space.types < 2 ^ 32
-    → IsImported config space.types distinct made → MayDefine config space (spaces_of made)
+    → IsImported config space.types distinct made → MayDefine config space (spaces_of made) nothing_defined
 may_define {config = config} {space = space} {made = made} passes sanitized valid least few so_far =
     let within = so_far.fit.within in
     let imported = imported_spaces (flattened made.groups) in
@@ -60,8 +64,5 @@ may_define {config = config} {space = space} {made = made} passes sanitized vali
         memories = omega (arith, within.memories, passes.few counts.Memories);
         globals = omega (arith, within.globals, passes.few counts.Globals);
       };
+      within = record { tags = omega arith; funcs = omega arith; memories = omega arith; globals = omega arith };
     })
-
--- as many are defined as stand behind the imported ones
-pub counted : {A : Type 0} (imported space : List A) → Extends imported space → length space - length imported + length imported ≡ length space
-counted imported space extends = let whole = ap length extends.parts ∙ length-append imported extends.more in omega (arith, whole)

@@ -7,9 +7,9 @@ use Rattle.wasm_smith.specs.Definitions.{Standing, Global, global_at, globals_at
 use Rattle.wasm_smith.specs.Defined.{IsFilled}
 use Rattle.wasm_smith.proofs.DefinedLemmas.{parts_filled}
 
-pub globals_fill : (config : Config) (standing : Standing) (globals : List GlobalType) (initials : List (ℕ × List ConstInstr)) (old new : List ℕ) → config.min_globals ≤ config.max_globals
-    → globals_at config standing old ≡ ((globals, initials), new) → IsFilled config.min_globals config.max_globals standing.imported_globals globals
+pub globals_fill : (config : Config) (standing : Standing) (before globals : List GlobalType) (old initials : List (ℕ × List ConstInstr)) (start new : List ℕ) → config.min_globals ≤ config.max_globals
+    → globals_at config standing before old start ≡ ((globals, initials), new) → IsFilled config.min_globals config.max_globals before globals
 unfolding globals_at
-globals_fill config standing globals initials old new ordered exact =
-    subst (λ (all : List GlobalType). IsFilled config.min_globals config.max_globals standing.imported_globals all) (ap (λ (drawn : (List GlobalType × List (ℕ × List ConstInstr)) × List ℕ). drawn.0.0) exact)
-    (parts_filled (λ (one : Global). one.0) (global_at config standing) config.min_globals config.max_globals standing.imported_globals old ordered)
+globals_fill config standing before globals old initials start new ordered exact =
+    subst (λ (all : List GlobalType). IsFilled config.min_globals config.max_globals before all) (ap (λ (drawn : (List GlobalType × List (ℕ × List ConstInstr)) × List ℕ). drawn.0.0) exact)
+    (parts_filled (λ (one : Global). one.0) (global_at config standing before) config.min_globals config.max_globals before start ordered)

@@ -3,7 +3,7 @@ use Rattle.std.proofs.Common.{◌≡◌, ℕ, ◌+◌, ◌-◌, ◌≤◌, ◌<�
 use Rattle.std.specs.Prelude.{if◌then◌else◌}
 use Rattle.std.specs.List.{All}
 use Rattle.std.proofs.lemmas.List.{map-append, length-map}
-use Rattle.std.proofs.lemmas.List.Elements.{All-nil, All-push}
+use Rattle.std.proofs.lemmas.List.Elements.{All-push}
 use Rattle.smith_bytes.specs.Source.{KeepsPieces}
 use Rattle.smith_bytes.specs.Draws.{bool_at}
 use Rattle.smith_bytes.specs.Growth.{goes_at}
@@ -32,38 +32,35 @@ abbrev AreNoFloats : List GlobalType → Type 0
 AreNoFloats globals = All (λ (global : GlobalType). IsNoFloat global.val_type) globals
 
 -- what holds of the globals so far, n of them defined
-pub record AreDefining (config : Config) (standing : Standing) (n : ℕ) (globals : List GlobalType) (initials : List (ℕ × List ConstInstr)) (start bytes : List ℕ) : Type 0 where
+pub record AreDefining (config : Config) (standing : Standing) (before : List GlobalType) (old : List (ℕ × List ConstInstr)) (n : ℕ) (globals : List GlobalType) (initials : List (ℕ × List ConstInstr)) (start bytes : List ℕ) : Type 0 where
   pub made : List Global
-  pub globals_are : globals ≡ globals_of standing made
-  pub initials_are : initials ≡ map (λ (one : Global). one.1) made
-  pub defining : IsDefining (global_at config standing) config.min_globals config.max_globals (length standing.imported_globals) n made start bytes
+  pub globals_are : globals ≡ globals_of before made
+  pub initials_are : initials ≡ old ++ map (λ (one : Global). one.1) made
+  pub defining : IsDefining (global_at config standing before) config.min_globals config.max_globals (length before) n made start bytes
   pub valid : All (IsGlobalValid (features_of config) standing.types) globals
-  pub defined : AreGlobalsDefined config standing globals initials
-  pub floats : config.allow_floats ≡ false → AreNoFloats standing.imported_globals → AreNoFloats globals
-  pub constants : config.allow_floats ≡ false → All HasNoFloat standing.types → All (All GivesNoFloat) (expressions initials)
+  pub defined : AreGlobalsDefined config standing before old → AreGlobalsDefined config standing globals initials
+  pub floats : config.allow_floats ≡ false → AreNoFloats before → AreNoFloats globals
+  pub constants : config.allow_floats ≡ false → All HasNoFloat standing.types → All (All GivesNoFloat) (expressions old) → All (All GivesNoFloat) (expressions initials)
 
 -- how many globals stand
-pub count_is : {config : Config} {standing : Standing} {n : ℕ} {globals : List GlobalType} {initials : List (ℕ × List ConstInstr)} {start bytes : List ℕ}
-    → AreDefining config standing n globals initials start bytes → length globals ≡ length standing.imported_globals + n
-count_is {standing = standing} now =
-    let lens = length-append standing.imported_globals (map (λ (one : Global). one.0) now.made) in
+pub count_is : {config : Config} {standing : Standing} {before : List GlobalType} {old : List (ℕ × List ConstInstr)} {n : ℕ} {globals : List GlobalType} {initials : List (ℕ × List ConstInstr)} {start bytes : List ℕ}
+    → AreDefining config standing before old n globals initials start bytes → length globals ≡ length before + n
+count_is {before = before} now =
+    let lens = length-append before (map (λ (one : Global). one.0) now.made) in
     let len = now.defining.growing.len in
-    ap length now.globals_are ∙ lens ∙ ap (λ (k : ℕ). length standing.imported_globals + k) (length-map now.made (λ (one : Global). one.0) ∙ len)
-
-none_defined : (config : Config) (standing : Standing) → AreGlobalsDefined config standing standing.imported_globals []
-none_defined config standing = record { count = omega arith; each = λ place index initial at. absurd cc }
+    ap length now.globals_are ∙ lens ∙ ap (λ (k : ℕ). length before + k) (length-map now.made (λ (one : Global). one.0) ∙ len)
 
 -- before the first turn
-pub none_made : (config : Config) (standing : Standing) (start : List ℕ) → All (IsGlobalValid (features_of config) standing.types) standing.imported_globals → AreDefining config standing 0 standing.imported_globals [] start start
-none_made config standing start valid = record {
+pub none_made : (config : Config) (standing : Standing) (before : List GlobalType) (old : List (ℕ × List ConstInstr)) (start : List ℕ) → All (IsGlobalValid (features_of config) standing.types) before → AreDefining config standing before old 0 before old start start
+none_made config standing before old start valid = record {
   made = [];
-  globals_are = sym (append-nil standing.imported_globals);
-  initials_are = refl;
-  defining = defined_start (global_at config standing) config.min_globals config.max_globals (length standing.imported_globals) start;
+  globals_are = sym (append-nil before);
+  initials_are = sym (append-nil old);
+  defining = defined_start (global_at config standing before) config.min_globals config.max_globals (length before) start;
   valid = valid;
-  defined = none_defined config standing;
+  defined = λ stood. stood;
   floats = λ off calm. calm;
-  constants = λ off calm. All-nil (All GivesNoFloat);
+  constants = λ off calm plain. plain;
 }
 
 module _ (config : Config) (standing : Standing) (globals : List GlobalType) (global : GlobalType) where
@@ -111,10 +108,10 @@ module _ (config : Config) (standing : Standing) (globals : List GlobalType) (gl
       }
 
 -- a global is drawn in the context of those so far
-drawn_in : (config : Config) (standing : Standing) (made : List Global) (globals : List GlobalType) (bytes : List ℕ) → globals ≡ globals_of standing made
-    → global_at config standing made bytes ≡ initialised_at config (global_scope config standing globals) bytes
+drawn_in : (config : Config) (standing : Standing) (before : List GlobalType) (made : List Global) (globals : List GlobalType) (bytes : List ℕ) → globals ≡ globals_of before made
+    → global_at config standing before made bytes ≡ initialised_at config (global_scope config standing globals) bytes
 unfolding global_at
-drawn_in config standing made globals bytes are = ap (λ (standing_globals : List GlobalType). initialised_at config (global_scope config standing standing_globals) bytes) (sym are)
+drawn_in config standing before made globals bytes are = ap (λ (standing_globals : List GlobalType). initialised_at config (global_scope config standing standing_globals) bytes) (sym are)
 
 -- its index is how many stand before it
 index_is : (config : Config) (context : Context) (bytes : List ℕ) (one : Global) (after : List ℕ) → initialised_at config context bytes ≡ (one, after) → one.1.0 ≡ length context.globals
@@ -122,39 +119,41 @@ unfolding initialised_at
 index_is config context bytes one after drawn = sym (ap (λ (r : Global × List ℕ). r.0.1.0) drawn)
 
 -- one more global was drawn
-pub define_more : {config : Config} {standing : Standing} {n : ℕ} {globals more : List GlobalType} {initials longer : List (ℕ × List ConstInstr)} {start bytes mid after : List ℕ} {b : Bool} {one : Global}
-    → AreDefining config standing n globals initials start bytes → n < config.max_globals - length standing.imported_globals
-    → goes_at (nat_lt n (config.min_globals - length standing.imported_globals)) bytes ≡ (b, mid) → b ≡ true → initialised_at config (global_scope config standing globals) mid ≡ (one, after)
+pub define_more : {config : Config} {standing : Standing} {before : List GlobalType} {old : List (ℕ × List ConstInstr)} {n : ℕ} {globals more : List GlobalType} {initials longer : List (ℕ × List ConstInstr)} {start bytes mid after : List ℕ} {b : Bool} {one : Global}
+    → AreDefining config standing before old n globals initials start bytes → n < config.max_globals - length before
+    → goes_at (nat_lt n (config.min_globals - length before)) bytes ≡ (b, mid) → b ≡ true → initialised_at config (global_scope config standing globals) mid ≡ (one, after)
     → IsGlobalValid (features_of config) standing.types one.0 → IsConstExpr (global_scope config standing globals) one.0.val_type one.1.1
     → (config.allow_floats ≡ false → IsNoFloat one.0.val_type) → (config.allow_floats ≡ false → All HasNoFloat standing.types → All GivesNoFloat one.1.1)
     → more ≡ globals ++ one.0 ∷ [] → longer ≡ initials ++ one.1 ∷ [] → KeepsPieces bytes mid → KeepsPieces mid after
-    → AreDefining config standing (n + 1) more longer start after
-define_more {config = config} {standing = standing} {globals = globals} {initials = initials} {mid = mid} {after = after} {one = one} now fewer go odd drawn valid typed calm plain next last p q =
-    let behind = drawn_in config standing now.made globals mid now.globals_are ∙ drawn in
+    → AreDefining config standing before old (n + 1) more longer start after
+define_more {config = config} {standing = standing} {before = before} {old = old} {globals = globals} {initials = initials} {mid = mid} {after = after} {one = one} now fewer go odd drawn valid typed calm plain next last p q =
+    let behind = drawn_in config standing before now.made globals mid now.globals_are ∙ drawn in
     let place = index_is config (global_scope config standing globals) mid one after drawn in
     rw (next, last) (record {
       made = now.made ++ one ∷ [];
       globals_are = ap (λ (xs : List GlobalType). xs ++ one.0 ∷ []) now.globals_are
-          ∙ (append_assoc standing.imported_globals (map (λ (g : Global). g.0) now.made) (one.0 ∷ [])
-          ∙ ap (λ (xs : List GlobalType). standing.imported_globals ++ xs) (sym (map-append (λ (g : Global). g.0) now.made (one ∷ []))));
-      initials_are = ap (λ (xs : List (ℕ × List ConstInstr)). xs ++ one.1 ∷ []) now.initials_are ∙ sym (map-append (λ (g : Global). g.1) now.made (one ∷ []));
+          ∙ (append_assoc before (map (λ (g : Global). g.0) now.made) (one.0 ∷ [])
+          ∙ ap (λ (xs : List GlobalType). before ++ xs) (sym (map-append (λ (g : Global). g.0) now.made (one ∷ []))));
+      initials_are = ap (λ (xs : List (ℕ × List ConstInstr)). xs ++ one.1 ∷ []) now.initials_are
+          ∙ (append_assoc old (map (λ (g : Global). g.1) now.made) (one.1 ∷ [])
+          ∙ ap (λ (xs : List (ℕ × List ConstInstr)). old ++ xs) (sym (map-append (λ (g : Global). g.1) now.made (one ∷ []))));
       defining = defined_go now.defining fewer go odd behind refl p q;
       valid = All-push (IsGlobalValid (features_of config) standing.types) globals one.0 now.valid valid;
-      defined = subst (λ (k : ℕ). AreGlobalsDefined config standing (globals ++ one.0 ∷ []) (initials ++ (k, one.1.1) ∷ [])) (sym place) (defined_more config standing globals one.0 initials one.1.1 now.defined typed);
+      defined = λ stood. subst (λ (k : ℕ). AreGlobalsDefined config standing (globals ++ one.0 ∷ []) (initials ++ (k, one.1.1) ∷ [])) (sym place) (defined_more config standing globals one.0 initials one.1.1 (now.defined stood) typed);
       floats = λ off imported. All-push (λ (g : GlobalType). IsNoFloat g.val_type) globals one.0 (now.floats off imported) (calm off);
-      constants = λ off types. rw (map-append (λ (i : ℕ × List ConstInstr). i.1) initials (one.1 ∷ [])) (All-push (All GivesNoFloat) (expressions initials) one.1.1 (now.constants off types) (plain off types));
+      constants = λ off types stood. rw (map-append (λ (i : ℕ × List ConstInstr). i.1) initials (one.1 ∷ [])) (All-push (All GivesNoFloat) (expressions initials) one.1.1 (now.constants off types stood) (plain off types));
     })
 
 -- no global was drawn
-pub define_stop : {config : Config} {standing : Standing} {n : ℕ} {globals : List GlobalType} {initials : List (ℕ × List ConstInstr)} {start bytes after : List ℕ} {b : Bool}
-    → AreDefining config standing n globals initials start bytes → n < config.max_globals - length standing.imported_globals
-    → goes_at (nat_lt n (config.min_globals - length standing.imported_globals)) bytes ≡ (b, after) → b ≡ false → globals_at config standing start ≡ ((globals, initials), after)
+pub define_stop : {config : Config} {standing : Standing} {before : List GlobalType} {old : List (ℕ × List ConstInstr)} {n : ℕ} {globals : List GlobalType} {initials : List (ℕ × List ConstInstr)} {start bytes after : List ℕ} {b : Bool}
+    → AreDefining config standing before old n globals initials start bytes → n < config.max_globals - length before
+    → goes_at (nat_lt n (config.min_globals - length before)) bytes ≡ (b, after) → b ≡ false → globals_at config standing before old start ≡ ((globals, initials), after)
 unfolding globals_at
 define_stop now fewer go even = rw (defined_stop now.defining fewer go even, now.globals_are, now.initials_are) refl
 
 -- no more globals may be drawn
-pub define_full : {config : Config} {standing : Standing} {n : ℕ} {globals : List GlobalType} {initials : List (ℕ × List ConstInstr)} {start bytes after : List ℕ}
-    → AreDefining config standing n globals initials start bytes → config.max_globals - length standing.imported_globals ≤ n
-    → after ≡ (if nat_lt 0 (length standing.imported_globals) && nat_lt 0 config.max_globals then (bool_at bytes).1 else bytes) → globals_at config standing start ≡ ((globals, initials), after)
+pub define_full : {config : Config} {standing : Standing} {before : List GlobalType} {old : List (ℕ × List ConstInstr)} {n : ℕ} {globals : List GlobalType} {initials : List (ℕ × List ConstInstr)} {start bytes after : List ℕ}
+    → AreDefining config standing before old n globals initials start bytes → config.max_globals - length before ≤ n
+    → after ≡ (if nat_lt 0 (length before) && nat_lt 0 config.max_globals then (bool_at bytes).1 else bytes) → globals_at config standing before old start ≡ ((globals, initials), after)
 unfolding globals_at
 define_full now all asked = rw (defined_full now.defining all asked, now.globals_are, now.initials_are) refl

@@ -27,6 +27,7 @@ pub mod PlainEntityLemmas
 pub mod GroupedTypeLemmas
 pub mod StandsBehindLemmas
 pub mod RequiredLimitLemmas
+pub mod DefinedMoreLemmas
 pub mod RequiredMoreLemmas
 pub mod RequiredExportsLoop
 pub mod BegunLemmas

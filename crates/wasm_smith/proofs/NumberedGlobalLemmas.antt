@@ -45,11 +45,11 @@ type_read config types piece after h =
     (takes.left mutable_i32 piece after (record { holds = refl; spelled = h }) refl)
 
 -- behind mutable globals a spelled one is read
-global_read : (config : Config) (standing : Standing) (made : List Global) (number : ℤ) (piece after : List ℕ) → AreMutable (globals_of standing made) → SpellsGlobal config number piece
-    → global_at config standing made (piece ++ after) ≡ (numbered (length (globals_of standing made)) number, after)
+global_read : (config : Config) (standing : Standing) (before : List GlobalType) (made : List Global) (number : ℤ) (piece after : List ℕ) → AreMutable (globals_of before made) → SpellsGlobal config number piece
+    → global_at config standing before made (piece ++ after) ≡ (numbered (length (globals_of before made)) number, after)
 unfolding global_at initialised_at SpellsGlobal
-global_read config standing made number piece after mutable h =
-    let scope = global_scope config standing (globals_of standing made) in
+global_read config standing before made number piece after mutable h =
+    let scope = global_scope config standing (globals_of before made) in
     let constant : SpellsConstExpr config (I32Const number ∷ []) h.second = record { number = number; alone = refl; spelled = h.is_second } in
     rw (
       joined_parts h after,
@@ -64,47 +64,48 @@ record AreRead (numbers : List ℤ) (made : List Global) (after : List ℕ) (gro
   types : map (λ (one : Global). one.0) more ≡ map (λ number. mutable_i32) numbers
   constants : map (λ (one : ℕ × List ConstInstr). one.1) (map (λ (one : Global). one.1) more) ≡ map (λ number. I32Const number ∷ []) numbers
 
-globals_read : (config : Config) (standing : Standing) (most : ℕ) (made : List Global) (numbers : List ℤ) (piece after : List ℕ) → AreMutable (globals_of standing made) → Listed (SpellsGlobal config) most numbers piece
-    → AreRead numbers made after (grow_at (global_at config standing) 0 most made (piece ++ after))
+globals_read : (config : Config) (standing : Standing) (before : List GlobalType) (most : ℕ) (made : List Global) (numbers : List ℤ) (piece after : List ℕ) → AreMutable (globals_of before made) → Listed (SpellsGlobal config) most numbers piece
+    → AreRead numbers made after (grow_at (global_at config standing before) 0 most made (piece ++ after))
 unfolding grow_at Listed
-globals_read config standing zero made [] piece after mutable h = record { more = []; all = rw (h, append-nil) refl; types = refl; constants = refl }
-globals_read config standing zero made (number ∷ numbers) piece after mutable h = absurd h
-globals_read config standing (suc most) made [] piece after mutable h =
+globals_read config standing before zero made [] piece after mutable h = record { more = []; all = rw (h, append-nil) refl; types = refl; constants = refl }
+globals_read config standing before zero made (number ∷ numbers) piece after mutable h = absurd h
+globals_read config standing before (suc most) made [] piece after mutable h =
     record { more = []; all = rw (le-ltb (length made) 0 (omega arith), bool_read false piece after h, append-nil) refl; types = refl; constants = refl }
-globals_read config standing (suc most) made (number ∷ numbers) piece after mutable h =
+globals_read config standing before (suc most) made (number ∷ numbers) piece after mutable h =
     let item = h.is_second in
     let later = item.second ++ after in
-    let globals = globals_of standing made in
+    let globals = globals_of before made in
     let one = numbered (length globals) number in
-    let longer : globals_of standing (made ++ one ∷ []) ≡ globals ++ mutable_i32 ∷ [] =
-    ap (λ (xs : List GlobalType). standing.imported_globals ++ xs) (map-append (λ (g : Global). g.0) made (one ∷ []))
-    ∙ sym (append_assoc standing.imported_globals (map (λ (g : Global). g.0) made) (mutable_i32 ∷ [])) in
-    let still : AreMutable (globals_of standing (made ++ one ∷ [])) = rw longer (All-push (λ (g : GlobalType). g.mutable ≡ true) globals mutable_i32 mutable refl) in
-    let rest = globals_read config standing most (made ++ one ∷ []) numbers item.second after still item.is_second in
+    let longer : globals_of before (made ++ one ∷ []) ≡ globals ++ mutable_i32 ∷ [] =
+    ap (λ (xs : List GlobalType). before ++ xs) (map-append (λ (g : Global). g.0) made (one ∷ []))
+    ∙ sym (append_assoc before (map (λ (g : Global). g.0) made) (mutable_i32 ∷ [])) in
+    let still : AreMutable (globals_of before (made ++ one ∷ [])) = rw longer (All-push (λ (g : GlobalType). g.mutable ≡ true) globals mutable_i32 mutable refl) in
+    let rest = globals_read config standing before most (made ++ one ∷ []) numbers item.second after still item.is_second in
     record {
       more = one ∷ rest.more;
-      all = rw (joined_parts h after, joined_parts item after, le-ltb (length made) 0 (omega arith), bool_read true h.first (item.first ++ later) h.is_first, global_read config standing made number item.first later mutable item.is_first)
+      all = rw (joined_parts h after, joined_parts item after, le-ltb (length made) 0 (omega arith), bool_read true h.first (item.first ++ later) h.is_first, global_read config standing before made number item.first later mutable item.is_first)
           (rest.all ∙ ap (λ (l : List Global). (l, after)) (append_assoc made (one ∷ []) rest.more));
       types = ap (λ (l : List GlobalType). mutable_i32 ∷ l) rest.types;
       constants = ap (λ (l : List (List ConstInstr)). (I32Const number ∷ []) ∷ l) rest.constants;
     }
 
--- the globals and the initialisers, without their indices
+-- the globals and the initialisers, without their indices, where none stood before
 abbrev pub listed_at : Config → Standing → List ℕ → (List GlobalType × List (List ConstInstr)) × List ℕ
-listed_at config standing bytes = let drawn = globals_at config standing bytes in ((drawn.0.0, map (λ (one : ℕ × List ConstInstr). one.1) drawn.0.1), drawn.1)
+listed_at config standing bytes = let drawn = globals_at config standing [] [] bytes in ((drawn.0.0, map (λ (one : ℕ × List ConstInstr). one.1) drawn.0.1), drawn.1)
 
-pub listed_read : (config : Config) (standing : Standing) → config.min_globals ≡ 0 → standing.imported_globals ≡ [] → (globals : List GlobalType × List (List ConstInstr)) (piece after : List ℕ) → SpellsGlobals config globals piece
+pub listed_read : (config : Config) (standing : Standing) → config.min_globals ≡ 0 → (globals : List GlobalType × List (List ConstInstr)) (piece after : List ℕ) → SpellsGlobals config globals piece
     → listed_at config standing (piece ++ after) ≡ (globals, after)
 unfolding globals_at
-listed_read config standing least none globals piece after h =
-    let unread : AreMutable (globals_of standing []) = rw none (All-nil (λ (g : GlobalType). g.mutable ≡ true)) in
-    let read = globals_read config standing config.max_globals [] h.numbers piece after unread h.spelled in
-    let drawn = defined_alone (global_at config standing) config.min_globals config.max_globals (length standing.imported_globals) (piece ++ after) least (ap length none) ∙ read.all in
-    let types : globals_of standing read.more ≡ globals.0 = ap (λ (xs : List GlobalType). xs ++ map (λ (one : Global). one.0) read.more) none ∙ (read.types ∙ sym h.types) in
+listed_read config standing least globals piece after h =
+    let read = globals_read config standing [] config.max_globals [] h.numbers piece after (All-nil (λ (g : GlobalType). g.mutable ≡ true)) h.spelled in
+    let drawn = defined_alone (global_at config standing []) config.min_globals config.max_globals 0 (piece ++ after) least refl ∙ read.all in
+    let types : globals_of [] read.more ≡ globals.0 = read.types ∙ sym h.types in
     let constants : map (λ (one : ℕ × List ConstInstr). one.1) (map (λ (one : Global). one.1) read.more) ≡ globals.1 = read.constants ∙ sym h.initials in
     rw drawn (λ i. ((types i, constants i), after))
 
-pub globals_taken : (config : Config) (standing : Standing) {old new : List ℕ} {globals : List GlobalType} {initials : List (ℕ × List ConstInstr)} → config.min_globals ≡ 0 → standing.imported_globals ≡ []
-    → globals_at config standing old ≡ ((globals, initials), new) → Takes (SpellsGlobals config) old (globals, map (λ (one : ℕ × List ConstInstr). one.1) initials) new
-globals_taken config standing least none drawn =
-    takes_by (listed_at config standing) (listed_read config standing least none) (ap (λ (r : (List GlobalType × List (ℕ × List ConstInstr)) × List ℕ). ((r.0.0, map (λ (one : ℕ × List ConstInstr). one.1) r.0.1), r.1)) drawn)
+pub globals_taken : (config : Config) (standing : Standing) {before : List GlobalType} {before_initials : List (ℕ × List ConstInstr)} {old new : List ℕ} {globals : List GlobalType} {initials : List (ℕ × List ConstInstr)}
+    → config.min_globals ≡ 0 → before ≡ [] → before_initials ≡ [] → globals_at config standing before before_initials old ≡ ((globals, initials), new)
+    → Takes (SpellsGlobals config) old (globals, map (λ (one : ℕ × List ConstInstr). one.1) initials) new
+globals_taken config standing {old = old} {new = new} {globals = globals} {initials = initials} least none unmade drawn =
+    let alone : globals_at config standing [] [] old ≡ ((globals, initials), new) = rw (none, unmade) at drawn in
+    takes_by (listed_at config standing) (listed_read config standing least) (ap (λ (r : (List GlobalType × List (ℕ × List ConstInstr)) × List ℕ). ((r.0.0, map (λ (one : ℕ × List ConstInstr). one.1) r.0.1), r.1)) alone)

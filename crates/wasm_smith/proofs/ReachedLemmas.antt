@@ -26,6 +26,7 @@ use Rattle.smith_spell.specs.Minimums.{HasNoMinimums}
 use Rattle.smith_spell.specs.Spelling.{SpellsMember, SpellsRest, SpellsNoTag, SpellsFuncs, SpellsGlobal, SpellsNoStart, SpellsSegments}
 use Rattle.smith_spell.proofs.FamilyFitLemmas.{family_fits}
 use Rattle.wasm_smith.specs.Build.{IsGiven, defined_in, definitions_at, module_of, module_at, as_drawn}
+use Rattle.wasm_smith.specs.Defined.{nothing_defined}
 use Rattle.wasm_smith.specs.Definitions.{standing_over, tables_at, memories_at, globals_at}
 use Rattle.wasm_smith.specs.DrawnContents.{segment_scope, all_segments_at, behind_exports_at, contents_at}
 use Rattle.smith_imports.specs.ImportedEntities.{sizes}
@@ -64,14 +65,14 @@ nothing = imported_spaces (flattened [])
 abbrev behind_funcs_at : Config → List SubType → List ℕ → List ℕ → (IndexSpaces × Definitions) × List ℕ
 behind_funcs_at config types funcs bytes =
     let standing = standing_over types funcs 0 [] in
-    let tables = tables_at config standing [] bytes in
+    let tables = tables_at config standing [] [] bytes in
     let memories = memories_at config [] tables.1 in
-    let globals = globals_at config standing memories.1 in
+    let globals = globals_at config standing [] [] memories.1 in
     let spaces : IndexSpaces = record { tags = []; funcs = funcs; tables = tables.0.0; memories = memories.0; globals = globals.0.0 } in
-    ((spaces, defined_in nothing spaces tables.0.1 globals.0.1), globals.1)
+    ((spaces, defined_in nothing nothing_defined spaces tables.0.1 globals.0.1), globals.1)
 
 definitions_read : (config : Config) (types : List SubType) (funcs piece after : List ℕ) → HasNoMinimums config → Joined (SpellsNoTag config types) (SpellsFuncs config types funcs) piece
-    → definitions_at config types nothing (piece ++ after) ≡ Ok (behind_funcs_at config types funcs after)
+    → definitions_at config types nothing nothing_defined (piece ++ after) ≡ Ok (behind_funcs_at config types funcs after)
 unfolding definitions_at
 definitions_read config types funcs piece after least h =
     rw (
@@ -177,10 +178,10 @@ entities_read : (config : Config) (types : List SubType) (funcs : List ℕ) (num
     → Listed (SpellsGlobal config) config.max_globals numbers globals → AreNumbered numbers (behind_funcs_at config types funcs (tables ++ (memories ++ (globals ++ after)))) after
 entities_read config types funcs numbers tables memories globals after least no_table no_memory h =
     let standing = standing_over types funcs 0 [] in
-    let none = no_table_read config standing [] tables (memories ++ (globals ++ after)) (least counts.Tables) refl no_table in
+    let none = no_table_read config standing [] [] tables (memories ++ (globals ++ after)) (least counts.Tables) refl no_table in
     let no_memories = no_memory_read config [] [] memories (globals ++ after) (least counts.Memories) refl (record { none = refl; spelled = no_memory }) in
     let listed : Listing = (map (λ number. mutable_i32) numbers, map (λ number. I32Const number ∷ []) numbers) in
-    let numbered = listed_read config standing (least counts.Globals) refl listed globals after (record { numbers = numbers; types = refl; initials = refl; spelled = h }) in
+    let numbered = listed_read config standing (least counts.Globals) listed globals after (record { numbers = numbers; types = refl; initials = refl; spelled = h }) in
     rw (none, no_memories) (record {
       tables = refl;
       memories = refl;

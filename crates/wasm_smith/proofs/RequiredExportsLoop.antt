@@ -29,7 +29,8 @@ use Rattle.wasm_smith.specs.Bounds.{counts_as}
 use Rattle.smith_imports.specs.ShapeImports.{count_in}
 use Rattle.smith_contents.specs.Exported.{IsStanding}
 use Rattle.wasm_smith.proofs.RequiredLimitLemmas.{no_limits, limits_both}
-use Rattle.wasm_smith.specs.Required.{AddsLimitsOf, IsKeptType, MayRequire, MayDefineMore, StandsBehind, IsRequiredMore, AreRequired, MayLackIn, MayRefuseExported, MayRefuseRequired}
+use Rattle.wasm_smith.specs.Defined.{StandsBehind}
+use Rattle.wasm_smith.specs.Required.{AddsLimitsOf, IsKeptType, MayRequire, MayDefineMore, IsRequiredMore, AreRequired, MayLackIn, MayRefuseExported, MayRefuseRequired}
 use Rattle.wasm_smith.specs.RequiredExports.{Answers, Required, entity_of, standing_with, export_required_at, required_from, required_at}
 use Rattle.wasm_smith.specs.ShapesKept.{Export, IsSameExport, IsSameFuncType}
 use Rattle.wasm_smith.specs.declared.build.definitions.Definitions.{Definitions}

@@ -43,9 +43,8 @@ use Rattle.smith_imports.specs.ShapeImports.{count_in}
 use Rattle.smith_imports.specs.Imported.{entity_spaces}
 use Rattle.smith_imports.specs.ImportedEntities.{kind_of}
 use Rattle.wasm_smith.proofs.RequiredLimitLemmas.{limits_more}
-use Rattle.wasm_smith.specs.Defined.{HasRoom}
+use Rattle.wasm_smith.specs.Defined.{AreWithin, HasRoom}
 use Rattle.wasm_smith.specs.Required.{
-  AreWithin,
   MayDefineMore,
   HasNoSupertypes,
   IsKeptType,

@@ -1,8 +1,7 @@
 -- What segments may refer to, once all is imported and defined.
-use Rattle.std.proofs.Common.{◌≡◌, ℕ, Bool, true, false, ◌&&◌, cond, List, length, refl}
+use Rattle.std.proofs.Common.{◌≡◌, ℕ, Bool, true, false, ◌&&◌, cond, length, refl, arith}
 use Rattle.smith_types.specs.Imports.{IndexSpaces, flattened, imported_spaces}
 use Rattle.smith_types.specs.Space.{Space}
-use Rattle.smith_types.specs.declared.composite_type.SubType.{SubType}
 use Rattle.smith_config.specs.declared.config.Config.{Config}
 use Rattle.smith_draw.specs.ConstScopes.{seen_by}
 use Rattle.smith_draw.specs.declared.spaces.Spaces.{Spaces}
@@ -12,6 +11,7 @@ use Rattle.wasm_smith.specs.DrawnContents.{TellsImported, segment_scope}
 use Rattle.smith_imports.specs.Imported.{IsImported, spaces_of}
 use Rattle.wasm_smith.specs.declared.build.definitions.Definitions.{Definitions}
 use Rattle.smith_imports.specs.declared.imported.Imported.{Imported}
+use Rattle.wasm_smith.proofs.StandsBehindLemmas.{defined_end}
 
 -- with defined globals in sight, all are seen where there is garbage collection
 seen_end : (on : Bool) (all imported : ℕ) → cond (on && true) all imported ≡ cond on all imported
@@ -24,8 +24,8 @@ seen_over {over = over} imported config seen funcs globals =
     rw (seen_end config.gc_enabled (length over.entities.globals.now) over.entities.imported_globals, seen.types, seen.funcs, seen.globals, seen.imported_funcs, seen.imported_globals, funcs, globals) refl
 
 -- definitions behind imports tell how many are imported
-pub tells_imported : {distinct : Bool} {config : Config} {types : List SubType} {made : Imported} {spaces : IndexSpaces} {defined : Definitions}
-    → IsImported config types distinct made → AreDefined config types (spaces_of made) spaces defined → TellsImported (imported_spaces (flattened made.groups)) spaces defined
+pub tells_imported : {distinct : Bool} {config : Config} {space : Space} {made : Imported} {spaces : IndexSpaces} {defined : Definitions}
+    → IsImported config space.types distinct made → AreDefined config space (spaces_of made) spaces defined → TellsImported (imported_spaces (flattened made.groups)) spaces defined
 tells_imported so_far stand =
     let behind = rw so_far.counts.spaces at stand in
-    record { funcs = behind.num_funcs; globals = behind.initial_globals.count }
+    record { funcs = omega (arith, defined_end behind.stands.funcs); globals = defined_end behind.stands.globals }

@@ -24,11 +24,11 @@ use Rattle.smith_types.proofs.ListLemmas.{slice_get-grown, slice_get-last, slice
 use Rattle.smith_types.proofs.EntityGrowthLemmas.{AreEntitiesValid-grown}
 use Rattle.smith_config.specs.declared.config.Config.{Config}
 use Rattle.smith_config.specs.Features.{features_of}
-use Rattle.wasm_smith.specs.Defined.{standing_in, IsGlobalInitialised}
+use Rattle.wasm_smith.specs.Defined.{StandsBehind, standing_in, IsGlobalInitialised}
 use Rattle.wasm_smith.specs.Definitions.{context_at}
 use Rattle.smith_imports.specs.Imported.{entity_spaces}
 use Rattle.wasm_smith.specs.Module.{IsTableInitialised}
-use Rattle.wasm_smith.specs.Required.{StandsBehind, IsDefinedMore}
+use Rattle.wasm_smith.specs.Required.{IsDefinedMore}
 use Rattle.wasm_smith.specs.RequiredExports.{several, scope_beside}
 use Rattle.wasm_smith.specs.declared.build.definitions.Definitions.{Definitions}
 use Rattle.wasm_smith.proofs.CountingLemmas.{all_kept}
@@ -102,10 +102,10 @@ defines_longer {imports = imports} {space = space} initials x y h =
     subst (λ (n : ℕ). Defines imports n (space ++ x ∷ [])) longer (defines_more x h)
 
 -- all but what is defined is imported
-left_over : {A : Type 0} {imports space : List A} {count : ℕ} → Defines imports count space → length space - count ≡ length imports
+pub left_over : {A : Type 0} {imports space : List A} {count : ℕ} → Defines imports count space → length space - count ≡ length imports
 left_over {imports = imports} h = let whole = ap length h.parts ∙ length-append imports h.defined in omega (arith, whole, h.count_is)
 
-defined_end : {A : Type 0} {imports space : List A} {count : ℕ} → Defines imports count space → length space ≡ length imports + count
+pub defined_end : {A : Type 0} {imports space : List A} {count : ℕ} → Defines imports count space → length space ≡ length imports + count
 defined_end {imports = imports} h = let whole = ap length h.parts ∙ length-append imports h.defined in omega (arith, whole, h.count_is)
 
 -- where there is no reason to refuse, several may stand
@@ -179,7 +179,7 @@ module _ (config : Config) (imported : IndexSpaces) where
   }
 
   -- the initialiser of a table, or of a global, at its place
-  abbrev IsTablePlaced : List SubType → IndexSpaces → ℕ → Option (List ConstInstr) → Type 0
+  abbrev pub IsTablePlaced : List SubType → IndexSpaces → ℕ → Option (List ConstInstr) → Type 0
   IsTablePlaced types spaces place initial =
       (table : TableType) × (slice_get spaces.tables (length imported.tables + place) ≡ Some table) × IsTableInitialised (context types spaces (length imported.globals)) table initial
 
@@ -188,7 +188,7 @@ module _ (config : Config) (imported : IndexSpaces) where
 
   module _ (types more_types : List SubType) (spaces more_spaces : IndexSpaces) (longer : Extends types more_types) (grown : AreSpacesGrown spaces more_spaces) where
     -- it stays there
-    table_kept : (place : ℕ) (initial : Option (List ConstInstr)) → IsTablePlaced types spaces place initial → IsTablePlaced more_types more_spaces place initial
+    pub table_kept : (place : ℕ) (initial : Option (List ConstInstr)) → IsTablePlaced types spaces place initial → IsTablePlaced more_types more_spaces place initial
     table_kept place initial (table, at, initialised) =
         let end = length imported.globals in
         let index = length imported.tables + place in (
@@ -197,7 +197,7 @@ module _ (config : Config) (imported : IndexSpaces) where
           IsTableInitialised-grown (context types spaces end) (context more_types more_spaces end) (context_grown types more_types spaces more_spaces end longer grown) table initial initialised,
         )
 
-    global_kept : (place index : ℕ) (initial : List ConstInstr) → IsGlobalPlaced types spaces place index initial → IsGlobalPlaced more_types more_spaces place index initial
+    pub global_kept : (place index : ℕ) (initial : List ConstInstr) → IsGlobalPlaced types spaces place index initial → IsGlobalPlaced more_types more_spaces place index initial
     global_kept place index initial h =
         let end = cond config.gc_enabled index (length imported.globals) in
         record {

@@ -27,7 +27,8 @@ use Rattle.smith_bytes.specs.declared.error.Count.TheVariants as counts
 use Rattle.smith_draw.specs.Bounds.{IsTableWithin, IsMemoryWithin}
 use Rattle.smith_contents.specs.Exporting.{Export}
 use Rattle.wasm_smith.specs.Bounds.{brought, brought_by_module, of_shapes}
-use Rattle.wasm_smith.specs.Required.{StandsBehind, MayRefuseRequired}
+use Rattle.wasm_smith.specs.Defined.{StandsBehind}
+use Rattle.wasm_smith.specs.Required.{MayRefuseRequired}
 use Rattle.wasm_smith.specs.RequiredExports.{Required, required_at, then_with}
 use Rattle.wasm_smith.specs.ShapesKept.{IsSameExport}
 use Rattle.wasm_smith.specs.declared.build.definitions.Definitions.{Definitions}

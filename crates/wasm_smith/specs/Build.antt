@@ -1,6 +1,6 @@
 -- Which module the bytes give, step by step, and what each step leaves: what `exact` of `Module::new` speaks of. What a module
 -- keeps is said apart, and can be believed without it.
-use Rattle.std.specs.Prelude.{ℕ, ◌-◌, Bool, Option, List, [], length, Result, Ok}
+use Rattle.std.specs.Prelude.{ℕ, ◌+◌, ◌-◌, Bool, Option, List, [], length, Result, Ok}
 use Rattle.smith_bytes.specs.declared.error.Error.{Error}
 use Rattle.smith_bytes.specs.declared.error.Why.{Why}
 use Rattle.smith_types.specs.Imports.{IndexSpaces, flattened, imported_spaces}
@@ -13,7 +13,8 @@ use Rattle.smith_config.specs.declared.config.Config.{Config}
 use Rattle.smith_config.specs.Faults.{Passes}
 use Rattle.smith_config.specs.InUse.{HasNoShapes}
 use Rattle.smith_draw.specs.RecGroups.{types_at}
-use Rattle.wasm_smith.specs.Definitions.{standing_over, tags_at, funcs_at, tables_at, memories_at, globals_at}
+use Rattle.wasm_smith.specs.Definitions.{standing_among, tags_at, funcs_at, tables_at, memories_at, globals_at}
+use Rattle.wasm_smith.specs.Defined.{nothing_defined}
 use Rattle.wasm_smith.specs.DrawnContents.{contents_at}
 use Rattle.smith_imports.specs.ImportedEntities.{sizes}
 use Rattle.smith_imports.specs.Importing.{imports_at}
@@ -23,27 +24,27 @@ use Rattle.wasm_smith.specs.declared.build.contents.Contents.{Contents}
 use Rattle.wasm_smith.specs.declared.build.definitions.Definitions.{Definitions}
 use Rattle.wasm_smith.specs.declared.build.drawn.Drawn.{Drawn}
 
--- what is defined in index spaces behind what is imported, with these initialisers of tables and globals
-abbrev pub defined_in : IndexSpaces → IndexSpaces → List (Option (List ConstInstr)) → List (ℕ × List ConstInstr) → Definitions
-defined_in imported spaces tables globals = record {
-  num_tags = length spaces.tags - length imported.tags;
-  num_funcs = length spaces.funcs - length imported.funcs;
+-- what is defined in index spaces behind what stood before, with these initialisers of tables and globals
+abbrev pub defined_in : IndexSpaces → Definitions → IndexSpaces → List (Option (List ConstInstr)) → List (ℕ × List ConstInstr) → Definitions
+defined_in before defined spaces tables globals = record {
+  num_tags = defined.num_tags + (length spaces.tags - length before.tags);
+  num_funcs = defined.num_funcs + (length spaces.funcs - length before.funcs);
   tables = tables;
-  num_memories = length spaces.memories - length imported.memories;
+  num_memories = defined.num_memories + (length spaces.memories - length before.memories);
   globals = globals;
 }
 
--- the index spaces that the bytes give behind what is imported, and what is defined in them
-unfoldable pub definitions_at : Config → List SubType → IndexSpaces → List ℕ → Result ((IndexSpaces × Definitions) × List ℕ) Why
-definitions_at config types imported bytes = do
-  tags ← tags_at config types imported.tags bytes
-  funcs ← funcs_at config types imported.funcs tags.1
-  let standing = standing_over types funcs.0 (length imported.funcs) imported.globals
-  let tables = tables_at config standing imported.tables funcs.1
-  let memories = memories_at config imported.memories tables.1
-  let globals = globals_at config standing memories.1
+-- the index spaces that the bytes give behind what stood before, and what is defined in them; what isn't defined is imported
+unfoldable pub definitions_at : Config → List SubType → IndexSpaces → Definitions → List ℕ → Result ((IndexSpaces × Definitions) × List ℕ) Why
+definitions_at config types before defined bytes = do
+  tags ← tags_at config types before.tags bytes
+  funcs ← funcs_at config types before.funcs tags.1
+  let standing = standing_among types funcs.0 (length before.funcs - defined.num_funcs) (length before.globals - length defined.globals) before.globals
+  let tables = tables_at config standing before.tables defined.tables funcs.1
+  let memories = memories_at config before.memories tables.1
+  let globals = globals_at config standing before.globals defined.globals memories.1
   let spaces : IndexSpaces = record { tags = tags.0; funcs = funcs.0; tables = tables.0.0; memories = memories.0; globals = globals.0.0 }
-  Ok ((spaces, defined_in imported spaces tables.0.1 globals.0.1), globals.1)
+  Ok ((spaces, defined_in before defined spaces tables.0.1 globals.0.1), globals.1)
 
 -- the module of what is drawn: types, imports, index spaces and what is defined in them, what stands behind these, and whether a
 -- section of imports is written; its interesting values are no draw
@@ -84,7 +85,7 @@ module_at distinct config bytes = do
   imports ← imports_at config types.0.types distinct types.1
   let imported = imported_spaces (flattened imports.0)
   let import_flag = section_flag_at (length imports.0) imports.1
-  definitions ← definitions_at config types.0.types imported import_flag.1
+  definitions ← definitions_at config types.0.types imported nothing_defined import_flag.1
   let spaces = definitions.0.0
   contents ← contents_at config types.0.types imported spaces (sizes types.0.types (flattened imports.0)) definitions.1
   Ok (module_of config types.0 imports.0 spaces definitions.0.1 contents.0 import_flag.0, contents.1)

@@ -1,12 +1,12 @@
 -- What holds of an index space once its definitions stand behind its imports.
-use Rattle.std.specs.Prelude.{◌≡◌, ℕ, ◌+◌, ◌<◌, ◌≤◌, ◌^◌, ◌⊎◌, max, Option, Some, List, ◌++◌, map, length, slice_get, All, if◌then◌else◌}
+use Rattle.std.specs.Prelude.{◌≡◌, ℕ, ◌+◌, ◌<◌, ◌≤◌, ◌^◌, ◌⊎◌, max, Option, Some, List, [], ◌++◌, map, length, slice_get, All, if◌then◌else◌}
 use Rattle.std.specs.List.{flat_map}
 use Rattle.smith_bytes.specs.declared.error.Error.{Error}
 use Rattle.smith_bytes.specs.declared.error.Error.TheVariants as errors
 use Rattle.smith_types.specs.Entities.{IsFuncValid, IsGlobalValid, AreEntitiesValid, AreCountsEnabled}
 use Rattle.smith_types.specs.Expressions.{IsConstExpr}
 use Rattle.smith_types.specs.Grown.{Extends}
-use Rattle.smith_types.specs.Imports.{IndexSpaces}
+use Rattle.smith_types.specs.Imports.{IndexSpaces, Defines}
 use Rattle.smith_types.specs.Space.{Space}
 use Rattle.smith_types.specs.ValidTypes.{AreTypesValid}
 use Rattle.smith_types.specs.declared.composite_type.SubType.{SubType}
@@ -21,7 +21,7 @@ use Rattle.smith_draw.specs.Bounds.{IsTableWithin, IsMemoryWithin}
 use Rattle.smith_draw.specs.ConstBounds.{HoldsNonNullableField}
 use Rattle.smith_draw.specs.ConstFloats.{GivesNoFloat}
 use Rattle.smith_draw.specs.declared.spaces.Spaces.{Spaces}
-use Rattle.wasm_smith.specs.Definitions.{Standing, standing_over, context_at, table_scope}
+use Rattle.wasm_smith.specs.Definitions.{Standing, standing_over, context_at}
 use Rattle.smith_imports.specs.Imported.{HasNoFloatValue, HasNullableElements}
 use Rattle.wasm_smith.specs.Module.{IsTableInitialised}
 use Rattle.wasm_smith.specs.Promises.{initial_of}
@@ -72,12 +72,6 @@ standing_of spaces = record {
   imported_globals = spaces.entities.globals.now;
 }
 
--- each initialiser is that of a table behind the imported ones
-pub record AreTablesDefined (config : Config) (standing : Standing) (imported tables : List TableType) (initials : List (Option (List ConstInstr))) : Type 0 where
-  pub count : length tables ≡ length imported + length initials
-  pub each : (place : ℕ) (initial : Option (List ConstInstr)) → slice_get initials place ≡ Some initial
-      → (table : TableType) × (slice_get tables (length imported + place) ≡ Some table) × IsTableInitialised (table_scope config standing) table initial
-
 -- an initialiser is that of the global of this index, which stands behind the imported ones
 pub record IsGlobalInitialised (config : Config) (standing : Standing) (globals : List GlobalType) (place index : ℕ) (initial : List ConstInstr) : Type 0 where
   pub in_order : index ≡ length standing.imported_globals + place
@@ -90,16 +84,28 @@ pub record AreGlobalsDefined (config : Config) (standing : Standing) (globals : 
   pub count : length globals ≡ length standing.imported_globals + length initials
   pub each : (place index : ℕ) (initial : List ConstInstr) → slice_get initials place ≡ Some (index, initial) → IsGlobalInitialised config standing globals place index initial
 
--- items may be defined behind these imported ones
-pub record MayDefine (config : Config) (space : Space) (imported : IndexSpaces) : Type 0 where
+-- nothing is defined
+abbrev pub nothing_defined : Definitions
+nothing_defined = record { num_tags = 0; num_funcs = 0; tables = []; num_memories = 0; globals = [] }
+
+-- what is defined is not more than what stands
+pub record AreWithin (spaces : IndexSpaces) (defined : Definitions) : Type 0 where
+  pub tags : defined.num_tags ≤ length spaces.tags
+  pub funcs : defined.num_funcs ≤ length spaces.funcs
+  pub memories : defined.num_memories ≤ length spaces.memories
+  pub globals : length defined.globals ≤ length spaces.globals
+
+-- items may be defined behind these, of which so much is defined already
+pub record MayDefine (config : Config) (space : Space) (spaces : IndexSpaces) (defined : Definitions) : Type 0 where
   pub passes : Passes config
   pub sanitized : IsSanitized config
   pub valid : AreTypesValid (features_of config) space
   pub least : config.min_types ≤ length space.types
   pub few : length space.types < 2 ^ 32
-  pub entities : AreEntitiesValid (features_of config) space.types imported
-  pub counts : AreCountsEnabled (features_of config) imported
-  pub room : HasRoom imported 0
+  pub entities : AreEntitiesValid (features_of config) space.types spaces
+  pub counts : AreCountsEnabled (features_of config) spaces
+  pub room : HasRoom spaces 0
+  pub within : AreWithin spaces defined
 
 -- why definitions may be refused: so may a module be, or an initialiser that is drawn
 abbrev pub MayRefuseDefined : Config → List SubType → Error → Type 0
@@ -109,24 +115,42 @@ MayRefuseDefined config types e = MayRefuse config e ⊎ MayRefuseDrawn types e
 abbrev pub standing_in : List SubType → IndexSpaces → IndexSpaces → Standing
 standing_in types imported spaces = standing_over types spaces.funcs (length imported.funcs) imported.globals
 
--- index spaces hold what is defined behind what is imported: all of it valid, initialised, and as much as the configuration asks
--- for and allows
-pub record AreDefined (config : Config) (types : List SubType) (imported spaces : IndexSpaces) (defined : Definitions) : Type 0 where
-  pub tags : IsFilled config.min_tags config.max_tags imported.tags spaces.tags
-  pub funcs : IsFilled config.min_funcs config.max_funcs imported.funcs spaces.funcs
-  pub tables : IsFilled config.min_tables config.max_tables imported.tables spaces.tables
-  pub memories : IsFilled config.min_memories config.max_memories imported.memories spaces.memories
-  pub globals : IsFilled config.min_globals config.max_globals imported.globals spaces.globals
-  pub entities : AreEntitiesValid (features_of config) types spaces
+-- what stands of a module behind these imports is valid: types, entities, and initialisers, each at its place
+pub record StandsBehind (config : Config) (imported : IndexSpaces) (space : Space) (spaces : IndexSpaces) (defined : Definitions) : Type 0 where
+  pub types : AreTypesValid (features_of config) space
+  pub entities : AreEntitiesValid (features_of config) space.types spaces
   pub counts : AreCountsEnabled (features_of config) spaces
-  pub each_table : AreAdded (IsTableWithin config) imported.tables spaces.tables
-  pub each_memory : AreAdded (IsMemoryWithin config) imported.memories spaces.memories
-  pub nullable_tables : AreAdded HasNullableElements imported.tables spaces.tables
-  pub initial_tables : AreTablesDefined config (standing_in types imported spaces) imported.tables spaces.tables defined.tables
-  pub initial_globals : AreGlobalsDefined config (standing_in types imported spaces) spaces.globals defined.globals
-  pub num_tags : defined.num_tags + length imported.tags ≡ length spaces.tags
-  pub num_funcs : defined.num_funcs + length imported.funcs ≡ length spaces.funcs
-  pub num_memories : defined.num_memories + length imported.memories ≡ length spaces.memories
+  pub tags : Defines imported.tags defined.num_tags spaces.tags
+  pub funcs : Defines imported.funcs defined.num_funcs spaces.funcs
+  pub tables : Defines imported.tables (length defined.tables) spaces.tables
+  pub memories : Defines imported.memories defined.num_memories spaces.memories
+  pub globals : Defines imported.globals (length defined.globals) spaces.globals
+  pub each_table : (place : ℕ) (initial : Option (List ConstInstr)) → slice_get defined.tables place ≡ Some initial
+      → (table : TableType) × (slice_get spaces.tables (length imported.tables + place) ≡ Some table)
+      × IsTableInitialised (context_at config (standing_in space.types imported spaces) spaces.globals (length imported.globals)) table initial
+  pub each_global : (place index : ℕ) (initial : List ConstInstr) → slice_get defined.globals place ≡ Some (index, initial)
+      → IsGlobalInitialised config (standing_in space.types imported spaces) spaces.globals place index initial
+
+-- index spaces have as much behind what stood before as the configuration asks for and allows
+pub record AreFilled (config : Config) (before spaces : IndexSpaces) : Type 0 where
+  pub tags : IsFilled config.min_tags config.max_tags before.tags spaces.tags
+  pub funcs : IsFilled config.min_funcs config.max_funcs before.funcs spaces.funcs
+  pub tables : IsFilled config.min_tables config.max_tables before.tables spaces.tables
+  pub memories : IsFilled config.min_memories config.max_memories before.memories spaces.memories
+  pub globals : IsFilled config.min_globals config.max_globals before.globals spaces.globals
+  pub each_table : AreAdded (IsTableWithin config) before.tables spaces.tables
+  pub each_memory : AreAdded (IsMemoryWithin config) before.memories spaces.memories
+  pub nullable_tables : AreAdded HasNullableElements before.tables spaces.tables
+
+-- index spaces hold what is defined behind what stood before, valid beside whatever was imported
+pub record AreDefinedMore (config : Config) (space : Space) (before : IndexSpaces) (so_far : Definitions) (spaces : IndexSpaces) (defined : Definitions) : Type 0 where
+  pub filled : AreFilled config before spaces
+  pub stands : (imported : IndexSpaces) → StandsBehind config imported space before so_far → StandsBehind config imported space spaces defined
+
+-- index spaces hold what is defined behind what is imported, all of it valid
+pub record AreDefined (config : Config) (space : Space) (imported spaces : IndexSpaces) (defined : Definitions) : Type 0 where
+  pub filled : AreFilled config imported spaces
+  pub stands : StandsBehind config imported space spaces defined
 
 -- no global and no constant of what is defined is a float's
 pub record HaveNoFloats (spaces : IndexSpaces) (defined : Definitions) : Type 0 where

@@ -21,9 +21,9 @@ pub record IsTableFit (config : Config) (standing : Standing) (one : Table) : Ty
   pub initialised : IsTableInitialised (table_scope config standing) one.0 one.1
   pub floats : All HasNoFloat standing.types → All (All GivesNoFloat) (initial_of one.1)
 
--- behind the imported tables stand those that were drawn, each with its initialiser, if it has one
-pub record AreTablesDrawn (config : Config) (standing : Standing) (imported space : List TableType) (initials : List (Option (List ConstInstr))) : Type 0 where
+-- behind the tables that stood before stand those that were drawn, each with its initialiser, if it has one
+pub record AreTablesDrawn (config : Config) (standing : Standing) (before space : List TableType) (old initials : List (Option (List ConstInstr))) : Type 0 where
   pub drawn : List Table
-  pub tables : space ≡ imported ++ map (λ (one : Table). one.0) drawn
-  pub initialisers : initials ≡ map (λ (one : Table). one.1) drawn
+  pub tables : space ≡ before ++ map (λ (one : Table). one.0) drawn
+  pub initialisers : initials ≡ old ++ map (λ (one : Table). one.1) drawn
   pub fit : All (IsTableFit config standing) drawn

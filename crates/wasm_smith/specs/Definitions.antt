@@ -1,5 +1,5 @@
--- Which items of each kind are defined behind imported ones, and which bytes they take. Rules of this project.
-use Rattle.std.specs.Prelude.{ℕ, ◌+◌, ◌-◌, ◌&&◌, ◌==◌, nat_lt, nat_le, Option, None, List, [], ◌++◌, map, length, Result, Ok, Err, if◌then◌else◌, unwrap_or}
+-- Which items of each kind are defined behind those that stand, and which bytes they take. Rules of this project.
+use Rattle.std.specs.Prelude.{ℕ, ◌+◌, ◌-◌, ◌&&◌, ◌==◌, nat_lt, nat_le, Option, None, List, [], ◌++◌, map, take, length, Result, Ok, Err, if◌then◌else◌, unwrap_or}
 use Rattle.smith_bytes.specs.declared.error.Count.{Count}
 use Rattle.smith_bytes.specs.declared.error.Count.TheVariants as counts
 use Rattle.smith_bytes.specs.declared.error.Why.{Why}
@@ -30,31 +30,31 @@ defined_at draw least most before bytes =
     let grown = grow_at draw (least - before) (most - before) [] bytes in
     if (nat_lt 0 before && nat_lt 0 most) && nat_le most (before + length grown.0) then (grown.0, (bool_at grown.1).1) else grown
 
--- items behind imported ones
+-- items behind those that stood before
 abbrev pub behind : {A : Type 0} → List A → List A × List ℕ → List A × List ℕ
-behind imported drawn = (imported ++ drawn.0, drawn.1)
+behind before drawn = (before ++ drawn.0, drawn.1)
 
--- tags or functions behind imported ones, each by the index of its type, which is chosen among these; where there is none to
+-- tags or functions behind those that stood before, each by the index of its type, which is chosen among these; where there is none to
 -- choose, none is defined, and too few are refused
 unfoldable pub typed_at : Count → List ℕ → ℕ → ℕ → List ℕ → List ℕ → Result (List ℕ × List ℕ) Why
-typed_at count choices least most imported bytes =
-    if length choices == 0 then (if nat_lt (length imported) least then Err (Unmet count) else Ok (imported, bytes))
-    else Ok (behind imported (defined_at (λ _. chosen_at 0 choices) least most (length imported) bytes))
+typed_at count choices least most before bytes =
+    if length choices == 0 then (if nat_lt (length before) least then Err (Unmet count) else Ok (before, bytes))
+    else Ok (behind before (defined_at (λ _. chosen_at 0 choices) least most (length before) bytes))
 
 -- the types that tags may have: function types without results, where exceptions are enabled
 abbrev pub tag_types : Config → List SubType → List ℕ
 tag_types config types = if config.exceptions_enabled then types_for uses.Tag types else []
 
 unfoldable pub tags_at : Config → List SubType → List ℕ → List ℕ → Result (List ℕ × List ℕ) Why
-tags_at config types imported bytes = typed_at counts.Tags (tag_types config types) config.min_tags config.max_tags imported bytes
+tags_at config types before bytes = typed_at counts.Tags (tag_types config types) config.min_tags config.max_tags before bytes
 
 -- functions have types of functions that are not shared
 unfoldable pub funcs_at : Config → List SubType → List ℕ → List ℕ → Result (List ℕ × List ℕ) Why
-funcs_at config types imported bytes = typed_at counts.Funcs (types_for uses.DefinedFunc types) config.min_funcs config.max_funcs imported bytes
+funcs_at config types before bytes = typed_at counts.Funcs (types_for uses.DefinedFunc types) config.min_funcs config.max_funcs before bytes
 
 unfoldable pub memories_at : Config → List MemoryType → List ℕ → List MemoryType × List ℕ
-memories_at config imported bytes =
-    behind imported (defined_at (λ _. memtype_at config) config.min_memories config.max_memories (length imported) bytes)
+memories_at config before bytes =
+    behind before (defined_at (λ _. memtype_at config) config.min_memories config.max_memories (length before) bytes)
 
 -- what initialisers may refer to: types, functions, and globals, the imported ones of which come first
 pub record Standing : Type 0 where
@@ -67,6 +67,10 @@ pub record Standing : Type 0 where
 abbrev pub standing_over : List SubType → List ℕ → ℕ → List GlobalType → Standing
 standing_over types funcs imported_funcs imported_globals =
     record { types = types; funcs = funcs; imported_funcs = imported_funcs; imported_globals = imported_globals }
+
+-- what stands, where so many of the functions and globals are imported
+abbrev pub standing_among : List SubType → List ℕ → ℕ → ℕ → List GlobalType → Standing
+standing_among types funcs imported_funcs imported_globals globals = standing_over types funcs imported_funcs (take imported_globals globals)
 
 -- the context of an initialiser beside these globals, which may read those below an end
 abbrev pub context_at : Config → Standing → List GlobalType → ℕ → Context
@@ -98,19 +102,19 @@ table_at config standing bytes =
     let initial = unwrap_or (table_init_at config (table_scope config standing) table.0.element_type table.1) (None, table.1) in
     ((table.0, initial.0), initial.1)
 
--- the tables behind imported ones, and the initialisers of those that are defined
-unfoldable pub tables_at : Config → Standing → List TableType → List ℕ → (List TableType × List (Option (List ConstInstr))) × List ℕ
-tables_at config standing imported bytes =
-    let drawn = defined_at (λ _. table_at config standing) config.min_tables config.max_tables (length imported) bytes in
-    ((imported ++ map (λ (one : Table). one.0) drawn.0, map (λ (one : Table). one.1) drawn.0), drawn.1)
+-- the tables behind those that stood before, and their initialisers behind those that there were
+unfoldable pub tables_at : Config → Standing → List TableType → List (Option (List ConstInstr)) → List ℕ → (List TableType × List (Option (List ConstInstr))) × List ℕ
+tables_at config standing before initials bytes =
+    let drawn = defined_at (λ _. table_at config standing) config.min_tables config.max_tables (length before) bytes in
+    ((before ++ map (λ (one : Table). one.0) drawn.0, initials ++ map (λ (one : Table). one.1) drawn.0), drawn.1)
 
 -- a global that is defined, its index and its initialiser
 abbrev pub Global : Type 0
 Global = GlobalType × (ℕ × List ConstInstr)
 
--- the globals so far
-abbrev pub globals_of : Standing → List Global → List GlobalType
-globals_of standing defined = standing.imported_globals ++ map (λ (one : Global). one.0) defined
+-- the globals so far, behind those that stood before
+abbrev pub globals_of : List GlobalType → List Global → List GlobalType
+globals_of before defined = before ++ map (λ (one : Global). one.0) defined
 
 -- a global behind those of a context, its index and its initialiser
 unfoldable pub initialised_at : Config → Context → List ℕ → Global × List ℕ
@@ -120,11 +124,11 @@ initialised_at config context bytes =
     ((global.0, (length context.globals, initial.0)), initial.1)
 
 -- a global behind those that are defined so far
-unfoldable pub global_at : Config → Standing → List Global → List ℕ → Global × List ℕ
-global_at config standing defined = initialised_at config (global_scope config standing (globals_of standing defined))
+unfoldable pub global_at : Config → Standing → List GlobalType → List Global → List ℕ → Global × List ℕ
+global_at config standing before defined = initialised_at config (global_scope config standing (globals_of before defined))
 
--- the globals behind imported ones, and the indices and initialisers of those that are defined
-unfoldable pub globals_at : Config → Standing → List ℕ → (List GlobalType × List (ℕ × List ConstInstr)) × List ℕ
-globals_at config standing bytes =
-    let drawn = defined_at (global_at config standing) config.min_globals config.max_globals (length standing.imported_globals) bytes in
-    ((globals_of standing drawn.0, map (λ (one : Global). one.1) drawn.0), drawn.1)
+-- the globals behind those that stood before, and their indices and initialisers behind those that there were
+unfoldable pub globals_at : Config → Standing → List GlobalType → List (ℕ × List ConstInstr) → List ℕ → (List GlobalType × List (ℕ × List ConstInstr)) × List ℕ
+globals_at config standing before initials bytes =
+    let drawn = defined_at (global_at config standing before) config.min_globals config.max_globals (length before) bytes in
+    ((globals_of before drawn.0, initials ++ map (λ (one : Global). one.1) drawn.0), drawn.1)

@@ -31,7 +31,7 @@ pub record IsDrawnFor (distinct : Bool) (config : Config) (drawn : Drawn) : Type
   pub least_imports : config.min_imports ≤ drawn.imported.count
   pub count : drawn.imported.count ≡ length (flattened drawn.imported.groups)
   pub type_size : drawn.imported.type_size ≡ sizes drawn.types.types (flattened drawn.imported.groups)
-  pub defined : AreDefined config drawn.types.types (imported_spaces (flattened drawn.imported.groups)) (spaces_in drawn.imported.spaces) drawn.definitions
+  pub defined : AreDefined config drawn.types (imported_spaces (flattened drawn.imported.groups)) (spaces_in drawn.imported.spaces) drawn.definitions
   pub contents : AreContents config drawn.types.types (imported_in drawn.imported) (spaces_in drawn.imported.spaces) drawn.imported.type_size drawn.contents
   pub interesting64 : AreAll (IsInteresting64 drawn.imported.spaces.tables drawn.imported.spaces.memories) drawn.interesting_values64
   pub interesting32 : AreAll (IsInteresting32 drawn.imported.spaces.tables drawn.imported.spaces.memories) drawn.interesting_values32

@@ -8,10 +8,10 @@ use Rattle.smith_bytes.specs.declared.error.Error.TheVariants as errors
 use Rattle.smith_bytes.specs.declared.error.Which.{Which}
 use Rattle.smith_bytes.specs.declared.error.Which.TheVariants as which
 use Rattle.smith_bytes.specs.declared.error.Why.TheVariants.{SeveralMemories, SeveralTables}
-use Rattle.smith_types.specs.Entities.{AreEntitiesValid, AreCountsEnabled}
+use Rattle.smith_types.specs.Entities.{AreEntitiesValid}
 use Rattle.smith_types.specs.Expressions.{IsConstExpr}
 use Rattle.smith_types.specs.Grown.{Extends, AreSpacesGrown}
-use Rattle.smith_types.specs.Imports.{IndexSpaces, Defines}
+use Rattle.smith_types.specs.Imports.{IndexSpaces}
 use Rattle.smith_types.specs.IndexSpaces.{with_entity}
 use Rattle.smith_types.specs.Space.{Space}
 use Rattle.smith_types.specs.ValidTypes.{AreTypesValid}
@@ -20,7 +20,6 @@ use Rattle.smith_types.specs.declared.composite_type.SubType.{SubType}
 use Rattle.smith_types.specs.declared.const_instr.ConstInstr.{ConstInstr}
 use Rattle.smith_types.specs.declared.entity_type.EntityType.{EntityType}
 use Rattle.smith_types.specs.declared.entity_type.EntityType.TheVariants as entity
-use Rattle.smith_types.specs.declared.entity_type.TableType.{TableType}
 use Rattle.smith_config.specs.declared.config.Config.{Config}
 use Rattle.smith_config.specs.declared.shape.Shape.{Shape}
 use Rattle.smith_config.specs.Features.{features_of}
@@ -29,20 +28,12 @@ use Rattle.smith_config.specs.Shapes.{shape_types, shape_spaces, shape_values, I
 use Rattle.smith_draw.specs.ConstBounds.{IsNonNullable, HoldsNonNullableField}
 use Rattle.wasm_smith.specs.Bounds.{counts_as, exported_of}
 use Rattle.smith_imports.specs.ShapeImports.{count_in}
-use Rattle.wasm_smith.specs.Defined.{HasRoom, standing_in, IsGlobalInitialised}
-use Rattle.wasm_smith.specs.Definitions.{context_at}
+use Rattle.wasm_smith.specs.Defined.{AreWithin, HasRoom, StandsBehind}
 use Rattle.smith_imports.specs.ImportedEntities.{kind_of}
 use Rattle.wasm_smith.specs.Module.{IsTableInitialised}
 use Rattle.wasm_smith.specs.RequiredExports.{several, scope_beside, with_table, with_global}
 use Rattle.wasm_smith.specs.ShapesKept.{Export, IsSameExport, IsSameType}
 use Rattle.wasm_smith.specs.declared.build.definitions.Definitions.{Definitions}
-
--- what is defined is not more than what stands
-pub record AreWithin (spaces : IndexSpaces) (defined : Definitions) : Type 0 where
-  pub tags : defined.num_tags ≤ length spaces.tags
-  pub funcs : defined.num_funcs ≤ length spaces.funcs
-  pub memories : defined.num_memories ≤ length spaces.memories
-  pub globals : length defined.globals ≤ length spaces.globals
 
 -- that many more entities may be defined behind what stands
 pub record MayDefineMore (config : Config) (space : Space) (spaces : IndexSpaces) (defined : Definitions) (more : ℕ) : Type 0 where
@@ -51,22 +42,6 @@ pub record MayDefineMore (config : Config) (space : Space) (spaces : IndexSpaces
   pub entities : AreEntitiesValid (features_of config) space.types spaces
   pub within : AreWithin spaces defined
   pub room : HasRoom spaces more
-
--- what stands of a module behind these imports is valid: types, entities, and initialisers, each at its place
-pub record StandsBehind (config : Config) (imported : IndexSpaces) (space : Space) (spaces : IndexSpaces) (defined : Definitions) : Type 0 where
-  pub types : AreTypesValid (features_of config) space
-  pub entities : AreEntitiesValid (features_of config) space.types spaces
-  pub counts : AreCountsEnabled (features_of config) spaces
-  pub tags : Defines imported.tags defined.num_tags spaces.tags
-  pub funcs : Defines imported.funcs defined.num_funcs spaces.funcs
-  pub tables : Defines imported.tables (length defined.tables) spaces.tables
-  pub memories : Defines imported.memories defined.num_memories spaces.memories
-  pub globals : Defines imported.globals (length defined.globals) spaces.globals
-  pub each_table : (place : ℕ) (initial : Option (List ConstInstr)) → slice_get defined.tables place ≡ Some initial
-      → (table : TableType) × (slice_get spaces.tables (length imported.tables + place) ≡ Some table)
-      × IsTableInitialised (context_at config (standing_in space.types imported spaces) spaces.globals (length imported.globals)) table initial
-  pub each_global : (place index : ℕ) (initial : List ConstInstr) → slice_get defined.globals place ≡ Some (index, initial)
-      → IsGlobalInitialised config (standing_in space.types imported spaces) spaces.globals place index initial
 
 -- no type has a declared supertype
 abbrev pub HasNoSupertypes : List SubType → Type 0

@@ -1,16 +1,16 @@
-ghost use Rattle.std.specs.Prelude.{◌≡◌, false, IfOk, IfErr, All};
+ghost use Rattle.std.specs.Prelude.{◌≡◌, false, IfOk, IfErr, OnOk, All};
 ghost use Rattle.smith_bytes.specs.Source.{KeepsPieces};
 ghost use Rattle.smith_types.specs.Floats.{HasNoFloat};
 ghost use Rattle.smith_types.specs.IndexSpaces.{spaces_in};
 ghost use Rattle.wasm_smith.specs.Build.{definitions_at};
 ghost use Rattle.smith_imports.specs.Steps.{Gives};
-ghost use Rattle.wasm_smith.specs.Defined.{MayDefine, MayRefuseDefined, AreDefined, HaveNoFloats};
+ghost use Rattle.wasm_smith.specs.Defined.{nothing_defined, MayDefine, MayRefuseDefined, AreDefinedMore, AreDefined, HaveNoFloats};
 ghost use Rattle.smith_imports.specs.Imported.{HasNoFloatValue};
 
 use crate::build::funcs::funcs;
 use crate::build::globals::globals;
 use crate::build::memories::memories;
-use crate::build::standing::standing;
+use crate::build::standing::standing_imported;
 use crate::build::tables::tables;
 use crate::build::tags::tags;
 use smith_bytes::{Error, Unstructured};
@@ -30,7 +30,9 @@ pub(crate) struct Definitions {
 
 impl Definitions {
     /// Nothing is defined, which takes no memory.
-    pub(crate) fn none(alloc: Global) -> Self {
+    pub(crate) fn none(alloc: Global) -> Self
+        ensures { result ≡ nothing_defined }
+    {
         Definitions {
             num_tags: 0,
             num_funcs: 0,
@@ -41,52 +43,78 @@ impl Definitions {
     }
 }
 
-/// Defines tags, functions, tables, memories and globals, in this order, behind the imported ones of `spaces`.
+/// Defines tags, functions, tables, memories and globals, in this order, behind those that stand in `spaces`: what isn't counted
+/// in `definitions` is imported.
 #[tactic(auto, unfolding(crate::specs::Build::definitions_at))]
 pub(crate) fn define(
     alloc: Global,
     config: &Config,
     types: &TypeSpace,
     spaces: &mut IndexSpaces,
+    definitions: &mut Definitions,
     u: &mut Unstructured<'_>,
-) -> Result<Definitions, Error>
-    requires may { MayDefine config.now types.now (spaces_in spaces.old) }
-    ensures exact { Gives (λ defined. ((spaces_in spaces.new, defined), u.new)) result (definitions_at config.now types.now.types (spaces_in spaces.old) u.old) }
-    ensures defined { IfOk result (AreDefined config.now types.now.types (spaces_in spaces.old) (spaces_in spaces.new)) }
-    ensures floats { config.now.allow_floats ≡ false → All HasNoFloat types.now.types → All HasNoFloatValue spaces.old.globals → IfOk result (HaveNoFloats (spaces_in spaces.new)) }
+) -> Result<(), Error>
+    requires may { MayDefine config.now types.now (spaces_in spaces.old) definitions.old }
+    ensures exact { Gives (λ _. ((spaces_in spaces.new, definitions.new), u.new)) result (definitions_at config.now types.now.types (spaces_in spaces.old) definitions.old u.old) }
+    ensures defined { OnOk result (AreDefinedMore config.now types.now (spaces_in spaces.old) definitions.old (spaces_in spaces.new) definitions.new) }
+    ensures floats { config.now.allow_floats ≡ false → All HasNoFloat types.now.types → HaveNoFloats (spaces_in spaces.old) definitions.old → OnOk result (HaveNoFloats (spaces_in spaces.new) definitions.new) }
     ensures refusal { IfErr result (MayRefuseDefined config.now types.now.types) }
     ensures left { KeepsPieces u.old u.new }
 {
-    let imported_tags = spaces.tags.len();
-    let imported_funcs = spaces.funcs.len();
-    let imported_memories = spaces.memories.len();
+    let tags_before = spaces.tags.len();
+    let funcs_before = spaces.funcs.len();
+    let memories_before = spaces.memories.len();
+    let globals_before = spaces.globals.len();
+    let globals_defined = definitions.globals.len();
+    let imported_funcs = funcs_before - definitions.num_funcs;
+    let imported_globals = globals_before - globals_defined;
     tags(alloc, config, types, &mut spaces.tags, u)?;
     funcs(alloc, config, types, &mut spaces.funcs, u)?;
     let func_types = spaces.funcs.as_slice();
-    let imported_globals = spaces.globals.as_slice();
-    let standing = standing(
+    let all_globals = spaces.globals.as_slice();
+    let standing = standing_imported(
         types,
         func_types,
         imported_funcs,
+        all_globals,
         imported_globals,
-        imported_globals.len(),
     );
-    let tables = tables(alloc, config, &standing, &mut spaces.tables, u)?;
+    let initials = &mut definitions.tables;
+    tables(alloc, config, &standing, &mut spaces.tables, initials, u)?;
     memories(config, &mut spaces.memories, u)?;
-    let globals = globals(
+    globals(
         alloc,
         config,
         types,
         func_types,
         imported_funcs,
+        imported_globals,
         &mut spaces.globals,
+        &mut definitions.globals,
         u,
     )?;
-    Ok(Definitions {
-        num_tags: spaces.tags.len() - imported_tags,
-        num_funcs: spaces.funcs.len() - imported_funcs,
-        tables,
-        num_memories: spaces.memories.len() - imported_memories,
-        globals,
-    })
+    definitions.num_tags += spaces.tags.len() - tags_before;
+    definitions.num_funcs += spaces.funcs.len() - funcs_before;
+    definitions.num_memories += spaces.memories.len() - memories_before;
+    Ok(())
+}
+
+/// Defines tags, functions, tables, memories and globals, in this order, behind the imported ones of `spaces`.
+pub(crate) fn define_behind_imports(
+    alloc: Global,
+    config: &Config,
+    types: &TypeSpace,
+    spaces: &mut IndexSpaces,
+    u: &mut Unstructured<'_>,
+) -> Result<Definitions, Error>
+    requires may { MayDefine config.now types.now (spaces_in spaces.old) nothing_defined }
+    ensures exact { Gives (λ defined. ((spaces_in spaces.new, defined), u.new)) result (definitions_at config.now types.now.types (spaces_in spaces.old) nothing_defined u.old) }
+    ensures defined { IfOk result (AreDefined config.now types.now (spaces_in spaces.old) (spaces_in spaces.new)) }
+    ensures floats { config.now.allow_floats ≡ false → All HasNoFloat types.now.types → All HasNoFloatValue spaces.old.globals → IfOk result (HaveNoFloats (spaces_in spaces.new)) }
+    ensures refusal { IfErr result (MayRefuseDefined config.now types.now.types) }
+    ensures left { KeepsPieces u.old u.new }
+{
+    let mut definitions = Definitions::none(alloc);
+    define(alloc, config, types, spaces, &mut definitions, u)?;
+    Ok(definitions)
 }

@@ -14,7 +14,7 @@ ghost use Rattle.wasm_smith.specs.Refusals.{MayRefuse};
 ghost use Rattle.smith_imports.specs.Steps.{Gives};
 
 use crate::build::contents::{Contents, draw_contents};
-use crate::build::definitions::{Definitions, define};
+use crate::build::definitions::{Definitions, define_behind_imports};
 use crate::build::imports::imports;
 use crate::build::section_flag::section_flag;
 use crate::build::types::types;
@@ -77,7 +77,13 @@ fn parts(
     let imported = &mut drawn.imported;
     imports(alloc, config, distinct, &drawn.types, imported, u)?;
     drawn.encodes_imports = section_flag(imported.groups.len(), u);
-    drawn.definitions = define(alloc, config, &drawn.types, &mut imported.spaces, u)?;
+    drawn.definitions = define_behind_imports(
+        alloc,
+        config,
+        &drawn.types,
+        &mut imported.spaces,
+        u,
+    )?;
     drawn.contents = draw_contents(alloc, config, &drawn.types, imported, &drawn.definitions, u)?;
     let (narrow, wide) = interesting_values(
         alloc,

@@ -1,4 +1,4 @@
-ghost use Rattle.std.specs.Prelude.{◌≡◌, ℕ, true, false, List, [], map, IfOk, IfErr, OnOk, All};
+ghost use Rattle.std.specs.Prelude.{◌≡◌, ◌<◌, ◌≤◌, ◌^◌, ℕ, true, false, List, [], map, length, IfOk, IfErr, OnOk, All};
 ghost use Rattle.smith_bytes.specs.Source.{KeepsPieces};
 ghost use Rattle.smith_bytes.specs.Takes.{Takes};
 ghost use Rattle.smith_types.specs.Entities.{IsGlobalValid};
@@ -11,7 +11,7 @@ ghost use Rattle.smith_config.specs.Sanitized.{IsSanitized};
 ghost use Rattle.smith_draw.specs.ConstFloats.{GivesNoFloat};
 ghost use Rattle.smith_draw.specs.ConstScopes.{AreSpacesValid, seen_by};
 ghost use Rattle.wasm_smith.specs.Defined.{IsFilled, MayInitialise, MayRefuseDrawn, AreGlobalsDefined};
-ghost use Rattle.wasm_smith.specs.Definitions.{standing_over, initialised_at, globals_at};
+ghost use Rattle.wasm_smith.specs.Definitions.{standing_among, initialised_at, globals_at};
 ghost use Rattle.wasm_smith.specs.NumberedGlobals.{SpellsGlobals};
 
 use crate::build::past_full::ask_past_full;
@@ -45,68 +45,92 @@ fn initialised_global(
     Ok((global, (index, initial)))
 }
 
-/// Pushes globals behind the imported ones.
+/// Pushes globals behind those that stand, and their indices and initialisers behind those that there are.
 fn push_globals<'a>(
     alloc: Global,
     config: &Config,
     types: &'a TypeSpace,
     funcs: &'a [u32],
     imported_funcs: usize,
+    imported_globals: usize,
     globals: &mut Items<GlobalType>,
+    initials: &mut Items<(u32, Items<ConstInstr>)>,
     u: &mut Unstructured<'_>,
-) -> Result<Items<(u32, Items<ConstInstr>)>, Error>
-    requires may { MayInitialise config.now types.now (standing_over types.now.types funcs.now imported_funcs globals.old) }
-    ensures exact { IfOk result (λ initials. globals_at config.now (standing_over types.now.types funcs.now imported_funcs globals.old) u.old ≡ ((globals.new, initials), u.new)) }
+) -> Result<(), Error>
+    requires may { MayInitialise config.now types.now (standing_among types.now.types funcs.now imported_funcs imported_globals globals.old) }
+    requires valid { All (IsGlobalValid (features_of config.now) types.now.types) globals.old }
+    requires imported { imported_globals ≤ length globals.old }
+    requires few { length globals.old < 2 ^ 32 }
+    ensures exact { OnOk result (globals_at config.now (standing_among types.now.types funcs.now imported_funcs imported_globals globals.old) globals.old initials.old u.old ≡ ((globals.new, initials.new), u.new)) }
     ensures valid { OnOk result (All (IsGlobalValid (features_of config.now) types.now.types) globals.new) }
-    ensures defined { IfOk result (AreGlobalsDefined config.now (standing_over types.now.types funcs.now imported_funcs globals.old) globals.new) }
+    ensures defined { AreGlobalsDefined config.now (standing_among types.now.types funcs.now imported_funcs imported_globals globals.old) globals.old initials.old
+        → OnOk result (AreGlobalsDefined config.now (standing_among types.now.types funcs.now imported_funcs imported_globals globals.old) globals.new initials.new) }
     ensures floats { config.now.allow_floats ≡ false → All (λ (global : GlobalType). IsNoFloat global.val_type) globals.old → OnOk result (All (λ (global : GlobalType). IsNoFloat global.val_type) globals.new) }
-    ensures constants { config.now.allow_floats ≡ false → All HasNoFloat types.now.types → IfOk result (λ initials. All (All GivesNoFloat) (map (λ (one : ℕ × List ConstInstr). one.1) initials)) }
+    ensures constants { config.now.allow_floats ≡ false → All HasNoFloat types.now.types → All (All GivesNoFloat) (map (λ (one : ℕ × List ConstInstr). one.1) initials.old)
+        → OnOk result (All (All GivesNoFloat) (map (λ (one : ℕ × List ConstInstr). one.1) initials.new)) }
     ensures refusal { IfErr result (MayRefuseDrawn types.now.types) }
     ensures left { KeepsPieces u.old u.new }
 {
-    let imported = globals.len();
-    let least = config.min_globals.saturating_sub(imported);
-    let mut initials = Items::new(alloc);
-    for made in 0..config.max_globals.saturating_sub(imported) {
+    let before = globals.len();
+    let least = config.min_globals.saturating_sub(before);
+    for made in 0..config.max_globals.saturating_sub(before) {
         if !goes_on(u, made, least) {
-            return Ok(initials);
+            return Ok(());
         }
         let entities = Entities {
             funcs,
             globals: globals.as_slice(),
             imported_funcs,
-            imported_globals: imported,
+            imported_globals,
             ..Entities::none()
         };
         let (global, initial) = initialised_global(alloc, config, &Spaces { types, entities }, u)?;
         globals.push(global)?;
         initials.push(initial)?;
     }
-    ask_past_full(imported, config.max_globals, u);
-    Ok(initials)
+    ask_past_full(before, config.max_globals, u);
+    Ok(())
 }
 
-/// Pushes as many globals behind the imported ones as are asked for, and no more than may be, and tells the index and the
-/// initialiser of each.
+/// Pushes as many globals behind those that stand as are asked for, and no more than may be, and adds the index and the initialiser
+/// of each.
 pub(crate) fn globals<'a>(
     alloc: Global,
     config: &Config,
     types: &'a TypeSpace,
     funcs: &'a [u32],
     imported_funcs: usize,
+    imported_globals: usize,
     globals: &mut Items<GlobalType>,
+    initials: &mut Items<(u32, Items<ConstInstr>)>,
     u: &mut Unstructured<'_>,
-) -> Result<Items<(u32, Items<ConstInstr>)>, Error>
-    requires may { MayInitialise config.now types.now (standing_over types.now.types funcs.now imported_funcs globals.old) }
-    ensures exact { IfOk result (λ initials. globals_at config.now (standing_over types.now.types funcs.now imported_funcs globals.old) u.old ≡ ((globals.new, initials), u.new)) }
+) -> Result<(), Error>
+    requires may { MayInitialise config.now types.now (standing_among types.now.types funcs.now imported_funcs imported_globals globals.old) }
+    requires valid { All (IsGlobalValid (features_of config.now) types.now.types) globals.old }
+    requires imported { imported_globals ≤ length globals.old }
+    requires few { length globals.old < 2 ^ 32 }
+    ensures exact { OnOk result (globals_at config.now (standing_among types.now.types funcs.now imported_funcs imported_globals globals.old) globals.old initials.old u.old ≡ ((globals.new, initials.new), u.new)) }
     ensures filled { OnOk result (IsFilled config.now.min_globals config.now.max_globals globals.old globals.new) }
     ensures valid { OnOk result (All (IsGlobalValid (features_of config.now) types.now.types) globals.new) }
-    ensures defined { IfOk result (AreGlobalsDefined config.now (standing_over types.now.types funcs.now imported_funcs globals.old) globals.new) }
+    ensures defined { AreGlobalsDefined config.now (standing_among types.now.types funcs.now imported_funcs imported_globals globals.old) globals.old initials.old
+        → OnOk result (AreGlobalsDefined config.now (standing_among types.now.types funcs.now imported_funcs imported_globals globals.old) globals.new initials.new) }
     ensures floats { config.now.allow_floats ≡ false → All (λ (global : GlobalType). IsNoFloat global.val_type) globals.old → OnOk result (All (λ (global : GlobalType). IsNoFloat global.val_type) globals.new) }
-    ensures constants { config.now.allow_floats ≡ false → All HasNoFloat types.now.types → IfOk result (λ initials. All (All GivesNoFloat) (map (λ (one : ℕ × List ConstInstr). one.1) initials)) }
-    ensures reach { config.now.min_globals ≡ 0 → globals.old ≡ [] → IfOk result (λ initials. Takes (SpellsGlobals config.now) u.old (globals.new, map (λ (one : ℕ × List ConstInstr). one.1) initials) u.new) }
+    ensures constants { config.now.allow_floats ≡ false → All HasNoFloat types.now.types → All (All GivesNoFloat) (map (λ (one : ℕ × List ConstInstr). one.1) initials.old)
+        → OnOk result (All (All GivesNoFloat) (map (λ (one : ℕ × List ConstInstr). one.1) initials.new)) }
+    ensures reach { config.now.min_globals ≡ 0 → globals.old ≡ [] → initials.old ≡ []
+        → OnOk result (Takes (SpellsGlobals config.now) u.old (globals.new, map (λ (one : ℕ × List ConstInstr). one.1) initials.new) u.new) }
     ensures refusal { IfErr result (MayRefuseDrawn types.now.types) }
     ensures left { KeepsPieces u.old u.new }
 {
-    push_globals(alloc, config, types, funcs, imported_funcs, globals, u)
+    push_globals(
+        alloc,
+        config,
+        types,
+        funcs,
+        imported_funcs,
+        imported_globals,
+        globals,
+        initials,
+        u,
+    )
 }

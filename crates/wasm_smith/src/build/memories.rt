@@ -16,7 +16,7 @@ use smith_config::Config;
 use smith_draw::arbitrary_memtype;
 use smith_types::{Items, MemoryType};
 
-/// Adds memories behind the imported ones, each drawn as a memory type.
+/// Adds memories behind those that stand, each drawn as a memory type.
 #[tactic(auto, unfolding(crate::specs::Definitions::memories_at))]
 fn drawn_memories(
     config: &Config,
@@ -28,20 +28,20 @@ fn drawn_memories(
     ensures valid { All (IsMemoryValid (features_of config.now)) memories.old → OnOk result (All (IsMemoryValid (features_of config.now)) memories.new) }
     ensures within { OnOk result (AreAdded (IsMemoryWithin config.now) memories.old memories.new) }
 {
-    let imported = memories.len();
-    let needed = (config.min_memories as usize).saturating_sub(imported);
-    for made in 0..config.max_memories.saturating_sub(imported) {
+    let before = memories.len();
+    let needed = (config.min_memories as usize).saturating_sub(before);
+    for made in 0..config.max_memories.saturating_sub(before) {
         if !goes_on(u, made, needed) {
             return Ok(());
         }
         let memory = arbitrary_memtype(config, u)?;
         memories.push(memory)?;
     }
-    ask_past_full(imported, config.max_memories, u);
+    ask_past_full(before, config.max_memories, u);
     Ok(())
 }
 
-/// Adds memories behind the imported ones: as many as are asked for, and no more than may be.
+/// Adds memories behind those that stand: as many as are asked for, and no more than may be.
 pub(crate) fn memories(
     config: &Config,
     memories: &mut Items<MemoryType>,

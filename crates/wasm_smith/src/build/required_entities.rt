@@ -8,7 +8,8 @@ ghost use Rattle.smith_config.specs.Features.{features_of};
 ghost use Rattle.smith_draw.specs.ConstBounds.{MayRefuseConstExpr};
 ghost use Rattle.smith_draw.specs.ConstScopes.{AreSpacesValid, seen_by};
 ghost use Rattle.smith_imports.specs.Imported.{entity_spaces};
-ghost use Rattle.wasm_smith.specs.Required.{MayDefineMore, AreWithin, IsInitialised, IsDefinedMore, MayRefuseInitial, MayRefuseEntity};
+ghost use Rattle.wasm_smith.specs.Defined.{AreWithin};
+ghost use Rattle.wasm_smith.specs.Required.{MayDefineMore, IsInitialised, IsDefinedMore, MayRefuseInitial, MayRefuseEntity};
 ghost use Rattle.wasm_smith.specs.RequiredExports.{Answers, next_index, several, scope_beside, defined_with_at, entity_required_at};
 
 use crate::build::definitions::Definitions;

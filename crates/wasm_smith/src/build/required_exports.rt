@@ -13,7 +13,8 @@ ghost use Rattle.wasm_smith.specs.Bounds.{exported_of};
 ghost use Rattle.smith_imports.specs.ShapeImports.{count_in};
 ghost use Rattle.smith_contents.specs.Exported.{IsStanding};
 ghost use Rattle.smith_contents.specs.Exporting.{Export};
-ghost use Rattle.wasm_smith.specs.Required.{AddsLimitsOf, MayDefineMore, MayRequire, StandsBehind, IsRequiredMore, AreRequired, MayLackIn, MayRefuseRequired, MayRefuseExported};
+ghost use Rattle.wasm_smith.specs.Defined.{StandsBehind};
+ghost use Rattle.wasm_smith.specs.Required.{AddsLimitsOf, MayDefineMore, MayRequire, IsRequiredMore, AreRequired, MayLackIn, MayRefuseRequired, MayRefuseExported};
 ghost use Rattle.wasm_smith.specs.RequiredExports.{Answers, entity_of, standing_with, export_required_at, required_at};
 ghost use Rattle.wasm_smith.specs.ShapesKept.{IsSameExport, IsSameType};
 

@@ -1,4 +1,4 @@
-ghost use Rattle.std.specs.Prelude.{◌≡◌};
+ghost use Rattle.std.specs.Prelude.{◌≡◌, ◌≤◌, take, length};
 
 use smith_draw::{Entities, Spaces};
 use smith_types::{GlobalType, TypeSpace};
@@ -29,4 +29,23 @@ pub(crate) fn standing<'a>(
             imported_globals,
         },
     }
+}
+
+/// What the initialiser of a table may refer to: types, functions, and the imported globals, which are the first of `globals`.
+pub(crate) fn standing_imported<'a>(
+    types: &'a TypeSpace,
+    funcs: &'a [u32],
+    imported_funcs: usize,
+    globals: &'a [GlobalType],
+    imported_globals: usize,
+) -> Spaces<'a>
+    requires { imported_globals ≤ length globals.now }
+    ensures types { result.types.now ≡ types.now }
+    ensures funcs { result.entities.funcs.now ≡ funcs.now }
+    ensures imported_funcs { result.entities.imported_funcs ≡ imported_funcs }
+    ensures globals { result.entities.globals.now ≡ take imported_globals globals.now }
+    ensures imported_globals { result.entities.imported_globals ≡ length result.entities.globals.now }
+{
+    let imported = &globals[..imported_globals];
+    standing(types, funcs, imported_funcs, imported, imported.len())
 }

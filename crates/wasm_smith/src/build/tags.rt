@@ -29,7 +29,7 @@ fn tag_types(alloc: Global, config: &Config, types: &[SubType]) -> Result<Items<
     Ok(Items::new(alloc))
 }
 
-/// Adds tags behind the imported ones.
+/// Adds tags behind those that stand.
 #[tactic(auto, unfolding(crate::specs::Definitions::tags_at))]
 fn drawn_tags(
     alloc: Global,
@@ -54,7 +54,7 @@ fn drawn_tags(
     )
 }
 
-/// Adds tags behind the imported ones: as many as are asked for, and no more than may be.
+/// Adds tags behind those that stand: as many as are asked for, and no more than may be.
 pub(crate) fn tags(
     alloc: Global,
     config: &Config,

@@ -10,7 +10,7 @@ use smith_bytes::{Count, Error, Unstructured, Why, goes_on};
 use smith_draw::choose;
 use smith_types::Items;
 
-/// Adds items behind imported ones, each by the index of its type, which is one of `choices`.
+/// Adds items behind those that stand, each by the index of its type, which is one of `choices`.
 fn choose_types(
     choices: &[u32],
     least: usize,
@@ -21,19 +21,19 @@ fn choose_types(
     requires some { 0 < length choices.now }
     ensures { DrawsInto (behind items.old (defined_at (λ _. chosen_at 0 choices.now) least most (length items.old) u.old)) items.new result u.old u.new }
 {
-    let imported = items.len();
-    let needed = least.saturating_sub(imported);
-    for made in 0..most.saturating_sub(imported) {
+    let before = items.len();
+    let needed = least.saturating_sub(before);
+    for made in 0..most.saturating_sub(before) {
         if !goes_on(u, made, needed) {
             return Ok(());
         }
         items.push(choose(choices, u))?;
     }
-    ask_past_full(imported, most, u);
+    ask_past_full(before, most, u);
     Ok(())
 }
 
-/// Adds items behind imported ones, each by the index of its type, which is one of `choices`. Where there is none, no item is
+/// Adds items behind those that stand, each by the index of its type, which is one of `choices`. Where there is none, no item is
 /// added, and too few are refused.
 #[tactic(auto, unfolding(crate::specs::Definitions::typed_at))]
 pub(crate) fn define_typed(

@@ -20,7 +20,7 @@ loop-made-init c = record {
 pub returns-then-not-goes_on-clause-draws : goal.returns-then-not-goes_on-clause-draws
 unfolding memories_at
 returns-then-not-goes_on-clause-draws c =
-    let count = c.len-imported.ensures in
+    let count = c.len-before.ensures in
     record {
       exact = behind_stop c.loop-made.invariant.behind (rw (c.saturating_sub-made-end.ensures, count) at c.loop-made-test.true) (rw (c.saturating_sub-needed.ensures, count) at c.goes_on.ensures.exact) c.if-not-goes_on.true;
       memory = search rules;
@@ -29,7 +29,7 @@ returns-then-not-goes_on-clause-draws c =
 
 pub loop-made-preserved : goal.loop-made-preserved
 loop-made-preserved c =
-    let count = c.len-imported.ensures in
+    let count = c.len-before.ensures in
     let pushed = c.in_ok-push.ensures.ok in
     record {
       behind = behind_go c.loop-made.invariant.behind (rw (c.saturating_sub-made-end.ensures, count) at c.loop-made-test.true) (rw (c.saturating_sub-needed.ensures, count) at c.goes_on.ensures.exact) c.if-not-goes_on.false c.in_ok-memory.ensures.exact pushed c.goes_on.ensures.left c.in_ok-memory.ensures.left;
@@ -40,7 +40,7 @@ loop-made-preserved c =
 pub returns-clause-draws : goal.returns-clause-draws
 unfolding memories_at
 returns-clause-draws c =
-    let count = c.len-imported.ensures in
+    let count = c.len-before.ensures in
     record {
       exact = behind_full c.loop-made.invariant.behind (rw (c.saturating_sub-made-end.ensures, count) at c.loop-made-test.false) (rw count at c.ask_past_full.ensures.exact);
       memory = search rules;

@@ -8,7 +8,7 @@ loop-made-init c = behind_start (λ _. chosen_at 0 c.args.choices.now) c.args.le
 
 pub returns-then-not-goes_on : goal.returns-then-not-goes_on
 returns-then-not-goes_on c =
-    let count = c.len-imported.ensures in
+    let count = c.len-before.ensures in
     record {
       exact = behind_stop c.loop-made.invariant (rw (c.saturating_sub-made-end.ensures, count) at c.loop-made-test.true) (rw (c.saturating_sub-needed.ensures, count) at c.goes_on.ensures.exact) c.if-not-goes_on.true;
       memory = search rules;
@@ -17,12 +17,12 @@ returns-then-not-goes_on c =
 
 pub loop-made-preserved : goal.loop-made-preserved
 loop-made-preserved c =
-    let count = c.len-imported.ensures in
+    let count = c.len-before.ensures in
     behind_go c.loop-made.invariant (rw (c.saturating_sub-made-end.ensures, count) at c.loop-made-test.true) (rw (c.saturating_sub-needed.ensures, count) at c.goes_on.ensures.exact) c.if-not-goes_on.false (c.choose.ensures.exact 0) c.in_ok-push.ensures.ok c.goes_on.ensures.left c.choose.ensures.left
 
 pub returns : goal.returns
 returns c =
-    let count = c.len-imported.ensures in
+    let count = c.len-before.ensures in
     record {
       exact = behind_full c.loop-made.invariant (rw (c.saturating_sub-made-end.ensures, count) at c.loop-made-test.false) (rw count at c.ask_past_full.ensures.exact);
       memory = search rules;
