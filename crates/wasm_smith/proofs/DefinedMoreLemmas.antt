@@ -4,6 +4,7 @@ use Rattle.std.specs.Prelude.{◌⊎◌, Option, Some, slice_get, take, All}
 use Rattle.std.proofs.Math.Seq.{take-append_seam}
 use Rattle.std.proofs.lemmas.List.{append-nil, length-map}
 use Rattle.std.proofs.lemmas.List.Elements.{All-nil, All-weaker, recursion_from_All}
+use Rattle.smith_bytes.specs.declared.error.Count.TheVariants as counts
 use Rattle.smith_types.specs.Entities.{AreEntitiesValid, AreCountsEnabled}
 use Rattle.smith_types.specs.Grown.{Extends, IsContextGrown, AreSpacesGrown}
 use Rattle.smith_types.specs.Imports.{IndexSpaces, Defines}
@@ -13,10 +14,11 @@ use Rattle.smith_types.specs.declared.const_instr.ConstInstr.{ConstInstr}
 use Rattle.smith_types.specs.declared.entity_type.GlobalType.{GlobalType}
 use Rattle.smith_types.specs.declared.entity_type.TableType.{TableType}
 use Rattle.smith_config.specs.declared.config.Config.{Config}
+use Rattle.smith_config.specs.Faults.{Passes}
 use Rattle.smith_config.specs.Features.{features_of}
 use Rattle.smith_contents.proofs.PlaceOfListLemmas.{slice_get-behind}
 use Rattle.smith_imports.specs.Imported.{HasNoFloatValue}
-use Rattle.wasm_smith.specs.Defined.{nothing_defined, MayDefine, StandsBehind, AreFilled, AreDefinedMore, AreDefined, AreGlobalsDefined, HaveNoFloats, standing_in}
+use Rattle.wasm_smith.specs.Defined.{nothing_defined, HasRoom, AreWithin, MayDefine, StandsBehind, AreFilled, AreDefinedMore, AreDefined, AreGlobalsDefined, HaveNoFloats, standing_in}
 use Rattle.wasm_smith.specs.DefinedTables.{IsTableFit, AreTablesDrawn}
 use Rattle.wasm_smith.specs.Definitions.{Standing, Table, standing_over, standing_among, context_at, table_scope}
 use Rattle.wasm_smith.specs.Module.{IsTableInitialised}
@@ -40,6 +42,29 @@ pub record AddsTo (config : Config) (space : Space) (before : IndexSpaces) (so_f
   pub num_tags : defined.num_tags ≡ so_far.num_tags + (length later.tags - length before.tags)
   pub num_funcs : defined.num_funcs ≡ so_far.num_funcs + (length later.funcs - length before.funcs)
   pub num_memories : defined.num_memories ≡ so_far.num_memories + (length later.memories - length before.memories)
+
+-- index spaces grow as they are filled
+pub filled_grown : {config : Config} {before later : IndexSpaces} → AreFilled config before later → AreSpacesGrown before later
+filled_grown filled = record { tags = filled.tags.extends; funcs = filled.funcs.extends; tables = filled.tables.extends; memories = filled.memories.extends; globals = filled.globals.extends }
+
+-- their indices still have 32 bits
+pub filled_room : {config : Config} {before later : IndexSpaces} → Passes config → AreFilled config before later → HasRoom before 0 → HasRoom later 0
+filled_room passes filled room = record {
+  tags = omega (arith, filled.tags.within, room.tags, passes.few counts.Tags);
+  funcs = omega (arith, filled.funcs.within, room.funcs, passes.few counts.Funcs);
+  tables = omega (arith, filled.tables.within, room.tables, passes.few counts.Tables);
+  memories = omega (arith, filled.memories.within, room.memories, passes.few counts.Memories);
+  globals = omega (arith, filled.globals.within, room.globals, passes.few counts.Globals);
+}
+
+-- what is defined is no more than what stands
+pub stands_within : {config : Config} {imported : IndexSpaces} {space : Space} {spaces : IndexSpaces} {defined : Definitions} → StandsBehind config imported space spaces defined → AreWithin spaces defined
+stands_within stands = record {
+  tags = omega (arith, defined_end stands.tags);
+  funcs = omega (arith, defined_end stands.funcs);
+  memories = omega (arith, defined_end stands.memories);
+  globals = omega (arith, defined_end stands.globals);
+}
 
 -- an item of two lists is one of the first, or one of the second at its place there
 item_of : {A : Type 0} (xs ys : List A) (place : ℕ) (x : A) → slice_get (xs ++ ys) place ≡ Some x → (slice_get xs place ≡ Some x) ⊎ ((i : ℕ) × (place ≡ length xs + i) × (slice_get ys i ≡ Some x))
@@ -84,13 +109,7 @@ module _ (config : Config) (imported : IndexSpaces) (space : Space) (before late
       λ i. standing_over space.types later.funcs (left_over now.funcs i) (globals i)
 
   grown : AreSpacesGrown before later
-  grown = record {
-    tags = adds.filled.tags.extends;
-    funcs = adds.filled.funcs.extends;
-    tables = adds.filled.tables.extends;
-    memories = adds.filled.memories.extends;
-    globals = adds.filled.globals.extends;
-  }
+  grown = filled_grown adds.filled
 
   drawn : AreTablesDrawn config standing before.tables later.tables so_far.tables defined.tables
   drawn = subst (λ (s : Standing). AreTablesDrawn config s before.tables later.tables so_far.tables defined.tables) standing_is adds.tables

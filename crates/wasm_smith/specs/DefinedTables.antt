@@ -1,4 +1,4 @@
--- What the step of tables keeps as it defines tables behind imported ones. Rules of this project.
+-- What the step of tables keeps as it defines tables behind those that stand. Rules of this project.
 use Rattle.std.specs.Prelude.{◌≡◌, Option, List, ◌++◌, map, All}
 use Rattle.smith_types.specs.Entities.{IsTableValid}
 use Rattle.smith_types.specs.Floats.{HasNoFloat}
