@@ -21,7 +21,7 @@ use Rattle.smith_config.specs.Sanitized.{IsSanitized}
 use Rattle.smith_config.specs.Shapes.{IsShapeValid, shape_imports, shape_spaces, shape_types, space_of}
 use Rattle.smith_imports.specs.Imported.{AreNumbersWithin}
 use Rattle.smith_imports.specs.ShapeImports.{count_in}
-use Rattle.wasm_smith.specs.Begun.{nothing_defined}
+use Rattle.wasm_smith.specs.Defined.{nothing_defined}
 use Rattle.wasm_smith.specs.Bounds.{brought_by_module, exported_of}
 use Rattle.wasm_smith.specs.Defined.{HasRoom}
 use Rattle.wasm_smith.specs.Refusals.{AreShapesValid, shape_for}

@@ -27,16 +27,12 @@ use Rattle.smith_bytes.specs.declared.error.Count.TheVariants as counts
 use Rattle.smith_draw.specs.Bounds.{IsTableWithin, IsMemoryWithin}
 use Rattle.smith_contents.specs.Exporting.{Export}
 use Rattle.wasm_smith.specs.Bounds.{brought, brought_by_module, of_shapes}
-use Rattle.wasm_smith.specs.Defined.{StandsBehind}
+use Rattle.wasm_smith.specs.Defined.{StandsBehind, nothing_defined}
 use Rattle.wasm_smith.specs.Required.{MayRefuseRequired}
 use Rattle.wasm_smith.specs.RequiredExports.{Required, required_at, then_with}
 use Rattle.wasm_smith.specs.ShapesKept.{IsSameExport}
 use Rattle.wasm_smith.specs.declared.build.definitions.Definitions.{Definitions}
 use Rattle.wasm_smith.specs.declared.build.drawn.Drawn.{Drawn}
-
--- nothing is defined
-abbrev pub nothing_defined : Definitions
-nothing_defined = record { num_tags = 0; num_funcs = 0; tables = []; num_memories = 0; globals = [] }
 
 -- what stands of a module: types, groups of imports, index spaces, what is defined in them, and exports
 pub record Begun : Type 0 where
