@@ -1,3 +1,4 @@
+use crate::repeated::told;
 use smith_types::{
     ArrayType, CompositeInnerType, CompositeType, EntityType, FieldType, FuncType, ImportItem,
     Imports, Items, Name, StorageType, StructType, SubType, TypeSpace, ValType,
@@ -53,15 +54,24 @@ fn is_type_copied(alloc: Global, ty: &SubType) -> Result<bool, Error> {
     Ok(ty.clone(alloc)? == *ty)
 }
 
+// The same of the structure of a type, of the type without its supertype, and of the type.
+fn copied_parts(alloc: Global, ty: &SubType) -> Result<[bool; 3], Error> {
+    let parts = &ty.composite_type;
+    Ok([
+        is_inner_copied(alloc, &parts.inner)?,
+        is_composite_copied(alloc, parts)?,
+        is_type_copied(alloc, ty)?,
+    ])
+}
+
+fn copied(alloc: Global, number: u32) -> Result<[bool; 3], Error> {
+    told(sub_type(alloc, number)?, |ty| copied_parts(alloc, ty))
+}
+
 #[test]
 fn types_of_each_kind(rt: HostRuntime) -> Result<(), Fail> {
-    let alloc = rt.alloc();
     for number in 0..3 {
-        let ty = sub_type(alloc, number)?;
-        let parts = &ty.composite_type;
-        assert!(rt; is_inner_copied(alloc, &parts.inner)?, "at {number}");
-        assert!(rt; is_composite_copied(alloc, parts)?, "at {number}");
-        assert!(rt; is_type_copied(alloc, &ty)?, "at {number}");
+        assert_eq!(rt; copied(rt.alloc(), number)?, [true; 3], "at {number}");
     }
     Ok(())
 }
@@ -94,30 +104,60 @@ fn of_one_type(alloc: Global) -> Result<Imports, Error> {
     })
 }
 
+fn is_group_copied(alloc: Global, group: &Imports) -> Result<bool, Error> {
+    Ok(group.clone(alloc)? == *group)
+}
+
+fn is_one_type_copied(alloc: Global) -> Result<bool, Error> {
+    told(of_one_type(alloc)?, |group| is_group_copied(alloc, group))
+}
+
 #[test]
 fn a_group_of_imports_of_one_type(rt: HostRuntime) -> Result<(), Fail> {
-    let group = of_one_type(rt.alloc())?;
-    assert!(rt; group.clone(rt.alloc())? == group);
+    assert!(rt; is_one_type_copied(rt.alloc())?);
     Ok(())
+}
+
+// A tag of a group.
+fn tag(alloc: Global) -> Result<ImportItem, Error> {
+    Ok(ImportItem {
+        name: Name::from_text(alloc, "first")?,
+        entity_type: EntityType::Tag(1),
+    })
+}
+
+fn is_item_copied(alloc: Global, item: &ImportItem) -> Result<bool, Error> {
+    Ok(item.clone(alloc)? == *item)
+}
+
+fn is_tag_copied(alloc: Global) -> Result<bool, Error> {
+    told(tag(alloc)?, |item| is_item_copied(alloc, item))
 }
 
 #[test]
 fn an_import_of_a_group(rt: HostRuntime) -> Result<(), Fail> {
-    let item = ImportItem {
-        name: Name::from_text(rt.alloc(), "first")?,
-        entity_type: EntityType::Tag(1),
-    };
-    assert!(rt; item.clone(rt.alloc())? == item);
+    assert!(rt; is_tag_copied(rt.alloc())?);
     Ok(())
 }
 
-#[test]
-fn a_list_of_types(rt: HostRuntime) -> Result<(), Fail> {
-    let alloc = rt.alloc();
+fn three_types(alloc: Global) -> Result<Items<SubType>, Error> {
     let mut types = Items::new(alloc);
     for number in 0..3 {
         types.push(sub_type(alloc, number)?)?;
     }
-    assert!(rt; types.clone(alloc)? == types);
+    Ok(types)
+}
+
+fn is_list_copied(alloc: Global, types: &Items<SubType>) -> Result<bool, Error> {
+    Ok(types.clone(alloc)? == *types)
+}
+
+fn are_three_copied(alloc: Global) -> Result<bool, Error> {
+    told(three_types(alloc)?, |types| is_list_copied(alloc, types))
+}
+
+#[test]
+fn a_list_of_types(rt: HostRuntime) -> Result<(), Fail> {
+    assert!(rt; are_three_copied(rt.alloc())?);
     Ok(())
 }

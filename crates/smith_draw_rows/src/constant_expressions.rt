@@ -67,6 +67,14 @@ fn drawn(
     )
 }
 
+// Whether an answer is an expression of these instructions. The tests hold no answer themselves: that is dear to prove.
+fn is_of(answer: &Answer, want: &[ConstInstr]) -> bool {
+    match answer {
+        Ok(made) => made.as_slice() == want,
+        Err(_) => false,
+    }
+}
+
 // An i32 over nothing.
 fn number_under(alloc: Global, config: &Config, input: &[u8]) -> Result<Answer, Fail>
     requires passes { Passes config.now }
@@ -83,26 +91,30 @@ fn number(alloc: Global, input: &[u8]) -> Result<Answer, Fail> {
     )
 }
 
+// Whether these bytes draw a number by these instructions.
+fn is_number(alloc: Global, input: &[u8], want: &[ConstInstr]) -> Result<bool, Fail> {
+    Ok(told(number(alloc, input)?, |made| is_of(made, want)))
+}
+
 #[test]
 fn a_sum(rt: HostRuntime) -> Result<(), Fail> {
-    let made = number(rt.alloc(), &[1, 1, 0, 5, 0, 0, 0, 0, 7, 0, 0, 0])??;
+    let input = [1, 1, 0, 5, 0, 0, 0, 0, 7, 0, 0, 0];
     let sum = [
         ConstInstr::I32Const(7),
         ConstInstr::I32Const(5),
         ConstInstr::I32Add,
     ];
-    assert!(rt; made.as_slice() == sum.as_slice());
+    assert!(rt; is_number(rt.alloc(), &input, &sum)?);
     Ok(())
 }
 
 #[test]
 fn a_longest_sum(rt: HostRuntime) -> Result<(), Fail> {
-    let made = number(rt.alloc(), &[1; 12])??;
     let mut expected = [ConstInstr::I32Add; 23];
     for place in 0..12 {
         expected[place] = ConstInstr::I32Const(0);
     }
-    assert!(rt; made.as_slice() == expected.as_slice());
+    assert!(rt; is_number(rt.alloc(), &[1; 12], &expected)?);
     Ok(())
 }
 
@@ -134,6 +146,16 @@ fn external(alloc: Global, fuel: u32) -> Result<Answer, Fail> {
     )
 }
 
+// Whether with that much fuel it is of these instructions.
+fn is_external(alloc: Global, fuel: u32, want: &[ConstInstr]) -> Result<bool, Fail> {
+    Ok(told(external(alloc, fuel)?, |made| is_of(made, want)))
+}
+
+// Why there is none with that much fuel, if there is none.
+fn external_refusal(alloc: Global, fuel: u32) -> Result<Option<Error>, Fail> {
+    Ok(external(alloc, fuel)?.err())
+}
+
 #[test]
 fn conversions_need_fuel(rt: HostRuntime) -> Result<(), Fail> {
     let converted = [
@@ -141,9 +163,8 @@ fn conversions_need_fuel(rt: HostRuntime) -> Result<(), Fail> {
         ConstInstr::RefI31,
         ConstInstr::ExternConvertAny,
     ];
-    let made = external(rt.alloc(), 2)??;
-    assert!(rt; made.as_slice() == converted.as_slice());
-    assert_eq!(rt; external(rt.alloc(), 1)?.err(), Some(Error::EmptyChoose));
+    assert!(rt; is_external(rt.alloc(), 2, &converted)?);
+    assert_eq!(rt; external_refusal(rt.alloc(), 1)?, Some(Error::EmptyChoose));
     Ok(())
 }
 
@@ -182,6 +203,10 @@ fn of_struct(alloc: Global, fuel: u32, input: &[u8]) -> Result<Answer, Fail> {
     )
 }
 
+fn is_struct(alloc: Global, fuel: u32, input: &[u8], want: &[ConstInstr]) -> Result<bool, Fail> {
+    Ok(told(of_struct(alloc, fuel, input)?, |made| is_of(made, want)))
+}
+
 #[test]
 fn structs(rt: HostRuntime) -> Result<(), Fail> {
     let cases = [
@@ -197,8 +222,7 @@ fn structs(rt: HostRuntime) -> Result<(), Fail> {
         ),
     ];
     for (fuel, input, want) in cases {
-        let made = of_struct(rt.alloc(), fuel, &input)??;
-        assert!(rt; made.as_slice() == want, "at {fuel}");
+        assert!(rt; is_struct(rt.alloc(), fuel, &input, want)?, "at {fuel}");
     }
     Ok(())
 }
@@ -210,6 +234,15 @@ fn of_limited_array(alloc: Global, fuel: u32, input: &[u8]) -> Result<Answer, Fa
     )
 }
 
+// Whether an array of this length is made of bytes.
+fn is_of_length(alloc: Global, fuel: u32, input: &[u8], length: i32) -> Result<bool, Fail> {
+    let want = [ConstInstr::I32Const(length), ConstInstr::ArrayNewDefault(0)];
+    Ok(told(
+        of_limited_array(alloc, fuel, input)?,
+        |made| is_of(made, &want),
+    ))
+}
+
 #[test]
 fn limited_arrays(rt: HostRuntime) -> Result<(), Fail> {
     let cases = [
@@ -217,9 +250,7 @@ fn limited_arrays(rt: HostRuntime) -> Result<(), Fail> {
         (u32::MAX, [3, 255, 255, 255, 254].as_slice(), -2),
     ];
     for (fuel, input, length) in cases {
-        let made = of_limited_array(rt.alloc(), fuel, input)??;
-        let want = [ConstInstr::I32Const(length), ConstInstr::ArrayNewDefault(0)];
-        assert!(rt; made.as_slice() == want.as_slice(), "at {fuel}");
+        assert!(rt; is_of_length(rt.alloc(), fuel, input, length)?, "at {fuel}");
     }
     Ok(())
 }

@@ -29,7 +29,7 @@ fn reference(nullable: bool, index: u32) -> RefType
 }
 
 /// What the tests compare of a struct type and one below it.
-#[derive(Clone, Copy, PartialEq)]
+#[derive(Clone, Copy, Debug, PartialEq)]
 struct Facts {
     groups: usize,
     depths: [u32; 2],
@@ -75,10 +75,12 @@ fn facts_of_two(alloc: Global) -> Result<Option<Facts>, Fail> {
 
 #[test]
 fn a_struct_and_one_below_it(rt: HostRuntime) -> Result<(), Fail> {
-    let facts = facts_of_two(rt.alloc())?.ok_or("not two types")?;
-    assert_eq!(rt; facts.groups, 1);
-    assert_eq!(rt; facts.depths, [1, 2]);
-    assert_eq!(rt; facts.is_below, [true, false, true, true, false, true]);
+    let want = Facts {
+        groups: 1,
+        depths: [1, 2],
+        is_below: [true, false, true, true, false, true],
+    };
+    assert_eq!(rt; facts_of_two(rt.alloc())?, Some(want));
     Ok(())
 }
 

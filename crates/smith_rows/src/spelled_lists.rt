@@ -8,50 +8,61 @@ use std::alloc::Global;
 use std::test::Fail;
 use wasm_smith::{Config, Error, spell};
 
-// What spells lists, twice.
-fn spelled_twice(
-    alloc: Global,
-    config: &Config,
-    groups: &[Items<SubType>],
-    funcs: &[u32],
-) -> Result<Option<Items<u8>>, Fail> {
-    let first = spell(alloc, config, groups, funcs)?;
-    let second = spell(alloc, config, groups, funcs)?;
-    same(first, second)
+/// What is asked for.
+#[derive(Clone, Copy, Debug)]
+enum Asked {
+    Defaults,
+    /// No types and no imports.
+    NoRoom,
+    /// One type and one function at most, without garbage collection.
+    OneOfEach,
+    /// One result at most.
+    OneResult,
+    NoFuncs,
+    /// One type at least.
+    SomeTypes,
+    /// That everything is exported.
+    Everything,
 }
 
-fn spelled(
-    alloc: Global,
-    config: Config,
-    groups: Items<Items<SubType>>,
-    funcs: &[u32],
-) -> Result<Option<Items<u8>>, Fail> {
-    let groups = groups.into_vec();
-    told(
-        config,
-        |config| spelled_twice(alloc, config, groups.as_slice(), funcs),
-    )
-}
-
-fn is_spelled(found: &Option<Items<u8>>, bytes: &[u8]) -> bool {
-    match found {
-        Some(found) => found.as_slice() == bytes,
-        None => false,
+fn config_of(asked: Asked) -> Config {
+    let mut config = Config::default();
+    match asked {
+        Asked::Defaults => {}
+        Asked::NoRoom => {
+            config.max_types = 0;
+            config.max_imports = 0;
+        }
+        Asked::OneOfEach => {
+            config.gc_enabled = false;
+            config.max_types = 1;
+            config.max_funcs = 1;
+        }
+        Asked::OneResult => config.multi_value_enabled = false,
+        Asked::NoFuncs => config.max_funcs = 0,
+        Asked::SomeTypes => config.min_types = 1,
+        Asked::Everything => config.export_everything = true,
     }
+    config
 }
 
-// One group of one type.
-fn alone(alloc: Global, ty: SubType) -> Result<Items<Items<SubType>>, Error> {
-    let mut group = Items::new(alloc);
-    group.push(ty)?;
-    let mut groups = Items::new(alloc);
-    groups.push(group)?;
-    Ok(groups)
-}
-
-// One group of a final function type that takes and gives nothing.
-fn one_function_type(alloc: Global) -> Result<Items<Items<SubType>>, Error> {
-    alone(alloc, function(alloc, true, &[], &[])?)
+/// A type. The tests hold no type themselves: that is dear to prove.
+#[derive(Clone, Copy, Debug)]
+enum Kind {
+    /// Of functions that take and give nothing.
+    Plain,
+    /// Of functions that take an i32.
+    TakesNumber,
+    /// Of functions that give two i32.
+    GivesTwo,
+    /// An array of constant bytes.
+    Bytes,
+    /// A struct of one variable reference to the first type, which may be null.
+    Refers,
+    /// A struct of 21 constant bytes.
+    TooLong,
+    /// A struct below the first type.
+    Below,
 }
 
 // A final type of this structure.
@@ -90,94 +101,169 @@ const REFERENCE: FieldType = FieldType {
     mutable: true,
 };
 
+fn bytes_array() -> SubType {
+    final_type(CompositeInnerType::Array(ArrayType(BYTE)))
+}
+
+fn type_of(alloc: Global, kind: Kind) -> Result<SubType, Error> {
+    match kind {
+        Kind::Plain => function(alloc, true, &[], &[]),
+        Kind::TakesNumber => function(alloc, true, &[ValType::I32], &[]),
+        Kind::GivesTwo => function(alloc, true, &[], &[ValType::I32, ValType::I32]),
+        Kind::Bytes => Ok(bytes_array()),
+        Kind::Refers => struct_of(alloc, 1, REFERENCE),
+        Kind::TooLong => struct_of(alloc, 21, BYTE),
+        Kind::Below => Ok(empty_struct(alloc, true, Some(0))),
+    }
+}
+
+// A group of one type.
+fn alone(alloc: Global, ty: SubType) -> Result<Items<SubType>, Error> {
+    let mut group = Items::new(alloc);
+    group.push(ty)?;
+    Ok(group)
+}
+
+// A group of one type, or an empty one.
+fn group_of(alloc: Global, kind: Option<Kind>) -> Result<Items<SubType>, Error> {
+    match kind {
+        Some(kind) => alone(alloc, type_of(alloc, kind)?),
+        None => Ok(Items::new(alloc)),
+    }
+}
+
+fn groups_of(alloc: Global, kinds: &[Option<Kind>]) -> Result<Vec<Items<SubType>>, Error> {
+    let mut groups = Vec::new(alloc);
+    for kind in kinds {
+        groups.push(group_of(alloc, *kind)?)?;
+    }
+    Ok(groups)
+}
+
+// What spells lists, twice.
+fn spelled_twice(
+    alloc: Global,
+    config: &Config,
+    groups: &[Items<SubType>],
+    funcs: &[u32],
+) -> Result<Option<Items<u8>>, Fail> {
+    let first = spell(alloc, config, groups, funcs)?;
+    let second = spell(alloc, config, groups, funcs)?;
+    same(first, second)
+}
+
+fn spelled_for(
+    alloc: Global,
+    asked: Asked,
+    groups: &[Items<SubType>],
+    funcs: &[u32],
+) -> Result<Option<Items<u8>>, Fail> {
+    told(
+        config_of(asked),
+        |config| spelled_twice(alloc, config, groups, funcs),
+    )
+}
+
+// What spells groups of these types, and functions.
+fn spelled(
+    alloc: Global,
+    asked: Asked,
+    kinds: &[Option<Kind>],
+    funcs: &[u32],
+) -> Result<Option<Items<u8>>, Fail> {
+    told(
+        groups_of(alloc, kinds)?,
+        |groups| spelled_for(alloc, asked, groups.as_slice(), funcs),
+    )
+}
+
+// Whether these bytes are found, or nothing.
+fn is_wanted(found: &Option<Items<u8>>, want: Option<&[u8]>) -> bool {
+    match (found, want) {
+        (Some(found), Some(bytes)) => found.as_slice() == bytes,
+        (None, None) => true,
+        _ => false,
+    }
+}
+
+// Whether these bytes spell the lists, or, for None, no bytes do.
+fn is_spelled(
+    alloc: Global,
+    asked: Asked,
+    kinds: &[Option<Kind>],
+    funcs: &[u32],
+    want: Option<&[u8]>,
+) -> Result<bool, Fail> {
+    Ok(told(
+        spelled(alloc, asked, kinds, funcs)?,
+        |found| is_wanted(found, want),
+    ))
+}
+
 #[test]
 fn nothing(rt: HostRuntime) -> Result<(), Fail> {
-    let alloc = rt.alloc();
-    let found = spelled(alloc, Config::default(), Items::new(alloc), &[])?;
-    assert!(rt; is_spelled(&found, &[0, 0, 0]));
-    let no_room = Config {
-        max_types: 0,
-        max_imports: 0,
-        ..Config::default()
-    };
-    let found = spelled(alloc, no_room, Items::new(alloc), &[])?;
-    assert!(rt; is_spelled(&found, &[0]));
+    let cases = [
+        (Asked::Defaults, [0, 0, 0].as_slice()),
+        (Asked::NoRoom, [0].as_slice()),
+    ];
+    for (asked, bytes) in cases {
+        assert!(rt;
+            is_spelled(rt.alloc(), asked, &[], &[], Some(bytes))?,
+            "at {asked:?}"
+        );
+    }
     Ok(())
 }
 
 #[test]
 fn one_function(rt: HostRuntime) -> Result<(), Fail> {
-    let alloc = rt.alloc();
-    let found = spelled(alloc, Config::default(), one_function_type(alloc)?, &[0])?;
-    assert!(rt; is_spelled(&found, &[1, 1, 1, 1, 0, 0, 0, 0, 0, 0, 1, 0]));
+    let bytes = [1, 1, 1, 1, 0, 0, 0, 0, 0, 0, 1, 0];
+    let kinds = [Some(Kind::Plain)];
+    assert!(rt; is_spelled(rt.alloc(), Asked::Defaults, &kinds, &[0], Some(&bytes))?);
     Ok(())
 }
 
 #[test]
 fn full_lists(rt: HostRuntime) -> Result<(), Fail> {
-    let alloc = rt.alloc();
-    let one_of_each = Config {
-        gc_enabled: false,
-        max_types: 1,
-        max_funcs: 1,
-        ..Config::default()
-    };
-    let taking = alone(alloc, function(alloc, true, &[ValType::I32], &[])?)?;
-    let found = spelled(alloc, one_of_each, taking, &[0])?;
-    assert!(rt; is_spelled(&found, &[1, 1, 0, 0, 0, 0, 0, 0, 1]));
+    let bytes = [1, 1, 0, 0, 0, 0, 0, 0, 1];
+    let kinds = [Some(Kind::TakesNumber)];
+    assert!(rt; is_spelled(rt.alloc(), Asked::OneOfEach, &kinds, &[0], Some(&bytes))?);
     Ok(())
 }
 
 #[test]
 fn an_array_and_a_struct(rt: HostRuntime) -> Result<(), Fail> {
-    let alloc = rt.alloc();
-    let array = final_type(CompositeInnerType::Array(ArrayType(BYTE)));
-    let mut groups = alone(alloc, array)?;
-    let mut group = Items::new(alloc);
-    group.push(struct_of(alloc, 1, REFERENCE)?)?;
-    groups.push(group)?;
-    let found = spelled(alloc, Config::default(), groups, &[])?;
     let bytes = [1, 1, 1, 0, 0, 0, 1, 1, 1, 1, 2, 1, 2, 5, 1, 0, 1, 0, 0, 0];
-    assert!(rt; is_spelled(&found, &bytes));
+    let kinds = [Some(Kind::Bytes), Some(Kind::Refers)];
+    assert!(rt; is_spelled(rt.alloc(), Asked::Defaults, &kinds, &[], Some(&bytes))?);
     Ok(())
 }
 
 #[test]
 fn outside_the_family(rt: HostRuntime) -> Result<(), Fail> {
-    let alloc = rt.alloc();
-    let too_long = alone(alloc, struct_of(alloc, 21, BYTE)?)?;
-    assert!(rt; spelled(alloc, Config::default(), too_long, &[])?.is_none());
-    let below = alone(alloc, empty_struct(alloc, true, Some(0)))?;
-    assert!(rt; spelled(alloc, Config::default(), below, &[])?.is_none());
-    let mut empty = Items::new(alloc);
-    empty.push(Items::new(alloc))?;
-    assert!(rt; spelled(alloc, Config::default(), empty, &[])?.is_none());
-    let single = Config {
-        multi_value_enabled: false,
-        ..Config::default()
-    };
-    let giving_two = function(alloc, true, &[], &[ValType::I32, ValType::I32])?;
-    assert!(rt; spelled(alloc, single, alone(alloc, giving_two)?, &[])?.is_none());
+    let cases = [
+        (Asked::Defaults, Some(Kind::TooLong)),
+        (Asked::Defaults, Some(Kind::Below)),
+        (Asked::Defaults, None),
+        (Asked::OneResult, Some(Kind::GivesTwo)),
+    ];
+    for (asked, kind) in cases {
+        assert!(rt;
+            is_spelled(rt.alloc(), asked, &[kind], &[], None)?,
+            "at {kind:?}"
+        );
+    }
     Ok(())
 }
 
 #[test]
 fn asking_for_more(rt: HostRuntime) -> Result<(), Fail> {
-    let alloc = rt.alloc();
-    let no_funcs = Config {
-        max_funcs: 0,
-        ..Config::default()
-    };
-    assert!(rt; spelled(alloc, no_funcs, one_function_type(alloc)?, &[0])?.is_none());
-    let some_types = Config {
-        min_types: 1,
-        ..Config::default()
-    };
-    assert!(rt; spelled(alloc, some_types, one_function_type(alloc)?, &[0])?.is_none());
-    let everything = Config {
-        export_everything: true,
-        ..Config::default()
-    };
-    assert!(rt; spelled(alloc, everything, one_function_type(alloc)?, &[0])?.is_none());
+    for asked in [Asked::NoFuncs, Asked::SomeTypes, Asked::Everything] {
+        let kinds = [Some(Kind::Plain)];
+        assert!(rt;
+            is_spelled(rt.alloc(), asked, &kinds, &[0], None)?,
+            "at {asked:?}"
+        );
+    }
     Ok(())
 }
