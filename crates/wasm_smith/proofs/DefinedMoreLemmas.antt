@@ -1,5 +1,5 @@
 -- What is defined behind what stood before stands with it behind the same imports.
-use Rattle.std.proofs.Common.{◌≡◌, ◌∙◌, ℕ, zero, suc, ◌+◌, ◌-◌, List, [], ◌∷◌, ◌++◌, map, length, inl, inr, refl, sym, ap, subst, arith, append_assoc, length-append}
+use Rattle.std.proofs.Common.{◌≡◌, ◌∙◌, ℕ, zero, suc, ◌+◌, ◌-◌, ◌<◌, ◌≤◌, ◌^◌, List, [], ◌∷◌, ◌++◌, map, length, inl, inr, refl, sym, ap, subst, arith, append_assoc, length-append}
 use Rattle.std.specs.Prelude.{◌⊎◌, Option, Some, slice_get, take, All}
 use Rattle.std.proofs.Math.Seq.{take-append_seam}
 use Rattle.std.proofs.lemmas.List.{append-nil, length-map}
@@ -16,6 +16,7 @@ use Rattle.smith_types.specs.declared.entity_type.TableType.{TableType}
 use Rattle.smith_config.specs.declared.config.Config.{Config}
 use Rattle.smith_config.specs.Faults.{Passes}
 use Rattle.smith_config.specs.Features.{features_of}
+use Rattle.smith_config.specs.Sanitized.{IsSanitized}
 use Rattle.smith_contents.proofs.PlaceOfListLemmas.{slice_get-behind}
 use Rattle.smith_imports.specs.Imported.{HasNoFloatValue}
 use Rattle.wasm_smith.specs.Defined.{nothing_defined, HasRoom, AreWithin, MayDefine, StandsBehind, AreFilled, AreDefinedMore, AreDefined, AreGlobalsDefined, HaveNoFloats, standing_in}
@@ -183,6 +184,21 @@ module _ (config : Config) (imported : IndexSpaces) (space : Space) (before late
 
 pub defined_more : (config : Config) (space : Space) (before later : IndexSpaces) (so_far defined : Definitions) → AddsTo config space before so_far later defined → AreDefinedMore config space before so_far later defined
 defined_more config space before later so_far defined adds = record { filled = adds.filled; stands = λ imported now. stands_later config imported space before later so_far defined adds now }
+
+-- items may be defined behind what stands behind imports
+pub may_define_behind : {config : Config} {imported : IndexSpaces} {space : Space} {spaces : IndexSpaces} {defined : Definitions} → Passes config → IsSanitized config → config.min_types ≤ length space.types → length space.types < 2 ^ 32 → HasRoom spaces 0
+    → StandsBehind config imported space spaces defined → MayDefine config space spaces defined
+may_define_behind passes sanitized least few room stands = record {
+  passes = passes;
+  sanitized = sanitized;
+  valid = stands.types;
+  least = least;
+  few = few;
+  entities = stands.entities;
+  counts = stands.counts;
+  room = room;
+  within = stands_within stands;
+}
 
 none_behind : {A : Type 0} (xs : List A) → Defines xs 0 xs
 none_behind xs = record { defined = []; count_is = refl; parts = sym (append-nil xs) }
