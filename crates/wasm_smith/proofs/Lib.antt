@@ -35,3 +35,4 @@ pub mod TypesGrownLemmas
 pub mod GrownSizeLemmas
 pub mod BegunStandsLemmas
 pub mod FreelyImportedLemmas
+pub mod StandsDefinedLemmas
