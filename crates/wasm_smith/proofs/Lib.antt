@@ -36,3 +36,4 @@ pub mod GrownSizeLemmas
 pub mod BegunStandsLemmas
 pub mod FreelyImportedLemmas
 pub mod StandsDefinedLemmas
+pub mod NonNullableLemmas
