@@ -1,6 +1,7 @@
 //! Values that meet the definitions of modules and of how these are drawn, and values that do not, each with its proof.
 #![tactic(auto)]
 
+mod begun;
 mod bounds;
 mod contents;
 mod data_segments;
