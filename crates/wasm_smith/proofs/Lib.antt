@@ -37,3 +37,4 @@ pub mod BegunStandsLemmas
 pub mod FreelyImportedLemmas
 pub mod StandsDefinedLemmas
 pub mod NonNullableLemmas
+pub mod StandsWholeLemmas

@@ -26,7 +26,7 @@ use Rattle.smith_bytes.specs.declared.error.Count.{Count}
 use Rattle.smith_bytes.specs.declared.error.Count.TheVariants as counts
 use Rattle.smith_draw.specs.Bounds.{IsTableWithin, IsMemoryWithin}
 use Rattle.smith_contents.specs.Exporting.{Export}
-use Rattle.wasm_smith.specs.Bounds.{brought, brought_by_module, of_shapes}
+use Rattle.wasm_smith.specs.Bounds.{added, brought, brought_by_module, of_shapes}
 use Rattle.wasm_smith.specs.Defined.{StandsBehind, nothing_defined}
 use Rattle.wasm_smith.specs.Required.{MayRefuseRequired}
 use Rattle.wasm_smith.specs.RequiredExports.{Required, required_at, then_with}
@@ -152,6 +152,19 @@ pub record StandsSoFar (config : Config) (drawn : Drawn) : Type 0 where
   pub stands : StandsBehind config (imported_spaces (flattened drawn.imported.groups)) drawn.types (spaces_in drawn.imported.spaces) drawn.definitions
   pub most : (count : Count) → IsOfEntities count → count_in (spaces_in drawn.imported.spaces) count ≤ max (maximum_of config count) (brought config count)
   pub most_types : length drawn.types.types ≤ max config.max_types (brought config counts.Types)
+  pub most_imports : length (flattened drawn.imported.groups) ≤ max config.max_imports (brought config counts.Imports)
+  pub tables : All (IsTableKept config) drawn.imported.spaces.tables
+  pub memories : All (IsMemoryKept config) drawn.imported.spaces.memories
+  pub type_size : drawn.imported.type_size ≡ size_of_imports config drawn.types.types (flattened drawn.imported.groups)
+  pub within : drawn.imported.type_size ≤ config.max_type_size
+
+-- what stands of a module once a shape's exports are made too: the same, with what these bring
+pub record StandsWhole (config : Config) (drawn : Drawn) : Type 0 where
+  pub groups : All (IsImportsValid (features_of config)) drawn.imported.groups
+  pub count : drawn.imported.count ≡ length (flattened drawn.imported.groups)
+  pub stands : StandsBehind config (imported_spaces (flattened drawn.imported.groups)) drawn.types (spaces_in drawn.imported.spaces) drawn.definitions
+  pub most : (count : Count) → IsOfEntities count → count_in (spaces_in drawn.imported.spaces) count ≤ max (maximum_of config count) (brought config count) + added config count
+  pub most_types : length drawn.types.types ≤ max config.max_types (brought config counts.Types) + added config counts.Types
   pub most_imports : length (flattened drawn.imported.groups) ≤ max config.max_imports (brought config counts.Imports)
   pub tables : All (IsTableKept config) drawn.imported.spaces.tables
   pub memories : All (IsMemoryKept config) drawn.imported.spaces.memories
