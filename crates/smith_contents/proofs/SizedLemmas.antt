@@ -6,9 +6,9 @@ use Rattle.smith_types.specs.Sizes.{value_count}
 use Rattle.smith_types.specs.declared.composite_type.CompositeInnerType.{CompositeInnerType}
 use Rattle.smith_types.specs.declared.composite_type.CompositeInnerType.TheVariants as inners
 use Rattle.smith_types.specs.declared.composite_type.SubType.{SubType}
-use Rattle.smith_config.specs.Shapes.{IsInnerShort, IsShort, shape_types}
+use Rattle.smith_config.specs.Shapes.{IsInnerShort, IsShort, most_listed, shape_types}
 use Rattle.smith_config.specs.declared.shape.Shape.{Shape}
-use Rattle.smith_draw.specs.FuncSizes.{IsSmall, IsSmallInner}
+use Rattle.smith_draw.specs.FuncSizes.{HasFewValues, IsInnerWithin, IsSmall, IsSmallInner}
 use Rattle.smith_contents.specs.Exported.{IsSized}
 
 small_inner : (inner : CompositeInnerType) → IsSmallInner inner → value_count inner + 2 < 2 ^ 32
@@ -16,15 +16,24 @@ small_inner (inners.Func function) small = omega (arith, small.params, small.res
 small_inner (inners.Array array) small = omega arith
 small_inner (inners.Struct structure) small = omega arith
 
-short_inner : (inner : CompositeInnerType) → IsInnerShort inner → value_count inner + 2 < 2 ^ 32
-short_inner (inners.Func function) (params, results) = omega (arith, params, results)
-short_inner (inners.Array array) short = omega arith
-short_inner (inners.Struct structure) short = omega arith
+few_inner : (inner : CompositeInnerType) → IsInnerWithin most_listed inner → value_count inner + 2 < 2 ^ 32
+few_inner (inners.Func function) few = omega (arith, few.params, few.results)
+few_inner (inners.Array array) few = omega arith
+few_inner (inners.Struct structure) few = omega arith
+
+short_inner : (inner : CompositeInnerType) → IsInnerShort inner → IsInnerWithin most_listed inner
+short_inner (inners.Func function) (params, results) = record { params = params; results = results }
+short_inner (inners.Array array) short = tt
+short_inner (inners.Struct structure) short = tt
 
 -- small types are such
 pub small_sized : (types : List SubType) → All IsSmall types → All IsSized types
 small_sized types small = All-weaker IsSmall IsSized (λ t h. small_inner t.composite_type.inner h) types small
 
--- and the types of a shape whose lists are short
-pub shape_sized : (shape : Shape) → IsShort shape → All IsSized (shape_types shape)
-shape_sized shape short = All-weaker (λ (t : SubType). IsInnerShort t.composite_type.inner) IsSized (λ t h. short_inner t.composite_type.inner h) (shape_types shape) short.inner
+-- and those that have no more values than a shape may list
+pub few_sized : (types : List SubType) → All (HasFewValues most_listed) types → All IsSized types
+few_sized types few = All-weaker (HasFewValues most_listed) IsSized (λ t h. few_inner t.composite_type.inner h) types few
+
+-- as the types of a shape whose lists are short
+pub shape_few : (shape : Shape) → IsShort shape → All (HasFewValues most_listed) (shape_types shape)
+shape_few shape short = All-weaker (λ (t : SubType). IsInnerShort t.composite_type.inner) (HasFewValues most_listed) (λ t h. short_inner t.composite_type.inner h) (shape_types shape) short.inner

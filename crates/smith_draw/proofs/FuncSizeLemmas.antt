@@ -1,4 +1,4 @@
--- Drawn function types take at most 20 values and give at most 20.
+-- Drawn function types take at most 20 values and give at most 20, or as many as the function types that they match.
 use Rattle.std.proofs.Common.{◌≡◌, ℕ, zero, suc, ◌≤◌, Bool, true, false, cond, Option, Some, None, List, [], length, refl, arith}
 use Rattle.std.specs.Prelude.{slice_get, All}
 use Rattle.smith_bytes.proofs.GrownLemmas.{cond_both, grow_most}
@@ -10,7 +10,7 @@ use Rattle.smith_types.specs.declared.composite_type.SubType.{SubType}
 use Rattle.smith_config.specs.declared.config.Config.{Config}
 use Rattle.smith_draw.specs.Choices.{chosen_at}
 use Rattle.smith_draw.specs.CompositeTypes.{val_types_at, most_results, func_type_at, inner_of_number_at, inner_number_at, composite_type_at}
-use Rattle.smith_draw.specs.FuncSizes.{IsSmallFunction, IsSmallInner, IsSmall}
+use Rattle.smith_draw.specs.FuncSizes.{IsFunctionWithin, IsInnerWithin, HasFewValues, IsSmallInner, IsSmall}
 use Rattle.smith_draw.specs.MatchingTypes.{each_at, super_val_type_at, matching_val_type_at, matching_func_type_at}
 use Rattle.smith_draw.specs.MatchingComposites.{matching_inner_at, matching_composite_type_at}
 use Rattle.smith_draw.specs.RecGroups.{types_at}
@@ -28,7 +28,7 @@ results_few : (several : Bool) → cond several 20 1 ≤ 20
 results_few true = omega arith
 results_few false = omega arith
 
-function_small : (config : Config) (types : List SubType) (must_share : Bool) (limit : ℕ) (bytes : List ℕ) → IsSmallFunction (func_type_at config types must_share limit bytes).0
+function_small : (config : Config) (types : List SubType) (must_share : Bool) (limit : ℕ) (bytes : List ℕ) → IsFunctionWithin 20 (func_type_at config types must_share limit bytes).0
 unfolding func_type_at
 function_small config types must_share limit bytes =
     let params = val_types_at config types must_share limit 20 bytes in
@@ -49,32 +49,42 @@ root_small config types limit bytes =
     let number = inner_number_at config shared.1 in
     number_small config types shared.0 limit number.0 number.1
 
-matched_function_small : (config : Config) (types : List SubType) (function : FuncType) (bytes : List ℕ) → IsSmallFunction function → IsSmallFunction (matching_func_type_at config types function bytes).0
-unfolding matching_func_type_at
-matched_function_small config types function bytes h =
-    let drawn = each_at (super_val_type_at config types) function.params bytes in
-    let params = length-each_at (super_val_type_at config types) function.params bytes in
-    let results = length-each_at (matching_val_type_at config types) function.results drawn.1 in
-    record { params = omega (arith, h.params); results = omega (arith, h.results) }
+-- whatever bound of 20 or more the function types keep that stand, those that are drawn over them keep too
+module _ (most : ℕ) (enough : 20 ≤ most) where
+  small_within : (inner : CompositeInnerType) → IsSmallInner inner → IsInnerWithin most inner
+  small_within (Array array) h = tt
+  small_within (Func function) h = record { params = omega (arith, enough, h.params); results = omega (arith, enough, h.results) }
+  small_within (Struct structure) h = tt
 
-matched_small : (config : Config) (types : List SubType) (must_share : Bool) (limit : ℕ) (inner : CompositeInnerType) (bytes : List ℕ) → IsSmallInner inner → IsSmallInner (matching_inner_at config types must_share limit inner bytes).0
-matched_small config types must_share limit (Array array) bytes h = tt
-matched_small config types must_share limit (Func function) bytes h = matched_function_small config types function bytes h
-matched_small config types must_share limit (Struct structure) bytes h = tt
+  root_within : (config : Config) (types : List SubType) (limit : ℕ) (bytes : List ℕ) → HasFewValues most (root_type_at config types limit bytes).0
+  root_within config types limit bytes = small_within (root_type_at config types limit bytes).0.composite_type.inner (root_small config types limit bytes)
 
-below_small : (config : Config) (types : List SubType) (limit index : ℕ) (at : Option SubType) (bytes : List ℕ) → ((t : SubType) → at ≡ Some t → IsSmall t) → IsSmall (sub_type_below_at config types limit index at bytes).0
-unfolding matching_composite_type_at
-below_small config types limit index None bytes h = root_small config types limit bytes
-below_small config types limit index (Some t) bytes h = matched_small config types t.composite_type.shared limit t.composite_type.inner bytes (h t refl)
+  matched_function_within : (config : Config) (types : List SubType) (function : FuncType) (bytes : List ℕ) → IsFunctionWithin most function → IsFunctionWithin most (matching_func_type_at config types function bytes).0
+  unfolding matching_func_type_at
+  matched_function_within config types function bytes h =
+      let drawn = each_at (super_val_type_at config types) function.params bytes in
+      let params = length-each_at (super_val_type_at config types) function.params bytes in
+      let results = length-each_at (matching_val_type_at config types) function.results drawn.1 in
+      record { params = omega (arith, h.params, params); results = omega (arith, h.results, results) }
 
-sub_type_small : (config : Config) (types : List SubType) (limit : ℕ) (bytes : List ℕ) → All IsSmall types → IsSmall (sub_type_at config types limit bytes).0
-unfolding sub_type_at sub_type_of_at
-sub_type_small config types limit bytes all =
-    let wanted = supertype_wanted_at config (length (supertypes types)) bytes in
-    let index = chosen_at 0 (supertypes types) wanted.1 in
-    cond_both (λ (r : SubType × List ℕ). IsSmall r.0) wanted.0 (sub_type_of_at config types limit (supertypes types) wanted.1) (root_type_at config types limit wanted.1)
-    (below_small config types limit index.0 (slice_get types index.0) index.1 (λ t at. stands_in IsSmall types index.0 t at all)) (root_small config types limit wanted.1)
+  matched_within : (config : Config) (types : List SubType) (must_share : Bool) (limit : ℕ) (inner : CompositeInnerType) (bytes : List ℕ) → IsInnerWithin most inner → IsInnerWithin most (matching_inner_at config types must_share limit inner bytes).0
+  matched_within config types must_share limit (Array array) bytes h = tt
+  matched_within config types must_share limit (Func function) bytes h = matched_function_within config types function bytes h
+  matched_within config types must_share limit (Struct structure) bytes h = tt
 
--- so are those of a type space that groups are drawn into
-pub types_small : (config : Config) (space : Space) (bytes : List ℕ) → All IsSmall space.types → All IsSmall (types_at config space bytes).0.types
-types_small config space bytes all = types_keep config IsSmall (sub_type_small config) space bytes all
+  below_within : (config : Config) (types : List SubType) (limit index : ℕ) (at : Option SubType) (bytes : List ℕ) → ((t : SubType) → at ≡ Some t → HasFewValues most t) → HasFewValues most (sub_type_below_at config types limit index at bytes).0
+  unfolding matching_composite_type_at
+  below_within config types limit index None bytes h = root_within config types limit bytes
+  below_within config types limit index (Some t) bytes h = matched_within config types t.composite_type.shared limit t.composite_type.inner bytes (h t refl)
+
+  sub_type_within : (config : Config) (types : List SubType) (limit : ℕ) (bytes : List ℕ) → All (HasFewValues most) types → HasFewValues most (sub_type_at config types limit bytes).0
+  unfolding sub_type_at sub_type_of_at
+  sub_type_within config types limit bytes all =
+      let wanted = supertype_wanted_at config (length (supertypes types)) bytes in
+      let index = chosen_at 0 (supertypes types) wanted.1 in
+      cond_both (λ (r : SubType × List ℕ). HasFewValues most r.0) wanted.0 (sub_type_of_at config types limit (supertypes types) wanted.1) (root_type_at config types limit wanted.1)
+      (below_within config types limit index.0 (slice_get types index.0) index.1 (λ t at. stands_in (HasFewValues most) types index.0 t at all)) (root_within config types limit wanted.1)
+
+  -- so do those of a type space that groups are drawn into
+  pub types_within : (config : Config) (space : Space) (bytes : List ℕ) → All (HasFewValues most) space.types → All (HasFewValues most) (types_at config space bytes).0.types
+  types_within config space bytes all = types_keep config (HasFewValues most) (sub_type_within config) space bytes all

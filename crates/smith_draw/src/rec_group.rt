@@ -1,4 +1,4 @@
-ghost use Rattle.std.specs.Prelude.{◌≡◌, ◌≤◌, ◌<◌, ◌+◌, ◌-◌, ◌^◌, ◌++◌, ◌∷◌, [], true, false, length, take, drop, Some, slice_get, slice_index_or, IsTrue, OnOk, OnErr, IfOk, IfErr, All};
+ghost use Rattle.std.specs.Prelude.{◌≡◌, ℕ, ◌≤◌, ◌<◌, ◌+◌, ◌-◌, ◌^◌, ◌++◌, ◌∷◌, [], true, false, length, take, drop, Some, slice_get, slice_index_or, IsTrue, OnOk, OnErr, IfOk, IfErr, All};
 ghost use Rattle.smith_bytes.specs.Source.{KeepsPieces};
 ghost use Rattle.smith_bytes.specs.Takes.{Takes};
 ghost use Rattle.smith_types.specs.Floats.{HasNoFloat};
@@ -10,7 +10,7 @@ ghost use Rattle.smith_config.specs.Shapes.{space_of};
 ghost use Rattle.smith_draw.specs.Callers.{PassesButImports};
 ghost use Rattle.smith_draw.specs.ConstBounds.{HoldsNonNullableField};
 ghost use Rattle.smith_draw.specs.Drawing.{AlwaysDraws, DrawsInto};
-ghost use Rattle.smith_draw.specs.FuncSizes.{IsSmall};
+ghost use Rattle.smith_draw.specs.FuncSizes.{HasFewValues};
 ghost use Rattle.smith_draw.specs.RecGroups.{
   types_left,
   types_until_at,
@@ -325,7 +325,7 @@ pub fn arbitrary_types(
     ensures most { AreTypesValid (features_of config.now) types.old → length types.old.types ≤ config.now.max_types → OnOk result (length types.new.types ≤ config.now.max_types) }
     ensures least { AreTypesValid (features_of config.now) types.old → OnOk result (config.now.min_types ≤ length types.new.types) }
     ensures floats { config.now.allow_floats ≡ false → All HasNoFloat types.old.types → OnOk result (All HasNoFloat types.new.types) }
-    ensures small { All IsSmall types.old.types → OnOk result (All IsSmall types.new.types) }
+    ensures few_values { (most : ℕ) → 20 ≤ most → All (HasFewValues most) types.old.types → OnOk result (All (HasFewValues most) types.new.types) }
     ensures nullable { ¬ HoldsNonNullableField types.old.types → OnOk result (¬ HoldsNonNullableField types.new.types) }
     ensures reach { config.now.min_types ≡ 0 → types.old ≡ space_of [] → OnOk result (Takes (SpellsSpace config.now) u.old types.new u.new) }
 {

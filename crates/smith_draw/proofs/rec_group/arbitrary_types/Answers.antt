@@ -9,9 +9,9 @@ use Rattle.smith_config.specs.Features.{features_of}
 use Rattle.smith_draw.proofs.DrawingLemmas.{of_state}
 use Rattle.smith_draw.proofs.RecGroupLemmas.{types_valid, types_most, types_least}
 use Rattle.smith_draw.specs.ConstBounds.{HoldsNonNullableField}
-use Rattle.smith_draw.specs.FuncSizes.{IsSmall}
+use Rattle.smith_draw.specs.FuncSizes.{HasFewValues}
 use Rattle.smith_draw.proofs.FloatLemmas.{types_no_float}
-use Rattle.smith_draw.proofs.FuncSizeLemmas.{types_small}
+use Rattle.smith_draw.proofs.FuncSizeLemmas.{types_within}
 use Rattle.smith_draw.proofs.NullableLemmas.{types_nullable}
 use Rattle.smith_draw.proofs.TakenLemmas.{types_taken}
 use Rattle.smith_draw.proofs.rec_group.arbitrary_types.Goals as goal
@@ -39,8 +39,8 @@ returns-clause-reach c = λ least empty. on_ok_weaker c.all_types.result (types_
 pub returns-clause-floats : goal.returns-clause-floats
 returns-clause-floats c = λ off all. of_state (λ (space : Space). All HasNoFloat space.types) c.all_types.ensures (types_no_float _ off _ _ all)
 
-pub returns-clause-small : goal.returns-clause-small
-returns-clause-small c = λ all. of_state (λ (space : Space). All IsSmall space.types) c.all_types.ensures (types_small _ _ _ all)
+pub returns-clause-few_values : goal.returns-clause-few_values
+returns-clause-few_values c = λ most enough all. of_state (λ (space : Space). All (HasFewValues most) space.types) c.all_types.ensures (types_within most enough _ _ _ all)
 
 pub returns-clause-nullable : goal.returns-clause-nullable
 returns-clause-nullable c = λ none. of_state (λ (space : Space). ¬ HoldsNonNullableField space.types) c.all_types.ensures (types_nullable _ _ _ none)
