@@ -32,50 +32,6 @@ use Rattle.smith_imports.specs.Imported.{HasNullableElements, IsImported, spaces
 use Rattle.wasm_smith.specs.declared.build.definitions.Definitions.{Definitions}
 use Rattle.smith_imports.specs.declared.imported.Imported.{Imported}
 
--- where no more are imported than may be, the indices of all items have 32 bits
-few_filled : {A : Type 0} {least most : ℕ} {imported space : List A} → IsFilled least most imported space → length imported ≤ most → most ≤ 2 ^ 31 → length space < 2 ^ 32
-few_filled filled few most_few = omega (arith, filled.within, few, most_few)
-
--- contents may be drawn once types, imports and definitions stand
-pub may_hold_contents : {distinct : Bool} {config : Config} {space : Space} {made : Imported} {spaces : IndexSpaces} {defined : Definitions}
-    → Passes config → IsSanitized config → AreTypesValid (features_of config) space → All IsSmall space.types
-    → IsImported config space.types distinct made → AreDefined config space (spaces_of made) spaces defined
-    → MayHoldContents config space spaces made.type_size
-may_hold_contents {space = space} {made = made} passes sanitized types small so_far stand =
-    let behind = rw so_far.counts.spaces at stand in
-    record {
-      passes = passes;
-      sanitized = sanitized;
-      types = types;
-      sized = small_sized space.types small;
-      small = λ no_shapes. small;
-      entities = behind.stands.entities;
-      few = record {
-        funcs = few_filled behind.filled.funcs so_far.fit.within.funcs (passes.few counts.Funcs);
-        tables = few_filled behind.filled.tables so_far.fit.within.tables (passes.few counts.Tables);
-        memories = few_filled behind.filled.memories so_far.fit.within.memories (passes.few counts.Memories);
-        globals = few_filled behind.filled.globals so_far.fit.within.globals (passes.few counts.Globals);
-        tags = few_filled behind.filled.tags so_far.fit.within.tags (passes.few counts.Tags);
-      };
-      tables = behind.filled.tables.enough;
-      memories = behind.filled.memories.enough;
-      globals = behind.filled.globals.enough;
-      within = omega (arith, so_far.counts.type_size, so_far.fit.type_size);
-      small_imports = λ no_shapes. omega (arith, so_far.counts.type_size, so_far.fit.small, so_far.fit.most);
-    }
-
--- no element of a table is then a reference that may not be null
-pub all_nullable : {distinct : Bool} {config : Config} {space : Space} {made : Imported} {spaces : IndexSpaces} {defined : Definitions} → IsImported config space.types distinct made → AreDefined config space (spaces_of made) spaces defined
-    → All HasNullableElements spaces.tables
-all_nullable so_far stand = let behind = rw so_far.counts.spaces at stand in all_behind HasNullableElements so_far.fit.nullable_tables behind.filled.nullable_tables
-
--- what is drawn freely is what is drawn behind exports that are
-pub behind_drawn : (config : Config) (types : List SubType) (imported spaces : IndexSpaces) (size : ℕ) (bytes after : List ℕ) (made : Exports) → exports_at config types spaces size bytes ≡ Ok (made.exports, after)
-    → made.type_size ≡ size + exported_size types spaces made.exports → contents_at config types imported spaces size bytes ≡ behind_exports_at config types imported spaces made after
-unfolding contents_at
-behind_drawn config types imported spaces size bytes after made drawn sized =
-    rw drawn (ap (λ (n : ℕ). behind_exports_at config types imported spaces (record { exports = made.exports; type_size = n }) after) (sym sized))
-
 -- a page has 64 KiB at most
 page_small : (features : Features) (stated : Option ℕ) → IfSome stated (λ log2. ((log2 ≡ 0) ⊎ (log2 ≡ 16)) × IsTrue features.custom_page_sizes) → page_log2 stated ≤ 16
 page_small features None h = omega arith

@@ -200,28 +200,6 @@ may_define_behind passes sanitized least few room stands = record {
   within = stands_within stands;
 }
 
-none_behind : {A : Type 0} (xs : List A) → Defines xs 0 xs
-none_behind xs = record { defined = []; count_is = refl; parts = sym (append-nil xs) }
-
--- imports stand, with nothing defined behind them
-imports_stand : (config : Config) (space : Space) (spaces : IndexSpaces) → MayDefine config space spaces nothing_defined → StandsBehind config spaces space spaces nothing_defined
-imports_stand config space spaces may = record {
-  types = may.valid;
-  entities = may.entities;
-  counts = may.counts;
-  tags = none_behind spaces.tags;
-  funcs = none_behind spaces.funcs;
-  tables = none_behind spaces.tables;
-  memories = none_behind spaces.memories;
-  globals = none_behind spaces.globals;
-  each_table = λ place initial at. absurd cc;
-  each_global = λ place index initial at. absurd cc;
-}
-
-pub defined_first : {config : Config} {space : Space} {imported spaces : IndexSpaces} {defined : Definitions} → MayDefine config space imported nothing_defined → AreDefinedMore config space imported nothing_defined spaces defined
-    → AreDefined config space imported spaces defined
-defined_first {config = config} {space = space} {imported = imported} may more = record { filled = more.filled; stands = more.stands imported (imports_stand config space imported may) }
-
 -- no constant is a float's where nothing is defined
 pub none_float : (spaces : IndexSpaces) → All HasNoFloatValue spaces.globals → HaveNoFloats spaces nothing_defined
 none_float spaces calm = record { globals = calm; tables = All-nil _; initials = All-nil _ }

@@ -34,35 +34,3 @@ may_initialise config space before so_far funcs may valid few =
       few_funcs = omega (arith, few, may.room.funcs, may.passes.few counts.Funcs);
       few_globals = omega (arith, length-take imported before.globals, may.room.globals);
     }
-
--- several memories are imported only where several may be
-memories_imported : (most n : ℕ) → n ≤ most → 1 < n → nat_lt 1 most ≡ true
-memories_imported most n within several = lt-ltb 1 most (omega arith)
-
--- items may be defined behind imports
-pub may_define : {distinct : Bool} {config : Config} {space : Space} {made : Imported} → Passes config → IsSanitized config → AreTypesValid (features_of config) space → config.min_types ≤ length space.types → length space.types < 2 ^ 32
-    → IsImported config space.types distinct made → MayDefine config space (spaces_of made) nothing_defined
-may_define {config = config} {space = space} {made = made} passes sanitized valid least few so_far =
-    let within = so_far.fit.within in
-    let imported = imported_spaces (flattened made.groups) in
-    rw so_far.counts.spaces (record {
-      passes = passes;
-      sanitized = sanitized;
-      valid = valid;
-      least = least;
-      few = few;
-      entities = so_far.fit.entities;
-      counts = record {
-        tags = so_far.fit.tags;
-        several_tables = several_so config.reference_types_enabled config.max_tables 0 (length imported.tables) sanitized.one_table (omega (arith, within.tables)) (λ some. absurd (omega (arith, some)));
-        several_memories = memories_imported config.max_memories (length imported.memories) within.memories;
-      };
-      room = record {
-        tags = omega (arith, within.tags, passes.few counts.Tags);
-        funcs = omega (arith, within.funcs, passes.few counts.Funcs);
-        tables = omega (arith, within.tables, passes.few counts.Tables);
-        memories = omega (arith, within.memories, passes.few counts.Memories);
-        globals = omega (arith, within.globals, passes.few counts.Globals);
-      };
-      within = record { tags = omega arith; funcs = omega arith; memories = omega arith; globals = omega arith };
-    })

@@ -1,25 +1,26 @@
 -- Which module the bytes give, step by step, and what each step leaves: what `exact` of `Module::new` speaks of. What a module
 -- keeps is said apart, and can be believed without it.
-use Rattle.std.specs.Prelude.{ℕ, ◌+◌, ◌-◌, Bool, Option, List, [], length, Result, Ok}
+use Rattle.std.specs.Prelude.{◌≡◌, ℕ, ◌+◌, ◌-◌, Bool, ◌||◌, is_some, Option, Some, None, List, [], length, Result, Ok, Err, if◌then◌else◌}
 use Rattle.smith_bytes.specs.declared.error.Error.{Error}
+use Rattle.smith_bytes.specs.declared.error.Error.TheVariants as errors
 use Rattle.smith_bytes.specs.declared.error.Why.{Why}
 use Rattle.smith_types.specs.Imports.{IndexSpaces, flattened, imported_spaces}
-use Rattle.smith_types.specs.IndexSpaces.{spaces_in}
-use Rattle.smith_types.specs.Space.{Space}
 use Rattle.smith_types.specs.declared.composite_type.SubType.{SubType}
-use Rattle.smith_types.specs.declared.imports.Imports.{Imports}
 use Rattle.smith_types.specs.declared.const_instr.ConstInstr.{ConstInstr}
 use Rattle.smith_config.specs.declared.config.Config.{Config}
-use Rattle.smith_config.specs.Faults.{Passes}
-use Rattle.smith_config.specs.InUse.{HasNoShapes}
+use Rattle.smith_config.specs.declared.shape.Shape.{Shape}
 use Rattle.smith_draw.specs.RecGroups.{types_at}
-use Rattle.wasm_smith.specs.Definitions.{standing_among, tags_at, funcs_at, tables_at, memories_at, globals_at}
-use Rattle.wasm_smith.specs.Defined.{nothing_defined}
-use Rattle.wasm_smith.specs.DrawnContents.{contents_at}
-use Rattle.smith_imports.specs.ImportedEntities.{sizes}
 use Rattle.smith_imports.specs.Importing.{imports_at}
+use Rattle.smith_imports.specs.Steps.{◌>>=◌, section_flag_at}
+use Rattle.smith_contents.specs.AllExports.{exports_at}
+use Rattle.smith_contents.specs.Exporting.{exported_size}
+use Rattle.smith_contents.specs.declared.exported.Exports.{Exports}
+use Rattle.wasm_smith.specs.Begun.{Begun, begun_at, begun_of, size_of_imports}
+use Rattle.wasm_smith.specs.Definitions.{standing_among, tags_at, funcs_at, tables_at, memories_at, globals_at}
+use Rattle.wasm_smith.specs.DrawnContents.{behind_exports_at}
 use Rattle.wasm_smith.specs.Module.{Parts}
-use Rattle.smith_imports.specs.Steps.{Gives, ◌>>=◌, section_flag_at}
+use Rattle.wasm_smith.specs.Refusals.{MayGive}
+use Rattle.wasm_smith.specs.RequiredExports.{Required, required_at, then_with}
 use Rattle.wasm_smith.specs.declared.build.contents.Contents.{Contents}
 use Rattle.wasm_smith.specs.declared.build.definitions.Definitions.{Definitions}
 use Rattle.wasm_smith.specs.declared.build.drawn.Drawn.{Drawn}
@@ -46,25 +47,67 @@ definitions_at config types before defined bytes = do
   let spaces : IndexSpaces = record { tags = tags.0; funcs = funcs.0; tables = tables.0.0; memories = memories.0; globals = globals.0.0 }
   Ok ((spaces, defined_in before defined spaces tables.0.1 globals.0.1), globals.1)
 
--- the module of what is drawn: types, imports, index spaces and what is defined in them, what stands behind these, and whether a
--- section of imports is written; its interesting values are no draw
-abbrev pub module_of : Config → Space → List Imports → IndexSpaces → Definitions → Contents → Bool → Parts
-module_of config types imports spaces definitions contents encodes_imports = record {
-  config = config;
-  types = types.types;
-  groups = types.groups;
-  imports = imports;
-  num_imports = length (flattened imports);
-  tags = spaces.tags;
-  funcs = spaces.funcs;
-  tables = spaces.tables;
-  defined_tables = definitions.tables;
-  memories = spaces.memories;
-  globals = spaces.globals;
-  defined_globals = definitions.globals;
-  num_defined_tags = definitions.num_tags;
-  num_defined_funcs = definitions.num_funcs;
-  num_defined_memories = definitions.num_memories;
+-- what stands, with more types behind those that do
+abbrev pub typed_at : Config → Begun → List ℕ → Begun × List ℕ
+typed_at config begun bytes = let types = types_at config begun.types bytes in (record begun { types = types.0 }, types.1)
+
+-- what a step that may be out of shape gives, as an answer
+abbrev pub in_full : {A : Type 0} → Result A Why → Result A Error
+in_full (Ok drawn) = Ok drawn
+in_full (Err why) = Err (errors.IncorrectFormat why)
+
+-- the same with imports, where no shape fixes them; with `distinct` no two have the same names
+unfoldable pub imported_at : Bool → Config → Begun → List ℕ → Result (Begun × List ℕ) Error
+imported_at distinct config begun bytes =
+    if is_some config.available_imports || is_some config.module_shape then Ok (begun, bytes)
+    else then_with (λ groups. record begun { groups = groups; spaces = imported_spaces (flattened groups) }) (in_full (imports_at config begun.types.types distinct bytes))
+
+-- the same with entities that are defined behind those that stand
+unfoldable pub defined_at : Config → Begun → List ℕ → Result (Begun × List ℕ) Error
+defined_at config begun bytes =
+    then_with (λ (made : IndexSpaces × Definitions). record begun { spaces = made.0; defined = made.1 }) (in_full (definitions_at config begun.types.types begun.spaces begun.defined bytes))
+
+-- what the imports of a module add to its type size
+abbrev pub begun_size : Config → Begun → ℕ
+begun_size config begun = size_of_imports config begun.types.types (flattened begun.groups)
+
+-- the same with exports: those of a module shape stand already, and those of a shape for exports are each of an entity that is
+-- defined for it; else they are drawn
+abbrev pub exported_for : Config → Option Shape → Option Shape → Begun → List ℕ → Result (Begun × List ℕ) Error
+exported_for config (Some shape) exports begun bytes = Ok (begun, bytes)
+exported_for config None (Some shape) begun bytes =
+    then_with (λ (made : Required). record begun { types = made.types; spaces = made.spaces; defined = made.defined; exports = made.exports }) (required_at true config shape begun.types begun.spaces begun.defined bytes)
+exported_for config None None begun bytes = then_with (λ exports. record begun { exports = exports }) (in_full (exports_at config begun.types.types begun.spaces (begun_size config begun) bytes))
+
+unfoldable pub exported_at : Config → Begun → List ℕ → Result (Begun × List ℕ) Error
+exported_at config begun bytes = exported_for config config.module_shape config.exports begun bytes
+
+-- the exports, and the type size of a module that has them: those that a shape fixes add nothing to it
+abbrev pub exports_of : Config → Begun → Exports
+exports_of config begun = record {
+  exports = begun.exports;
+  type_size = begun_size config begun + (if is_some config.module_shape || is_some config.exports then 0 else exported_size begun.types.types begun.spaces begun.exports);
+}
+
+-- the module of what stands and what is drawn behind it, and whether a section of imports is written; it shows no available
+-- imports, and its interesting values are no draw
+abbrev pub module_of : Config → Begun → Contents → Bool → Parts
+module_of config begun contents encodes_imports = record {
+  config = record config { available_imports = None };
+  types = begun.types.types;
+  groups = begun.types.groups;
+  imports = begun.groups;
+  num_imports = length (flattened begun.groups);
+  tags = begun.spaces.tags;
+  funcs = begun.spaces.funcs;
+  tables = begun.spaces.tables;
+  defined_tables = begun.defined.tables;
+  memories = begun.spaces.memories;
+  globals = begun.spaces.globals;
+  defined_globals = begun.defined.globals;
+  num_defined_tags = begun.defined.num_tags;
+  num_defined_funcs = begun.defined.num_funcs;
+  num_defined_memories = begun.defined.num_memories;
   exports = contents.exports;
   start = contents.start;
   elems = contents.segments.elements;
@@ -78,22 +121,28 @@ module_of config types imports spaces definitions contents encodes_imports = rec
   interesting_values64 = [];
 }
 
--- the module that the bytes give, step by step, and what they leave; with `distinct` no two imports have the same names
-unfoldable pub module_at : Bool → Config → List ℕ → Result (Parts × List ℕ) Why
+-- what a module begins with, and the types behind it
+unfoldable pub begun_typed_at : Config → List ℕ → Result (Begun × List ℕ) Error
+begun_typed_at config bytes = do
+  begun ← begun_at config bytes
+  Ok (typed_at config begun.0 begun.1)
+
+-- the module that the bytes give, step by step, and what they leave
+unfoldable pub module_at : Bool → Config → List ℕ → Result (Parts × List ℕ) Error
 module_at distinct config bytes = do
-  let types = types_at config (record { types = []; groups = [] }) bytes
-  imports ← imports_at config types.0.types distinct types.1
-  let imported = imported_spaces (flattened imports.0)
-  let import_flag = section_flag_at (length imports.0) imports.1
-  definitions ← definitions_at config types.0.types imported nothing_defined import_flag.1
-  let spaces = definitions.0.0
-  contents ← contents_at config types.0.types imported spaces (sizes types.0.types (flattened imports.0)) definitions.1
-  Ok (module_of config types.0 imports.0 spaces definitions.0.1 contents.0 import_flag.0, contents.1)
+  typed ← begun_typed_at config bytes
+  imported ← imported_at distinct config typed.0 typed.1
+  let import_flag = section_flag_at (length imported.0.groups) imported.1
+  defined ← defined_at config imported.0 import_flag.1
+  exported ← exported_at config defined.0 defined.1
+  let whole = exported.0
+  contents ← in_full (behind_exports_at config whole.types.types (imported_spaces (flattened whole.groups)) whole.spaces (exports_of config whole) exported.1)
+  Ok (module_of config whole contents.0 import_flag.0, contents.1)
 
 -- the parts that were drawn, as a module
 abbrev pub parts_of : Config → Drawn → Parts
 parts_of config drawn =
-    record (module_of config drawn.types drawn.imported.groups (spaces_in drawn.imported.spaces) drawn.definitions drawn.contents drawn.encodes_imports) {
+    record (module_of config (begun_of drawn) drawn.contents drawn.encodes_imports) {
       num_imports = drawn.imported.count;
       interesting_values32 = drawn.interesting_values32;
       interesting_values64 = drawn.interesting_values64;
@@ -103,7 +152,15 @@ parts_of config drawn =
 abbrev pub as_drawn : Parts → Parts
 as_drawn m = record m { interesting_values32 = []; interesting_values64 = [] }
 
--- an answer is the module that a configuration and bytes give, with what they leave, or the refusal that they give, unless memory
--- ran out; it is told of a configuration that may be drawn for
+-- What drawing gave, with what it left, is what reading gives, unless memory ran out, or there was nothing to choose from: when
+-- that may come is said apart.
+abbrev pub GivesOrLacks : {X Y : Type 0} → (X → Y) → Result X Error → Result Y Error → Type 0
+GivesOrLacks view (Ok x) read = read ≡ Ok (view x)
+GivesOrLacks view (Err errors.Memory) read = Unit {0}
+GivesOrLacks view (Err errors.EmptyChoose) read = Unit {0}
+GivesOrLacks view (Err e) read = read ≡ Err e
+
+-- an answer is the module that a configuration and bytes give, with what they leave, or the refusal that they give; it is told of
+-- a configuration that may be drawn for
 pub record IsGiven (distinct : Bool) (config : Config) (bytes : List ℕ) (answer : Result Parts Error) (left : List ℕ) : Type 0 where
-  pub exact : Passes config → HasNoShapes config → Gives (λ m. (as_drawn m, left)) answer (module_at distinct config bytes)
+  pub exact : MayGive config → GivesOrLacks (λ m. (as_drawn m, left)) answer (module_at distinct config bytes)

@@ -17,7 +17,6 @@ use Rattle.smith_config.specs.InUse.{FixesExports}
 use Rattle.smith_draw.specs.ConstFloats.{GivesNoFloat}
 use Rattle.smith_contents.specs.Held.{HasItems}
 use Rattle.smith_contents.specs.ExportedItems.{AreAllExported}
-use Rattle.smith_contents.specs.AllExports.{exports_at}
 use Rattle.smith_contents.specs.DataSegments.{data_at}
 use Rattle.wasm_smith.specs.Defined.{standing_in}
 use Rattle.wasm_smith.specs.Definitions.{global_scope}
@@ -72,13 +71,6 @@ behind_exports_at config types imported spaces made bytes = do
     },
     code.1,
   )
-
--- what the bytes give where no shape fixes the exports, beside what the imports add to the type size: exports, and what is drawn
--- behind them
-unfoldable pub contents_at : Config → List SubType → IndexSpaces → IndexSpaces → ℕ → List ℕ → Result (Contents × List ℕ) Why
-contents_at config types imported spaces imports_size bytes = do
-  exports ← exports_at config types spaces imports_size bytes
-  behind_exports_at config types imported spaces (record { exports = exports.0; type_size = imports_size + exported_size types spaces exports.0 }) exports.1
 
 -- exports are valid, and within the type size beside what the imports add to it: as they are asked for where no shape fixes them,
 -- and else they add nothing

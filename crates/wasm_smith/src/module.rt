@@ -1,8 +1,8 @@
 ghost use Rattle.std.specs.Prelude.{◌≡◌, false, IfErr};
 ghost use Rattle.wasm_smith.specs.Generated.{is_distinct};
 
-use crate::build::{Drawn, build, shape_left_out};
-use smith_bytes::{Error, ShapeFault, Unstructured};
+use crate::build::{Drawn, build, check_shapes};
+use smith_bytes::{Error, Unstructured};
 use smith_config::Config;
 use smith_types::{
     Code, ConstInstr, DataSegment, ElementSegment, ExportKind, GlobalType, Imports, Items,
@@ -92,9 +92,13 @@ impl Module {
 
     /// Draws a module from the bytes. The configuration is sanitised and checked first.
     ///
-    /// A configuration that fails its check is refused, a minimum that can't be met, exports of everything that pass the type
-    /// size, and want of memory. Until shapes are used, a configuration with a shape is refused before anything is drawn, for the
-    /// shape that is left out: the module shape, else the available imports, else the exports.
+    /// A module shape is used alone; beside one another stand available imports and exports. A shape that is used is kept as it
+    /// is given.
+    ///
+    /// A configuration that fails its check is refused by its first fault, then a shape that fails its check by the first of its
+    /// faults: the module shape, else the available imports and then the exports. Behind these are refused a minimum that can't
+    /// be met, exports of everything that pass the type size, a second memory or table of a shape where one may be, a reference
+    /// of a shape that may not be null and for which there is no value, and want of memory.
     pub fn new(alloc: Global, config: Config, u: &mut Unstructured<'_>) -> Result<Module, Error>
         ensures { IsGenerated false config u.old result u.new }
     {
@@ -115,9 +119,7 @@ impl Module {
         if let Err(fault) = config.check() {
             return Err(Error::Config(fault));
         }
-        if let Some(which) = shape_left_out(&config) {
-            return Err(Error::Shape(which, ShapeFault::LeftOut));
-        }
+        check_shapes(alloc, &config)?;
         build(alloc, config, behavior.is_distinct(), u)
     }
 

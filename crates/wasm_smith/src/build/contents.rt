@@ -3,12 +3,9 @@
 ghost use Rattle.std.specs.Prelude.{◌≡◌, false, IfOk, IfErr, All};
 ghost use Rattle.smith_bytes.specs.Source.{KeepsPieces};
 ghost use Rattle.smith_types.specs.Floats.{HasNoFloat};
-ghost use Rattle.smith_config.specs.InUse.{FixesExports};
-ghost use Rattle.smith_draw.specs.ConstBounds.{HoldsNonNullableField};
 ghost use Rattle.wasm_smith.specs.Contents.{MayHoldContents, MayRefuseContents};
-ghost use Rattle.wasm_smith.specs.DrawnContents.{TellsImported, AreExportsMade, AreContents, HasNoFloatContents, imported_in, behind_exports_at, contents_at};
-ghost use Rattle.smith_imports.specs.Imported.{HasNullableElements, spaces_of};
-ghost use Rattle.wasm_smith.specs.Refusals.{MayRefuse};
+ghost use Rattle.wasm_smith.specs.DrawnContents.{TellsImported, AreExportsMade, AreContents, HasNoFloatContents, imported_in, behind_exports_at};
+ghost use Rattle.smith_imports.specs.Imported.{spaces_of};
 ghost use Rattle.smith_imports.specs.Steps.{Gives};
 
 use crate::build::definitions::Definitions;
@@ -16,7 +13,7 @@ use crate::build::section_flag::section_flag;
 use crate::build::segments::{Segments, all_segments};
 use smith_bytes::{Error, Unstructured};
 use smith_config::Config;
-use smith_contents::{Exports, arbitrary_bodies, arbitrary_exports, arbitrary_start};
+use smith_contents::{Exports, arbitrary_bodies, arbitrary_start};
 use smith_imports::Imported;
 use smith_types::{Code, ExportKind, Items, Name, TypeSpace};
 use std::alloc::Global;
@@ -81,57 +78,4 @@ pub(crate) fn behind_exports(
         segments,
         code,
     })
-}
-
-/// Draws exports, and what stands behind them, where no shape fixes the exports.
-#[tactic(auto, unfolding(crate::specs::DrawnContents::contents_at))]
-pub(crate) fn free_contents(
-    alloc: Global,
-    config: &Config,
-    types: &TypeSpace,
-    imported: &Imported,
-    definitions: &Definitions,
-    u: &mut Unstructured<'_>,
-) -> Result<Contents, Error>
-    requires not_fixed { FixesExports config.now → ⊥ }
-    requires may { MayHoldContents config.now types.now (spaces_of imported.now) imported.now.type_size }
-    requires told { TellsImported (imported_in imported.now) (spaces_of imported.now) definitions.now }
-    ensures exact { Gives (λ contents. (contents, u.new)) result (contents_at config.now types.now.types (imported_in imported.now) (spaces_of imported.now) imported.now.type_size u.old) }
-    ensures kept { IfOk result (AreContents config.now types.now.types (imported_in imported.now) (spaces_of imported.now) imported.now.type_size) }
-    ensures floats { config.now.allow_floats ≡ false → All HasNoFloat types.now.types → IfOk result HasNoFloatContents }
-    ensures refusal { IfErr result (MayRefuseContents config.now types.now.types (spaces_of imported.now)) }
-    ensures left { KeepsPieces u.old u.new }
-{
-    let made = arbitrary_exports(
-        alloc,
-        config,
-        types,
-        &imported.spaces,
-        imported.type_size,
-        u,
-    )?;
-    behind_exports(alloc, config, types, imported, definitions, made, u)
-}
-
-/// Draws the same over types and tables without references that may not be null, so that there always is something to choose from.
-pub(crate) fn draw_contents(
-    alloc: Global,
-    config: &Config,
-    types: &TypeSpace,
-    imported: &Imported,
-    definitions: &Definitions,
-    u: &mut Unstructured<'_>,
-) -> Result<Contents, Error>
-    requires not_fixed { FixesExports config.now → ⊥ }
-    requires may { MayHoldContents config.now types.now (spaces_of imported.now) imported.now.type_size }
-    requires told { TellsImported (imported_in imported.now) (spaces_of imported.now) definitions.now }
-    requires nullable { HoldsNonNullableField types.now.types → ⊥ }
-    requires nullable_tables { All HasNullableElements imported.now.spaces.tables }
-    ensures exact { Gives (λ contents. (contents, u.new)) result (contents_at config.now types.now.types (imported_in imported.now) (spaces_of imported.now) imported.now.type_size u.old) }
-    ensures kept { IfOk result (AreContents config.now types.now.types (imported_in imported.now) (spaces_of imported.now) imported.now.type_size) }
-    ensures floats { config.now.allow_floats ≡ false → All HasNoFloat types.now.types → IfOk result HasNoFloatContents }
-    ensures refusal { IfErr result (MayRefuse config.now) }
-    ensures left { KeepsPieces u.old u.new }
-{
-    free_contents(alloc, config, types, imported, definitions, u)
 }

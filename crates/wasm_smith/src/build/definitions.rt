@@ -1,11 +1,10 @@
-ghost use Rattle.std.specs.Prelude.{◌≡◌, false, IfOk, IfErr, OnOk, All};
+ghost use Rattle.std.specs.Prelude.{◌≡◌, false, IfErr, OnOk, All};
 ghost use Rattle.smith_bytes.specs.Source.{KeepsPieces};
 ghost use Rattle.smith_types.specs.Floats.{HasNoFloat};
 ghost use Rattle.smith_types.specs.IndexSpaces.{spaces_in};
 ghost use Rattle.wasm_smith.specs.Build.{definitions_at};
 ghost use Rattle.smith_imports.specs.Steps.{Gives};
-ghost use Rattle.wasm_smith.specs.Defined.{nothing_defined, MayDefine, MayRefuseDefined, AreDefinedMore, AreDefined, HaveNoFloats};
-ghost use Rattle.smith_imports.specs.Imported.{HasNoFloatValue};
+ghost use Rattle.wasm_smith.specs.Defined.{nothing_defined, MayDefine, MayRefuseDefined, AreDefinedMore, HaveNoFloats};
 
 use crate::build::funcs::funcs;
 use crate::build::globals::globals;
@@ -97,24 +96,4 @@ pub(crate) fn define(
     definitions.num_funcs += spaces.funcs.len() - funcs_before;
     definitions.num_memories += spaces.memories.len() - memories_before;
     Ok(())
-}
-
-/// Defines tags, functions, tables, memories and globals, in this order, behind the imported ones of `spaces`.
-pub(crate) fn define_behind_imports(
-    alloc: Global,
-    config: &Config,
-    types: &TypeSpace,
-    spaces: &mut IndexSpaces,
-    u: &mut Unstructured<'_>,
-) -> Result<Definitions, Error>
-    requires may { MayDefine config.now types.now (spaces_in spaces.old) nothing_defined }
-    ensures exact { Gives (λ defined. ((spaces_in spaces.new, defined), u.new)) result (definitions_at config.now types.now.types (spaces_in spaces.old) nothing_defined u.old) }
-    ensures defined { IfOk result (AreDefined config.now types.now (spaces_in spaces.old) (spaces_in spaces.new)) }
-    ensures floats { config.now.allow_floats ≡ false → All HasNoFloat types.now.types → All HasNoFloatValue spaces.old.globals → IfOk result (HaveNoFloats (spaces_in spaces.new)) }
-    ensures refusal { IfErr result (MayRefuseDefined config.now types.now.types) }
-    ensures left { KeepsPieces u.old u.new }
-{
-    let mut definitions = Definitions::none(alloc);
-    define(alloc, config, types, spaces, &mut definitions, u)?;
-    Ok(definitions)
 }

@@ -1,23 +1,24 @@
-ghost use Rattle.std.specs.Prelude.{◌≡◌, OnOk, IfOk, IfErr};
+//! The parts of a module, drawn step by step.
+
+ghost use Rattle.std.specs.Prelude.{IfErr, IfOk, OnOk};
 ghost use Rattle.smith_bytes.specs.Source.{KeepsPieces};
 ghost use Rattle.smith_config.specs.Faults.{Passes};
-ghost use Rattle.smith_config.specs.InUse.{HasNoShapes};
 ghost use Rattle.smith_config.specs.Sanitized.{IsSanitized};
+ghost use Rattle.wasm_smith.specs.Begun.{HasNothing};
 ghost use Rattle.wasm_smith.specs.Bounds.{KeepsBounds, MeetsMinimums};
-ghost use Rattle.wasm_smith.specs.Build.{parts_of, as_drawn, module_at};
+ghost use Rattle.wasm_smith.specs.Build.{GivesOrLacks, parts_of, as_drawn, module_at};
 ghost use Rattle.wasm_smith.specs.DrawnParts.{IsDrawnFor};
-ghost use Rattle.smith_imports.specs.Imported.{HasNoImports};
 ghost use Rattle.wasm_smith.specs.InterestingValues.{HasInterestingValues};
 ghost use Rattle.wasm_smith.specs.Module.{IsValid};
 ghost use Rattle.wasm_smith.specs.Promises.{KeepsPromises};
-ghost use Rattle.wasm_smith.specs.Refusals.{MayRefuse};
-ghost use Rattle.smith_imports.specs.Steps.{Gives};
+ghost use Rattle.wasm_smith.specs.Refusals.{AreShapesValid, MayRefuse};
+ghost use Rattle.wasm_smith.specs.ShapesKept.{KeepsShapes};
 
-use crate::build::contents::{Contents, draw_contents};
-use crate::build::definitions::{Definitions, define_behind_imports};
-use crate::build::imports::imports;
+use crate::build::contents::{Contents, behind_exports};
+use crate::build::definitions::Definitions;
+use crate::build::exports::exports;
 use crate::build::section_flag::section_flag;
-use crate::build::types::types;
+use crate::build::steps::{add_definitions, add_imports, begin_with_types};
 use crate::interesting_values::interesting_values;
 use smith_bytes::{Error, Unstructured};
 use smith_config::Config;
@@ -41,7 +42,7 @@ pub(crate) struct Drawn {
 impl Drawn {
     /// Nothing, which takes no memory.
     pub(crate) fn none(alloc: Global) -> Self
-        ensures { HasNoImports result.imported }
+        ensures { HasNothing result }
     {
         Drawn {
             types: TypeSpace::new(alloc),
@@ -55,7 +56,7 @@ impl Drawn {
     }
 }
 
-/// Draws the parts into `drawn`, which has no imports yet, in the order of the steps, and collects the interesting values.
+/// Draws the parts into `drawn`, which has nothing yet, in the order of the steps, and collects the interesting values.
 #[tactic(auto, unfolding(crate::specs::Build::module_at))]
 fn parts(
     alloc: Global,
@@ -66,29 +67,32 @@ fn parts(
 ) -> Result<(), Error>
     requires passes { Passes config.now }
     requires sanitized { IsSanitized config.now }
-    requires no_shapes { HasNoShapes config.now }
-    requires none { HasNoImports drawn.old.imported }
-    ensures exact { Gives (λ _. (as_drawn (parts_of config.now drawn.new), u.new)) result (module_at distinct config.now u.old) }
+    requires valid { AreShapesValid config.now }
+    requires nothing { HasNothing drawn.old }
+    ensures exact { GivesOrLacks (λ _. (as_drawn (parts_of config.now drawn.new), u.new)) result (module_at distinct config.now u.old) }
     ensures drawn { OnOk result (IsDrawnFor distinct config.now drawn.new) }
+    ensures kept { OnOk result (KeepsShapes config.now u.old (parts_of config.now drawn.new)) }
     ensures refusal { IfErr result (MayRefuse config.now) }
     ensures left { KeepsPieces u.old u.new }
 {
-    drawn.types = types(alloc, config, u)?;
-    let imported = &mut drawn.imported;
-    imports(alloc, config, distinct, &drawn.types, imported, u)?;
-    drawn.encodes_imports = section_flag(imported.groups.len(), u);
-    drawn.definitions = define_behind_imports(
+    begin_with_types(alloc, config, drawn, u)?;
+    add_imports(alloc, config, distinct, drawn, u)?;
+    drawn.encodes_imports = section_flag(drawn.imported.groups.len(), u);
+    add_definitions(alloc, config, drawn, u)?;
+    let made = exports(alloc, config, drawn, u)?;
+    drawn.contents = behind_exports(
         alloc,
         config,
         &drawn.types,
-        &mut imported.spaces,
+        &drawn.imported,
+        &drawn.definitions,
+        made,
         u,
     )?;
-    drawn.contents = draw_contents(alloc, config, &drawn.types, imported, &drawn.definitions, u)?;
     let (narrow, wide) = interesting_values(
         alloc,
-        imported.spaces.tables.as_slice(),
-        imported.spaces.memories.as_slice(),
+        drawn.imported.spaces.tables.as_slice(),
+        drawn.imported.spaces.memories.as_slice(),
     )?;
     drawn.interesting_values32 = narrow;
     drawn.interesting_values64 = wide;
@@ -104,11 +108,12 @@ pub(crate) fn draw(
 ) -> Result<Box<Drawn>, Error>
     requires passes { Passes config.now }
     requires sanitized { IsSanitized config.now }
-    requires no_shapes { HasNoShapes config.now }
-    ensures exact { Gives (λ drawn. (as_drawn (parts_of config.now drawn.value), u.new)) result (module_at distinct config.now u.old) }
+    requires valid { AreShapesValid config.now }
+    ensures exact { GivesOrLacks (λ drawn. (as_drawn (parts_of config.now drawn.value), u.new)) result (module_at distinct config.now u.old) }
     ensures valid { IfOk result (λ drawn. IsValid (parts_of config.now drawn.value)) }
     ensures bounds { IfOk result (λ drawn. KeepsBounds config.now (parts_of config.now drawn.value)) }
     ensures minimums { IfOk result (λ drawn. MeetsMinimums config.now (parts_of config.now drawn.value)) }
+    ensures shapes { IfOk result (λ drawn. KeepsShapes config.now u.old (parts_of config.now drawn.value)) }
     ensures promises { IfOk result (λ drawn. KeepsPromises distinct config.now (parts_of config.now drawn.value)) }
     ensures interesting { IfOk result (λ drawn. HasInterestingValues (parts_of config.now drawn.value)) }
     ensures refusal { IfErr result (MayRefuse config.now) }

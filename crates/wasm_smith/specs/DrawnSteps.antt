@@ -1,0 +1,126 @@
+-- What each step of drawing a module leaves standing. Rules of this project.
+use Rattle.std.specs.Prelude.{◌≡◌, ℕ, ◌*◌, ◌≤◌, Bool, false, IsTrue, is_some, IfSome, List, [], length, map, All}
+use Rattle.std.specs.List.{AllZip}
+use Rattle.smith_bytes.specs.declared.error.Count.{Count}
+use Rattle.smith_types.specs.Exports.{AreDistinct, AreExportsValid}
+use Rattle.smith_types.specs.Floats.{HasNoFloat}
+use Rattle.smith_types.specs.Grown.{Extends, AreSpacesGrown}
+use Rattle.smith_types.specs.Imports.{flattened}
+use Rattle.smith_types.specs.IndexSpaces.{spaces_in}
+use Rattle.smith_types.specs.declared.composite_type.SubType.{SubType}
+use Rattle.smith_types.specs.declared.entity_type.TableType.{TableType}
+use Rattle.smith_types.specs.declared.imports.Import.{Import}
+use Rattle.smith_config.specs.declared.config.Config.{Config}
+use Rattle.smith_config.specs.declared.shape.Shape.{Shape}
+use Rattle.smith_config.specs.Faults.{minimum_of}
+use Rattle.smith_config.specs.InUse.{HasNoShapes, FixesImports, shapes_of}
+use Rattle.smith_config.specs.Shapes.{most_listed, shape_imports, shape_spaces, shape_types, space_of}
+use Rattle.smith_draw.specs.ConstBounds.{HoldsNonNullableField}
+use Rattle.smith_draw.specs.FuncSizes.{HasFewValues, IsSmall}
+use Rattle.smith_imports.specs.Imported.{HasNoImports, HasNullableElements}
+use Rattle.smith_imports.specs.ShapeImports.{kept_groups, taken_from, count_in}
+use Rattle.smith_imports.specs.declared.imported.Imported.{Imported}
+use Rattle.wasm_smith.specs.Begun.{Begun, StandsSoFar, StandsWhole, IsOfEntities}
+use Rattle.wasm_smith.specs.Defined.{HaveNoFloats, nothing_defined}
+use Rattle.wasm_smith.specs.Refusals.{HoldsNonNullable}
+use Rattle.wasm_smith.specs.ShapesKept.{IsSameExport}
+use Rattle.wasm_smith.specs.declared.build.drawn.Drawn.{Drawn}
+
+-- no field of a type, and no element of a table, is a reference that may not be null
+pub record HoldsNullable (types : List SubType) (tables : List TableType) : Type 0 where
+  pub fields : HoldsNonNullableField types → ⊥
+  pub elements : All HasNullableElements tables
+
+-- without shapes function types are small, and so is what imports add to the type size
+pub record HasSmallSizes (config : Config) (drawn : Drawn) : Type 0 where
+  pub types : All IsSmall drawn.types.types
+  pub imports : drawn.imported.type_size ≤ 42 * config.max_imports
+
+-- no type, no global and no constant is a float's
+pub record HasNoFloatSoFar (drawn : Drawn) : Type 0 where
+  pub types : All HasNoFloat drawn.types.types
+  pub defined : HaveNoFloats (spaces_in drawn.imported.spaces) drawn.definitions
+
+-- what stands so far may be drawn over: function types have no more values than a shape may list, references may be null unless a
+-- shape holds others, and exports that were made are valid
+pub record MayGoOn (config : Config) (drawn : Drawn) : Type 0 where
+  pub so_far : StandsSoFar config drawn
+  pub few_values : All (HasFewValues most_listed) drawn.types.types
+  pub nullable : (HoldsNonNullable config → ⊥) → HoldsNullable drawn.types.types drawn.imported.spaces.tables
+  pub exports : AreExportsValid (spaces_in drawn.imported.spaces) drawn.contents.exports
+  pub least_types : config.min_types ≤ length drawn.types.types
+
+-- types stand, and nothing else
+pub record HasTypesAlone (drawn : Drawn) : Type 0 where
+  pub imports : HasNoImports drawn.imported
+  pub nothing : drawn.definitions ≡ nothing_defined
+  pub small : All IsSmall drawn.types.types
+
+-- what stands once types are drawn behind what a module begins with
+pub record AreTypesDrawn (config : Config) (drawn : Drawn) : Type 0 where
+  pub may : MayGoOn config drawn
+  pub free : (FixesImports config → ⊥) → HasTypesAlone drawn
+  pub floats : config.allow_floats ≡ false → HasNoShapes config → All HasNoFloat drawn.types.types
+
+-- once there are imports
+pub record AreImportsDrawn (config : Config) (drawn : Drawn) : Type 0 where
+  pub may : MayGoOn config drawn
+  pub small : HasNoShapes config → HasSmallSizes config drawn
+  pub floats : config.allow_floats ≡ false → HasNoShapes config → HasNoFloatSoFar drawn
+
+-- imports that no shape fixes: with `distinct` no two have the same names, and there are as many as are asked for
+pub record AreFreeImports (distinct : Bool) (config : Config) (imported : Imported) : Type 0 where
+  pub apart : IsTrue distinct → AreDistinct {A = List ℕ × List ℕ} (map (λ (one : Import). (one.«module», one.name)) (flattened imported.groups))
+  pub least : config.min_imports ≤ imported.count
+
+-- once entities are defined: as many of each kind as are asked for
+pub record AreEntitiesDrawn (config : Config) (drawn : Drawn) : Type 0 where
+  pub may : MayGoOn config drawn
+  pub least : (count : Count) → IsOfEntities count → minimum_of config count ≤ count_in (spaces_in drawn.imported.spaces) count
+  pub small : HasNoShapes config → HasSmallSizes config drawn
+  pub floats : config.allow_floats ≡ false → HasNoShapes config → HasNoFloatSoFar drawn
+
+-- once exports are made too
+pub record AreExportsDrawn (config : Config) (drawn : Drawn) : Type 0 where
+  pub whole : StandsWhole config drawn
+  pub few_values : All (HasFewValues most_listed) drawn.types.types
+  pub nullable : (HoldsNonNullable config → ⊥) → HoldsNullable drawn.types.types drawn.imported.spaces.tables
+  pub least_types : config.min_types ≤ length drawn.types.types
+  pub least : (count : Count) → IsOfEntities count → minimum_of config count ≤ count_in (spaces_in drawn.imported.spaces) count
+  pub small : HasNoShapes config → HasSmallSizes config drawn
+  pub floats : config.allow_floats ≡ false → HasNoShapes config → HasNoFloatSoFar drawn
+
+-- imports are what they were, whatever is defined in their index spaces
+pub record HasSameImports (old new : Imported) : Type 0 where
+  pub groups : new.groups ≡ old.groups
+  pub count : new.count ≡ old.count
+  pub type_size : new.type_size ≡ old.type_size
+
+-- what stood still does: types and entities come behind those that stood, and imports and exports that a shape fixes stay
+pub record IsBeyond (config : Config) (old new : Begun) : Type 0 where
+  pub types : Extends old.types.types new.types.types
+  pub groups : Extends old.types.groups new.types.groups
+  pub imports : FixesImports config → new.groups ≡ old.groups
+  pub spaces : AreSpacesGrown old.spaces new.spaces
+  pub exports : IsTrue (is_some config.module_shape) → new.exports ≡ old.exports
+
+-- the types and groups of a shape come first
+pub record BeginsWithTypes (shape : Shape) (begun : Begun) : Type 0 where
+  pub types : Extends (shape_types shape) begun.types.types
+  pub groups : Extends (space_of shape.groups).groups begun.types.groups
+
+-- a module shape is kept so far
+pub record KeepsModuleSoFar (config : Config) (shape : Shape) (begun : Begun) : Type 0 where
+  pub types : BeginsWithTypes shape begun
+  pub imports : begun.groups ≡ kept_groups config shape
+  pub exports : AllZip (IsSameExport (λ mine yours. mine ≡ yours) begun.spaces (shape_spaces shape)) begun.exports shape.exports
+
+-- available imports are taken, as the input picks them
+pub record KeepsImportsSoFar (config : Config) (bytes : List ℕ) (shape : Shape) (begun : Begun) : Type 0 where
+  pub types : BeginsWithTypes shape begun
+  pub imports : flattened begun.groups ≡ taken_from config (shape_types shape) bytes 0 [] (shape_imports shape)
+
+-- the shapes that a module begins with are kept so far
+pub record KeepsBegun (config : Config) (bytes : List ℕ) (begun : Begun) : Type 0 where
+  pub module_shape : IfSome (shapes_of config).module_shape (λ shape. KeepsModuleSoFar config shape begun)
+  pub available_imports : IfSome (shapes_of config).available_imports (λ shape. KeepsImportsSoFar config bytes shape begun)

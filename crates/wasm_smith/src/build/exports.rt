@@ -1,0 +1,71 @@
+//! The exports of a module.
+
+ghost use Rattle.std.specs.Prelude.{◌≡◌, IfErr, IfOk, IfSome, OnOk};
+ghost use Rattle.std.specs.List.{AllZip};
+ghost use Rattle.smith_bytes.specs.Source.{KeepsPieces};
+ghost use Rattle.smith_types.specs.IndexSpaces.{spaces_in};
+ghost use Rattle.smith_config.specs.Faults.{Passes};
+ghost use Rattle.smith_config.specs.InUse.{shapes_of};
+ghost use Rattle.smith_config.specs.Sanitized.{IsSanitized};
+ghost use Rattle.smith_config.specs.Shapes.{shape_spaces, shape_types};
+ghost use Rattle.wasm_smith.specs.Begun.{begun_of};
+ghost use Rattle.wasm_smith.specs.Build.{GivesOrLacks, exported_at, exports_of};
+ghost use Rattle.wasm_smith.specs.DrawnContents.{AreExportsMade};
+ghost use Rattle.wasm_smith.specs.DrawnSteps.{AreEntitiesDrawn, AreExportsDrawn, HasSameImports, IsBeyond};
+ghost use Rattle.wasm_smith.specs.Refusals.{AreShapesValid, MayRefuse};
+ghost use Rattle.wasm_smith.specs.ShapesKept.{IsSameExport, IsSameType};
+
+use crate::build::drawn::Drawn;
+use crate::build::required_exports::required_exports;
+use smith_bytes::{Error, Unstructured};
+use smith_config::Config;
+use smith_contents::{Exports, arbitrary_exports};
+use smith_types::Items;
+use std::alloc::Global;
+use std::mem;
+
+/// Takes the exports that a module shape made, makes those that a shape fixes, each of an entity that is defined for it, or draws
+/// exports.
+#[tactic(auto, unfolding(crate::specs::Build::exported_at))]
+pub(crate) fn exports(
+    alloc: Global,
+    config: &Config,
+    drawn: &mut Drawn,
+    u: &mut Unstructured<'_>,
+) -> Result<Exports, Error>
+    requires passes { Passes config.now }
+    requires sanitized { IsSanitized config.now }
+    requires valid { AreShapesValid config.now }
+    requires entities { AreEntitiesDrawn config.now drawn.old }
+    ensures exact { GivesOrLacks (λ made. (record (begun_of drawn.new) { exports = made.exports }, u.new)) result (exported_at config.now (begun_of drawn.old) u.old) }
+    ensures size { IfOk result (λ made. made ≡ exports_of config.now (record (begun_of drawn.new) { exports = made.exports })) }
+    ensures drawn { OnOk result (AreExportsDrawn config.now drawn.new) }
+    ensures made { IfOk result (AreExportsMade config.now drawn.new.types.types (spaces_in drawn.new.imported.spaces) drawn.new.imported.type_size) }
+    ensures kept { IfOk result (λ made. IfSome (shapes_of config.now).exports (λ shape.
+        AllZip (IsSameExport (IsSameType drawn.new.types.types (shape_types shape)) (spaces_in drawn.new.imported.spaces) (shape_spaces shape)) made.exports shape.exports)) }
+    ensures imports { OnOk result (HasSameImports drawn.old.imported drawn.new.imported) }
+    ensures beyond { IfOk result (λ made. IsBeyond config.now (begun_of drawn.old) (record (begun_of drawn.new) { exports = made.exports })) }
+    ensures refusal { IfErr result (MayRefuse config.now) }
+    ensures left { KeepsPieces u.old u.new }
+{
+    if config.module_shape.is_some() {
+        let exports = mem::replace(&mut drawn.contents.exports, Items::new(alloc));
+        let type_size = drawn.imported.type_size;
+        return Ok(Exports { exports, type_size });
+    }
+    if let Some(shape) = &config.exports {
+        let exports = required_exports(
+            alloc,
+            config,
+            shape,
+            &mut drawn.types,
+            &mut drawn.imported.spaces,
+            &mut drawn.definitions,
+            u,
+        )?;
+        let type_size = drawn.imported.type_size;
+        return Ok(Exports { exports, type_size });
+    }
+    let size = drawn.imported.type_size;
+    arbitrary_exports(alloc, config, &drawn.types, &drawn.imported.spaces, size, u)
+}

@@ -1,0 +1,97 @@
+//! The steps of drawing a module, up to its definitions.
+
+ghost use Rattle.std.specs.Prelude.{IfErr, OnOk};
+ghost use Rattle.smith_bytes.specs.Source.{KeepsPieces};
+ghost use Rattle.smith_config.specs.Faults.{Passes};
+ghost use Rattle.smith_config.specs.InUse.{FixesImports};
+ghost use Rattle.smith_config.specs.Sanitized.{IsSanitized};
+ghost use Rattle.wasm_smith.specs.Begun.{HasNothing, begun_of};
+ghost use Rattle.wasm_smith.specs.Build.{GivesOrLacks, begun_typed_at, imported_at, defined_at};
+ghost use Rattle.wasm_smith.specs.DrawnSteps.{AreTypesDrawn, AreImportsDrawn, AreFreeImports, AreEntitiesDrawn, HasSameImports, IsBeyond, KeepsBegun};
+ghost use Rattle.wasm_smith.specs.Refusals.{AreShapesValid, MayRefuse};
+
+use crate::build::begun::begin;
+use crate::build::definitions::define;
+use crate::build::drawn::Drawn;
+use crate::build::imports::imports;
+use crate::build::types::more_types;
+use smith_bytes::{Error, Unstructured};
+use smith_config::Config;
+use std::alloc::Global;
+
+/// Begins a module with the shapes that `config` uses, and draws types behind theirs.
+#[tactic(auto, unfolding(crate::specs::Build::begun_typed_at))]
+pub(crate) fn begin_with_types(
+    alloc: Global,
+    config: &Config,
+    drawn: &mut Drawn,
+    u: &mut Unstructured<'_>,
+) -> Result<(), Error>
+    requires passes { Passes config.now }
+    requires sanitized { IsSanitized config.now }
+    requires valid { AreShapesValid config.now }
+    requires nothing { HasNothing drawn.old }
+    ensures exact { GivesOrLacks (λ _. (begun_of drawn.new, u.new)) result (begun_typed_at config.now u.old) }
+    ensures drawn { OnOk result (AreTypesDrawn config.now drawn.new) }
+    ensures kept { OnOk result (KeepsBegun config.now u.old (begun_of drawn.new)) }
+    ensures refusal { IfErr result (MayRefuse config.now) }
+    ensures left { KeepsPieces u.old u.new }
+{
+    begin(alloc, config, drawn, u)?;
+    more_types(alloc, config, &mut drawn.types, u)
+}
+
+/// Draws imports, where no shape fixes them. Where `distinct` is set, no two have the same pair of names.
+#[tactic(auto, unfolding(crate::specs::Build::imported_at))]
+pub(crate) fn add_imports(
+    alloc: Global,
+    config: &Config,
+    distinct: bool,
+    drawn: &mut Drawn,
+    u: &mut Unstructured<'_>,
+) -> Result<(), Error>
+    requires passes { Passes config.now }
+    requires sanitized { IsSanitized config.now }
+    requires types { AreTypesDrawn config.now drawn.old }
+    ensures exact { GivesOrLacks (λ _. (begun_of drawn.new, u.new)) result (imported_at distinct config.now (begun_of drawn.old) u.old) }
+    ensures drawn { OnOk result (AreImportsDrawn config.now drawn.new) }
+    ensures free { (FixesImports config.now → ⊥) → OnOk result (AreFreeImports distinct config.now drawn.new.imported) }
+    ensures beyond { OnOk result (IsBeyond config.now (begun_of drawn.old) (begun_of drawn.new)) }
+    ensures refusal { IfErr result (MayRefuse config.now) }
+    ensures left { KeepsPieces u.old u.new }
+{
+    if config.available_imports.is_some() || config.module_shape.is_some() {
+        return Ok(());
+    }
+    let imported = &mut drawn.imported;
+    imports(alloc, config, distinct, &drawn.types, imported, u)
+}
+
+/// Defines entities behind those that stand.
+#[tactic(auto, unfolding(crate::specs::Build::defined_at))]
+pub(crate) fn add_definitions(
+    alloc: Global,
+    config: &Config,
+    drawn: &mut Drawn,
+    u: &mut Unstructured<'_>,
+) -> Result<(), Error>
+    requires passes { Passes config.now }
+    requires sanitized { IsSanitized config.now }
+    requires valid { AreShapesValid config.now }
+    requires imports { AreImportsDrawn config.now drawn.old }
+    ensures exact { GivesOrLacks (λ _. (begun_of drawn.new, u.new)) result (defined_at config.now (begun_of drawn.old) u.old) }
+    ensures drawn { OnOk result (AreEntitiesDrawn config.now drawn.new) }
+    ensures imports { OnOk result (HasSameImports drawn.old.imported drawn.new.imported) }
+    ensures beyond { OnOk result (IsBeyond config.now (begun_of drawn.old) (begun_of drawn.new)) }
+    ensures refusal { IfErr result (MayRefuse config.now) }
+    ensures left { KeepsPieces u.old u.new }
+{
+    define(
+        alloc,
+        config,
+        &drawn.types,
+        &mut drawn.imported.spaces,
+        &mut drawn.definitions,
+        u,
+    )
+}
