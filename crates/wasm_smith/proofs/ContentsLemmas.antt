@@ -23,10 +23,6 @@ use Rattle.wasm_smith.specs.Contents.{MayHoldContents, AreSpacesOver}
 use Rattle.wasm_smith.specs.Defined.{AreDefined, IsFilled}
 use Rattle.smith_contents.specs.DrawnElements.{MayDrawElements}
 use Rattle.smith_contents.specs.Exported.{MayExport, MayExportFreely, MayDrawExports}
-use Rattle.smith_contents.specs.AllExports.{exports_at}
-use Rattle.smith_contents.specs.Exporting.{exported_size}
-use Rattle.smith_contents.specs.declared.exported.Exports.{Exports}
-use Rattle.wasm_smith.specs.DrawnContents.{behind_exports_at, contents_at}
 use Rattle.smith_contents.proofs.SizedLemmas.{small_sized}
 use Rattle.smith_imports.specs.Imported.{HasNullableElements, IsImported, spaces_of}
 use Rattle.wasm_smith.specs.declared.build.definitions.Definitions.{Definitions}
