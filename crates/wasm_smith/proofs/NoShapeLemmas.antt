@@ -11,7 +11,7 @@ use Rattle.smith_config.specs.Shapes.{Shapes, in_use, no_shapes}
 use Rattle.smith_config.specs.Sanitized.{sanitized}
 use Rattle.wasm_smith.specs.Bounds.{where_given, exported_of, brought_by_module}
 use Rattle.wasm_smith.specs.Module.{shown_config}
-use Rattle.wasm_smith.specs.Refusals.{Brings, shape_for}
+use Rattle.wasm_smith.specs.Refusals.{AreShapesValid, Brings, shape_for}
 use Rattle.wasm_smith.specs.ToCome.{IsLeftOut}
 
 -- none is left out
@@ -33,6 +33,10 @@ none_for : (config : Config) (for_use : Which) → HasNoShapes config → shape_
 none_for config which.ModuleShape none = ap (λ (used : Shapes). used.module_shape) (none_in_use config none)
 none_for config which.AvailableImports none = ap (λ (used : Shapes). used.available_imports) (none_in_use config none)
 none_for config which.Exports none = ap (λ (used : Shapes). used.exports) (none_in_use config none)
+
+-- so those that are used may be handed in
+pub no_shapes_valid : (config : Config) → HasNoShapes config → AreShapesValid config
+no_shapes_valid config none for_use = rw (none_for config for_use none) tt
 
 -- no shape that is used has a property
 pub none_used : (P : Shape → Type 0) (config : Config) (for_use : Which) → HasNoShapes config → IsSomeAnd (shape_for config for_use) P → ⊥
