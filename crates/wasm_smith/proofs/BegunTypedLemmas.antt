@@ -1,11 +1,11 @@
 -- What a module begins with, with types drawn behind those of its shapes, may be drawn over.
-use Rattle.std.proofs.Common.{◌≡◌, ◌∙◌, ℕ, ◌≤◌, max, List, [], length, inl, inr, refl, sym, ap, subst, arith, false}
+use Rattle.std.proofs.Common.{rules, ◌≡◌, ℕ, ◌≤◌, max, List, [], length, inl, inr, refl, sym, ap, subst, arith, false}
 use Rattle.std.specs.Prelude.{All, IfSome, IsSome, OnOk, Option, Some, None, Result, Ok, Err}
 use Rattle.std.specs.List.{Contains}
 use Rattle.std.proofs.lemmas.List.Elements.{All-contains, All-nil, All-weaker}
 use Rattle.smith_bytes.specs.declared.error.Error.{Error}
 use Rattle.smith_bytes.specs.declared.error.Which.TheVariants as which
-use Rattle.smith_types.specs.Exports.{AreDistinct, AreExportsValid, IsEntityAt}
+use Rattle.smith_types.specs.Exports.{AreExportsValid, IsEntityAt}
 use Rattle.smith_types.specs.Floats.{HasNoFloat}
 use Rattle.smith_types.specs.Grown.{Extends}
 use Rattle.smith_types.specs.Imports.{IndexSpaces}
@@ -20,14 +20,14 @@ use Rattle.smith_config.specs.declared.config.Config.{Config}
 use Rattle.smith_config.specs.declared.shape.Shape.{Shape}
 use Rattle.smith_config.specs.Features.{features_of}
 use Rattle.smith_config.specs.InUse.{FixesImports, HasNoShapes}
-use Rattle.smith_config.specs.Shapes.{IsShapeValid, most_listed, shape_spaces, shape_types, space_of}
+use Rattle.smith_config.specs.Shapes.{most_listed, shape_spaces, shape_types, space_of}
 use Rattle.smith_draw.specs.ConstBounds.{HoldsNonNullableField}
 use Rattle.smith_draw.specs.FuncSizes.{HasFewValues, IsSmall}
 use Rattle.smith_imports.specs.Imported.{HasNullableElements}
 use Rattle.smith_contents.proofs.SizedLemmas.{shape_few}
 use Rattle.wasm_smith.specs.Begun.{Begun, HasNothing, IsBegun, IsBegunByModule, IsBegunByImports}
-use Rattle.wasm_smith.specs.DrawnSteps.{AreTypesDrawn, HasTypesAlone, HoldsNullable}
-use Rattle.wasm_smith.specs.Refusals.{AreShapesValid, HoldsNonNullable, shape_for}
+use Rattle.wasm_smith.specs.DrawnSteps.{AreTypesDrawn, HoldsNullable}
+use Rattle.wasm_smith.specs.Refusals.{AreShapesValid, HoldsNonNullable}
 use Rattle.wasm_smith.specs.declared.build.drawn.Drawn.{Drawn}
 use Rattle.wasm_smith.proofs.BegunLemmas.{module_used, imports_used}
 use Rattle.wasm_smith.proofs.BegunStandsLemmas.{begun_stands}
@@ -79,29 +79,25 @@ freely config drawn nothing =
       exports = rw exports (no_exports (spaces_in drawn.imported.spaces));
     }
 
+-- without these shapes none fixes imports
+none_fixes : (config : Config) → config.module_shape ≡ None → config.available_imports ≡ None → FixesImports config → ⊥
+none_fixes config none free (inl fixed) = let given = rw free at fixed in search rules
+none_fixes config none free (inr fixed) = let given = rw none at fixed in search rules
+
 begun_by : (config : Config) (bytes : List ℕ) (drawn : Drawn) (of_module available : Option Shape) → config.module_shape ≡ of_module → config.available_imports ≡ available → AreShapesValid config → IsBegun config bytes drawn → MayBegin config drawn
 begun_by config bytes drawn (Some shape) available given also valid begun = by_module config shape drawn given valid (subst (λ (one : Option Shape). IfSome one (λ each. IsBegunByModule config each drawn)) given begun.by_module)
 begun_by config bytes drawn None (Some shape) none given valid begun = by_imports config shape bytes drawn none given valid (subst (λ (one : Option Shape). IfSome one (λ each. IsBegunByImports config each bytes drawn)) given begun.by_imports)
-begun_by config bytes drawn None None none free valid begun = freely config drawn (begun.freely (λ fixes. elim fixes [
-  | inl available ↦ let none_given = subst (λ (one : Option Shape). IsSome one) free available in absurd cc
-  | inr of_module ↦ let none_given = subst (λ (one : Option Shape). IsSome one) none of_module in absurd cc
-]))
+begun_by config bytes drawn None None none free valid begun = freely config drawn (begun.freely (none_fixes config none free))
 
 -- types behind those that a module begins with: what drawing them keeps
 pub record AreTypesBehind (config : Config) (old new : Space) : Type 0 where
-  pub valid : AreTypesValid (features_of config) new
-  pub longer : Extends old.types new.types
-  pub most : length new.types ≤ max config.max_types (length old.types)
-  pub least : config.min_types ≤ length new.types
-  pub floats : config.allow_floats ≡ false → All HasNoFloat old.types → All HasNoFloat new.types
-  pub few_values : (most : ℕ) → 20 ≤ most → All (HasFewValues most) old.types → All (HasFewValues most) new.types
-  pub nullable : ¬ HoldsNonNullableField old.types → ¬ HoldsNonNullableField new.types
-
-no_imports_fixed : (config : Config) → HasNoShapes config → FixesImports config → ⊥
-no_imports_fixed config none fixes = elim fixes [
-  | inl available ↦ let none_given = subst (λ (one : Option Shape). IsSome one) none.available_imports available in absurd cc
-  | inr of_module ↦ let none_given = subst (λ (one : Option Shape). IsSome one) none.module_shape of_module in absurd cc
-]
+  valid : AreTypesValid (features_of config) new
+  longer : Extends old.types new.types
+  most : length new.types ≤ max config.max_types (length old.types)
+  least : config.min_types ≤ length new.types
+  floats : config.allow_floats ≡ false → All HasNoFloat old.types → All HasNoFloat new.types
+  few_values : (most : ℕ) → 20 ≤ most → All (HasFewValues most) old.types → All (HasFewValues most) new.types
+  nullable : ¬ HoldsNonNullableField old.types → ¬ HoldsNonNullableField new.types
 
 -- what a module has begun with, and types behind it
 types_drawn : (config : Config) (bytes : List ℕ) (drawn : Drawn) (types : Space) → AreShapesValid config → IsBegun config bytes drawn → AreTypesBehind config drawn.types types → AreTypesDrawn config (record drawn { types = types })
@@ -120,9 +116,23 @@ types_drawn config bytes drawn types valid begun more =
         nothing = ap (λ (b : Begun). b.defined) nothing.begun;
         small = more.few_values 20 (omega arith) (subst (λ (all : List SubType). All IsSmall all) (sym (ap (λ (b : Begun). b.types.types) nothing.begun)) (All-nil IsSmall));
       };
-      floats = λ off none. let nothing = begun.freely (no_imports_fixed config none) in
+      floats = λ off none. let nothing = begun.freely (none_fixes config none.module_shape none.available_imports) in
           more.floats off (subst (λ (all : List SubType). All HasNoFloat all) (sym (ap (λ (b : Begun). b.types.types) nothing.begun)) (All-nil HasNoFloat));
     }
+
+stays_within : (most old new : ℕ) → (old ≤ most → new ≤ most) → (most ≤ old → new ≡ old) → new ≤ max most old
+stays_within most old new few full = grind arith
+
+-- so with types that are drawn, where they are
+module _ {X : Type 0} (config : Config) (old new : Space) where
+  pub types_behind : (result : Result X Error) → OnOk result (AreTypesValid (features_of config) new) → OnOk result (Extends old.types new.types)
+      → (length old.types ≤ config.max_types → OnOk result (length new.types ≤ config.max_types)) → (config.max_types ≤ length old.types → OnOk result (new ≡ old)) → OnOk result (config.min_types ≤ length new.types)
+      → (config.allow_floats ≡ false → All HasNoFloat old.types → OnOk result (All HasNoFloat new.types)) → ((most : ℕ) → 20 ≤ most → All (HasFewValues most) old.types → OnOk result (All (HasFewValues most) new.types))
+      → (¬ HoldsNonNullableField old.types → OnOk result (¬ HoldsNonNullableField new.types)) → OnOk result (AreTypesBehind config old new)
+  types_behind (Ok made) valid longer most full least floats few_values nullable =
+      let same : config.max_types ≤ length old.types → length new.types ≡ length old.types = λ filled. ap (λ (space : Space). length space.types) (full filled) in
+      record { valid = valid; longer = longer; most = stays_within config.max_types (length old.types) (length new.types) most same; least = least; floats = floats; few_values = few_values; nullable = nullable }
+  types_behind (Err e) valid longer most full least floats few_values nullable = tt
 
 -- so with types that are drawn, where there is memory for them
 pub drawn_behind : {X : Type 0} (config : Config) (bytes : List ℕ) (drawn : Drawn) (types : Space) (result : Result X Error) → AreShapesValid config → IsBegun config bytes drawn → OnOk result (AreTypesBehind config drawn.types types)
