@@ -1,6 +1,6 @@
 -- What a module begins with, with types drawn behind those of its shapes, may be drawn over.
 use Rattle.std.proofs.Common.{rules, ◌≡◌, ℕ, ◌≤◌, max, List, [], length, inl, inr, refl, sym, ap, subst, arith, false}
-use Rattle.std.specs.Prelude.{All, IfSome, IsSome, OnOk, Option, Some, None, Result, Ok, Err}
+use Rattle.std.specs.Prelude.{All, IfSome, OnOk, Option, Some, None, Result, Ok, Err}
 use Rattle.std.specs.List.{Contains}
 use Rattle.std.proofs.lemmas.List.Elements.{All-contains, All-nil, All-weaker}
 use Rattle.smith_bytes.specs.declared.error.Error.{Error}
@@ -19,7 +19,7 @@ use Rattle.smith_types.specs.declared.entity_type.TableType.{TableType}
 use Rattle.smith_config.specs.declared.config.Config.{Config}
 use Rattle.smith_config.specs.declared.shape.Shape.{Shape}
 use Rattle.smith_config.specs.Features.{features_of}
-use Rattle.smith_config.specs.InUse.{FixesImports, HasNoShapes}
+use Rattle.smith_config.specs.InUse.{FixesImports}
 use Rattle.smith_config.specs.Shapes.{most_listed, shape_spaces, shape_types, space_of}
 use Rattle.smith_draw.specs.ConstBounds.{HoldsNonNullableField}
 use Rattle.smith_draw.specs.FuncSizes.{HasFewValues, IsSmall}
@@ -99,7 +99,7 @@ pub record AreTypesBehind (config : Config) (old new : Space) : Type 0 where
   few_values : (most : ℕ) → 20 ≤ most → All (HasFewValues most) old.types → All (HasFewValues most) new.types
   nullable : ¬ HoldsNonNullableField old.types → ¬ HoldsNonNullableField new.types
 
--- what a module has begun with, and types behind it
+-- what a module has begun with may be drawn over once such types stand behind it
 types_drawn : (config : Config) (bytes : List ℕ) (drawn : Drawn) (types : Space) → AreShapesValid config → IsBegun config bytes drawn → AreTypesBehind config drawn.types types → AreTypesDrawn config (record drawn { types = types })
 types_drawn config bytes drawn types valid begun more =
     let may = begun_by config bytes drawn config.module_shape config.available_imports refl refl valid begun in
@@ -123,7 +123,7 @@ types_drawn config bytes drawn types valid begun more =
 stays_within : (most old new : ℕ) → (old ≤ most → new ≤ most) → (most ≤ old → new ≡ old) → new ≤ max most old
 stays_within most old new few full = grind arith
 
--- so with types that are drawn, where they are
+-- what drawing types says of them, where it ends well
 module _ {X : Type 0} (config : Config) (old new : Space) where
   pub types_behind : (result : Result X Error) → OnOk result (AreTypesValid (features_of config) new) → OnOk result (Extends old.types new.types)
       → (length old.types ≤ config.max_types → OnOk result (length new.types ≤ config.max_types)) → (config.max_types ≤ length old.types → OnOk result (new ≡ old)) → OnOk result (config.min_types ≤ length new.types)
@@ -134,7 +134,7 @@ module _ {X : Type 0} (config : Config) (old new : Space) where
       record { valid = valid; longer = longer; most = stays_within config.max_types (length old.types) (length new.types) most same; least = least; floats = floats; few_values = few_values; nullable = nullable }
   types_behind (Err e) valid longer most full least floats few_values nullable = tt
 
--- so with types that are drawn, where there is memory for them
+-- then what a module has begun with may be drawn over
 pub drawn_behind : {X : Type 0} (config : Config) (bytes : List ℕ) (drawn : Drawn) (types : Space) (result : Result X Error) → AreShapesValid config → IsBegun config bytes drawn → OnOk result (AreTypesBehind config drawn.types types)
     → OnOk result (AreTypesDrawn config (record drawn { types = types }))
 drawn_behind config bytes drawn types (Ok made) valid begun more = types_drawn config bytes drawn types valid begun more

@@ -82,7 +82,7 @@ shape_nullable config for_use shape used none =
     nullable_values (shape_types shape) (shape_spaces shape)
     (λ holds. none (for_use, subst (λ (one : Option Shape). IsSomeAnd one (λ each. Any IsNonNullable (shape_values each))) (sym used) holds))
 
--- the types and tables of a shape hold none either where the shape holds none: what a shape lacks, the configuration that uses it does
+-- where the exports of a module shape may find nothing to choose from, a shape that is used holds such a reference
 shape_lacks : (config : Config) (shape : Shape) → config.module_shape ≡ Some shape → MayLackIn (shape_types shape) shape → HoldsNonNullable config
 shape_lacks config shape given (inl value) = (which.ModuleShape, rw given value)
 shape_lacks config shape given (inr field) = elim (holds_or_not config) [
