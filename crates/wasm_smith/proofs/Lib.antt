@@ -40,3 +40,5 @@ pub mod NonNullableLemmas
 pub mod StandsWholeLemmas
 pub mod KeptShapeLemmas
 pub mod PartsLemmas
+pub mod LackingLemmas
+pub mod BegunTypedLemmas
