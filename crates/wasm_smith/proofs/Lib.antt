@@ -38,3 +38,4 @@ pub mod FreelyImportedLemmas
 pub mod StandsDefinedLemmas
 pub mod NonNullableLemmas
 pub mod StandsWholeLemmas
+pub mod GivenLemmas
