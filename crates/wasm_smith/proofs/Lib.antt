@@ -39,3 +39,4 @@ pub mod StandsDefinedLemmas
 pub mod NonNullableLemmas
 pub mod StandsWholeLemmas
 pub mod GivenLemmas
+pub mod AddedImportLemmas
