@@ -42,3 +42,5 @@ pub mod KeptShapeLemmas
 pub mod PartsLemmas
 pub mod LackingLemmas
 pub mod BegunTypedLemmas
+pub mod GivenLemmas
+pub mod AddedImportLemmas
