@@ -38,3 +38,5 @@ pub mod FreelyImportedLemmas
 pub mod StandsDefinedLemmas
 pub mod NonNullableLemmas
 pub mod StandsWholeLemmas
+pub mod ExportsGrownLemmas
+pub mod BroughtLemmas
