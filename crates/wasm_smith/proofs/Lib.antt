@@ -40,3 +40,4 @@ pub mod NonNullableLemmas
 pub mod StandsWholeLemmas
 pub mod ExportsGrownLemmas
 pub mod BroughtLemmas
+pub mod EntitiesDrawnLemmas

@@ -26,7 +26,7 @@ no_more_than config before spaces filled counts.Globals is = filled.globals.with
 no_more_than config before spaces filled _ is = absurd is
 
 -- what holds of items that stood, and of those that are added by more than that, holds of all
-all_kept_so : {A : Type 0} (Kept Added : A → Type 0) {before space : List A} → ((x : A) → Added x → Kept x) → All Kept before → AreAdded Added before space → All Kept space
+pub all_kept_so : {A : Type 0} (Kept Added : A → Type 0) {before space : List A} → ((x : A) → Added x → Kept x) → All Kept before → AreAdded Added before space → All Kept space
 all_kept_so Kept Added {before = before} more stood added = rw added.parts (All-append Kept before added.more stood (All-weaker Added Kept more added.more added.each))
 
 -- with entities defined behind it, what stands still does, and is not too much
