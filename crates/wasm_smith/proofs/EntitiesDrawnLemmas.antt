@@ -1,5 +1,5 @@
 -- What stands once entities are defined behind imports may be drawn over, and is refused only as a module may be.
-use Rattle.std.proofs.Common.{◌≡◌, ◌≤◌, ◌<◌, ◌+◌, ◌^◌, ℕ, List, length, inl, inr, subst, sym, arith}
+use Rattle.std.proofs.Common.{◌≡◌, ◌≤◌, ◌^◌, ℕ, List, inl, inr, subst, sym, arith}
 use Rattle.std.specs.Prelude.{false, All, Result, Ok, Err, OnOk}
 use Rattle.smith_bytes.specs.declared.error.Count.{Count}
 use Rattle.smith_bytes.specs.declared.error.Count.TheVariants as counts
@@ -15,17 +15,18 @@ use Rattle.smith_config.specs.Sanitized.{IsSanitized}
 use Rattle.smith_draw.specs.ConstBounds.{HoldsNonNullableField}
 use Rattle.smith_imports.specs.Imported.{HasNullableElements}
 use Rattle.smith_imports.specs.ShapeImports.{count_in}
-use Rattle.wasm_smith.specs.Begun.{IsOfEntities, StandsSoFar, begun_of}
+use Rattle.wasm_smith.specs.Begun.{IsOfEntities, StandsSoFar}
 use Rattle.wasm_smith.specs.Defined.{AreDefinedMore, AreFilled, HasRoom, HaveNoFloats, MayDefine, MayRefuseDefined}
 use Rattle.wasm_smith.specs.DrawnSteps.{AreEntitiesDrawn, AreImportsDrawn, MayGoOn}
 use Rattle.wasm_smith.specs.Refusals.{AreShapesValid, HoldsNonNullable, MayRefuse}
 use Rattle.wasm_smith.specs.declared.build.definitions.Definitions.{Definitions}
 use Rattle.wasm_smith.specs.declared.build.drawn.Drawn.{Drawn}
 use Rattle.wasm_smith.proofs.BroughtLemmas.{few_brought}
+use Rattle.wasm_smith.proofs.DefinedLemmas.{all_behind}
 use Rattle.wasm_smith.proofs.DefinedMoreLemmas.{filled_grown, may_define_behind}
 use Rattle.wasm_smith.proofs.ExportsGrownLemmas.{exports_grown}
 use Rattle.wasm_smith.proofs.NonNullableLemmas.{holds_or_not}
-use Rattle.wasm_smith.proofs.StandsDefinedLemmas.{all_kept_so, stands_defined}
+use Rattle.wasm_smith.proofs.StandsDefinedLemmas.{stands_defined}
 
 -- the indices of all entities that stand have 32 bits, also with as many more as a shape may list
 pub room_so_far : (config : Config) (drawn : Drawn) (more : ℕ) → Passes config → AreShapesValid config → StandsSoFar config drawn → more ≤ 2 ^ 29 → HasRoom (spaces_in drawn.imported.spaces) more
@@ -62,7 +63,7 @@ entities_drawn (Ok x) config drawn spaces defined so_far made floats =
       may = record {
         so_far = stands_defined config drawn spaces defined may.so_far made;
         few_values = may.few_values;
-        nullable = λ none. let old = may.nullable none in record { fields = old.fields; elements = all_kept_so HasNullableElements HasNullableElements (λ table h. h) old.elements made.filled.nullable_tables };
+        nullable = λ none. let old = may.nullable none in record { fields = old.fields; elements = all_behind HasNullableElements old.elements made.filled.nullable_tables };
         exports = exports_grown (spaces_in drawn.imported.spaces) (spaces_in spaces) drawn.contents.exports (filled_grown made.filled) may.exports;
         least_types = may.least_types;
       };

@@ -1,6 +1,4 @@
 use Rattle.std.proofs.lemmas.Result.{IfErr-weaker}
-use Rattle.wasm_smith.specs.Defined.{MayRefuseDefined}
-use Rattle.wasm_smith.specs.Refusals.{MayRefuse}
 use Rattle.wasm_smith.proofs.EntitiesDrawnLemmas.{may_define_drawn, entities_drawn, defined_refuse}
 use Rattle.wasm_smith.proofs.build.steps.add_definitions.Goals as goal
 
