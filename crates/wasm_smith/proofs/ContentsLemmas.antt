@@ -20,7 +20,6 @@ use Rattle.smith_draw.specs.FuncSizes.{IsSmall}
 use Rattle.smith_draw.specs.declared.spaces.Spaces.{Spaces}
 use Rattle.wasm_smith.proofs.DefinedLemmas.{all_behind}
 use Rattle.wasm_smith.specs.Contents.{MayHoldContents, AreSpacesOver}
-use Rattle.wasm_smith.specs.Defined.{AreDefined, IsFilled}
 use Rattle.smith_contents.specs.DrawnElements.{MayDrawElements}
 use Rattle.smith_contents.specs.Exported.{MayExport, MayExportFreely, MayDrawExports}
 use Rattle.smith_contents.proofs.SizedLemmas.{small_sized}
