@@ -30,7 +30,6 @@ use Rattle.wasm_smith.specs.Refusals.{AreShapesValid}
 use Rattle.wasm_smith.specs.declared.build.drawn.Drawn.{Drawn}
 use Rattle.wasm_smith.proofs.BroughtLemmas.{few_brought, few_added}
 use Rattle.wasm_smith.proofs.StandsBehindLemmas.{defined_end}
-use Rattle.wasm_smith.specs.Defined.{AreDefined, IsFilled}
 use Rattle.smith_contents.specs.DrawnElements.{MayDrawElements}
 use Rattle.smith_contents.specs.Exported.{MayExport, MayExportFreely, MayDrawExports}
 use Rattle.smith_contents.proofs.SizedLemmas.{few_sized}

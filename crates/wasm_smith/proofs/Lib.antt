@@ -44,3 +44,6 @@ pub mod LackingLemmas
 pub mod BegunTypedLemmas
 pub mod GivenLemmas
 pub mod AddedImportLemmas
+pub mod ExportsGrownLemmas
+pub mod BroughtLemmas
+pub mod EntitiesDrawnLemmas
