@@ -1,6 +1,6 @@
 -- One turn of the loop over the exports that a shape fixes.
 use Rattle.std.proofs.Common.{◌≡◌, ◌∙◌, ◌⊎◌, ℕ, zero, suc, ◌+◌, ◌-◌, ◌<◌, ◌≤◌, Bool, true, false, List, [], ◌∷◌, ◌++◌, length, map, drop, take, get_or, inl, inr, refl, sym, ap, subst, arith, append_assoc}
-use Rattle.std.specs.Prelude.{Some, slice_get, sum_by, Result, Ok, Err, IsErrAnd}
+use Rattle.std.specs.Prelude.{All, Some, slice_get, sum_by, Result, Ok, Err, IsErrAnd}
 use Rattle.std.specs.List.{Any, AllZip}
 use Rattle.std.proofs.lemmas.List.{drop_all, drop_more, take_all, take_more}
 use Rattle.std.proofs.lemmas.List.Elements.{All-nil, All-cons}
@@ -23,8 +23,9 @@ use Rattle.smith_types.proofs.ExportGrowthLemmas.{IsEntityAt-grown}
 use Rattle.smith_types.proofs.ListLemmas.{slice_get-grown, AllZip-weaker}
 use Rattle.smith_config.specs.declared.config.Config.{Config}
 use Rattle.smith_config.specs.declared.shape.Shape.{Shape}
-use Rattle.smith_config.specs.Shapes.{shape_types, shape_spaces, shape_values}
+use Rattle.smith_config.specs.Shapes.{most_listed, shape_types, shape_spaces, shape_values}
 use Rattle.smith_draw.specs.ConstBounds.{IsNonNullable, HoldsNonNullableField}
+use Rattle.smith_draw.specs.FuncSizes.{HasFewValues}
 use Rattle.wasm_smith.specs.Bounds.{counts_as}
 use Rattle.smith_imports.specs.ShapeImports.{count_in}
 use Rattle.smith_contents.specs.Exported.{IsStanding}
@@ -95,6 +96,7 @@ pub record AreRequiring (own_types : Bool) (config : Config) (shape : Shape) (ol
   pub limits : AddsLimitsOf shape old spaces
   pub unchanged : own_types ≡ false → types ≡ old_types
   pub lacking : HoldsNonNullableField types.types → HoldsNonNullableField old_types.types
+  pub few_values : All (HasFewValues most_listed) old_types.types → All (HasFewValues most_listed) types.types
   pub may : MayDefineMore config types spaces defined (length shape.exports - place)
   pub shape_may : MayRequire own_types config shape types
   pub stands : (imported : IndexSpaces) → StandsBehind config imported old_types old old_defined → StandsBehind config imported types spaces defined
@@ -114,6 +116,7 @@ none_required own_types config shape types spaces defined start shape_may may = 
   limits = no_limits shape spaces;
   unchanged = λ off. refl;
   lacking = λ holds. holds;
+  few_values = λ few. few;
   may = let same : length shape.exports - 0 ≡ length shape.exports = omega arith in rw same may;
   shape_may = shape_may;
   stands = λ imported now. now;
@@ -140,6 +143,7 @@ module _ {own_types : Bool} {config : Config} {shape : Shape} {old_types types :
     limits = now.limits;
     unchanged = now.unchanged;
     lacking = now.lacking;
+    few_values = now.few_values;
     stands = now.stands;
   }
 
@@ -201,6 +205,7 @@ module _ {own_types : Bool} {config : Config} {shape : Shape} {old_types types :
           limits = limits_both now.limits more.limits;
           unchanged = λ off. more.unchanged off ∙ now.unchanged off;
           lacking = λ holds. now.lacking (more.lacking holds);
+          few_values = λ few. more.few_values (now.few_values few);
           may = more.may (length shape.exports - (place + 1)) (rw steps at now.may);
           shape_may = record { valid = now.shape_may.valid; present = λ off. extends_both (now.shape_may.present off) more.types_grown };
           stands = λ imported before. more.stands imported (now.stands imported before);
