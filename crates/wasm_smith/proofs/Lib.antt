@@ -38,3 +38,6 @@ pub mod FreelyImportedLemmas
 pub mod StandsDefinedLemmas
 pub mod NonNullableLemmas
 pub mod StandsWholeLemmas
+pub mod BroughtLemmas
+pub mod LackingLemmas
+pub mod MadeExportsLemmas

@@ -89,6 +89,7 @@ pub record AreRequiring (own_types : Bool) (config : Config) (shape : Shape) (ol
   pub so_far : required_from own_types config shape (drop place shape.exports) (standing_with types spaces defined exports) bytes ≡ required_at own_types config shape old_types old old_defined start
   pub same : AllZip (IsSameExport (IsKeptType own_types types.types (shape_types shape)) spaces (shape_spaces shape)) exports (take place shape.exports)
   pub types_grown : Extends old_types.types types.types
+  pub groups_grown : Extends old_types.groups types.groups
   pub types_most : length types.types ≤ length old_types.types + place
   pub spaces_grown : AreSpacesGrown old spaces
   pub counted : (count : Count) → (count ≡ counts.Types → ⊥) → count_in spaces count ≡ count_in old count + sum_by (λ (each : Export). counts_as count each.1) (take place shape.exports)
@@ -109,6 +110,7 @@ none_required own_types config shape types spaces defined start shape_may may = 
   so_far = refl;
   same = tt;
   types_grown = all_kept types.types;
+  groups_grown = all_kept types.groups;
   types_most = omega arith;
   spaces_grown = record { tags = all_kept spaces.tags; funcs = all_kept spaces.funcs; tables = all_kept spaces.tables; memories = all_kept spaces.memories; globals = all_kept spaces.globals };
   counted = λ count other. omega arith;
@@ -137,6 +139,7 @@ module _ {own_types : Bool} {config : Config} {shape : Shape} {old_types types :
   all_required full = record {
     same = rw (take_all place shape.exports full) at now.same;
     types_grown = now.types_grown;
+    groups_grown = now.groups_grown;
     spaces_grown = now.spaces_grown;
     counted = λ count other. rw (take_all place shape.exports full) at now.counted count other;
     types_counted = rw (take_all place shape.exports full) at now.types_counted;
@@ -198,6 +201,7 @@ module _ {own_types : Bool} {config : Config} {shape : Shape} {old_types types :
           so_far = sym here ∙ now.so_far;
           same = rw front (all_zipped_more S exports (take place shape.exports) made one (AllZip-weaker R S still exports (take place shape.exports) now.same) more.same);
           types_grown = extends_both now.types_grown more.types_grown;
+          groups_grown = extends_both now.groups_grown more.groups_grown;
           types_most = omega (arith, now.types_most, more.types_most);
           spaces_grown = grown_both now.spaces_grown more.spaces_grown;
           counted = λ count other. omega (arith, now.counted count other, more.counted count other, sum count);

@@ -18,6 +18,7 @@ use Rattle.smith_types.specs.HeldValues.{values_in}
 use Rattle.smith_types.specs.Imports.{IndexSpaces, tag_of}
 use Rattle.smith_types.specs.IndexSpaces.{with_entity}
 use Rattle.smith_types.specs.Space.{Space}
+use Rattle.smith_types.specs.Types.{next_group}
 use Rattle.smith_types.specs.ValidTypes.{AreTypesValid, values_of}
 use Rattle.smith_types.specs.declared.value_type.ValType.{ValType}
 use Rattle.smith_types.specs.declared.value_type.ValType.TheVariants.{Ref}
@@ -148,6 +149,7 @@ no_field types t function is (k, one, below, at, holds) =
 pub record IsOver (own_types : Bool) (config : Config) (shape : Shape) (space types : Space) (of_kind : ExportKind) (theirs added : EntityType) : Type 0 where
   pub valid : AreTypesValid (features_of config) types
   pub grown : Extends space.types types.types
+  pub groups : Extends space.groups types.groups
   pub most : length types.types ≤ length space.types + 1
   pub counted : length types.types ≤ length space.types + counts_as counts.Types of_kind
   pub entity : AreEntitiesValid (features_of config) types.types (entity_spaces added)
@@ -178,6 +180,7 @@ standing_over : (config : Config) (shape : Shape) (space : Space) (of_kind : Exp
 standing_over config shape space of_kind index theirs may valid at = record {
   valid = valid;
   grown = all_kept space.types;
+  groups = all_kept space.groups;
   most = omega arith;
   counted = omega arith;
   entity = entities_longer (shape_types shape) space.types (entity_spaces theirs) (may.present refl) (one_alone (features_of config) (shape_types shape) (shape_spaces shape) of_kind index theirs may.valid.consistent.entities at);
@@ -219,6 +222,7 @@ module _ (config : Config) (shape : Shape) (space : Space) (may : MayRequire tru
     own_func = record {
       valid = own_types_valid;
       grown = one_more space.types t;
+      groups = one_more space.groups (next_group (space.types ++ t ∷ []) space.groups);
       most = own_most;
       counted = own_most;
       entity = func_alone features (space.types ++ t ∷ []) (length space.types) (function, (t, own_stands, inner));
@@ -234,6 +238,7 @@ module _ (config : Config) (shape : Shape) (space : Space) (may : MayRequire tru
     own_tag none some = record {
       valid = own_types_valid;
       grown = one_more space.types t;
+      groups = one_more space.groups (next_group (space.types ++ t ∷ []) space.groups);
       most = own_most;
       counted = own_most;
       entity = tag_alone features (space.types ++ t ∷ []) (length space.types) (function, (t, own_stands, inner), none);
@@ -251,6 +256,7 @@ module _ (config : Config) (shape : Shape) (space : Space) (may : MayRequire tru
   as_it_is of_kind theirs fits no_tag same kind = record {
     valid = valid;
     grown = all_kept space.types;
+    groups = all_kept space.groups;
     most = omega arith;
     counted = omega arith;
     entity = fits;
@@ -392,6 +398,7 @@ required_more {own_types = own_types} {config = config} {shape = shape} {space =
     same = over.same;
   };
   types_grown = over.grown;
+  groups_grown = over.groups;
   types_most = over.most;
   spaces_grown = rw more.spaces_are (spaces_grown spaces added);
   counted = λ count other. ap (λ (all : IndexSpaces). count_in all count) more.spaces_are ∙ (counted_more spaces added count other ∙ ap (λ (of_one : ExportKind). count_in spaces count + counts_as count of_one) over.kind);

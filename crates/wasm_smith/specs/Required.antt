@@ -104,6 +104,7 @@ pub record AddsLimitsOf (shape : Shape) (old new : IndexSpaces) : Type 0 where
 pub record IsRequiredMore (own_types : Bool) (config : Config) (shape : Shape) (old_types : Space) (old : IndexSpaces) (old_defined : Definitions) (types : Space) (spaces : IndexSpaces) (defined : Definitions) (one made : Export) : Type 0 where
   pub same : IsSameExport (IsKeptType own_types types.types (shape_types shape)) spaces (shape_spaces shape) made one
   pub types_grown : Extends old_types.types types.types
+  pub groups_grown : Extends old_types.groups types.groups
   pub types_most : length types.types ≤ length old_types.types + 1
   pub spaces_grown : AreSpacesGrown old spaces
   pub counted : (count : Count) → (count ≡ counts.Types → ⊥) → count_in spaces count ≡ count_in old count + counts_as count one.1
@@ -119,6 +120,7 @@ pub record IsRequiredMore (own_types : Bool) (config : Config) (shape : Shape) (
 pub record AreRequired (own_types : Bool) (config : Config) (shape : Shape) (old_types : Space) (old : IndexSpaces) (old_defined : Definitions) (types : Space) (spaces : IndexSpaces) (defined : Definitions) (exports : List Export) : Type 0 where
   pub same : AllZip (IsSameExport (IsKeptType own_types types.types (shape_types shape)) spaces (shape_spaces shape)) exports shape.exports
   pub types_grown : Extends old_types.types types.types
+  pub groups_grown : Extends old_types.groups types.groups
   pub spaces_grown : AreSpacesGrown old spaces
   pub counted : (count : Count) → (count ≡ counts.Types → ⊥) → count_in spaces count ≡ count_in old count + exported_of count shape
   pub types_counted : length types.types ≤ length old_types.types + exported_of counts.Types shape

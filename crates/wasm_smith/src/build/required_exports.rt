@@ -121,6 +121,7 @@ pub(crate) fn required_exports(
     ensures valid { IfOk result (AreExportsValid (spaces_in spaces.new)) }
     ensures stands { (imported : Spaces) → StandsBehind config.now imported types.old (spaces_in spaces.old) definitions.old → OnOk result (StandsBehind config.now imported types.new (spaces_in spaces.new) definitions.new) }
     ensures types { OnOk result (Extends types.old.types types.new.types) }
+    ensures groups { OnOk result (Extends types.old.groups types.new.groups) }
     ensures types_most { OnOk result (length types.new.types ≤ length types.old.types + exported_of Types shape.now) }
     ensures lacking { OnOk result (HoldsNonNullableField types.new.types → HoldsNonNullableField types.old.types) }
     ensures few_values { All (HasFewValues most_listed) types.old.types → OnOk result (All (HasFewValues most_listed) types.new.types) }

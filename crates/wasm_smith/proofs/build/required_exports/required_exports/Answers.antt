@@ -38,3 +38,6 @@ returns-clause-lacking c = IfOk-weaker c.push_exports.result _ _ (λ exports mad
 
 pub returns-clause-few_values : goal.returns-clause-few_values
 returns-clause-few_values c = λ few. IfOk-weaker c.push_exports.result _ _ (λ exports made. made.few_values few) c.push_exports.ensures.required
+
+pub returns-clause-groups : goal.returns-clause-groups
+returns-clause-groups c = IfOk-weaker c.push_exports.result _ _ (λ exports made. made.groups_grown) c.push_exports.ensures.required
