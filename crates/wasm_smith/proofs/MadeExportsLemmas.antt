@@ -1,7 +1,6 @@
 -- What stands once the exports of a module are made: those of a module shape, those of a shape for exports, or free ones.
 use Rattle.std.proofs.Common.{◌≡◌, ◌∙◌, ◌⊎◌, ℕ, ◌+◌, ◌<◌, ◌≤◌, ◌^◌, ◌||◌, false, true, List, length, inl, inr, refl, subst, sym, ap, arith}
-use Rattle.std.specs.Prelude.{All, IfSome, IsSome, IsTrue, Option, Some, None, is_some, if◌then◌else◌}
-use Rattle.std.specs.List.{Contains}
+use Rattle.std.specs.Prelude.{All, IfSome, IsSome, Option, Some, None, is_some, if◌then◌else◌}
 use Rattle.std.proofs.lemmas.List.Elements.{All-contains}
 use Rattle.smith_bytes.specs.declared.error.Count.{Count}
 use Rattle.smith_bytes.specs.declared.error.Count.TheVariants as counts
@@ -19,7 +18,7 @@ use Rattle.smith_types.proofs.EntityGrowthLemmas.{no_fewer}
 use Rattle.smith_config.specs.declared.config.Config.{Config}
 use Rattle.smith_config.specs.declared.shape.Shape.{Shape}
 use Rattle.smith_config.specs.Faults.{Passes}
-use Rattle.smith_config.specs.InUse.{FixesExports, FixesImports}
+use Rattle.smith_config.specs.InUse.{FixesExports}
 use Rattle.smith_config.specs.Sanitized.{IsSanitized}
 use Rattle.smith_config.specs.Shapes.{IsShapeValid, most_listed, shape_spaces}
 use Rattle.smith_draw.specs.ConstBounds.{HoldsNonNullableField}
