@@ -1,8 +1,8 @@
 -- A reference that may not be null stands in the types or the tables of a shape only where it is among the shape's values, so a
 -- module begins with one, or is refused for one, only where a shape that is used holds one.
-use Rattle.std.proofs.Common.{◌≡◌, ◌⊎◌, ℕ, ◌<◌, Bool, true, false, List, [], inl, inr, refl, sym, subst, arith}
+use Rattle.std.proofs.Common.{◌≡◌, ◌⊎◌, ◌<◌, Bool, true, false, List, [], inl, inr, refl, sym, subst, arith}
 use Rattle.std.specs.Prelude.{All, IsSomeAnd, Option, Some, None}
-use Rattle.std.specs.List.{Any, Contains}
+use Rattle.std.specs.List.{Any}
 use Rattle.std.proofs.lemmas.List.Elements.{All-cons, All-contains, All-map, All-nil, All-weaker, Contains-get_or}
 use Rattle.smith_bytes.specs.declared.error.Count.{Count}
 use Rattle.smith_bytes.specs.declared.error.Count.TheVariants as counts
@@ -29,11 +29,11 @@ use Rattle.smith_types.proofs.HeldValueLemmas.{held_from_values, all_values_apar
 use Rattle.smith_config.specs.declared.config.Config.{Config}
 use Rattle.smith_config.specs.declared.shape.Shape.{Shape}
 use Rattle.smith_config.specs.Shapes.{shape_spaces, shape_types, shape_values}
-use Rattle.smith_draw.specs.ConstBounds.{HoldsNonNullableField, IsNonNullable}
+use Rattle.smith_draw.specs.ConstBounds.{IsNonNullable}
 use Rattle.smith_draw.specs.ConstScopes.{fields_of}
 use Rattle.smith_imports.specs.Imported.{HasNullableElements}
 use Rattle.wasm_smith.specs.Begun.{MayRefuseBegun}
-use Rattle.wasm_smith.specs.Bounds.{brought_by_module, exported_of}
+use Rattle.wasm_smith.specs.Bounds.{brought_by_module}
 use Rattle.wasm_smith.specs.DrawnSteps.{HoldsNullable}
 use Rattle.wasm_smith.specs.Refusals.{Brings, HoldsNonNullable, MayRefuse, shape_for}
 use Rattle.wasm_smith.specs.Required.{MayLackIn, MayRefuseRequired}
@@ -82,7 +82,7 @@ shape_nullable config for_use shape used none =
     nullable_values (shape_types shape) (shape_spaces shape)
     (λ holds. none (for_use, subst (λ (one : Option Shape). IsSomeAnd one (λ each. Any IsNonNullable (shape_values each))) (sym used) holds))
 
--- the types and tables of a shape hold none either where the shape holds none: what a shape lacks, the configuration that uses it does
+-- where the exports of a module shape may find nothing to choose from, a shape that is used holds such a reference
 shape_lacks : (config : Config) (shape : Shape) → config.module_shape ≡ Some shape → MayLackIn (shape_types shape) shape → HoldsNonNullable config
 shape_lacks config shape given (inl value) = (which.ModuleShape, rw given value)
 shape_lacks config shape given (inr field) = elim (holds_or_not config) [
