@@ -47,3 +47,4 @@ pub mod AddedImportLemmas
 pub mod ExportsGrownLemmas
 pub mod BroughtLemmas
 pub mod EntitiesDrawnLemmas
+pub mod MadeExportsLemmas

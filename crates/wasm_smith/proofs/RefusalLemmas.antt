@@ -98,14 +98,14 @@ lack_exports config short = elim (has_shapes config) [
   | inr some ↦ inl some
 ]
 
-module _ (config : Config) (types : List SubType) (spaces : IndexSpaces) where
-  -- where no shape fixes them, exports are refused where a module may be
-  pub exports_refuse : (e : Error) → (FixesExports config → ⊥) → MayRefuseExports config e → MayRefuseContents config types spaces e
-  exports_refuse e free (inl (all, inl memory)) = subst (MayRefuseContents config types spaces) (sym memory) tt
-  exports_refuse e free (inl (all, inr size)) = subst (MayRefuseContents config types spaces) (sym size) (all, free)
-  exports_refuse e free (inr (some, inl memory)) = subst (MayRefuseContents config types spaces) (sym memory) tt
-  exports_refuse e free (inr (some, inr (unmet, asked, short))) = subst (MayRefuseContents config types spaces) (sym unmet) ((free, some), (asked, lack_exports config short))
+-- where no shape fixes them, exports are refused where a module may be
+pub exports_refuse : (config : Config) (e : Error) → (FixesExports config → ⊥) → MayRefuseExports config e → MayRefuse config e
+exports_refuse config e free (inl (all, inl memory)) = subst (MayRefuse config) (sym memory) tt
+exports_refuse config e free (inl (all, inr size)) = subst (MayRefuse config) (sym size) (all, free)
+exports_refuse config e free (inr (some, inl memory)) = subst (MayRefuse config) (sym memory) tt
+exports_refuse config e free (inr (some, inr (unmet, asked, short))) = subst (MayRefuse config) (sym unmet) ((free, some), (asked, lack_exports config short))
 
+module _ (config : Config) (types : List SubType) (spaces : IndexSpaces) where
   -- element segments are refused where contents may be
   pub elements_refuse : (e : Error) → MayRefuseElements config types spaces.tables e → MayRefuseContents config types spaces e
   elements_refuse e (inl (inl (inl memory))) = subst (MayRefuseContents config types spaces) (sym memory) tt
