@@ -3,11 +3,11 @@ use Rattle.std.proofs.Common.{rules, ◌≡◌, ℕ, Bool, true, false, List, Op
 use Rattle.std.specs.Prelude.{◌⊎◌, ◌↔◌, ◌||◌, IfOk, IfErr, OnOk, IsErrOf, is_err}
 use Rattle.std.specs.Io.KnownBytes.{Appends}
 use Rattle.smith_bytes.specs.declared.error.Error.{Error}
+use Rattle.smith_bytes.specs.declared.error.Error.TheVariants.{Memory}
+use Rattle.smith_config.specs.Arbitrary.{config_at}
 use Rattle.smith_config.specs.Config.{default_config}
-use Rattle.smith_config.specs.Sanitized.{sanitized}
-use Rattle.wasm_smith.specs.Build.{IsGiven}
+use Rattle.wasm_smith.specs.Generated.{IsGenerated}
 use Rattle.wasm_smith.specs.Module.{Parts}
-use Rattle.wasm_smith.specs.ToCome.{Allows}
 use Rattle.smith_run.specs.declared.run.Outcome.{Outcome}
 use Rattle.smith_run.specs.declared.run.RunFault.{RunFault}
 use Rattle.smith_run.specs.declared.run.RunFault.TheVariants as fault
@@ -22,10 +22,15 @@ pub answer_told : (drawn : Bool) (left : Option (List ℕ)) (input : List ℕ) (
 answer_told drawn left input answer before after (Ok outcome) read allowed written told = inl (record { input = input; answer = answer; read = read; allowed = allowed; written = written; told = told })
 answer_told drawn left input answer before after (Err e) read allowed written told = search rules
 
--- what the default configuration allows and the input gives may be answered where no configuration is drawn
-pub answered_by_default : (drawn : Bool) (input : List ℕ) (answer : Result Parts Error) (left : List ℕ) → drawn ≡ false → Allows default_config answer → IsGiven false (sanitized default_config) input answer left → MayAnswer drawn input answer
-answered_by_default false input answer left off allowed given = record { allowed = allowed; left = left; given = given }
-answered_by_default true input answer left off allowed given = cc
+-- what is answered for the default configuration may be where no configuration is drawn
+pub answered_by_default : (drawn : Bool) (input : List ℕ) (answer : Result Parts Error) (left : List ℕ) → drawn ≡ false → IsGenerated false default_config input answer left → IfErr answer (λ e. e ≡ Memory) → MayAnswer drawn input answer
+answered_by_default false input answer left off generated memory_alone = record { answered = record { left = left; generated = generated }; memory_alone = memory_alone }
+answered_by_default true input answer left off generated memory_alone = cc
+
+-- what is answered for the configuration that the input gives may be where one is drawn
+pub answered_as_drawn : (drawn : Bool) (input : List ℕ) (answer : Result Parts Error) (left : List ℕ) → drawn ≡ true → IsGenerated false (config_at input).0 (config_at input).1 answer left → MayAnswer drawn input answer
+answered_as_drawn false input answer left on generated = cc
+answered_as_drawn true input answer left on generated = record { left = left; generated = generated }
 
 -- the sink has failed exactly where this is answered
 pub failed_writing : (before after : Bool) (result : Result Outcome RunFault) → before ≡ false → IfErr result (λ e. e ≡ fault.Write) → after ≡ (before || is_err result)

@@ -1,31 +1,33 @@
 -- What a run of the program comes to.
-use Rattle.std.specs.Prelude.{◌≡◌, ℕ, List, Bool, true, false, Option, Result, Ok, Err}
+use Rattle.std.specs.Prelude.{◌≡◌, ℕ, List, Bool, true, false, Option, Result, Ok, Err, IfErr}
 use Rattle.std.specs.Io.KnownBytes.{Appends}
 use Rattle.smith_bytes.specs.declared.error.Error.{Error}
 use Rattle.smith_bytes.specs.declared.error.Error.TheVariants.{Memory}
 use Rattle.smith_config.specs.Arbitrary.{config_at}
 use Rattle.smith_config.specs.Config.{default_config}
-use Rattle.smith_config.specs.Sanitized.{sanitized}
 use Rattle.smith_config.specs.declared.config.Config.{Config}
-use Rattle.wasm_smith.specs.Build.{IsGiven}
+use Rattle.wasm_smith.specs.Generated.{IsGenerated}
 use Rattle.wasm_smith.specs.Module.{Parts}
-use Rattle.wasm_smith.specs.ToCome.{Allows}
 use Rattle.smith_run.specs.declared.run.Outcome.{Outcome}
 use Rattle.smith_run.specs.declared.run.Outcome.TheVariants.{Made, Refused}
 use Rattle.smith_run.specs.declared.run.RunFault.{RunFault}
 use Rattle.smith_run.specs.Input.{AreKnown}
 use Rattle.smith_run.specs.Line.{line_of}
 
--- the generator may answer this for a configuration and bytes: what the configuration allows, and what the bytes give
+-- the generator may answer this for a configuration and bytes, of which some are left: all that it promises holds of it
 pub record Answers (config : Config) (bytes : List ℕ) (answer : Result Parts Error) : Type 0 where
-  pub allowed : Allows config answer
   pub left : List ℕ
-  pub given : IsGiven false (sanitized config) bytes answer left
+  pub generated : IsGenerated false config bytes answer left
+
+-- it may answer this for the default configuration: a module, or that there was no memory
+pub record AnswersByDefault (bytes : List ℕ) (answer : Result Parts Error) : Type 0 where
+  pub answered : Answers default_config bytes answer
+  pub memory_alone : IfErr answer (λ e. e ≡ Memory)
 
 -- it may answer this for the input: with the default configuration, or with the one that the input gives first and the bytes that
 -- this leaves
 abbrev pub MayAnswer : Bool → List ℕ → Result Parts Error → Type 0
-MayAnswer false input answer = Answers default_config input answer
+MayAnswer false input answer = AnswersByDefault input answer
 MayAnswer true input answer = let drawn = config_at input in Answers drawn.0 drawn.1 answer
 
 -- the outcome that says which answer it was

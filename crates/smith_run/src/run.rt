@@ -63,7 +63,7 @@ fn generated(alloc: Global, drawn: bool, input: &[u8]) -> Result<Module, Error>
         let config = Config::arbitrary(&mut u)?;
         return Module::new(alloc, config, &mut u);
     }
-    Module::new(alloc, Config::default(), &mut u)
+    Module::arbitrary(alloc, &mut u)
 }
 
 fn tell<W: Sink>(w: &mut W, answer: &Result<Module, Error>) -> Result<Outcome, RunFault>

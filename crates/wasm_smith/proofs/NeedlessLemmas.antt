@@ -1,40 +1,81 @@
--- Where nothing stands against a module, only want of memory refuses it.
-use Rattle.std.proofs.Common.{◌≡◌, ◌<◌, false, refl, arith}
+-- Where nothing stands against a module, only want of memory refuses it; and what the shape that is refused first tells.
+use Rattle.std.proofs.Common.{◌≡◌, ◌<◌, ℕ, refl, sym, arith, inl, inr, subst}
+use Rattle.std.specs.Prelude.{IsSome, IsSomeAnd, IfSome, Option, Some, None}
 use Rattle.smith_bytes.specs.declared.error.Error.{Error}
 use Rattle.smith_bytes.specs.declared.error.Error.TheVariants as errors
+use Rattle.smith_bytes.specs.declared.error.ShapeFault.{ShapeFault}
 use Rattle.smith_bytes.specs.declared.error.Why.{Why}
 use Rattle.smith_bytes.specs.declared.error.Why.TheVariants as reasons
+use Rattle.smith_bytes.specs.declared.error.Count.{Count}
 use Rattle.smith_bytes.specs.declared.error.Count.TheVariants as counts
+use Rattle.smith_bytes.specs.declared.error.Which.{Which}
+use Rattle.smith_bytes.specs.declared.error.Which.TheVariants as which
 use Rattle.smith_config.specs.declared.config.Config.{Config}
-use Rattle.smith_config.specs.Faults.{Passes, minimum_of}
+use Rattle.smith_config.specs.declared.shape.Shape.{Shape}
+use Rattle.smith_config.specs.Faults.{minimum_of}
+use Rattle.smith_config.specs.InUse.{shapes_of}
+use Rattle.smith_config.specs.ShapeFaults.{HasShapeFault, IsRefused}
+use Rattle.smith_config.specs.Shapes.{IsShapeValid}
 use Rattle.smith_config.proofs.FaultLemmas.{no_fault}
-use Rattle.smith_config.specs.InUse.{HasNoShapes}
-use Rattle.smith_spell.specs.Minimums.{HasNoMinimums}
-use Rattle.wasm_smith.specs.Refusals.{MayRefuse}
-use Rattle.wasm_smith.specs.ToCome.{MayComeOut}
-use Rattle.wasm_smith.proofs.NoShapeLemmas.{none_used, none_brought}
+use Rattle.smith_config.proofs.ShapeLemmas.{no_fault as no_shape_fault}
+use Rattle.wasm_smith.specs.Bounds.{where_given, exported_of, brought_by_module}
+use Rattle.wasm_smith.specs.CheckedShapes.{IsFirstFaulty}
+use Rattle.wasm_smith.specs.Refusals.{AreShapesValid, AsksNothingImpossible, Brings, HasShape, MayRefuse, shape_for}
 
--- without shapes a refusal that may come when shapes are used may come before
-pub may_come_out : (config : Config) (e : Error) → HasNoShapes config → MayRefuse config e → MayComeOut config e
-may_come_out config errors.Memory none h = h
-may_come_out config (errors.Config fault) none h = h
-may_come_out config (errors.IncorrectFormat why) none h = h
-may_come_out config errors.EmptyChoose none h = h
-may_come_out config errors.NotEnoughData none h = h
-may_come_out config (errors.Shape for_use of_shape) none h = absurd (none_used _ config for_use none h)
+given_some : (of_shape : Shape → ℕ) (given : Option Shape) → 0 < where_given of_shape given → IsSome given
+given_some of_shape (Some shape) some = refl
+given_some of_shape None some = absurd (omega (arith, some))
 
-out_of_shape : (config : Config) (why : Why) → HasNoShapes config → HasNoMinimums config → config.export_everything ≡ false → MayRefuse config (errors.IncorrectFormat why) → ⊥
-out_of_shape config (reasons.Unmet count) shapeless none some h = let above : 0 < minimum_of config count = h.1.0 in omega (arith, none count, above)
-out_of_shape config reasons.TypeSize shapeless none some h = let all = h.0 in cc
-out_of_shape config reasons.SeveralMemories shapeless none some h = none_brought config counts.Memories shapeless h.0
-out_of_shape config reasons.SeveralTables shapeless none some h = none_brought config counts.Tables shapeless h.0
-out_of_shape config reasons.Loop shapeless none some h = h
-out_of_shape config reasons.RawBody shapeless none some h = h
+-- a shape that brings items is there
+shape_brings : (config : Config) (count : Count) → Brings config count → HasShape config
+shape_brings config count (inl some) = (which.Exports, given_some (exported_of count) (shapes_of config).exports some)
+shape_brings config count (inr some) = (which.ModuleShape, given_some (brought_by_module count) (shapes_of config).module_shape some)
 
-pub memory_alone : (config : Config) (e : Error) → Passes config → HasNoShapes config → HasNoMinimums config → config.export_everything ≡ false → MayRefuse config e → e ≡ errors.Memory
-memory_alone config errors.Memory passes shapeless none some h = refl
-memory_alone config (errors.Config fault) passes shapeless none some h = absurd (no_fault config passes fault h.there)
-memory_alone config (errors.IncorrectFormat why) passes shapeless none some h = absurd (out_of_shape config why shapeless none some h)
-memory_alone config errors.EmptyChoose passes shapeless none some h = absurd (none_used _ config h.0 shapeless h.1)
-memory_alone config errors.NotEnoughData passes shapeless none some h = absurd h
-memory_alone config (errors.Shape for_use of_shape) passes shapeless none some h = absurd (none_used _ config for_use shapeless h)
+-- a shape that may be handed in has no fault
+faultless : (config : Config) (for_use : Which) (found : ShapeFault) (given : Option Shape) → IfSome given (λ shape. IsShapeValid for_use config shape) → IsSomeAnd given (λ shape. HasShapeFault for_use config shape found) → ⊥
+faultless config for_use found (Some shape) valid wrong = no_shape_fault for_use config shape valid found wrong
+faultless config for_use found None valid wrong = wrong
+
+in_shape : (config : Config) (why : Why) → AsksNothingImpossible config → MayRefuse config (errors.IncorrectFormat why) → ⊥
+in_shape config (reasons.Unmet count) h short = let above : 0 < minimum_of config count = short.1.0 in omega (arith, h.no_minimums count, above)
+in_shape config reasons.TypeSize h large = let all = large.0 in let some = h.not_everything in cc
+in_shape config reasons.SeveralMemories h several = let may = (h.several (shape_brings config counts.Memories several.0)).1 in omega (arith, may, several.1)
+in_shape config reasons.SeveralTables h several = let may = (h.several (shape_brings config counts.Tables several.0)).0 in let off = several.1 in cc
+in_shape config reasons.Loop h never = never
+in_shape config reasons.RawBody h never = never
+
+-- where nothing impossible is asked for, what may refuse is want of memory
+pub memory_alone : (config : Config) (e : Error) → AsksNothingImpossible config → MayRefuse config e → e ≡ errors.Memory
+memory_alone config errors.Memory h refused = refl
+memory_alone config (errors.Config fault) h refused = absurd (no_fault config h.may_give.passes fault refused.there)
+memory_alone config (errors.IncorrectFormat why) h refused = absurd (in_shape config why h refused)
+memory_alone config errors.EmptyChoose h refused = absurd (h.nullable refused)
+memory_alone config errors.NotEnoughData h refused = absurd refused
+memory_alone config (errors.Shape for_use found) h refused = absurd (faultless config for_use found (shape_for config for_use) (h.may_give.shapes_valid for_use) refused)
+
+refused_by : (config : Config) (for_use : Which) (e : Error) (given : Option Shape) → shape_for config for_use ≡ given → IsSomeAnd given (λ shape. IsRefused for_use config shape e) → MayRefuse config e
+refused_by config for_use e None is refused = absurd refused
+refused_by config for_use errors.Memory (Some shape) is refused = tt
+refused_by config for_use (errors.Shape named found) (Some shape) is refused =
+    subst (λ (use_of : Which). IsSomeAnd (shape_for config use_of) (λ one. HasShapeFault use_of config one found)) (sym refused.0) (rw is refused.1.there)
+refused_by config for_use (errors.Config fault) (Some shape) is refused = absurd refused
+refused_by config for_use (errors.IncorrectFormat why) (Some shape) is refused = absurd refused
+refused_by config for_use errors.EmptyChoose (Some shape) is refused = absurd refused
+refused_by config for_use errors.NotEnoughData (Some shape) is refused = absurd refused
+
+-- the refusal of the first shape that may not be handed in is one that may come
+pub first_faulty_refuses : (config : Config) (e : Error) → IsFirstFaulty config e → MayRefuse config e
+first_faulty_refuses config e h = refused_by config h.for_use e (shape_for config h.for_use) refl h.refused
+
+memory_wanted : (config : Config) (for_use : Which) (e : Error) (given : Option Shape) → IfSome given (λ shape. IsShapeValid for_use config shape) → IsSomeAnd given (λ shape. IsRefused for_use config shape e) → e ≡ errors.Memory
+memory_wanted config for_use e None valid refused = absurd refused
+memory_wanted config for_use errors.Memory (Some shape) valid refused = refl
+memory_wanted config for_use (errors.Shape named found) (Some shape) valid refused = absurd (no_shape_fault for_use config shape valid found refused.1.there)
+memory_wanted config for_use (errors.Config fault) (Some shape) valid refused = absurd refused
+memory_wanted config for_use (errors.IncorrectFormat why) (Some shape) valid refused = absurd refused
+memory_wanted config for_use errors.EmptyChoose (Some shape) valid refused = absurd refused
+memory_wanted config for_use errors.NotEnoughData (Some shape) valid refused = absurd refused
+
+-- and it is want of memory where all of them may be
+pub first_faulty_memory : (config : Config) (e : Error) → AreShapesValid config → IsFirstFaulty config e → e ≡ errors.Memory
+first_faulty_memory config e valid h = memory_wanted config h.for_use e (shape_for config h.for_use) (valid h.for_use) h.refused

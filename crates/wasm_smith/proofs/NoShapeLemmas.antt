@@ -12,19 +12,6 @@ use Rattle.smith_config.specs.Sanitized.{sanitized}
 use Rattle.wasm_smith.specs.Bounds.{where_given, exported_of, brought_by_module}
 use Rattle.wasm_smith.specs.Module.{shown_config}
 use Rattle.wasm_smith.specs.Refusals.{AreShapesValid, Brings, shape_for}
-use Rattle.wasm_smith.specs.ToCome.{IsLeftOut}
-
--- none is left out
-pub none_left_out : (config : Config) (for_use : Which) → HasNoShapes config → IsLeftOut config for_use → ⊥
-none_left_out config which.ModuleShape none h = let given = rw none.module_shape at h in search rules
-none_left_out config which.AvailableImports none h = let given = rw none.available_imports at h.1 in search rules
-none_left_out config which.Exports none h = let given = rw none.exports at h.1.1 in search rules
-
--- a sanitised configuration shows as it is
-pub shown_sanitized : (config sane : Config) → sane ≡ sanitized config → HasNoShapes sane → sane ≡ shown_config config
-shown_sanitized config sane same none =
-    let shown : sane ≡ record sane { available_imports = None } = λ i. record sane { available_imports = none.available_imports i } in
-    subst (λ (x : Config). sane ≡ record x { available_imports = None }) same shown
 
 none_in_use : (config : Config) → HasNoShapes config → shapes_of config ≡ no_shapes
 none_in_use config none = λ i. in_use (record { available_imports = none.available_imports i; exports = none.exports i; module_shape = none.module_shape i })
@@ -46,12 +33,3 @@ none_used P config for_use none h = subst (λ (given : Option Shape). IsSomeAnd 
 pub none_fixed : (config : Config) → HasNoShapes config → FixesExports config → ⊥
 none_fixed config none (inl fixed) = let given = rw none.exports at fixed in search rules
 none_fixed config none (inr fixed) = let given = rw none.module_shape at fixed in search rules
-
--- and none brings an item
-pub none_brought : (config : Config) (count : Count) → HasNoShapes config → Brings config count → ⊥
-none_brought config count none h =
-    let brings = λ (used : Shapes). (0 < where_given (exported_of count) used.exports) ⊎ (0 < where_given (brought_by_module count) used.module_shape) in
-    elim (subst brings (none_in_use config none) h) [
-      | inl some ↦ omega (arith, some)
-      | inr some ↦ omega (arith, some)
-    ]

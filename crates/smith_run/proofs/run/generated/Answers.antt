@@ -1,6 +1,5 @@
-use Rattle.std.proofs.Common.{rules}
 use Rattle.smith_run.proofs.AnswerLemmas.{answered_by_default}
 use Rattle.smith_run.proofs.run.generated.Goals as goal
 
 pub returns : goal.returns
-returns c = answered_by_default _ _ _ _ c.if-drawn.false (search rules) (rw (c.default.ensures, c.new-u.ensures) at c.new-2.ensures.exact)
+returns c = answered_by_default _ _ _ _ c.if-drawn.false (rw c.new-u.ensures at c.arbitrary.ensures.generated) c.arbitrary.ensures.memory

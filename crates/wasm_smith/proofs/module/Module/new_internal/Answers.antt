@@ -1,92 +1,100 @@
-use Rattle.std.proofs.lemmas.Result.{IfOk-weaker, IfErr-weaker}
-use Rattle.std.specs.Prelude.{IfErr}
-use Rattle.std.proofs.Common.{◌≡◌, false, rules, Err, ap, sym, subst}
-use Rattle.std.proofs.lemmas.Option.{same_Some}
-use Rattle.smith_bytes.specs.declared.error.Error.TheVariants.{Memory, Shape}
-use Rattle.smith_bytes.specs.declared.error.ShapeFault.TheVariants.{LeftOut}
+use Rattle.std.proofs.Common.{rules, ◌≡◌, ℕ, Bool, List, Result, Ok, Err, refl, sym, subst}
+use Rattle.std.proofs.lemmas.Result.{IfErr-weaker}
+use Rattle.std.specs.Prelude.{IfErr, IsErrAnd, OnOk}
+use Rattle.smith_bytes.specs.declared.error.Error.{Error}
+use Rattle.smith_bytes.specs.declared.error.Error.TheVariants.{Memory}
 use Rattle.smith_bytes.proofs.PieceLemmas.{piece_same}
+use Rattle.smith_config.specs.declared.config.Config.{Config}
 use Rattle.smith_config.specs.Faults.{Passes}
-use Rattle.smith_config.specs.InUse.{HasNoShapes}
-use Rattle.smith_config.specs.Sanitized.{sanitized}
-use Rattle.smith_spell.specs.Minimums.{HasNoMinimums}
-use Rattle.wasm_smith.specs.Build.{IsGiven}
-use Rattle.wasm_smith.specs.Generated.{is_distinct}
-use Rattle.wasm_smith.specs.Module.{IsValid}
-use Rattle.wasm_smith.specs.Refusals.{MayRefuse}
-use Rattle.wasm_smith.specs.ToCome.{IsLeftOut, MayComeOut}
-use Rattle.wasm_smith.proofs.NoShapeLemmas.{none_left_out, shown_sanitized}
-use Rattle.wasm_smith.proofs.NeedlessLemmas.{memory_alone, may_come_out}
+use Rattle.smith_config.specs.Sanitized.{IsSanitized, sanitized}
+use Rattle.wasm_smith.specs.Build.{GivesOrLacks, IsGiven, as_drawn, module_at}
+use Rattle.wasm_smith.specs.CheckedShapes.{IsFirstFaulty}
+use Rattle.wasm_smith.specs.Generated.{IsFaulted, IsGenerated, is_distinct}
+use Rattle.wasm_smith.specs.Module.{Parts}
+use Rattle.wasm_smith.specs.Refusals.{AreShapesValid, AsksNothingImpossible, MayGive, MayRefuse}
+use Rattle.wasm_smith.proofs.NeedlessLemmas.{memory_alone, first_faulty_refuses, first_faulty_memory}
 use Rattle.wasm_smith.proofs.ReachedLemmas.{members_reached, rests_reached}
 use Rattle.wasm_smith.proofs.module.Module.new_internal.Goals as goal
 
-pub returns-in-Err : goal.returns-in-Err
-returns-in-Err c = record {
-  exact = search rules;
-  config = tt;
-  valid = tt;
-  bounds = tt;
-  minimums = tt;
-  promises = tt;
-  interesting = tt;
-  passes = tt;
-  no_shapes = tt;
-  fault = search rules;
-  refusals = search rules;
-  needless = search rules;
-  shape = search rules;
-  reach = λ groups funcs behind h. let passes = h.spellable.passes in search rules;
-  rest = λ groups funcs behind numbers passive h more. let passes = h.spellable.passes in search rules;
-  undrawn = search rules;
-  source = piece_same _;
-}
+module _ (distinct : Bool) (given : Config) (bytes : List ℕ) (sound : IsSanitized (sanitized given)) where
+  -- what is refused before anything is drawn
+  refused_undrawn : (e : Error) → MayRefuse (sanitized given) e → (MayGive (sanitized given) → e ≡ Memory) → ((Passes (sanitized given) → ⊥) → IsFaulted (sanitized given) e)
+      → (Passes (sanitized given) → (AreShapesValid (sanitized given) → ⊥) → IsFirstFaulty (sanitized given) e) → IsGenerated distinct given bytes (Err e) bytes
+  refused_undrawn e refused memory fault shape_fault =
+      let exact : IsGiven distinct (sanitized given) bytes (Err e) bytes = record {
+        exact = λ may_give. subst (λ (one : Error). GivesOrLacks (λ m. (as_drawn m, bytes)) (Err one) (module_at distinct (sanitized given) bytes)) (sym (memory may_give)) tt;
+      } in
+      let needless : AsksNothingImpossible (sanitized given) → e ≡ Memory = λ asked. memory asked.may_give in
+      record {
+        exact = exact;
+        config = tt;
+        valid = tt;
+        bounds = tt;
+        minimums = tt;
+        shapes = tt;
+        promises = tt;
+        interesting = tt;
+        may_give = tt;
+        fault = fault;
+        shape_fault = shape_fault;
+        refusals = refused;
+        needless = needless;
+        reach = members_reached sound exact needless;
+        rest = rests_reached sound exact needless;
+        undrawn = λ never. refl;
+        source = piece_same _;
+      }
 
-pub returns-in-Some : goal.returns-in-Some
-returns-in-Some c = record {
-  exact = search rules;
-  config = tt;
-  valid = tt;
-  bounds = tt;
-  minimums = tt;
-  promises = tt;
-  interesting = tt;
-  passes = tt;
-  no_shapes = tt;
-  fault = search rules;
-  refusals = rw c.sanitize.ensures.exact at c.in-Some.ensures.given;
-  needless = search rules;
-  shape = λ for_use passes left_out.
-      ap (λ w. Err (Shape w LeftOut)) (same_Some c.in-Some.which for_use (c.in-Some.ensures.first for_use (subst (λ config. IsLeftOut config for_use) (sym c.sanitize.ensures.exact) left_out)));
-  reach = λ groups funcs behind h. absurd (none_left_out (sanitized c.args.config) c.in-Some.which h.spellable.no_shapes (rw c.sanitize.ensures.exact at c.in-Some.ensures.given));
-  rest = λ groups funcs behind numbers passive h more. absurd (none_left_out (sanitized c.args.config) c.in-Some.which h.spellable.no_shapes (rw c.sanitize.ensures.exact at c.in-Some.ensures.given));
-  undrawn = search rules;
-  source = piece_same _;
-}
+  -- a shape that is refused, passed on
+  shape_refused : (answer : Result Parts Error) (e : Error) → Passes (sanitized given) → IsFirstFaulty (sanitized given) e → IsErrAnd answer (λ other. other ≡ e) → IsGenerated distinct given bytes answer bytes
+  shape_refused (Ok m) e passes first passed = absurd passed
+  shape_refused (Err other) e passes first passed =
+      let faulty : IsFirstFaulty (sanitized given) other = subst (IsFirstFaulty (sanitized given)) (sym passed) first in
+      refused_undrawn other (first_faulty_refuses (sanitized given) other faulty) (λ may_give. first_faulty_memory (sanitized given) other may_give.shapes_valid faulty) (λ fails. absurd (fails passes)) (λ _ _. faulty)
+
+given_there : (answer : Result Parts Error) (P : Type 0) → P → OnOk answer P
+given_there (Ok m) P h = h
+given_there (Err e) P h = tt
+
+pub returns-in-Err : goal.returns-in-Err
+returns-in-Err c =
+    let sound : IsSanitized (sanitized c.args.config) = rw c.sanitize.ensures.exact at c.sanitize.ensures.sound in
+    let fails : Passes (sanitized c.args.config) → ⊥ = search rules in
+    let fault = rw c.sanitize.ensures.exact at c.in-Err.ensures.fault in
+    refused_undrawn (is_distinct c.args.behavior) c.args.config c.args.u.now sound _ fault (λ may_give. absurd (fails may_give.passes)) (λ _. fault) (λ passes. absurd (fails passes))
+
+pub returns-in_err-check_shapes : goal.returns-in_err-check_shapes
+returns-in_err-check_shapes c =
+    let sound : IsSanitized (sanitized c.args.config) = rw c.sanitize.ensures.exact at c.sanitize.ensures.sound in
+    let passes : Passes (sanitized c.args.config) = search rules in
+    let first = rw c.sanitize.ensures.exact at c.in_err-check_shapes.ensures.refused in
+    shape_refused (is_distinct c.args.behavior) c.args.config c.args.u.now sound _ _ passes first c.from_residual.ensures.1
 
 pub returns : goal.returns
 returns c =
-    let none = rw c.sanitize.ensures.exact at c.in_default-shape_left_out.ensures.none in
+    let sound : IsSanitized (sanitized c.args.config) = rw c.sanitize.ensures.exact at c.sanitize.ensures.sound in
+    let may_give : MayGive (sanitized c.args.config) = record { passes = search rules; shapes_valid = rw c.sanitize.ensures.exact at c.in_ok-check_shapes.ensures.valid } in
     let refused = rw c.sanitize.ensures.exact at c.build.ensures.refusal in
-    let sound = rw c.sanitize.ensures.exact at c.sanitize.ensures.sound in
     let given : IsGiven (is_distinct c.args.behavior) (sanitized c.args.config) c.args.u.now c.build.result c.build.new.u =
-    record { exact = λ passes shapeless. rw (c.sanitize.ensures.exact, c.is_distinct.ensures) at c.build.ensures.exact } in
-    let needless : Passes (sanitized c.args.config) → HasNoShapes (sanitized c.args.config) → HasNoMinimums (sanitized c.args.config) → c.args.config.export_everything ≡ false → IfErr c.build.result (λ e. e ≡ Memory) =
-    λ passes shapeless least some. IfErr-weaker c.build.result (MayRefuse (sanitized c.args.config)) _ (λ e h. memory_alone (sanitized c.args.config) e passes shapeless least some h) refused in
+    record { exact = λ _. rw (c.sanitize.ensures.exact, c.is_distinct.ensures) at c.build.ensures.exact } in
+    let needless : AsksNothingImpossible (sanitized c.args.config) → IfErr c.build.result (λ e. e ≡ Memory) =
+    λ asked. IfErr-weaker c.build.result (MayRefuse (sanitized c.args.config)) _ (λ e h. memory_alone (sanitized c.args.config) e asked h) refused in
     record {
       exact = given;
-      config = rw (shown_sanitized _ _ c.sanitize.ensures.exact c.in_default-shape_left_out.ensures.none) at c.build.ensures.config;
+      config = rw c.sanitize.ensures.exact at c.build.ensures.config;
       valid = c.build.ensures.valid;
       bounds = rw c.sanitize.ensures.exact at c.build.ensures.bounds;
       minimums = rw c.sanitize.ensures.exact at c.build.ensures.minimums;
+      shapes = rw c.sanitize.ensures.exact at c.build.ensures.shapes;
       promises = rw (c.sanitize.ensures.exact, c.is_distinct.ensures) at c.build.ensures.promises;
       interesting = c.build.ensures.interesting;
-      passes = IfOk-weaker c.build.result IsValid _ (λ m valid. search rules) c.build.ensures.valid;
-      no_shapes = IfOk-weaker c.build.result IsValid _ (λ m valid. search rules) c.build.ensures.valid;
-      fault = search rules;
-      refusals = IfErr-weaker c.build.result (MayRefuse (sanitized c.args.config)) (MayComeOut (sanitized c.args.config)) (λ e h. may_come_out (sanitized c.args.config) e none h) refused;
+      may_give = given_there c.build.result (MayGive (sanitized c.args.config)) may_give;
+      fault = λ fails. absurd (fails may_give.passes);
+      shape_fault = λ _ invalid. absurd (invalid may_give.shapes_valid);
+      refusals = refused;
       needless = needless;
-      shape = search rules;
       reach = members_reached sound given needless;
       rest = rests_reached sound given needless;
-      undrawn = search rules;
+      undrawn = λ never. absurd (never may_give);
       source = c.build.ensures.left _ (piece_same _);
     }
