@@ -1,17 +1,13 @@
 -- Configurations without shapes.
-use Rattle.std.proofs.Common.{rules, ◌≡◌, ◌<◌, ◌⊎◌, None, Option, ap, subst, arith, inl, inr}
+use Rattle.std.proofs.Common.{rules, ◌≡◌, None, Option, ap, subst, inl, inr}
 use Rattle.std.specs.Prelude.{IsSomeAnd}
-use Rattle.smith_bytes.specs.declared.error.Count.{Count}
 use Rattle.smith_bytes.specs.declared.error.Which.{Which}
 use Rattle.smith_bytes.specs.declared.error.Which.TheVariants as which
 use Rattle.smith_config.specs.declared.config.Config.{Config}
 use Rattle.smith_config.specs.declared.shape.Shape.{Shape}
 use Rattle.smith_config.specs.InUse.{FixesExports, HasNoShapes, shapes_of}
 use Rattle.smith_config.specs.Shapes.{Shapes, in_use, no_shapes}
-use Rattle.smith_config.specs.Sanitized.{sanitized}
-use Rattle.wasm_smith.specs.Bounds.{where_given, exported_of, brought_by_module}
-use Rattle.wasm_smith.specs.Module.{shown_config}
-use Rattle.wasm_smith.specs.Refusals.{AreShapesValid, Brings, shape_for}
+use Rattle.wasm_smith.specs.Refusals.{AreShapesValid, shape_for}
 
 none_in_use : (config : Config) → HasNoShapes config → shapes_of config ≡ no_shapes
 none_in_use config none = λ i. in_use (record { available_imports = none.available_imports i; exports = none.exports i; module_shape = none.module_shape i })
