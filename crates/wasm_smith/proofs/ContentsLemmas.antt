@@ -19,14 +19,47 @@ use Rattle.smith_draw.specs.ConstScopes.{AreSpacesValid}
 use Rattle.smith_draw.specs.FuncSizes.{IsSmall}
 use Rattle.smith_draw.specs.declared.spaces.Spaces.{Spaces}
 use Rattle.wasm_smith.proofs.DefinedLemmas.{all_behind}
+use Rattle.smith_bytes.specs.declared.error.Count.{Count}
+use Rattle.smith_types.specs.IndexSpaces.{spaces_in}
+use Rattle.smith_imports.specs.ShapeImports.{count_in}
+use Rattle.wasm_smith.specs.Begun.{IsOfEntities}
 use Rattle.wasm_smith.specs.Contents.{MayHoldContents, AreSpacesOver}
-use Rattle.wasm_smith.specs.Defined.{AreDefined, IsFilled}
+use Rattle.wasm_smith.specs.DrawnContents.{TellsImported, imported_in}
+use Rattle.wasm_smith.specs.DrawnSteps.{AreExportsDrawn}
+use Rattle.wasm_smith.specs.Refusals.{AreShapesValid}
+use Rattle.wasm_smith.specs.declared.build.drawn.Drawn.{Drawn}
+use Rattle.wasm_smith.proofs.BroughtLemmas.{few_brought, few_added}
+use Rattle.wasm_smith.proofs.StandsBehindLemmas.{defined_end}
 use Rattle.smith_contents.specs.DrawnElements.{MayDrawElements}
 use Rattle.smith_contents.specs.Exported.{MayExport, MayExportFreely, MayDrawExports}
-use Rattle.smith_contents.proofs.SizedLemmas.{small_sized}
+use Rattle.smith_contents.proofs.SizedLemmas.{few_sized}
 use Rattle.smith_imports.specs.Imported.{HasNullableElements, IsImported, spaces_of}
 use Rattle.wasm_smith.specs.declared.build.definitions.Definitions.{Definitions}
 use Rattle.smith_imports.specs.declared.imported.Imported.{Imported}
+
+-- contents may be drawn once exports are made
+pub may_hold_contents : {config : Config} {drawn : Drawn} → Passes config → IsSanitized config → AreShapesValid config → AreExportsDrawn config drawn → MayHoldContents config drawn.types (spaces_in drawn.imported.spaces) drawn.imported.type_size
+may_hold_contents {config = config} {drawn = drawn} passes sanitized valid h =
+    let few : (count : Count) → IsOfEntities count → count_in (spaces_in drawn.imported.spaces) count < 2 ^ 32 =
+    λ count is. omega (arith, h.whole.most count is, passes.few count, few_brought config valid count, few_added config valid count) in
+    record {
+      passes = passes;
+      sanitized = sanitized;
+      types = h.whole.stands.types;
+      sized = few_sized drawn.types.types h.few_values;
+      small = λ none. (h.small none).types;
+      entities = h.whole.stands.entities;
+      few = record { funcs = few counts.Funcs tt; tables = few counts.Tables tt; memories = few counts.Memories tt; globals = few counts.Globals tt; tags = few counts.Tags tt };
+      tables = h.least counts.Tables tt;
+      memories = h.least counts.Memories tt;
+      globals = h.least counts.Globals tt;
+      within = h.whole.within;
+      small_imports = λ none. (h.small none).imports;
+    }
+
+-- what is defined tells what is imported
+pub imports_told : {config : Config} {drawn : Drawn} → AreExportsDrawn config drawn → TellsImported (imported_in drawn.imported) (spaces_in drawn.imported.spaces) drawn.definitions
+imports_told h = record { funcs = omega (arith, defined_end h.whole.stands.funcs); globals = defined_end h.whole.stands.globals }
 
 -- a page has 64 KiB at most
 page_small : (features : Features) (stated : Option ℕ) → IfSome stated (λ log2. ((log2 ≡ 0) ⊎ (log2 ≡ 16)) × IsTrue features.custom_page_sizes) → page_log2 stated ≤ 16

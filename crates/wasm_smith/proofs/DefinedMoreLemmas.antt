@@ -2,9 +2,8 @@
 use Rattle.std.proofs.Common.{◌≡◌, ◌∙◌, ℕ, zero, suc, ◌+◌, ◌-◌, ◌<◌, ◌≤◌, ◌^◌, List, [], ◌∷◌, ◌++◌, map, length, inl, inr, refl, sym, ap, subst, arith, append_assoc, length-append}
 use Rattle.std.specs.Prelude.{◌⊎◌, Option, Some, slice_get, take, All}
 use Rattle.std.proofs.Math.Seq.{take-append_seam}
-use Rattle.std.proofs.lemmas.List.{append-nil, length-map}
+use Rattle.std.proofs.lemmas.List.{length-map}
 use Rattle.std.proofs.lemmas.List.Elements.{All-nil, All-weaker, recursion_from_All}
-use Rattle.smith_bytes.specs.declared.error.Count.TheVariants as counts
 use Rattle.smith_types.specs.Entities.{AreEntitiesValid, AreCountsEnabled}
 use Rattle.smith_types.specs.Grown.{Extends, IsContextGrown, AreSpacesGrown}
 use Rattle.smith_types.specs.Imports.{IndexSpaces, Defines}
@@ -19,7 +18,7 @@ use Rattle.smith_config.specs.Features.{features_of}
 use Rattle.smith_config.specs.Sanitized.{IsSanitized}
 use Rattle.smith_contents.proofs.PlaceOfListLemmas.{slice_get-behind}
 use Rattle.smith_imports.specs.Imported.{HasNoFloatValue}
-use Rattle.wasm_smith.specs.Defined.{nothing_defined, HasRoom, AreWithin, MayDefine, StandsBehind, AreFilled, AreDefinedMore, AreDefined, AreGlobalsDefined, HaveNoFloats, standing_in}
+use Rattle.wasm_smith.specs.Defined.{nothing_defined, HasRoom, AreWithin, MayDefine, StandsBehind, AreFilled, AreDefinedMore, AreGlobalsDefined, HaveNoFloats, standing_in}
 use Rattle.wasm_smith.specs.DefinedTables.{IsTableFit, AreTablesDrawn}
 use Rattle.wasm_smith.specs.Definitions.{Standing, Table, standing_over, standing_among, context_at, table_scope}
 use Rattle.wasm_smith.specs.Module.{IsTableInitialised}
@@ -47,16 +46,6 @@ pub record AddsTo (config : Config) (space : Space) (before : IndexSpaces) (so_f
 -- index spaces grow as they are filled
 pub filled_grown : {config : Config} {before later : IndexSpaces} → AreFilled config before later → AreSpacesGrown before later
 filled_grown filled = record { tags = filled.tags.extends; funcs = filled.funcs.extends; tables = filled.tables.extends; memories = filled.memories.extends; globals = filled.globals.extends }
-
--- their indices still have 32 bits
-pub filled_room : {config : Config} {before later : IndexSpaces} → Passes config → AreFilled config before later → HasRoom before 0 → HasRoom later 0
-filled_room passes filled room = record {
-  tags = omega (arith, filled.tags.within, room.tags, passes.few counts.Tags);
-  funcs = omega (arith, filled.funcs.within, room.funcs, passes.few counts.Funcs);
-  tables = omega (arith, filled.tables.within, room.tables, passes.few counts.Tables);
-  memories = omega (arith, filled.memories.within, room.memories, passes.few counts.Memories);
-  globals = omega (arith, filled.globals.within, room.globals, passes.few counts.Globals);
-}
 
 -- what is defined is no more than what stands
 pub stands_within : {config : Config} {imported : IndexSpaces} {space : Space} {spaces : IndexSpaces} {defined : Definitions} → StandsBehind config imported space spaces defined → AreWithin spaces defined

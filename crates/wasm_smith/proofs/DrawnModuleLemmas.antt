@@ -17,36 +17,36 @@ module _ (distinct : Bool) (config : Config) (drawn : Drawn) (h : IsDrawnFor dis
 
   spaces_made : AreSpacesMade m
   spaces_made = record {
-    imports = h.count;
-    tags = h.defined.stands.tags;
-    funcs = h.defined.stands.funcs;
-    tables = h.defined.stands.tables;
-    memories = h.defined.stands.memories;
-    globals = h.defined.stands.globals;
+    imports = h.whole.count;
+    tags = h.whole.stands.tags;
+    funcs = h.whole.stands.funcs;
+    tables = h.whole.stands.tables;
+    memories = h.whole.stands.memories;
+    globals = h.whole.stands.globals;
   }
 
   tables_defined : (place : ℕ) (initial : Option (List ConstInstr)) → slice_get m.defined_tables place ≡ Some initial → IsTableDefined m place initial
-  tables_defined place initial at = h.defined.stands.each_table place initial at
+  tables_defined place initial at = h.whole.stands.each_table place initial at
 
   globals_defined : (place index : ℕ) (initial : List ConstInstr) → slice_get m.defined_globals place ≡ Some (index, initial) → IsGlobalDefined m place index initial
   globals_defined place index initial at =
-      let one = h.defined.stands.each_global place index initial at in
+      let one = h.whole.stands.each_global place index initial at in
       record { in_order = one.in_order; global = one.global; stands = one.stands; initialised = one.initialised }
 
   pub drawn_valid : IsValid m
   drawn_valid = record {
-    types = h.types;
-    imports = h.groups;
+    types = h.whole.stands.types;
+    imports = h.whole.groups;
     spaces = spaces_made;
-    entities = h.defined.stands.entities;
-    counts = h.defined.stands.counts;
+    entities = h.whole.stands.entities;
+    counts = h.whole.stands.counts;
     definitions = record { tables = tables_defined; globals = globals_defined };
     exports = h.contents.exports.valid;
     start = h.contents.start;
     elements = h.contents.segments.elements;
     data_segments = h.contents.segments.data_segments;
     bodies = record {
-      each = omega (arith, h.contents.each_body, defined_end h.defined.stands.funcs);
+      each = omega (arith, h.contents.each_body, defined_end h.whole.stands.funcs);
       bodies = h.contents.bodies;
       fuel = All-nil (IsFuel m.globals (length (module_imports m).globals));
     };

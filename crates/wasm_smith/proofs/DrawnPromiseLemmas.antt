@@ -10,8 +10,8 @@ use Rattle.wasm_smith.proofs.NoFloatLemmas.{no_floats_drawn}
 
 pub drawn_promises : (distinct : Bool) (config : Config) (drawn : Drawn) → IsDrawnFor distinct config drawn → KeepsPromises distinct config (parts_of config drawn)
 drawn_promises distinct config drawn h = record {
-  names = λ asked free. h.imports.apart asked;
-  no_floats = λ off none. no_floats_drawn config drawn (h.floats off);
+  names = λ asked free. (h.free free).apart asked;
+  no_floats = λ off none. no_floats_drawn config drawn (h.floats off none);
   everything = λ all free. h.contents.exports.everything free all;
   no_start = h.contents.no_start;
   inside = λ on. record { elements = h.contents.segments.elements_inside on; data_segments = h.contents.segments.data_inside on };

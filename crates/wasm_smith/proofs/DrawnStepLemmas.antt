@@ -1,23 +1,17 @@
 -- What one step of drawing a module hands on to the next.
-use Rattle.std.proofs.Common.{◌≡◌, ℕ, ◌-◌, ◌<◌, ◌≤◌, ◌^◌, Bool, true, nat_lt, lt-ltb, max, List, length, refl, arith}
+use Rattle.std.proofs.Common.{ℕ, ◌-◌, ◌≤◌, max, List, length, refl, arith}
 use Rattle.std.specs.Prelude.{All}
 use Rattle.smith_bytes.specs.declared.error.Count.TheVariants as counts
 use Rattle.std.proofs.lemmas.List.{length-take}
 use Rattle.std.proofs.lemmas.List.Elements.{All-take}
 use Rattle.smith_types.specs.Entities.{IsFuncValid, IsGlobalValid}
-use Rattle.smith_types.specs.Imports.{IndexSpaces, flattened, imported_spaces}
+use Rattle.smith_types.specs.Imports.{IndexSpaces}
 use Rattle.smith_types.specs.Space.{Space}
-use Rattle.smith_types.specs.ValidTypes.{AreTypesValid}
 use Rattle.smith_config.specs.declared.config.Config.{Config}
-use Rattle.smith_config.specs.Faults.{Passes}
 use Rattle.smith_config.specs.Features.{features_of}
-use Rattle.smith_config.specs.Sanitized.{IsSanitized}
-use Rattle.smith_imports.specs.Imported.{IsImported, spaces_of}
-use Rattle.smith_imports.specs.declared.imported.Imported.{Imported}
-use Rattle.wasm_smith.specs.Defined.{nothing_defined, MayDefine, MayInitialise}
+use Rattle.wasm_smith.specs.Defined.{MayDefine, MayInitialise}
 use Rattle.wasm_smith.specs.Definitions.{standing_among}
 use Rattle.wasm_smith.specs.declared.build.definitions.Definitions.{Definitions}
-use Rattle.wasm_smith.proofs.DefinedLemmas.{several_so}
 
 -- what initialisers refer to is valid once functions are defined
 pub may_initialise : (config : Config) (space : Space) (before : IndexSpaces) (so_far : Definitions) (funcs : List ℕ) → MayDefine config space before so_far → All (IsFuncValid space.types) funcs → length funcs ≤ max config.max_funcs (length before.funcs)

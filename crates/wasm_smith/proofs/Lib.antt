@@ -38,3 +38,13 @@ pub mod FreelyImportedLemmas
 pub mod StandsDefinedLemmas
 pub mod NonNullableLemmas
 pub mod StandsWholeLemmas
+pub mod KeptShapeLemmas
+pub mod PartsLemmas
+pub mod LackingLemmas
+pub mod BegunTypedLemmas
+pub mod GivenLemmas
+pub mod AddedImportLemmas
+pub mod ExportsGrownLemmas
+pub mod BroughtLemmas
+pub mod EntitiesDrawnLemmas
+pub mod MadeExportsLemmas

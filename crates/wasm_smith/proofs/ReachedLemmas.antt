@@ -1,21 +1,22 @@
 -- A source that begins with bytes that spell types and functions gives a module with these, and where it goes on with bytes that
 -- spell globals and passive data, a module with these alone beside them.
-use Rattle.std.proofs.Common.{◌≡◌, ℕ, ℤ, Bool, true, false, cond, List, [], ◌∷◌, ◌++◌, length, map, None, refl, sym, ap, subst}
-use Rattle.std.specs.Prelude.{Result, Ok, Err, IfOk, IfErr, MatchResult, ◌==◌}
+use Rattle.std.proofs.Common.{◌≡◌, ◌∙◌, ℕ, ℤ, Bool, true, false, cond, List, [], ◌∷◌, ◌++◌, length, map, Option, Some, None, refl, sym, ap, subst}
+use Rattle.std.specs.Prelude.{Result, Ok, Err, IfOk, IfErr, MatchResult, IsSome, IsSomeAnd, ⊤, ◌==◌}
 use Rattle.smith_bytes.specs.Draws.{bool_at}
 use Rattle.smith_bytes.specs.Spelling.{SpellsAnyByte, Where, Joined, Listed, SpellsNone}
 use Rattle.smith_bytes.specs.declared.error.Count.TheVariants as counts
 use Rattle.smith_bytes.specs.declared.error.Error.{Error}
-use Rattle.smith_bytes.specs.declared.error.Error.TheVariants.{Memory}
+use Rattle.smith_bytes.specs.declared.error.Error.TheVariants as errors
 use Rattle.smith_bytes.specs.declared.error.Why.{Why}
 use Rattle.smith_bytes.proofs.SpelledLemmas.{joined_parts}
 use Rattle.smith_types.specs.Imports.{IndexSpaces, flattened, imported_spaces}
+use Rattle.smith_types.specs.Space.{Space}
 use Rattle.smith_types.specs.declared.composite_type.SubType.{SubType}
 use Rattle.smith_types.specs.declared.entity_type.GlobalType.{GlobalType}
 use Rattle.smith_types.specs.declared.const_instr.ConstInstr.{ConstInstr}
 use Rattle.smith_types.specs.declared.const_instr.ConstInstr.TheVariants.{I32Const}
 use Rattle.smith_config.specs.declared.config.Config.{Config}
-use Rattle.smith_config.specs.Faults.{Passes}
+use Rattle.smith_config.specs.declared.shape.Shape.{Shape}
 use Rattle.smith_config.specs.InUse.{HasNoShapes}
 use Rattle.smith_config.specs.Sanitized.{IsSanitized}
 use Rattle.smith_config.specs.Shapes.{space_of}
@@ -23,22 +24,30 @@ use Rattle.smith_draw.specs.SpelledGlobals.{mutable_i32}
 use Rattle.smith_draw.proofs.SpelledGroupLemmas.{types_read}
 use Rattle.smith_spell.specs.Family.{IsInFamily}
 use Rattle.smith_spell.specs.Minimums.{HasNoMinimums}
+use Rattle.smith_spell.specs.SpellAnswers.{IsSpellable}
 use Rattle.smith_spell.specs.Spelling.{SpellsMember, SpellsRest, SpellsNoTag, SpellsFuncs, SpellsGlobal, SpellsNoStart, SpellsSegments}
 use Rattle.smith_spell.proofs.FamilyFitLemmas.{family_fits}
-use Rattle.wasm_smith.specs.Build.{IsGiven, defined_in, definitions_at, module_of, module_at, as_drawn}
+use Rattle.wasm_smith.specs.Begun.{Begun, begun_at, nothing_begun}
+use Rattle.wasm_smith.specs.Build.{GivesOrLacks, IsGiven, as_drawn, begun_size, begun_typed_at, defined_at, defined_in, definitions_at, exported_at, exported_for, exports_of, imported_at, in_full, module_at, module_of, typed_at}
 use Rattle.wasm_smith.specs.Defined.{nothing_defined}
 use Rattle.wasm_smith.specs.Definitions.{standing_over, tables_at, memories_at, globals_at}
-use Rattle.wasm_smith.specs.DrawnContents.{segment_scope, all_segments_at, behind_exports_at, contents_at}
-use Rattle.smith_imports.specs.ImportedEntities.{sizes}
+use Rattle.wasm_smith.specs.DrawnContents.{segment_scope, all_segments_at, behind_exports_at}
 use Rattle.wasm_smith.specs.Members.{HasMember, HasRest}
 use Rattle.wasm_smith.specs.Module.{Parts}
 use Rattle.smith_contents.specs.PassiveData.{passive_data}
 use Rattle.wasm_smith.specs.Reached.{ReachesMembers, ReachesRests}
-use Rattle.smith_imports.specs.Steps.{Gives, ◌>>=◌, section_flag_at}
+use Rattle.wasm_smith.specs.Refusals.{AsksNothingImpossible}
+use Rattle.wasm_smith.specs.RequiredExports.{then_with}
+use Rattle.smith_contents.specs.AllExports.{exports_at}
+use Rattle.smith_contents.specs.Exporting.{Export}
+use Rattle.smith_contents.specs.declared.exported.Exports.{Exports}
+use Rattle.smith_imports.specs.Importing.{imports_at}
+use Rattle.smith_imports.specs.Steps.{◌>>=◌, section_flag_at}
 use Rattle.wasm_smith.specs.declared.build.contents.Contents.{Contents}
 use Rattle.wasm_smith.specs.declared.build.definitions.Definitions.{Definitions}
 use Rattle.wasm_smith.proofs.DefinedMemoryLemmas.{no_memory_read}
 use Rattle.wasm_smith.proofs.DefinedTableLemmas.{no_table_read}
+use Rattle.wasm_smith.proofs.NoShapeLemmas.{no_shapes_valid, none_used}
 use Rattle.smith_contents.proofs.ElementCountLemmas.{elements_none}
 use Rattle.smith_contents.proofs.ExportRefusalLemmas.{exports_free, no_export_read}
 use Rattle.smith_imports.proofs.NoImportLemmas.{no_import_read}
@@ -81,45 +90,82 @@ definitions_read config types funcs piece after least h =
       funcs_read config types [] funcs h.second after (least counts.Funcs) refl h.is_second,
     ) refl
 
--- the module that the bytes behind types and functions give, with this flag of imports
-abbrev ending_at : Config → List (List SubType) → List ℕ → Bool → List ℕ → Result (Parts × List ℕ) Why
-ending_at config groups funcs flag bytes =
-    let types = space_of groups in
-    let drawn = behind_funcs_at config types.types funcs bytes in
-    contents_at config types.types nothing drawn.0.0 (sizes types.types (flattened [])) drawn.1 >>= λ (contents : Contents × List ℕ). Ok (module_of config types [] drawn.0.0 drawn.0.1 contents.0 flag, contents.1)
+-- what stands once entities are defined over types, where nothing is imported
+abbrev with_entities : List (List SubType) → IndexSpaces × Definitions → Begun
+with_entities groups made = record nothing_begun { types = space_of groups; spaces = made.0; defined = made.1 }
 
-member_read : (distinct : Bool) (config : Config) (groups : List (List SubType)) (funcs piece after : List ℕ) → IsSanitized config → HasNoMinimums config → IsInFamily config groups funcs → SpellsMember config groups funcs piece
-    → (flag : Bool) × (module_at distinct config (piece ++ after) ≡ ending_at config groups funcs flag after)
+-- the module that the bytes behind exports give, with this flag of imports
+abbrev whole_at : Config → Bool → Begun → List ℕ → Result (Parts × List ℕ) Error
+whole_at config flag whole bytes =
+    in_full (behind_exports_at config whole.types.types (imported_spaces (flattened whole.groups)) whole.spaces (exports_of config whole) bytes) >>= λ (contents : Contents × List ℕ). Ok (module_of config whole contents.0 flag, contents.1)
+
+-- the module that the bytes behind entities give
+abbrev ending_at : Config → Bool → Begun → List ℕ → Result (Parts × List ℕ) Error
+ending_at config flag begun bytes = exported_at config begun bytes >>= λ (exported : Begun × List ℕ). whole_at config flag exported.0 exported.1
+
+-- without shapes a module begins with the types that are drawn
+types_alone : (config : Config) (bytes : List ℕ) → HasNoShapes config → begun_typed_at config bytes ≡ Ok (typed_at config nothing_begun bytes)
+unfolding begun_typed_at begun_at
+types_alone config bytes none = rw (none.module_shape, none.available_imports) refl
+
+-- and neither imports nor exports are fixed
+freely_imported : (distinct : Bool) (config : Config) (begun : Begun) (bytes : List ℕ) → HasNoShapes config
+    → imported_at distinct config begun bytes ≡ then_with (λ groups. record begun { groups = groups; spaces = imported_spaces (flattened groups) }) (in_full (imports_at config begun.types.types distinct bytes))
+unfolding imported_at
+freely_imported distinct config begun bytes none = rw (none.module_shape, none.available_imports) refl
+
+freely_exported : (config : Config) (begun : Begun) (bytes : List ℕ) → HasNoShapes config → exported_at config begun bytes ≡ exported_for config None None begun bytes
+unfolding exported_at
+freely_exported config begun bytes none =
+    ap (λ (given : Option Shape). exported_for config given config.exports begun bytes) none.module_shape ∙ ap (λ (given : Option Shape). exported_for config None given begun bytes) none.exports
+
+entities_defined : (config : Config) (groups : List (List SubType)) (funcs piece after : List ℕ) → HasNoMinimums config → Joined (SpellsNoTag config (space_of groups).types) (SpellsFuncs config (space_of groups).types funcs) piece
+    → (let drawn = behind_funcs_at config (space_of groups).types funcs after in defined_at config (with_entities groups (nothing, nothing_defined)) (piece ++ after) ≡ Ok (with_entities groups drawn.0, drawn.1))
+unfolding defined_at
+entities_defined config groups funcs piece after least h = rw (definitions_read config (space_of groups).types funcs piece after least h) refl
+
+member_read : (distinct : Bool) (config : Config) (groups : List (List SubType)) (funcs piece after : List ℕ) → IsSanitized config → HasNoShapes config → HasNoMinimums config → IsInFamily config groups funcs → SpellsMember config groups funcs piece
+    → (let drawn = behind_funcs_at config (space_of groups).types funcs after in (flag : Bool) × (module_at distinct config (piece ++ after) ≡ ending_at config flag (with_entities groups drawn.0) drawn.1))
 unfolding module_at SpellsMember
-member_read distinct config groups funcs piece after sanitized least member h =
+member_read distinct config groups funcs piece after sanitized none least member h =
     let imports = h.is_second in
     let flag = imports.is_second in
     let types = (space_of groups).types in
     let flagged = flag.second ++ after in (
       (section_flag_at 0 (flag.first ++ flagged)).0,
       rw (
+        types_alone config (piece ++ after) none,
         joined_parts h after,
         types_read config groups h.first (h.second ++ after) sanitized (least counts.Types) (family_fits config groups funcs member) h.is_first,
+        freely_imported distinct config (with_entities groups (nothing, nothing_defined)) (h.second ++ after) none,
         joined_parts imports after,
         no_import_read config types distinct imports.first (imports.second ++ after) (least counts.Imports) imports.is_first,
         joined_parts flag after,
         flag_read 0 flag.first flagged flag.is_first,
-        definitions_read config types funcs flag.second after least flag.is_second,
+        entities_defined config groups funcs flag.second after least flag.is_second,
       ) refl,
     )
 
 -- whatever stands behind them, these are the types and functions of the module
-member_ended : (config : Config) (groups : List (List SubType)) (spaces : IndexSpaces) (definitions : Definitions) (flag : Bool) (contents : Result (Contents × List ℕ) Why)
-    → IfOk {T = Parts × List ℕ} (contents >>= λ (made : Contents × List ℕ). Ok (module_of config (space_of groups) [] spaces definitions made.0 flag, made.1)) (λ drawn. HasMember groups spaces.funcs drawn.0)
-member_ended config groups spaces definitions flag (Ok made) = record { types = refl; groups_are = refl; funcs_are = refl }
-member_ended config groups spaces definitions flag (Err why) = tt
+whole_ended : (config : Config) (groups : List (List SubType)) (begun : Begun) (flag : Bool) (contents : Result (Contents × List ℕ) Why) → begun.types ≡ space_of groups
+    → IfOk {T = Parts × List ℕ} (in_full contents >>= λ (made : Contents × List ℕ). Ok (module_of config begun made.0 flag, made.1)) (λ drawn. HasMember groups begun.spaces.funcs drawn.0)
+whole_ended config groups begun flag (Ok made) same = record { types = ap (λ (space : Space). space.types) same; groups_are = ap (λ (space : Space). space.groups) same; funcs_are = refl }
+whole_ended config groups begun flag (Err why) same = tt
 
-member_reached : (distinct : Bool) (config : Config) (groups : List (List SubType)) (funcs piece after : List ℕ) → IsSanitized config → HasNoMinimums config → IsInFamily config groups funcs → SpellsMember config groups funcs piece
+member_ended : (config : Config) (groups : List (List SubType)) (made : IndexSpaces × Definitions) (flag : Bool) (exports : Result (List Export × List ℕ) Why)
+    → IfOk (then_with (λ exports. record (with_entities groups made) { exports = exports }) (in_full exports) >>= λ (exported : Begun × List ℕ). whole_at config flag exported.0 exported.1) (λ drawn. HasMember groups made.0.funcs drawn.0)
+member_ended config groups made flag (Ok drawn) =
+    let whole : Begun = record (with_entities groups made) { exports = drawn.0 } in
+    whole_ended config groups whole flag (behind_exports_at config whole.types.types (imported_spaces (flattened whole.groups)) whole.spaces (exports_of config whole) drawn.1) refl
+member_ended config groups made flag (Err why) = tt
+
+member_reached : (distinct : Bool) (config : Config) (groups : List (List SubType)) (funcs piece after : List ℕ) → IsSanitized config → HasNoShapes config → HasNoMinimums config → IsInFamily config groups funcs → SpellsMember config groups funcs piece
     → IfOk (module_at distinct config (piece ++ after)) (λ drawn. HasMember groups funcs drawn.0)
-member_reached distinct config groups funcs piece after sanitized least member h =
-    let read = member_read distinct config groups funcs piece after sanitized least member h in
+member_reached distinct config groups funcs piece after sanitized none least member h =
+    let read = member_read distinct config groups funcs piece after sanitized none least member h in
     let drawn = behind_funcs_at config (space_of groups).types funcs after in
-    rw read.1 (member_ended config groups drawn.0.0 drawn.0.1 read.0 (contents_at config (space_of groups).types nothing drawn.0.0 (sizes (space_of groups).types (flattened [])) drawn.1))
+    let begun = with_entities groups drawn.0 in
+    rw (read.1, freely_exported config begun drawn.1 none) (member_ended config groups drawn.0 read.0 (exports_at config begun.types.types begun.spaces (begun_size config begun) drawn.1))
 
 -- contents have these passive data, and no export, start or element segment
 record IsBare (passive : List (List ℕ)) (contents : Contents) : Type 0 where
@@ -139,28 +185,23 @@ segments_read config types imported spaces passive piece after least tables memo
       data_read config scope spaces.memories (map (λ bytes. passive_data bytes) passive) h.second after (least counts.DataSegments) memories (record { lists = passive; are = refl; spelled = h.is_second }),
     ) refl
 
--- what stands behind the globals
-abbrev SpellsBehindGlobals : Config → List SubType → List ℕ → List (List ℕ) → List ℕ → Type 0
-SpellsBehindGlobals config types funcs passive =
-    Joined (SpellsNone config.max_exports) (Joined (Where (length types == 0) SpellsAnyByte) (Joined (SpellsNoStart config types funcs) (SpellsSegments config passive)))
+-- what stands behind the exports
+abbrev SpellsBehindExports : Config → List SubType → List ℕ → List (List ℕ) → List ℕ → Type 0
+SpellsBehindExports config types funcs passive = Joined (Where (length types == 0) SpellsAnyByte) (Joined (SpellsNoStart config types funcs) (SpellsSegments config passive))
 
-contents_read : (config : Config) (types : List SubType) (imported spaces : IndexSpaces) (size : ℕ) (passive : List (List ℕ)) (piece after : List ℕ) → HasNoMinimums config → config.export_everything ≡ false
-    → spaces.tables ≡ [] → spaces.memories ≡ [] → SpellsBehindGlobals config types spaces.funcs passive piece → IfOk (contents_at config types imported spaces size (piece ++ after)) (λ drawn. IsBare passive drawn.0)
-unfolding contents_at behind_exports_at
-contents_read config types imported spaces size passive piece after least some tables memories h =
-    let flag = h.is_second in
-    let start = flag.is_second in
-    let behind_flag = flag.second ++ after in
+contents_read : (config : Config) (types : List SubType) (imported spaces : IndexSpaces) (made : Exports) (passive : List (List ℕ)) (piece after : List ℕ) → HasNoMinimums config → made.exports ≡ []
+    → spaces.tables ≡ [] → spaces.memories ≡ [] → SpellsBehindExports config types spaces.funcs passive piece → IfOk (behind_exports_at config types imported spaces made (piece ++ after)) (λ drawn. IsBare passive drawn.0)
+unfolding behind_exports_at
+contents_read config types imported spaces made passive piece after least exports tables memories h =
+    let start = h.is_second in
+    let behind_flag = h.second ++ after in
     rw (
       joined_parts h after,
-      exports_free config types spaces size (h.first ++ (h.second ++ after)) some,
-      no_export_read config types spaces size [] h.first (h.second ++ after) (least counts.Exports) (record { none = refl; spelled = h.is_first }),
-      joined_parts flag after,
-      flag_read (length types) flag.first behind_flag flag.is_first,
+      flag_read (length types) h.first behind_flag h.is_first,
       joined_parts start after,
       start_none config types spaces.funcs start.first (start.second ++ after) start.is_first,
       segments_read config types imported spaces passive start.second after least tables memories start.is_second,
-    ) (record { exports = refl; start = refl; elements = refl; data_segments = refl })
+    ) (record { exports = exports; start = refl; elements = refl; data_segments = refl })
 
 -- globals and their initialisers
 abbrev Listing : Type 0
@@ -190,9 +231,20 @@ entities_read config types funcs numbers tables memories globals after least no_
       left = ap (λ (read : Listing × List ℕ). read.1) numbered;
     })
 
+-- without shapes, where bytes say that there is no export, none stands
+no_export_made : (config : Config) (begun : Begun) (piece after : List ℕ) → HasNoShapes config → HasNoMinimums config → config.export_everything ≡ false → SpellsNone config.max_exports piece
+    → exported_at config begun (piece ++ after) ≡ Ok (record begun { exports = [] }, after)
+no_export_made config begun piece after none least some h =
+    let size = begun_size config begun in
+    rw (
+      freely_exported config begun (piece ++ after) none,
+      exports_free config begun.types.types begun.spaces size (piece ++ after) some,
+      no_export_read config begun.types.types begun.spaces size [] piece after (least counts.Exports) (record { none = refl; spelled = h }),
+    ) refl
+
 rest_ended : (config : Config) (groups : List (List SubType)) (numbers : List ℤ) (passive : List (List ℕ)) (drawn : (IndexSpaces × Definitions) × List ℕ) (after : List ℕ) (flag : Bool) (contents : Result (Contents × List ℕ) Why)
     → AreNumbered numbers drawn after → IfOk contents (λ made. IsBare passive made.0)
-    → IfOk {T = Parts × List ℕ} (contents >>= λ (made : Contents × List ℕ). Ok (module_of config (space_of groups) [] drawn.0.0 drawn.0.1 made.0 flag, made.1)) (λ made. HasRest numbers passive made.0)
+    → IfOk {T = Parts × List ℕ} (in_full contents >>= λ (made : Contents × List ℕ). Ok (module_of config (with_entities groups drawn.0) made.0 flag, made.1)) (λ made. HasRest numbers passive made.0)
 rest_ended config groups numbers passive drawn after flag (Ok made) numbered bare = record {
   tables = numbered.tables;
   memories = numbered.memories;
@@ -205,43 +257,62 @@ rest_ended config groups numbers passive drawn after flag (Ok made) numbered bar
 }
 rest_ended config groups numbers passive drawn after flag (Err why) numbered bare = tt
 
-rest_reached : (distinct : Bool) (config : Config) (groups : List (List SubType)) (funcs : List ℕ) (numbers : List ℤ) (passive : List (List ℕ)) (piece rest after : List ℕ) → IsSanitized config → HasNoMinimums config → config.export_everything ≡ false
+rest_reached : (distinct : Bool) (config : Config) (groups : List (List SubType)) (funcs : List ℕ) (numbers : List ℤ) (passive : List (List ℕ)) (piece rest after : List ℕ) → IsSanitized config → HasNoShapes config → HasNoMinimums config → config.export_everything ≡ false
     → IsInFamily config groups funcs → SpellsMember config groups funcs piece → SpellsRest config groups funcs numbers passive rest → IfOk (module_at distinct config (piece ++ (rest ++ after))) (λ drawn. HasRest numbers passive drawn.0)
 unfolding SpellsRest
-rest_reached distinct config groups funcs numbers passive piece rest after sanitized least some member spelled h =
+rest_reached distinct config groups funcs numbers passive piece rest after sanitized none least some member spelled h =
     let types = (space_of groups).types in
     let memories = h.is_second in
     let globals = memories.is_second in
-    let contents = globals.is_second in
-    let later = globals.second ++ after in
-    let read = member_read distinct config groups funcs piece (rest ++ after) sanitized least member spelled in
-    let parts : rest ++ after ≡ h.first ++ (memories.first ++ (globals.first ++ later)) = rw (joined_parts h after, joined_parts memories after, joined_parts globals after) refl in
+    let exports = globals.is_second in
+    let behind_exports = exports.second ++ after in
+    let later = exports.first ++ behind_exports in
+    let read = member_read distinct config groups funcs piece (rest ++ after) sanitized none least member spelled in
+    let parts : rest ++ after ≡ h.first ++ (memories.first ++ (globals.first ++ later)) = rw (joined_parts h after, joined_parts memories after, joined_parts globals after, joined_parts exports after) refl in
     let drawn = behind_funcs_at config types funcs (h.first ++ (memories.first ++ (globals.first ++ later))) in
+    let begun = with_entities groups drawn.0 in
     let numbered = entities_read config types funcs numbers h.first memories.first globals.first later least h.is_first memories.is_first globals.is_first in
-    let bare = contents_read config types nothing drawn.0.0 (sizes types (flattened [])) passive globals.second after least some numbered.tables numbered.memories contents in
-    let bare_behind = subst (λ (bytes : List ℕ). IfOk (contents_at config types nothing drawn.0.0 (sizes types (flattened [])) bytes) (λ made. IsBare passive made.0)) (sym numbered.left) bare in
-    let ended = rest_ended config groups numbers passive drawn later read.0 (contents_at config types nothing drawn.0.0 (sizes types (flattened [])) drawn.1) numbered bare_behind in
-    rw read.1 (subst (λ (bytes : List ℕ). IfOk (ending_at config groups funcs read.0 bytes) (λ made. HasRest numbers passive made.0)) (sym parts) ended)
+    let made = no_export_made config begun exports.first behind_exports none least some exports.is_first in
+    let whole : Begun = record begun { exports = [] } in
+    let bare = contents_read config types nothing drawn.0.0 (exports_of config whole) passive exports.second after least refl numbered.tables numbered.memories exports.is_second in
+    let ended = rest_ended config groups numbers passive drawn later read.0 (behind_exports_at config types nothing drawn.0.0 (exports_of config whole) behind_exports) numbered bare in
+    let ending : IfOk (ending_at config read.0 begun drawn.1) (λ made. HasRest numbers passive made.0) = rw (numbered.left, made) ended in
+    rw read.1 (subst (λ (bytes : List ℕ). let all = behind_funcs_at config types funcs bytes in IfOk (ending_at config read.0 (with_entities groups all.0) all.1) (λ made. HasRest numbers passive made.0)) (sym parts) ending)
 
 -- what every module of these bytes has, interesting values aside, the answer has
-answered : (Holds : Parts → Type 0) (distinct : Bool) (config : Config) (bytes left : List ℕ) (answer : Result Parts Error) → ((m : Parts) → Holds (as_drawn m) → Holds m) → Gives (λ m. (as_drawn m, left)) answer (module_at distinct config bytes)
-    → IfErr answer (λ e. e ≡ Memory) → IfOk (module_at distinct config bytes) (λ drawn. Holds drawn.0) → MatchResult answer Holds (λ e. e ≡ Memory)
-answered Holds distinct config bytes left (Ok m) keeps given memory held = keeps m (subst (λ (read : Result (Parts × List ℕ) Why). IfOk read (λ drawn. Holds drawn.0)) given held)
+answered : (Holds : Parts → Type 0) (distinct : Bool) (config : Config) (bytes left : List ℕ) (answer : Result Parts Error) → ((m : Parts) → Holds (as_drawn m) → Holds m) → GivesOrLacks (λ m. (as_drawn m, left)) answer (module_at distinct config bytes)
+    → IfErr answer (λ e. e ≡ errors.Memory) → IfOk (module_at distinct config bytes) (λ drawn. Holds drawn.0) → MatchResult answer Holds (λ e. e ≡ errors.Memory)
+answered Holds distinct config bytes left (Ok m) keeps given memory held = keeps m (subst (λ (read : Result (Parts × List ℕ) Error). IfOk read (λ drawn. Holds drawn.0)) given held)
 answered Holds distinct config bytes left (Err e) keeps given memory held = memory
 
+some_at_all : {A : Type 0} (given : Option A) → IsSome given → IsSomeAnd given (λ _. ⊤)
+some_at_all (Some x) h = tt
+some_at_all None h = cc
+
+-- a configuration with which lists can be spelled asks for nothing impossible
+spellable_asks : (config : Config) (groups : List (List SubType)) (funcs : List ℕ) → IsSpellable config groups funcs → AsksNothingImpossible config
+spellable_asks config groups funcs fit = record {
+  may_give = record { passes = fit.passes; shapes_valid = no_shapes_valid config fit.no_shapes };
+  no_minimums = fit.no_minimums;
+  not_everything = fit.not_everything;
+  nullable = λ h. none_used _ config h.0 fit.no_shapes h.1;
+  several = λ h. absurd (none_used (λ _. ⊤) config h.0 fit.no_shapes (some_at_all _ h.1));
+}
+
 module _ {distinct : Bool} {config : Config} {bytes left : List ℕ} {answer : Result Parts Error} (sanitized : IsSanitized config) (given : IsGiven distinct config bytes answer left)
-    (needless : Passes config → HasNoShapes config → HasNoMinimums config → config.export_everything ≡ false → IfErr answer (λ e. e ≡ Memory)) where
+    (needless : AsksNothingImpossible config → IfErr answer (λ e. e ≡ errors.Memory)) where
   pub members_reached : ReachesMembers config bytes answer
   members_reached = λ groups funcs behind h.
       let fit = h.spellable in
-      let held = member_reached distinct config groups funcs h.piece behind sanitized fit.no_minimums fit.member h.spelled in
-      answered (HasMember groups funcs) distinct config bytes left answer (λ m has. record { types = has.types; groups_are = has.groups_are; funcs_are = has.funcs_are }) (given.exact fit.passes fit.no_shapes)
-      (needless fit.passes fit.no_shapes fit.no_minimums fit.not_everything) (rw h.parts held)
+      let asks = spellable_asks config groups funcs fit in
+      let held = member_reached distinct config groups funcs h.piece behind sanitized fit.no_shapes fit.no_minimums fit.member h.spelled in
+      answered (HasMember groups funcs) distinct config bytes left answer (λ m has. record { types = has.types; groups_are = has.groups_are; funcs_are = has.funcs_are }) (given.exact asks.may_give) (needless asks) (rw h.parts held)
 
   pub rests_reached : ReachesRests config bytes answer
   rests_reached = λ groups funcs behind numbers passive h r.
       let fit = h.spellable in
-      let held = rest_reached distinct config groups funcs numbers passive h.piece r.piece r.after sanitized fit.no_minimums fit.not_everything fit.member h.spelled r.spelled in
+      let asks = spellable_asks config groups funcs fit in
+      let held = rest_reached distinct config groups funcs numbers passive h.piece r.piece r.after sanitized fit.no_shapes fit.no_minimums fit.not_everything fit.member h.spelled r.spelled in
       answered (HasRest numbers passive) distinct config bytes left answer (λ m has. record {
         tables = has.tables;
         memories = has.memories;
@@ -251,4 +322,4 @@ module _ {distinct : Bool} {config : Config} {bytes left : List ℕ} {answer : R
         start = has.start;
         elements = has.elements;
         data_segments = has.data_segments;
-      }) (given.exact fit.passes fit.no_shapes) (needless fit.passes fit.no_shapes fit.no_minimums fit.not_everything) (rw (h.parts, r.parts) held)
+      }) (given.exact asks.may_give) (needless asks) (rw (h.parts, r.parts) held)

@@ -19,12 +19,13 @@ use Rattle.smith_bytes.specs.declared.error.Error.TheVariants as errors
 use Rattle.smith_bytes.specs.declared.error.Why.TheVariants.{Unmet}
 use Rattle.smith_bytes.specs.declared.error.Count.TheVariants as counts
 use Rattle.smith_bytes.specs.declared.error.Which.TheVariants as which
-use Rattle.smith_contents.specs.DrawnElements.{HasNonNullableElements, MayRefuseElements}
+use Rattle.smith_contents.specs.DrawnElements.{HasNonNullableElements, MayLackItem, MayRefuseElements}
 use Rattle.smith_contents.specs.Exported.{MayRunOut, MayRefuseExports}
-use Rattle.smith_draw.specs.ConstBounds.{HoldsNonNullableField}
+use Rattle.wasm_smith.proofs.NonNullableLemmas.{holds_or_not}
 use Rattle.wasm_smith.specs.Contents.{MayRefuseContents}
 use Rattle.smith_imports.specs.Imported.{HasNullableElements, MayRefuseImports}
-use Rattle.wasm_smith.specs.Refusals.{HasShape, MayLackExports, MayRefuse}
+use Rattle.wasm_smith.specs.DrawnSteps.{HoldsNullable}
+use Rattle.wasm_smith.specs.Refusals.{HasShape, HoldsNonNullable, MayLackExports, MayRefuse}
 use Rattle.smith_draw.specs.TypeUses.{is_function, places_from, is_unshared_function}
 use Rattle.smith_spell.specs.FuncTypes.{func_types}
 
@@ -97,14 +98,14 @@ lack_exports config short = elim (has_shapes config) [
   | inr some ↦ inl some
 ]
 
-module _ (config : Config) (types : List SubType) (spaces : IndexSpaces) where
-  -- where no shape fixes them, exports are refused where a module may be
-  pub exports_refuse : (e : Error) → (FixesExports config → ⊥) → MayRefuseExports config e → MayRefuseContents config types spaces e
-  exports_refuse e free (inl (all, inl memory)) = subst (MayRefuseContents config types spaces) (sym memory) tt
-  exports_refuse e free (inl (all, inr size)) = subst (MayRefuseContents config types spaces) (sym size) (all, free)
-  exports_refuse e free (inr (some, inl memory)) = subst (MayRefuseContents config types spaces) (sym memory) tt
-  exports_refuse e free (inr (some, inr (unmet, asked, short))) = subst (MayRefuseContents config types spaces) (sym unmet) ((free, some), (asked, lack_exports config short))
+-- where no shape fixes them, exports are refused where a module may be
+pub exports_refuse : (config : Config) (e : Error) → (FixesExports config → ⊥) → MayRefuseExports config e → MayRefuse config e
+exports_refuse config e free (inl (all, inl memory)) = subst (MayRefuse config) (sym memory) tt
+exports_refuse config e free (inl (all, inr size)) = subst (MayRefuse config) (sym size) (all, free)
+exports_refuse config e free (inr (some, inl memory)) = subst (MayRefuse config) (sym memory) tt
+exports_refuse config e free (inr (some, inr (unmet, asked, short))) = subst (MayRefuse config) (sym unmet) ((free, some), (asked, lack_exports config short))
 
+module _ (config : Config) (types : List SubType) (spaces : IndexSpaces) where
   -- element segments are refused where contents may be
   pub elements_refuse : (e : Error) → MayRefuseElements config types spaces.tables e → MayRefuseContents config types spaces e
   elements_refuse e (inl (inl (inl memory))) = subst (MayRefuseContents config types spaces) (sym memory) tt
@@ -117,16 +118,22 @@ module _ (config : Config) (types : List SubType) (spaces : IndexSpaces) where
       let may : table.element_type.nullable ≡ true = rw is at (tables k table inside) in
       absurd (cc (sym may ∙ never))
 
-  -- without references that may not be null, contents are refused where a module may be
-  pub contents_refuse : {X : Type 0} (r : Result X Error) → (HoldsNonNullableField types → ⊥) → All HasNullableElements spaces.tables → IfErr r (MayRefuseContents config types spaces) → IfErr r (MayRefuse config)
-  contents_refuse (Ok made) fields tables h = tt
-  contents_refuse (Err errors.EmptyChoose) fields tables (inl field) = absurd (fields field)
-  contents_refuse (Err errors.EmptyChoose) fields tables (inr table) = absurd (item_there table tables)
-  contents_refuse (Err errors.Memory) fields tables h = h
-  contents_refuse (Err errors.NotEnoughData) fields tables h = h
-  contents_refuse (Err (errors.IncorrectFormat why)) fields tables h = h
-  contents_refuse (Err (errors.Config fault)) fields tables h = h
-  contents_refuse (Err (errors.Shape for_use fault)) fields tables h = h
+  -- where there may be nothing to choose from, a shape that is used holds a reference that may not be null
+  pub lacks_so : ((HoldsNonNullable config → ⊥) → HoldsNullable types spaces.tables) → MayLackItem types spaces.tables → HoldsNonNullable config
+  lacks_so nullable lack = elim (holds_or_not config) [
+    | inl holds ↦ holds
+    | inr none ↦ let all = nullable none in elim lack [ inl field ↦ absurd (all.fields field) | inr table ↦ absurd (item_there table all.elements) ]
+  ]
+
+  -- contents are refused where a module may be
+  pub contents_refuse : {X : Type 0} (r : Result X Error) → (MayLackItem types spaces.tables → HoldsNonNullable config) → IfErr r (MayRefuseContents config types spaces) → IfErr r (MayRefuse config)
+  contents_refuse (Ok made) lacks h = tt
+  contents_refuse (Err errors.EmptyChoose) lacks h = lacks h
+  contents_refuse (Err errors.Memory) lacks h = h
+  contents_refuse (Err errors.NotEnoughData) lacks h = h
+  contents_refuse (Err (errors.IncorrectFormat why)) lacks h = h
+  contents_refuse (Err (errors.Config fault)) lacks h = h
+  contents_refuse (Err (errors.Shape for_use fault)) lacks h = h
 
 -- without a shape for them, imports are refused where a module may be
 pub imports_refuse : (config : Config) (e : Error) → (FixesImports config → ⊥) → MayRefuseImports config e → MayRefuse config e

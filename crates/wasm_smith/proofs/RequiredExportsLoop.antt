@@ -1,6 +1,6 @@
 -- One turn of the loop over the exports that a shape fixes.
 use Rattle.std.proofs.Common.{◌≡◌, ◌∙◌, ◌⊎◌, ℕ, zero, suc, ◌+◌, ◌-◌, ◌<◌, ◌≤◌, Bool, true, false, List, [], ◌∷◌, ◌++◌, length, map, drop, take, get_or, inl, inr, refl, sym, ap, subst, arith, append_assoc}
-use Rattle.std.specs.Prelude.{Some, slice_get, sum_by, Result, Ok, Err, IsErrAnd}
+use Rattle.std.specs.Prelude.{All, Some, slice_get, sum_by, Result, Ok, Err, IsErrAnd}
 use Rattle.std.specs.List.{Any, AllZip}
 use Rattle.std.proofs.lemmas.List.{drop_all, drop_more, take_all, take_more}
 use Rattle.std.proofs.lemmas.List.Elements.{All-nil, All-cons}
@@ -23,8 +23,9 @@ use Rattle.smith_types.proofs.ExportGrowthLemmas.{IsEntityAt-grown}
 use Rattle.smith_types.proofs.ListLemmas.{slice_get-grown, AllZip-weaker}
 use Rattle.smith_config.specs.declared.config.Config.{Config}
 use Rattle.smith_config.specs.declared.shape.Shape.{Shape}
-use Rattle.smith_config.specs.Shapes.{shape_types, shape_spaces, shape_values}
+use Rattle.smith_config.specs.Shapes.{most_listed, shape_types, shape_spaces, shape_values}
 use Rattle.smith_draw.specs.ConstBounds.{IsNonNullable, HoldsNonNullableField}
+use Rattle.smith_draw.specs.FuncSizes.{HasFewValues}
 use Rattle.wasm_smith.specs.Bounds.{counts_as}
 use Rattle.smith_imports.specs.ShapeImports.{count_in}
 use Rattle.smith_contents.specs.Exported.{IsStanding}
@@ -88,6 +89,7 @@ pub record AreRequiring (own_types : Bool) (config : Config) (shape : Shape) (ol
   pub so_far : required_from own_types config shape (drop place shape.exports) (standing_with types spaces defined exports) bytes ≡ required_at own_types config shape old_types old old_defined start
   pub same : AllZip (IsSameExport (IsKeptType own_types types.types (shape_types shape)) spaces (shape_spaces shape)) exports (take place shape.exports)
   pub types_grown : Extends old_types.types types.types
+  pub groups_grown : Extends old_types.groups types.groups
   pub types_most : length types.types ≤ length old_types.types + place
   pub spaces_grown : AreSpacesGrown old spaces
   pub counted : (count : Count) → (count ≡ counts.Types → ⊥) → count_in spaces count ≡ count_in old count + sum_by (λ (each : Export). counts_as count each.1) (take place shape.exports)
@@ -95,6 +97,7 @@ pub record AreRequiring (own_types : Bool) (config : Config) (shape : Shape) (ol
   pub limits : AddsLimitsOf shape old spaces
   pub unchanged : own_types ≡ false → types ≡ old_types
   pub lacking : HoldsNonNullableField types.types → HoldsNonNullableField old_types.types
+  pub few_values : All (HasFewValues most_listed) old_types.types → All (HasFewValues most_listed) types.types
   pub may : MayDefineMore config types spaces defined (length shape.exports - place)
   pub shape_may : MayRequire own_types config shape types
   pub stands : (imported : IndexSpaces) → StandsBehind config imported old_types old old_defined → StandsBehind config imported types spaces defined
@@ -107,6 +110,7 @@ none_required own_types config shape types spaces defined start shape_may may = 
   so_far = refl;
   same = tt;
   types_grown = all_kept types.types;
+  groups_grown = all_kept types.groups;
   types_most = omega arith;
   spaces_grown = record { tags = all_kept spaces.tags; funcs = all_kept spaces.funcs; tables = all_kept spaces.tables; memories = all_kept spaces.memories; globals = all_kept spaces.globals };
   counted = λ count other. omega arith;
@@ -114,6 +118,7 @@ none_required own_types config shape types spaces defined start shape_may may = 
   limits = no_limits shape spaces;
   unchanged = λ off. refl;
   lacking = λ holds. holds;
+  few_values = λ few. few;
   may = let same : length shape.exports - 0 ≡ length shape.exports = omega arith in rw same may;
   shape_may = shape_may;
   stands = λ imported now. now;
@@ -134,12 +139,14 @@ module _ {own_types : Bool} {config : Config} {shape : Shape} {old_types types :
   all_required full = record {
     same = rw (take_all place shape.exports full) at now.same;
     types_grown = now.types_grown;
+    groups_grown = now.groups_grown;
     spaces_grown = now.spaces_grown;
     counted = λ count other. rw (take_all place shape.exports full) at now.counted count other;
     types_counted = rw (take_all place shape.exports full) at now.types_counted;
     limits = now.limits;
     unchanged = now.unchanged;
     lacking = now.lacking;
+    few_values = now.few_values;
     stands = now.stands;
   }
 
@@ -194,6 +201,7 @@ module _ {own_types : Bool} {config : Config} {shape : Shape} {old_types types :
           so_far = sym here ∙ now.so_far;
           same = rw front (all_zipped_more S exports (take place shape.exports) made one (AllZip-weaker R S still exports (take place shape.exports) now.same) more.same);
           types_grown = extends_both now.types_grown more.types_grown;
+          groups_grown = extends_both now.groups_grown more.groups_grown;
           types_most = omega (arith, now.types_most, more.types_most);
           spaces_grown = grown_both now.spaces_grown more.spaces_grown;
           counted = λ count other. omega (arith, now.counted count other, more.counted count other, sum count);
@@ -201,6 +209,7 @@ module _ {own_types : Bool} {config : Config} {shape : Shape} {old_types types :
           limits = limits_both now.limits more.limits;
           unchanged = λ off. more.unchanged off ∙ now.unchanged off;
           lacking = λ holds. now.lacking (more.lacking holds);
+          few_values = λ few. more.few_values (now.few_values few);
           may = more.may (length shape.exports - (place + 1)) (rw steps at now.may);
           shape_may = record { valid = now.shape_may.valid; present = λ off. extends_both (now.shape_may.present off) more.types_grown };
           stands = λ imported before. more.stands imported (now.stands imported before);

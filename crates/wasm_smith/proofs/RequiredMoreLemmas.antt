@@ -1,8 +1,8 @@
 -- An export of a shape, of an entity that is defined for it, behind what stands.
 use Rattle.std.proofs.Common.{◌≡◌, ◌∙◌, ◌⊎◌, ℕ, zero, suc, ◌+◌, ◌-◌, ◌<◌, ◌≤◌, Bool, true, false, List, [], ◌∷◌, ◌++◌, length, map, inl, inr, refl, sym, ap, subst, arith, length-append}
-use Rattle.std.specs.Prelude.{Option, Some, None, option_map, slice_get, IsTrue}
+use Rattle.std.specs.Prelude.{All, Option, Some, None, option_map, slice_get, IsTrue}
 use Rattle.std.specs.List.{Any, flat_map}
-use Rattle.std.proofs.lemmas.List.Elements.{All-nil, All-cons}
+use Rattle.std.proofs.lemmas.List.Elements.{All-nil, All-cons, All-push}
 use Rattle.std.proofs.lemmas.Option.{slice_get_within, slice_get-get_or, get_or_from_slice_get}
 use Rattle.smith_bytes.specs.declared.error.Count.{Count}
 use Rattle.smith_bytes.specs.declared.error.Count.TheVariants as counts
@@ -18,6 +18,7 @@ use Rattle.smith_types.specs.HeldValues.{values_in}
 use Rattle.smith_types.specs.Imports.{IndexSpaces, tag_of}
 use Rattle.smith_types.specs.IndexSpaces.{with_entity}
 use Rattle.smith_types.specs.Space.{Space}
+use Rattle.smith_types.specs.Types.{next_group}
 use Rattle.smith_types.specs.ValidTypes.{AreTypesValid, values_of}
 use Rattle.smith_types.specs.declared.value_type.ValType.{ValType}
 use Rattle.smith_types.specs.declared.value_type.ValType.TheVariants.{Ref}
@@ -35,9 +36,11 @@ use Rattle.smith_types.proofs.ListLemmas.{slice_get-grown, slice_get-last, slice
 use Rattle.smith_config.specs.declared.config.Config.{Config}
 use Rattle.smith_config.specs.declared.shape.Shape.{Shape}
 use Rattle.smith_config.specs.Features.{features_of}
-use Rattle.smith_config.specs.Shapes.{space_of, shape_types, shape_spaces, shape_values, IsTypePlain, ArePlain}
+use Rattle.smith_config.specs.Shapes.{most_listed, space_of, shape_types, shape_spaces, shape_values, IsTypePlain, ArePlain}
 use Rattle.smith_draw.specs.ConstBounds.{IsNonNullable, HoldsNonNullableField}
 use Rattle.smith_draw.specs.ConstScopes.{fields_of}
+use Rattle.smith_draw.specs.FuncSizes.{HasFewValues}
+use Rattle.smith_contents.proofs.SizedLemmas.{shape_few}
 use Rattle.wasm_smith.specs.Bounds.{counts_as}
 use Rattle.smith_imports.specs.ShapeImports.{count_in}
 use Rattle.smith_imports.specs.Imported.{entity_spaces}
@@ -146,12 +149,14 @@ no_field types t function is (k, one, below, at, holds) =
 pub record IsOver (own_types : Bool) (config : Config) (shape : Shape) (space types : Space) (of_kind : ExportKind) (theirs added : EntityType) : Type 0 where
   pub valid : AreTypesValid (features_of config) types
   pub grown : Extends space.types types.types
+  pub groups : Extends space.groups types.groups
   pub most : length types.types ≤ length space.types + 1
   pub counted : length types.types ≤ length space.types + counts_as counts.Types of_kind
   pub entity : AreEntitiesValid (features_of config) types.types (entity_spaces added)
   pub enabled : 0 < length (tag_of added) → IsTrue config.exceptions_enabled
   pub unchanged : own_types ≡ false → types ≡ space
   pub lacking : HoldsNonNullableField types.types → HoldsNonNullableField space.types
+  pub few_values : All (HasFewValues most_listed) space.types → All (HasFewValues most_listed) types.types
   pub same : IsKeptType own_types types.types (shape_types shape) added theirs
   pub kind : kind_of added ≡ of_kind
 
@@ -175,12 +180,14 @@ standing_over : (config : Config) (shape : Shape) (space : Space) (of_kind : Exp
 standing_over config shape space of_kind index theirs may valid at = record {
   valid = valid;
   grown = all_kept space.types;
+  groups = all_kept space.groups;
   most = omega arith;
   counted = omega arith;
   entity = entities_longer (shape_types shape) space.types (entity_spaces theirs) (may.present refl) (one_alone (features_of config) (shape_types shape) (shape_spaces shape) of_kind index theirs may.valid.consistent.entities at);
   enabled = λ some. may.valid.counts.tags (some_tag (shape_spaces shape) of_kind index theirs at some);
   unchanged = λ off. refl;
   lacking = λ holds. holds;
+  few_values = λ few. few;
   same = refl;
   kind = kind_is (shape_spaces shape) of_kind index theirs at;
 }
@@ -208,16 +215,21 @@ module _ (config : Config) (shape : Shape) (space : Space) (may : MayRequire tru
     own_most : length (space.types ++ t ∷ []) ≤ length space.types + 1
     own_most = let longer = length-append space.types (t ∷ []) in omega (arith, longer)
 
+    own_few : All (HasFewValues most_listed) space.types → All (HasFewValues most_listed) (space.types ++ t ∷ [])
+    own_few few = All-push (HasFewValues most_listed) space.types t few (all_at (HasFewValues most_listed) (shape_types shape) other t (shape_few shape may.valid.short) at)
+
     own_func : IsOver true config shape space (with_own_group space (Some t)) kind.Func (entity.Func other) (entity.Func (length space.types))
     own_func = record {
       valid = own_types_valid;
       grown = one_more space.types t;
+      groups = one_more space.groups (next_group (space.types ++ t ∷ []) space.groups);
       most = own_most;
       counted = own_most;
       entity = func_alone features (space.types ++ t ∷ []) (length space.types) (function, (t, own_stands, inner));
       enabled = λ some. absurd (let none : 0 < 0 = some in omega arith);
       unchanged = λ off. absurd cc;
       lacking = no_field space.types t function inner;
+      few_values = own_few;
       same = own_same;
       kind = refl;
     }
@@ -226,12 +238,14 @@ module _ (config : Config) (shape : Shape) (space : Space) (may : MayRequire tru
     own_tag none some = record {
       valid = own_types_valid;
       grown = one_more space.types t;
+      groups = one_more space.groups (next_group (space.types ++ t ∷ []) space.groups);
       most = own_most;
       counted = own_most;
       entity = tag_alone features (space.types ++ t ∷ []) (length space.types) (function, (t, own_stands, inner), none);
       enabled = λ one. may.valid.counts.tags some;
       unchanged = λ off. absurd cc;
       lacking = no_field space.types t function inner;
+      few_values = own_few;
       same = own_same;
       kind = refl;
     }
@@ -242,12 +256,14 @@ module _ (config : Config) (shape : Shape) (space : Space) (may : MayRequire tru
   as_it_is of_kind theirs fits no_tag same kind = record {
     valid = valid;
     grown = all_kept space.types;
+    groups = all_kept space.groups;
     most = omega arith;
     counted = omega arith;
     entity = fits;
     enabled = λ some. absurd (no_tag some);
     unchanged = λ off. refl;
     lacking = λ holds. holds;
+    few_values = λ few. few;
     same = same;
     kind = kind;
   }
@@ -382,6 +398,7 @@ required_more {own_types = own_types} {config = config} {shape = shape} {space =
     same = over.same;
   };
   types_grown = over.grown;
+  groups_grown = over.groups;
   types_most = over.most;
   spaces_grown = rw more.spaces_are (spaces_grown spaces added);
   counted = λ count other. ap (λ (all : IndexSpaces). count_in all count) more.spaces_are ∙ (counted_more spaces added count other ∙ ap (λ (of_one : ExportKind). count_in spaces count + counts_as count of_one) over.kind);
@@ -389,6 +406,7 @@ required_more {own_types = own_types} {config = config} {shape = shape} {space =
   limits = rw more.spaces_are (limits_more own_types types.types shape spaces one.2 theirs added over.same (rw over.kind (entity_stands (shape_spaces shape) one.1 one.2 theirs found)));
   unchanged = over.unchanged;
   lacking = over.lacking;
+  few_values = over.few_values;
   may = may_more config space types spaces defined over.grown over.valid added later fuller over.entity more;
   stands = λ imported now. stands_more config imported space types spaces defined now over.valid over.grown added later fuller over.entity over.enabled more;
 }

@@ -1,7 +1,5 @@
 -- What stands once entities are defined behind what stood is valid, and no more than shapes and configuration allow.
-use Rattle.std.proofs.Common.{◌≤◌, max, List, inr, arith}
-use Rattle.std.specs.Prelude.{All}
-use Rattle.std.proofs.lemmas.List.Elements.{All-append, All-weaker}
+use Rattle.std.proofs.Common.{◌≤◌, max, inr, arith}
 use Rattle.smith_bytes.specs.declared.error.Count.{Count}
 use Rattle.smith_bytes.specs.declared.error.Count.TheVariants as counts
 use Rattle.smith_types.specs.Imports.{IndexSpaces, flattened, imported_spaces}
@@ -12,9 +10,10 @@ use Rattle.smith_config.specs.Faults.{maximum_of}
 use Rattle.smith_draw.specs.Bounds.{IsTableWithin, IsMemoryWithin}
 use Rattle.smith_imports.specs.ShapeImports.{count_in}
 use Rattle.wasm_smith.specs.Begun.{IsMemoryKept, IsOfEntities, IsTableKept, StandsSoFar}
-use Rattle.wasm_smith.specs.Defined.{AreAdded, AreDefinedMore, AreFilled}
+use Rattle.wasm_smith.specs.Defined.{AreDefinedMore, AreFilled}
 use Rattle.wasm_smith.specs.declared.build.definitions.Definitions.{Definitions}
 use Rattle.wasm_smith.specs.declared.build.drawn.Drawn.{Drawn}
+use Rattle.wasm_smith.proofs.DefinedLemmas.{added_weaker, all_behind}
 
 -- of each kind there are as many as may be at most, or as stood before
 no_more_than : (config : Config) (before spaces : IndexSpaces) → AreFilled config before spaces → (count : Count) → IsOfEntities count → count_in spaces count ≤ max (maximum_of config count) (count_in before count)
@@ -24,10 +23,6 @@ no_more_than config before spaces filled counts.Tables is = filled.tables.within
 no_more_than config before spaces filled counts.Memories is = filled.memories.within
 no_more_than config before spaces filled counts.Globals is = filled.globals.within
 no_more_than config before spaces filled _ is = absurd is
-
--- what holds of items that stood, and of those that are added by more than that, holds of all
-all_kept_so : {A : Type 0} (Kept Added : A → Type 0) {before space : List A} → ((x : A) → Added x → Kept x) → All Kept before → AreAdded Added before space → All Kept space
-all_kept_so Kept Added {before = before} more stood added = rw added.parts (All-append Kept before added.more stood (All-weaker Added Kept more added.more added.each))
 
 -- with entities defined behind it, what stands still does, and is not too much
 pub stands_defined : (config : Config) (drawn : Drawn) (spaces : Held) (defined : Definitions) → StandsSoFar config drawn → AreDefinedMore config drawn.types (spaces_in drawn.imported.spaces) drawn.definitions (spaces_in spaces) defined
@@ -39,8 +34,8 @@ stands_defined config drawn spaces defined now made = record {
   most = λ count is. let before = now.most count is in let here = no_more_than config (spaces_in drawn.imported.spaces) (spaces_in spaces) made.filled count is in omega (arith, before, here);
   most_types = now.most_types;
   most_imports = now.most_imports;
-  tables = all_kept_so (IsTableKept config) (IsTableWithin config) (λ table h. inr h) now.tables made.filled.each_table;
-  memories = all_kept_so (IsMemoryKept config) (IsMemoryWithin config) (λ memory h. inr h) now.memories made.filled.each_memory;
+  tables = all_behind (IsTableKept config) now.tables (added_weaker (IsTableWithin config) (IsTableKept config) (λ table h. inr h) made.filled.each_table);
+  memories = all_behind (IsMemoryKept config) now.memories (added_weaker (IsMemoryWithin config) (IsMemoryKept config) (λ memory h. inr h) made.filled.each_memory);
   type_size = now.type_size;
   within = now.within;
 }

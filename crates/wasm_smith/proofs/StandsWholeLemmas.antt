@@ -44,7 +44,7 @@ exports_add : (config : Config) (shape : Shape) (count : Count) → config.modul
 exports_add config shape count none given = rw (none, given) refl
 
 -- each kind of entities is none of types
-not_types : (count : Count) → IsOfEntities count → count ≡ counts.Types → ⊥
+pub not_types : (count : Count) → IsOfEntities count → count ≡ counts.Types → ⊥
 not_types counts.Types is same = is
 not_types counts.Tags is same = cc
 not_types counts.Funcs is same = cc
@@ -54,7 +54,7 @@ not_types counts.Globals is same = cc
 not_types _ is same = is
 
 -- what is of either list is kept where both are
-either_kept : {A : Type 0} (Kept : A → Type 0) (before theirs space : List A) → All Kept before → ((x : A) → Contains theirs x → Kept x) → All (λ x. Contains before x ⊎ Contains theirs x) space → All Kept space
+pub either_kept : {A : Type 0} (Kept : A → Type 0) (before theirs space : List A) → All Kept before → ((x : A) → Contains theirs x → Kept x) → All (λ x. Contains before x ⊎ Contains theirs x) space → All Kept space
 either_kept {A = A} Kept before theirs space stood shape either =
     All-weaker (λ (x : A). Contains before x ⊎ Contains theirs x) Kept
     (λ x h. elim h [

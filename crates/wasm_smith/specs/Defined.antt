@@ -147,11 +147,6 @@ pub record AreDefinedMore (config : Config) (space : Space) (before : IndexSpace
   pub filled : AreFilled config before spaces
   pub stands : (imported : IndexSpaces) → StandsBehind config imported space before so_far → StandsBehind config imported space spaces defined
 
--- index spaces hold what is defined behind what is imported, all of it valid
-pub record AreDefined (config : Config) (space : Space) (imported spaces : IndexSpaces) (defined : Definitions) : Type 0 where
-  pub filled : AreFilled config imported spaces
-  pub stands : StandsBehind config imported space spaces defined
-
 -- no global and no constant of what is defined is a float's
 pub record HaveNoFloats (spaces : IndexSpaces) (defined : Definitions) : Type 0 where
   pub globals : All HasNoFloatValue spaces.globals

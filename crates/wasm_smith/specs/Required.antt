@@ -24,8 +24,9 @@ use Rattle.smith_config.specs.declared.config.Config.{Config}
 use Rattle.smith_config.specs.declared.shape.Shape.{Shape}
 use Rattle.smith_config.specs.Features.{features_of}
 use Rattle.smith_config.specs.Sanitized.{IsSanitized}
-use Rattle.smith_config.specs.Shapes.{shape_types, shape_spaces, shape_values, IsShapeValid}
+use Rattle.smith_config.specs.Shapes.{most_listed, shape_types, shape_spaces, shape_values, IsShapeValid}
 use Rattle.smith_draw.specs.ConstBounds.{IsNonNullable, HoldsNonNullableField}
+use Rattle.smith_draw.specs.FuncSizes.{HasFewValues}
 use Rattle.wasm_smith.specs.Bounds.{counts_as, exported_of}
 use Rattle.smith_imports.specs.ShapeImports.{count_in}
 use Rattle.wasm_smith.specs.Defined.{AreWithin, HasRoom, StandsBehind}
@@ -103,6 +104,7 @@ pub record AddsLimitsOf (shape : Shape) (old new : IndexSpaces) : Type 0 where
 pub record IsRequiredMore (own_types : Bool) (config : Config) (shape : Shape) (old_types : Space) (old : IndexSpaces) (old_defined : Definitions) (types : Space) (spaces : IndexSpaces) (defined : Definitions) (one made : Export) : Type 0 where
   pub same : IsSameExport (IsKeptType own_types types.types (shape_types shape)) spaces (shape_spaces shape) made one
   pub types_grown : Extends old_types.types types.types
+  pub groups_grown : Extends old_types.groups types.groups
   pub types_most : length types.types ≤ length old_types.types + 1
   pub spaces_grown : AreSpacesGrown old spaces
   pub counted : (count : Count) → (count ≡ counts.Types → ⊥) → count_in spaces count ≡ count_in old count + counts_as count one.1
@@ -110,6 +112,7 @@ pub record IsRequiredMore (own_types : Bool) (config : Config) (shape : Shape) (
   pub limits : AddsLimitsOf shape old spaces
   pub unchanged : own_types ≡ false → types ≡ old_types
   pub lacking : HoldsNonNullableField types.types → HoldsNonNullableField old_types.types
+  pub few_values : All (HasFewValues most_listed) old_types.types → All (HasFewValues most_listed) types.types
   pub may : (more : ℕ) → MayDefineMore config old_types old old_defined (more + 1) → MayDefineMore config types spaces defined more
   pub stands : (imported : IndexSpaces) → StandsBehind config imported old_types old old_defined → StandsBehind config imported types spaces defined
 
@@ -117,12 +120,14 @@ pub record IsRequiredMore (own_types : Bool) (config : Config) (shape : Shape) (
 pub record AreRequired (own_types : Bool) (config : Config) (shape : Shape) (old_types : Space) (old : IndexSpaces) (old_defined : Definitions) (types : Space) (spaces : IndexSpaces) (defined : Definitions) (exports : List Export) : Type 0 where
   pub same : AllZip (IsSameExport (IsKeptType own_types types.types (shape_types shape)) spaces (shape_spaces shape)) exports shape.exports
   pub types_grown : Extends old_types.types types.types
+  pub groups_grown : Extends old_types.groups types.groups
   pub spaces_grown : AreSpacesGrown old spaces
   pub counted : (count : Count) → (count ≡ counts.Types → ⊥) → count_in spaces count ≡ count_in old count + exported_of count shape
   pub types_counted : length types.types ≤ length old_types.types + exported_of counts.Types shape
   pub limits : AddsLimitsOf shape old spaces
   pub unchanged : own_types ≡ false → types ≡ old_types
   pub lacking : HoldsNonNullableField types.types → HoldsNonNullableField old_types.types
+  pub few_values : All (HasFewValues most_listed) old_types.types → All (HasFewValues most_listed) types.types
   pub stands : (imported : IndexSpaces) → StandsBehind config imported old_types old old_defined → StandsBehind config imported types spaces defined
 
 -- a shape holds a reference that may not be null, or types do

@@ -15,6 +15,7 @@ use crate::build::required_exports::exports_of_shape;
 use smith_bytes::{Error, Unstructured};
 use smith_config::{Config, Shape};
 use smith_imports::{available_imports, imports_of_shape, types_of_shape};
+use smith_types::TypeSpace;
 use std::alloc::Global;
 
 /// Begins a module with the types and the imports of a module shape, and with its exports, each of an entity that is defined for it.
@@ -93,5 +94,6 @@ pub(crate) fn begin(
     if let Some(shape) = &config.available_imports {
         return begin_with_imports(alloc, config, shape, drawn, u);
     }
+    drawn.types = TypeSpace::with_capacity(alloc, config.min_types)?;
     Ok(())
 }

@@ -1,14 +1,21 @@
 //! What is drawn behind all definitions.
 
-ghost use Rattle.std.specs.Prelude.{◌≡◌, false, IfOk, IfErr, All};
+ghost use Rattle.std.specs.Prelude.{◌≡◌, [], false, IfOk, IfErr, All};
 ghost use Rattle.smith_bytes.specs.Source.{KeepsPieces};
 ghost use Rattle.smith_types.specs.Floats.{HasNoFloat};
+ghost use Rattle.smith_types.specs.IndexSpaces.{spaces_in};
+ghost use Rattle.smith_config.specs.Faults.{Passes};
+ghost use Rattle.smith_config.specs.Sanitized.{IsSanitized};
+ghost use Rattle.wasm_smith.specs.Build.{GivesOrLacks, in_full};
+ghost use Rattle.wasm_smith.specs.DrawnSteps.{AreExportsDrawn};
+ghost use Rattle.wasm_smith.specs.Refusals.{AreShapesValid, MayRefuse};
 ghost use Rattle.wasm_smith.specs.Contents.{MayHoldContents, MayRefuseContents};
 ghost use Rattle.wasm_smith.specs.DrawnContents.{TellsImported, AreExportsMade, AreContents, HasNoFloatContents, imported_in, behind_exports_at};
 ghost use Rattle.smith_imports.specs.Imported.{spaces_of};
 ghost use Rattle.smith_imports.specs.Steps.{Gives};
 
 use crate::build::definitions::Definitions;
+use crate::build::drawn::Drawn;
 use crate::build::section_flag::section_flag;
 use crate::build::segments::{Segments, all_segments};
 use smith_bytes::{Error, Unstructured};
@@ -33,7 +40,9 @@ pub(crate) struct Contents {
 
 impl Contents {
     /// Nothing, which takes no memory.
-    pub(crate) fn none(alloc: Global) -> Self {
+    pub(crate) fn none(alloc: Global) -> Self
+        ensures exports { result.exports ≡ [] }
+    {
         Contents {
             exports: Items::new(alloc),
             type_size: 0,
@@ -62,6 +71,7 @@ pub(crate) fn behind_exports(
     requires made { AreExportsMade config.now types.now.types (spaces_of imported.now) imported.now.type_size made }
     ensures exact { Gives (λ contents. (contents, u.new)) result (behind_exports_at config.now types.now.types (imported_in imported.now) (spaces_of imported.now) made u.old) }
     ensures kept { IfOk result (AreContents config.now types.now.types (imported_in imported.now) (spaces_of imported.now) imported.now.type_size) }
+    ensures exports { IfOk result (λ contents. contents.exports ≡ made.exports) }
     ensures floats { config.now.allow_floats ≡ false → All HasNoFloat types.now.types → IfOk result HasNoFloatContents }
     ensures refusal { IfErr result (MayRefuseContents config.now types.now.types (spaces_of imported.now)) }
     ensures left { KeepsPieces u.old u.new }
@@ -78,4 +88,28 @@ pub(crate) fn behind_exports(
         segments,
         code,
     })
+}
+
+/// Draws the same over all that stands once exports are made.
+pub(crate) fn draw_contents(
+    alloc: Global,
+    config: &Config,
+    drawn: &Drawn,
+    made: Exports,
+    u: &mut Unstructured<'_>,
+) -> Result<Contents, Error>
+    requires passes { Passes config.now }
+    requires sanitized { IsSanitized config.now }
+    requires valid { AreShapesValid config.now }
+    requires drawn { AreExportsDrawn config.now drawn.now }
+    requires made { AreExportsMade config.now drawn.now.types.types (spaces_in drawn.now.imported.spaces) drawn.now.imported.type_size made }
+    ensures exact { GivesOrLacks (λ contents. (contents, u.new)) result (in_full (behind_exports_at config.now drawn.now.types.types (imported_in drawn.now.imported) (spaces_in drawn.now.imported.spaces) made u.old)) }
+    ensures kept { IfOk result (AreContents config.now drawn.now.types.types (imported_in drawn.now.imported) (spaces_in drawn.now.imported.spaces) drawn.now.imported.type_size) }
+    ensures exports { IfOk result (λ contents. contents.exports ≡ made.exports) }
+    ensures floats { config.now.allow_floats ≡ false → All HasNoFloat drawn.now.types.types → IfOk result HasNoFloatContents }
+    ensures refusal { IfErr result (MayRefuse config.now) }
+    ensures left { KeepsPieces u.old u.new }
+{
+    let imported = &drawn.imported;
+    behind_exports(alloc, config, &drawn.types, imported, &drawn.definitions, made, u)
 }

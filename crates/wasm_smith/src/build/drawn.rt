@@ -14,7 +14,7 @@ ghost use Rattle.wasm_smith.specs.Promises.{KeepsPromises};
 ghost use Rattle.wasm_smith.specs.Refusals.{AreShapesValid, MayRefuse};
 ghost use Rattle.wasm_smith.specs.ShapesKept.{KeepsShapes};
 
-use crate::build::contents::{Contents, behind_exports};
+use crate::build::contents::{Contents, draw_contents};
 use crate::build::definitions::Definitions;
 use crate::build::exports::exports;
 use crate::build::section_flag::section_flag;
@@ -77,18 +77,11 @@ fn parts(
 {
     begin_with_types(alloc, config, drawn, u)?;
     add_imports(alloc, config, distinct, drawn, u)?;
-    drawn.encodes_imports = section_flag(drawn.imported.groups.len(), u);
+    let encodes_imports = section_flag(drawn.imported.groups.len(), u);
     add_definitions(alloc, config, drawn, u)?;
     let made = exports(alloc, config, drawn, u)?;
-    drawn.contents = behind_exports(
-        alloc,
-        config,
-        &drawn.types,
-        &drawn.imported,
-        &drawn.definitions,
-        made,
-        u,
-    )?;
+    drawn.contents = draw_contents(alloc, config, drawn, made, u)?;
+    drawn.encodes_imports = encodes_imports;
     let (narrow, wide) = interesting_values(
         alloc,
         drawn.imported.spaces.tables.as_slice(),

@@ -1,4 +1,4 @@
-ghost use Rattle.std.specs.Prelude.{◌≡◌, ◌<◌, ◌≤◌, ◌+◌, ◌^◌, ◌++◌, ◌∷◌, [], true, false, length, List, IsTrue, IfOk, IfErr, OnOk};
+ghost use Rattle.std.specs.Prelude.{◌≡◌, ◌<◌, ◌≤◌, ◌+◌, ◌^◌, ◌++◌, ◌∷◌, [], true, false, length, List, IsTrue, IfOk, IfErr, OnOk, All};
 ghost use Rattle.std.specs.List.{AllZip};
 ghost use Rattle.smith_bytes.specs.Source.{KeepsPieces};
 ghost use Rattle.smith_bytes.specs.declared.error.Count.{Count};
@@ -8,7 +8,9 @@ ghost use Rattle.smith_types.specs.Exports.{AreExportsValid};
 ghost use Rattle.smith_types.specs.Grown.{Extends, AreSpacesGrown};
 ghost use Rattle.smith_types.specs.Imports.{IndexSpaces as Spaces, imported_spaces};
 ghost use Rattle.smith_types.specs.IndexSpaces.{spaces_in};
-ghost use Rattle.smith_config.specs.Shapes.{shape_imports, shape_spaces, shape_types, IsShapeValid};
+ghost use Rattle.smith_config.specs.Shapes.{most_listed, shape_imports, shape_spaces, shape_types, IsShapeValid};
+ghost use Rattle.smith_draw.specs.ConstBounds.{HoldsNonNullableField};
+ghost use Rattle.smith_draw.specs.FuncSizes.{HasFewValues};
 ghost use Rattle.wasm_smith.specs.Bounds.{exported_of};
 ghost use Rattle.smith_imports.specs.ShapeImports.{count_in};
 ghost use Rattle.smith_contents.specs.Exported.{IsStanding};
@@ -119,7 +121,10 @@ pub(crate) fn required_exports(
     ensures valid { IfOk result (AreExportsValid (spaces_in spaces.new)) }
     ensures stands { (imported : Spaces) → StandsBehind config.now imported types.old (spaces_in spaces.old) definitions.old → OnOk result (StandsBehind config.now imported types.new (spaces_in spaces.new) definitions.new) }
     ensures types { OnOk result (Extends types.old.types types.new.types) }
+    ensures groups { OnOk result (Extends types.old.groups types.new.groups) }
     ensures types_most { OnOk result (length types.new.types ≤ length types.old.types + exported_of Types shape.now) }
+    ensures lacking { OnOk result (HoldsNonNullableField types.new.types → HoldsNonNullableField types.old.types) }
+    ensures few_values { All (HasFewValues most_listed) types.old.types → OnOk result (All (HasFewValues most_listed) types.new.types) }
     ensures spaces { OnOk result (AreSpacesGrown (spaces_in spaces.old) (spaces_in spaces.new)) }
     ensures limits { OnOk result (AddsLimitsOf shape.now (spaces_in spaces.old) (spaces_in spaces.new)) }
     ensures counted { (count : Count) → (count ≡ Types → ⊥) → OnOk result (count_in (spaces_in spaces.new) count ≡ count_in (spaces_in spaces.old) count + exported_of count shape.now) }

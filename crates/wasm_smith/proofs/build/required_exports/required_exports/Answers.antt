@@ -32,3 +32,12 @@ returns-clause-types_most c = IfOk-weaker c.push_exports.result _ _ (λ exports 
 
 pub returns-clause-limits : goal.returns-clause-limits
 returns-clause-limits c = IfOk-weaker c.push_exports.result _ _ (λ exports made. made.limits) c.push_exports.ensures.required
+
+pub returns-clause-lacking : goal.returns-clause-lacking
+returns-clause-lacking c = IfOk-weaker c.push_exports.result _ _ (λ exports made. made.lacking) c.push_exports.ensures.required
+
+pub returns-clause-few_values : goal.returns-clause-few_values
+returns-clause-few_values c = λ few. IfOk-weaker c.push_exports.result _ _ (λ exports made. made.few_values few) c.push_exports.ensures.required
+
+pub returns-clause-groups : goal.returns-clause-groups
+returns-clause-groups c = IfOk-weaker c.push_exports.result _ _ (λ exports made. made.groups_grown) c.push_exports.ensures.required

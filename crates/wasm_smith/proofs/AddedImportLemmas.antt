@@ -1,0 +1,95 @@
+-- What stands once imports are added that no shape fixes.
+use Rattle.std.proofs.Common.{◌≡◌, Bool, false, List, [], inl, inr, refl, sym, ap, subst, arith}
+use Rattle.std.specs.Prelude.{All, IsSome, Option, Some, None, is_some}
+use Rattle.smith_bytes.specs.declared.error.Count.TheVariants as counts
+use Rattle.smith_types.specs.Grown.{Extends, AreSpacesGrown}
+use Rattle.smith_types.specs.Imports.{IndexSpaces, imported_spaces}
+use Rattle.smith_types.specs.IndexSpaces.{spaces_in}
+use Rattle.smith_types.proofs.ExportGrowthLemmas.{AreExportsValid-grown}
+use Rattle.smith_config.specs.declared.config.Config.{Config}
+use Rattle.smith_config.specs.declared.shape.Shape.{Shape}
+use Rattle.smith_config.specs.Faults.{Passes}
+use Rattle.smith_config.specs.InUse.{FixesImports}
+use Rattle.smith_config.specs.Sanitized.{IsSanitized}
+use Rattle.smith_imports.specs.Imported.{HasNoFloatValue, HasNullableElements, IsImported, MayImport}
+use Rattle.smith_imports.specs.declared.imported.Imported.{Imported}
+use Rattle.wasm_smith.specs.Begun.{begun_of}
+use Rattle.wasm_smith.specs.Bounds.{brought}
+use Rattle.wasm_smith.specs.DrawnSteps.{AreImportsDrawn, AreTypesDrawn, IsBeyond}
+use Rattle.wasm_smith.specs.declared.build.drawn.Drawn.{Drawn}
+use Rattle.wasm_smith.proofs.CountingLemmas.{all_kept}
+use Rattle.wasm_smith.proofs.DefinedMoreLemmas.{none_float}
+use Rattle.wasm_smith.proofs.FreelyImportedLemmas.{freely_stands}
+
+-- no shape is there where the test for one says so
+pub none_there : (given : Option Shape) → false ≡ is_some given → given ≡ None
+none_there None h = refl
+none_there (Some shape) h = absurd cc
+
+-- without a module shape and available imports no shape fixes the imports
+free_of : (config : Config) → config.available_imports ≡ None → config.module_shape ≡ None → FixesImports config → ⊥
+free_of config free none (inl given) = let gone = subst (λ (one : Option Shape). IsSome one) free given in absurd cc
+free_of config free none (inr given) = let gone = subst (λ (one : Option Shape). IsSome one) none given in absurd cc
+
+-- all is behind nothing
+from_none : {A : Type 0} (none all : List A) → none ≡ [] → Extends none all
+from_none none all empty = record { more = all; parts = rw empty refl }
+
+grown_from_none : (none all : IndexSpaces) → none ≡ imported_spaces [] → AreSpacesGrown none all
+grown_from_none none all empty = record {
+  tags = from_none none.tags all.tags (ap (λ (spaces : IndexSpaces). spaces.tags) empty);
+  funcs = from_none none.funcs all.funcs (ap (λ (spaces : IndexSpaces). spaces.funcs) empty);
+  tables = from_none none.tables all.tables (ap (λ (spaces : IndexSpaces). spaces.tables) empty);
+  memories = from_none none.memories all.memories (ap (λ (spaces : IndexSpaces). spaces.memories) empty);
+  globals = from_none none.globals all.globals (ap (λ (spaces : IndexSpaces). spaces.globals) empty);
+}
+
+module _ (config : Config) (drawn : Drawn) (passes : Passes config) (sanitized : IsSanitized config) (old : AreTypesDrawn config drawn) (free : config.available_imports ≡ None) (none : config.module_shape ≡ None) where
+  -- imports may be drawn over the types that stand
+  pub may_import : MayImport config drawn.types
+  may_import = record {
+    passes = passes;
+    sanitized = sanitized;
+    free = free_of config free none;
+    valid = old.may.so_far.stands.types;
+    few = let brings : brought config counts.Types ≡ 0 = rw (none, free) refl in omega (arith, brings, old.may.so_far.most_types, passes.few counts.Types);
+    small = (old.free (free_of config free none)).small;
+  }
+
+  module _ (distinct : Bool) (made : Imported) (so_far : IsImported config drawn.types.types distinct made) where
+    grown : AreSpacesGrown (spaces_in drawn.imported.spaces) (spaces_in made.spaces)
+    grown = grown_from_none (spaces_in drawn.imported.spaces) (spaces_in made.spaces) (old.free (free_of config free none)).imports.spaces
+
+    -- what stands may be drawn over with the imports
+    pub imports_drawn : AreImportsDrawn config (record drawn { imported = made })
+    imports_drawn =
+        let alone = old.free (free_of config free none) in
+        let fit = so_far.fit in
+        let spaces = so_far.counts.spaces in
+        record {
+          may = record {
+            so_far = freely_stands config distinct drawn made none free sanitized old.may.so_far alone.nothing so_far;
+            few_values = old.may.few_values;
+            nullable = λ nullable. record {
+              fields = (old.may.nullable nullable).fields;
+              elements = subst (λ (each : IndexSpaces). All HasNullableElements each.tables) (sym spaces) fit.nullable_tables;
+            };
+            exports = AreExportsValid-grown (spaces_in drawn.imported.spaces) (spaces_in made.spaces) grown drawn.contents.exports old.may.exports;
+            least_types = old.may.least_types;
+          };
+          small = λ shapeless. record { types = alone.small; imports = omega (arith, so_far.counts.type_size, fit.small, fit.most) };
+          floats = λ calm shapeless. record {
+            types = old.floats calm shapeless;
+            defined = rw alone.nothing (none_float (spaces_in made.spaces) (subst (λ (each : IndexSpaces). All HasNoFloatValue each.globals) (sym spaces) (fit.floats calm)));
+          };
+        }
+
+    -- and comes behind what stood
+    pub imports_beyond : IsBeyond config (begun_of drawn) (begun_of (record drawn { imported = made }))
+    imports_beyond = record {
+      types = all_kept drawn.types.types;
+      groups = all_kept drawn.types.groups;
+      imports = λ fixes. absurd (free_of config free none fixes);
+      spaces = grown;
+      exports = λ _. refl;
+    }

@@ -1,0 +1,141 @@
+-- What a module begins with, with types drawn behind those of its shapes, may be drawn over.
+use Rattle.std.proofs.Common.{rules, ◌≡◌, ℕ, ◌≤◌, max, List, [], length, inl, inr, refl, sym, ap, subst, arith, false}
+use Rattle.std.specs.Prelude.{All, IfSome, OnOk, Option, Some, None, Result, Ok, Err}
+use Rattle.std.specs.List.{Contains}
+use Rattle.std.proofs.lemmas.List.Elements.{All-contains, All-nil, All-weaker}
+use Rattle.smith_bytes.specs.declared.error.Error.{Error}
+use Rattle.smith_bytes.specs.declared.error.Which.TheVariants as which
+use Rattle.smith_types.specs.Exports.{AreExportsValid, IsEntityAt}
+use Rattle.smith_types.specs.Floats.{HasNoFloat}
+use Rattle.smith_types.specs.Grown.{Extends}
+use Rattle.smith_types.specs.Imports.{IndexSpaces}
+use Rattle.smith_types.specs.IndexSpaces.{spaces_in}
+use Rattle.smith_types.specs.Space.{Space}
+use Rattle.smith_types.specs.ValidTypes.{AreTypesValid}
+use Rattle.smith_types.specs.declared.composite_type.SubType.{SubType}
+use Rattle.smith_types.specs.declared.entity_type.EntityType.{EntityType}
+use Rattle.smith_types.specs.declared.entity_type.ExportKind.{ExportKind}
+use Rattle.smith_types.specs.declared.entity_type.TableType.{TableType}
+use Rattle.smith_config.specs.declared.config.Config.{Config}
+use Rattle.smith_config.specs.declared.shape.Shape.{Shape}
+use Rattle.smith_config.specs.Features.{features_of}
+use Rattle.smith_config.specs.InUse.{FixesImports}
+use Rattle.smith_config.specs.Shapes.{most_listed, shape_spaces, shape_types, space_of}
+use Rattle.smith_draw.specs.ConstBounds.{HoldsNonNullableField}
+use Rattle.smith_draw.specs.FuncSizes.{HasFewValues, IsSmall}
+use Rattle.smith_imports.specs.Imported.{HasNullableElements}
+use Rattle.smith_contents.proofs.SizedLemmas.{shape_few}
+use Rattle.wasm_smith.specs.Begun.{Begun, HasNothing, IsBegun, IsBegunByModule, IsBegunByImports}
+use Rattle.wasm_smith.specs.DrawnSteps.{AreTypesDrawn, HoldsNullable}
+use Rattle.wasm_smith.specs.Refusals.{AreShapesValid, HoldsNonNullable}
+use Rattle.wasm_smith.specs.declared.build.drawn.Drawn.{Drawn}
+use Rattle.wasm_smith.proofs.BegunLemmas.{module_used, imports_used}
+use Rattle.wasm_smith.proofs.BegunStandsLemmas.{begun_stands}
+use Rattle.wasm_smith.proofs.GrownSizeLemmas.{stands_typed}
+use Rattle.wasm_smith.proofs.LackingLemmas.{shape_nullable}
+
+-- what is known of the types, the tables and the exports that a module begins with
+record MayBegin (config : Config) (drawn : Drawn) : Type 0 where
+  few_values : All (HasFewValues most_listed) drawn.types.types
+  nullable : (HoldsNonNullable config → ⊥) → HoldsNullable drawn.types.types drawn.imported.spaces.tables
+  exports : AreExportsValid (spaces_in drawn.imported.spaces) drawn.contents.exports
+
+no_exports : (spaces : IndexSpaces) → AreExportsValid spaces []
+no_exports spaces = record {
+  stand = All-nil (λ (one : List ℕ × ExportKind × ℕ). (ty : EntityType) × IsEntityAt spaces one.1 one.2 ty);
+  distinct = record { once = λ i j item one other. absurd cc };
+}
+
+-- of a shape's types and tables
+of_shape : (config : Config) (shape : Shape) (types : Space) (tables : List TableType) → types ≡ space_of shape.groups → All (Contains (shape_spaces shape).tables) tables → HoldsNullable (shape_types shape) (shape_spaces shape).tables
+    → HoldsNullable types.types tables
+of_shape config shape types tables same taken h = record {
+  fields = rw same h.fields;
+  elements = All-weaker (Contains (shape_spaces shape).tables) HasNullableElements (λ table one. All-contains HasNullableElements (shape_spaces shape).tables table h.elements one) tables taken;
+}
+
+by_module : (config : Config) (shape : Shape) (drawn : Drawn) → config.module_shape ≡ Some shape → AreShapesValid config → IsBegunByModule config shape drawn → MayBegin config drawn
+by_module config shape drawn given valid begun = record {
+  few_values = rw begun.types (shape_few shape (module_used config shape given valid).short);
+  nullable = λ none. of_shape config shape drawn.types drawn.imported.spaces.tables begun.types begun.tables (shape_nullable config which.ModuleShape shape (rw given refl) none);
+  exports = begun.exports_valid;
+}
+
+by_imports : (config : Config) (shape : Shape) (bytes : List ℕ) (drawn : Drawn) → config.module_shape ≡ None → config.available_imports ≡ Some shape → AreShapesValid config → IsBegunByImports config shape bytes drawn → MayBegin config drawn
+by_imports config shape bytes drawn none given valid begun = record {
+  few_values = rw begun.types (shape_few shape (imports_used config shape none given valid).short);
+  nullable = λ never. of_shape config shape drawn.types drawn.imported.spaces.tables begun.types begun.tables (shape_nullable config which.AvailableImports shape (rw (none, given) refl) never);
+  exports = rw begun.exports (no_exports (spaces_in drawn.imported.spaces));
+}
+
+freely : (config : Config) (drawn : Drawn) → HasNothing drawn → MayBegin config drawn
+freely config drawn nothing =
+    let types : drawn.types.types ≡ [] = ap (λ (b : Begun). b.types.types) nothing.begun in
+    let tables : drawn.imported.spaces.tables ≡ [] = ap (λ (b : Begun). b.spaces.tables) nothing.begun in
+    let exports : drawn.contents.exports ≡ [] = ap (λ (b : Begun). b.exports) nothing.begun in
+    record {
+      few_values = rw types (All-nil (HasFewValues most_listed));
+      nullable = λ never. record { fields = rw types (λ h. absurd (omega (arith, h.2))); elements = rw tables (All-nil HasNullableElements) };
+      exports = rw exports (no_exports (spaces_in drawn.imported.spaces));
+    }
+
+-- without these shapes none fixes imports
+none_fixes : (config : Config) → config.module_shape ≡ None → config.available_imports ≡ None → FixesImports config → ⊥
+none_fixes config none free (inl fixed) = let given = rw free at fixed in search rules
+none_fixes config none free (inr fixed) = let given = rw none at fixed in search rules
+
+begun_by : (config : Config) (bytes : List ℕ) (drawn : Drawn) (of_module available : Option Shape) → config.module_shape ≡ of_module → config.available_imports ≡ available → AreShapesValid config → IsBegun config bytes drawn → MayBegin config drawn
+begun_by config bytes drawn (Some shape) available given also valid begun = by_module config shape drawn given valid (subst (λ (one : Option Shape). IfSome one (λ each. IsBegunByModule config each drawn)) given begun.by_module)
+begun_by config bytes drawn None (Some shape) none given valid begun = by_imports config shape bytes drawn none given valid (subst (λ (one : Option Shape). IfSome one (λ each. IsBegunByImports config each bytes drawn)) given begun.by_imports)
+begun_by config bytes drawn None None none free valid begun = freely config drawn (begun.freely (none_fixes config none free))
+
+-- types behind those that a module begins with: what drawing them keeps
+pub record AreTypesBehind (config : Config) (old new : Space) : Type 0 where
+  valid : AreTypesValid (features_of config) new
+  longer : Extends old.types new.types
+  most : length new.types ≤ max config.max_types (length old.types)
+  least : config.min_types ≤ length new.types
+  floats : config.allow_floats ≡ false → All HasNoFloat old.types → All HasNoFloat new.types
+  few_values : (most : ℕ) → 20 ≤ most → All (HasFewValues most) old.types → All (HasFewValues most) new.types
+  nullable : ¬ HoldsNonNullableField old.types → ¬ HoldsNonNullableField new.types
+
+-- what a module has begun with may be drawn over once such types stand behind it
+types_drawn : (config : Config) (bytes : List ℕ) (drawn : Drawn) (types : Space) → AreShapesValid config → IsBegun config bytes drawn → AreTypesBehind config drawn.types types → AreTypesDrawn config (record drawn { types = types })
+types_drawn config bytes drawn types valid begun more =
+    let may = begun_by config bytes drawn config.module_shape config.available_imports refl refl valid begun in
+    record {
+      may = record {
+        so_far = stands_typed config drawn types (begun_stands config bytes drawn begun) more.valid more.longer more.most;
+        few_values = more.few_values most_listed (omega arith) may.few_values;
+        nullable = λ none. let old = may.nullable none in record { fields = more.nullable old.fields; elements = old.elements };
+        exports = may.exports;
+        least_types = more.least;
+      };
+      free = λ none. let nothing = begun.freely none in record {
+        imports = nothing.imports;
+        nothing = ap (λ (b : Begun). b.defined) nothing.begun;
+        small = more.few_values 20 (omega arith) (subst (λ (all : List SubType). All IsSmall all) (sym (ap (λ (b : Begun). b.types.types) nothing.begun)) (All-nil IsSmall));
+      };
+      floats = λ off none. let nothing = begun.freely (none_fixes config none.module_shape none.available_imports) in
+          more.floats off (subst (λ (all : List SubType). All HasNoFloat all) (sym (ap (λ (b : Begun). b.types.types) nothing.begun)) (All-nil HasNoFloat));
+    }
+
+stays_within : (most old new : ℕ) → (old ≤ most → new ≤ most) → (most ≤ old → new ≡ old) → new ≤ max most old
+stays_within most old new few full = grind arith
+
+-- what drawing types says of them, where it ends well
+module _ {X : Type 0} (config : Config) (old new : Space) where
+  pub types_behind : (result : Result X Error) → OnOk result (AreTypesValid (features_of config) new) → OnOk result (Extends old.types new.types)
+      → (length old.types ≤ config.max_types → OnOk result (length new.types ≤ config.max_types)) → (config.max_types ≤ length old.types → OnOk result (new ≡ old)) → OnOk result (config.min_types ≤ length new.types)
+      → (config.allow_floats ≡ false → All HasNoFloat old.types → OnOk result (All HasNoFloat new.types)) → ((most : ℕ) → 20 ≤ most → All (HasFewValues most) old.types → OnOk result (All (HasFewValues most) new.types))
+      → (¬ HoldsNonNullableField old.types → OnOk result (¬ HoldsNonNullableField new.types)) → OnOk result (AreTypesBehind config old new)
+  types_behind (Ok made) valid longer most full least floats few_values nullable =
+      let same : config.max_types ≤ length old.types → length new.types ≡ length old.types = λ filled. ap (λ (space : Space). length space.types) (full filled) in
+      record { valid = valid; longer = longer; most = stays_within config.max_types (length old.types) (length new.types) most same; least = least; floats = floats; few_values = few_values; nullable = nullable }
+  types_behind (Err e) valid longer most full least floats few_values nullable = tt
+
+-- then what a module has begun with may be drawn over
+pub drawn_behind : {X : Type 0} (config : Config) (bytes : List ℕ) (drawn : Drawn) (types : Space) (result : Result X Error) → AreShapesValid config → IsBegun config bytes drawn → OnOk result (AreTypesBehind config drawn.types types)
+    → OnOk result (AreTypesDrawn config (record drawn { types = types }))
+drawn_behind config bytes drawn types (Ok made) valid begun more = types_drawn config bytes drawn types valid begun more
+drawn_behind config bytes drawn types (Err e) valid begun more = tt

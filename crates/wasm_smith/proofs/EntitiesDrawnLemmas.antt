@@ -1,0 +1,80 @@
+-- What stands once entities are defined behind imports may be drawn over, and is refused only as a module may be.
+use Rattle.std.proofs.Common.{◌≡◌, ◌≤◌, ◌^◌, ℕ, List, inl, inr, subst, sym, arith}
+use Rattle.std.specs.Prelude.{false, All, Result, Ok, Err, OnOk}
+use Rattle.smith_bytes.specs.declared.error.Count.{Count}
+use Rattle.smith_bytes.specs.declared.error.Count.TheVariants as counts
+use Rattle.smith_bytes.specs.declared.error.Error.{Error}
+use Rattle.smith_types.specs.Floats.{HasNoFloat}
+use Rattle.smith_types.specs.Imports.{IndexSpaces}
+use Rattle.smith_types.specs.IndexSpaces.{spaces_in}
+use Rattle.smith_types.specs.declared.composite_type.SubType.{SubType}
+use Rattle.smith_types.specs.declared.index_spaces.IndexSpaces.{IndexSpaces as Held}
+use Rattle.smith_config.specs.declared.config.Config.{Config}
+use Rattle.smith_config.specs.Faults.{Passes, minimum_of}
+use Rattle.smith_config.specs.Sanitized.{IsSanitized}
+use Rattle.smith_draw.specs.ConstBounds.{HoldsNonNullableField}
+use Rattle.smith_imports.specs.Imported.{HasNullableElements}
+use Rattle.smith_imports.specs.ShapeImports.{count_in}
+use Rattle.wasm_smith.specs.Begun.{IsOfEntities, StandsSoFar}
+use Rattle.wasm_smith.specs.Defined.{AreDefinedMore, AreFilled, HasRoom, HaveNoFloats, MayDefine, MayRefuseDefined}
+use Rattle.wasm_smith.specs.DrawnSteps.{AreEntitiesDrawn, AreImportsDrawn, MayGoOn}
+use Rattle.wasm_smith.specs.Refusals.{AreShapesValid, HoldsNonNullable, MayRefuse}
+use Rattle.wasm_smith.specs.declared.build.definitions.Definitions.{Definitions}
+use Rattle.wasm_smith.specs.declared.build.drawn.Drawn.{Drawn}
+use Rattle.wasm_smith.proofs.BroughtLemmas.{few_brought}
+use Rattle.wasm_smith.proofs.DefinedLemmas.{all_behind}
+use Rattle.wasm_smith.proofs.DefinedMoreLemmas.{filled_grown, may_define_behind}
+use Rattle.wasm_smith.proofs.ExportsGrownLemmas.{exports_grown}
+use Rattle.wasm_smith.proofs.NonNullableLemmas.{holds_or_not}
+use Rattle.wasm_smith.proofs.StandsDefinedLemmas.{stands_defined}
+
+-- the indices of all entities that stand have 32 bits, also with as many more as a shape may list
+pub room_so_far : (config : Config) (drawn : Drawn) (more : ℕ) → Passes config → AreShapesValid config → StandsSoFar config drawn → more ≤ 2 ^ 29 → HasRoom (spaces_in drawn.imported.spaces) more
+room_so_far config drawn more passes valid now few = record {
+  tags = omega (arith, few, now.most counts.Tags tt, passes.few counts.Tags, few_brought config valid counts.Tags);
+  funcs = omega (arith, few, now.most counts.Funcs tt, passes.few counts.Funcs, few_brought config valid counts.Funcs);
+  tables = omega (arith, few, now.most counts.Tables tt, passes.few counts.Tables, few_brought config valid counts.Tables);
+  memories = omega (arith, few, now.most counts.Memories tt, passes.few counts.Memories, few_brought config valid counts.Memories);
+  globals = omega (arith, few, now.most counts.Globals tt, passes.few counts.Globals, few_brought config valid counts.Globals);
+}
+
+-- entities may be defined behind imports
+pub may_define_drawn : (config : Config) (drawn : Drawn) → Passes config → IsSanitized config → AreShapesValid config → AreImportsDrawn config drawn → MayDefine config drawn.types (spaces_in drawn.imported.spaces) drawn.definitions
+may_define_drawn config drawn passes sanitized valid so_far =
+    let now : StandsSoFar config drawn = so_far.may.so_far in
+    may_define_behind passes sanitized so_far.may.least_types (omega (arith, now.most_types, passes.few counts.Types, few_brought config valid counts.Types)) (room_so_far config drawn 0 passes valid now (omega arith)) now.stands
+
+at_least : (config : Config) (before spaces : IndexSpaces) → AreFilled config before spaces → (count : Count) → IsOfEntities count → minimum_of config count ≤ count_in spaces count
+at_least config before spaces filled counts.Tags is = filled.tags.enough
+at_least config before spaces filled counts.Funcs is = filled.funcs.enough
+at_least config before spaces filled counts.Tables is = filled.tables.enough
+at_least config before spaces filled counts.Memories is = filled.memories.enough
+at_least config before spaces filled counts.Globals is = filled.globals.enough
+at_least config before spaces filled _ is = absurd is
+
+-- what stands once they are defined
+pub entities_drawn : {X : Type 0} (r : Result X Error) (config : Config) (drawn : Drawn) (spaces : Held) (defined : Definitions) → AreImportsDrawn config drawn
+    → OnOk r (AreDefinedMore config drawn.types (spaces_in drawn.imported.spaces) drawn.definitions (spaces_in spaces) defined)
+    → (config.allow_floats ≡ false → All HasNoFloat drawn.types.types → HaveNoFloats (spaces_in drawn.imported.spaces) drawn.definitions → OnOk r (HaveNoFloats (spaces_in spaces) defined))
+    → OnOk r (AreEntitiesDrawn config (record drawn { imported = record drawn.imported { spaces = spaces }; definitions = defined }))
+entities_drawn (Ok x) config drawn spaces defined so_far made floats =
+    let may : MayGoOn config drawn = so_far.may in
+    record {
+      may = record {
+        so_far = stands_defined config drawn spaces defined may.so_far made;
+        few_values = may.few_values;
+        nullable = λ none. let old = may.nullable none in record { fields = old.fields; elements = all_behind HasNullableElements old.elements made.filled.nullable_tables };
+        exports = exports_grown (spaces_in drawn.imported.spaces) (spaces_in spaces) drawn.contents.exports (filled_grown made.filled) may.exports;
+        least_types = may.least_types;
+      };
+      least = at_least config (spaces_in drawn.imported.spaces) (spaces_in spaces) made.filled;
+      small = λ none. let old = so_far.small none in record { types = old.types; imports = old.imports };
+      floats = λ off none. let old = so_far.floats off none in record { types = old.types; defined = floats off old.types old.defined };
+    }
+entities_drawn (Err e) config drawn spaces defined so_far made floats = tt
+
+-- where no field may be other than null unless a shape holds such a reference, definitions are refused as a module may be
+pub defined_refuse : (config : Config) (types : List SubType) (e : Error) → ((HoldsNonNullable config → ⊥) → HoldsNonNullableField types → ⊥) → MayRefuseDefined config types e → MayRefuse config e
+defined_refuse config types e nullable (inl refused) = refused
+defined_refuse config types e nullable (inr (inl memory)) = subst (MayRefuse config) (sym memory) tt
+defined_refuse config types e nullable (inr (inr (empty, lacking))) = subst (MayRefuse config) (sym empty) (elim (holds_or_not config) [ inl holds ↦ holds | inr none ↦ absurd (nullable none lacking) ])

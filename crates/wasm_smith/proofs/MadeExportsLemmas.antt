@@ -1,0 +1,193 @@
+-- What stands once the exports of a module are made: those of a module shape, those of a shape for exports, or free ones.
+use Rattle.std.proofs.Common.{◌≡◌, ◌∙◌, ◌⊎◌, ℕ, ◌+◌, ◌<◌, ◌≤◌, ◌^◌, ◌||◌, false, true, List, length, inl, inr, refl, subst, sym, ap, arith}
+use Rattle.std.specs.Prelude.{All, IfSome, IsSome, Option, Some, None, is_some, if◌then◌else◌}
+use Rattle.std.proofs.lemmas.List.Elements.{All-contains}
+use Rattle.smith_bytes.specs.declared.error.Count.{Count}
+use Rattle.smith_bytes.specs.declared.error.Count.TheVariants as counts
+use Rattle.smith_bytes.specs.declared.error.Error.{Error}
+use Rattle.smith_bytes.specs.declared.error.Error.TheVariants as errors
+use Rattle.smith_bytes.specs.declared.error.Which.TheVariants as which
+use Rattle.smith_bytes.specs.declared.error.Why.TheVariants.{SeveralMemories, SeveralTables}
+use Rattle.smith_types.specs.Grown.{Extends, AreSpacesGrown}
+use Rattle.smith_types.specs.Imports.{flattened, imported_spaces}
+use Rattle.smith_types.specs.IndexSpaces.{spaces_in}
+use Rattle.smith_types.specs.Space.{Space}
+use Rattle.smith_types.specs.declared.composite_type.SubType.{SubType}
+use Rattle.smith_types.specs.declared.index_spaces.IndexSpaces.{IndexSpaces as Held}
+use Rattle.smith_types.proofs.EntityGrowthLemmas.{no_fewer}
+use Rattle.smith_config.specs.declared.config.Config.{Config}
+use Rattle.smith_config.specs.declared.shape.Shape.{Shape}
+use Rattle.smith_config.specs.Faults.{Passes}
+use Rattle.smith_config.specs.InUse.{FixesExports}
+use Rattle.smith_config.specs.Sanitized.{IsSanitized}
+use Rattle.smith_config.specs.Shapes.{IsShapeValid, most_listed, shape_spaces}
+use Rattle.smith_draw.specs.ConstBounds.{HoldsNonNullableField}
+use Rattle.smith_draw.specs.FuncSizes.{HasFewValues}
+use Rattle.smith_imports.specs.Imported.{HasNullableElements}
+use Rattle.smith_imports.specs.ShapeImports.{count_in}
+use Rattle.smith_contents.specs.Exporting.{Export, exported_size}
+use Rattle.smith_contents.specs.declared.exported.Exports.{Exports}
+use Rattle.smith_contents.proofs.SizedLemmas.{few_sized}
+use Rattle.wasm_smith.specs.Begun.{Begun, IsOfEntities, StandsSoFar, begun_of, size_of_imports}
+use Rattle.wasm_smith.specs.Bounds.{exported_of}
+use Rattle.wasm_smith.specs.Build.{begun_size, exports_of}
+use Rattle.wasm_smith.specs.Contents.{MayHoldContents}
+use Rattle.wasm_smith.specs.Defined.{StandsBehind}
+use Rattle.wasm_smith.specs.DrawnSteps.{AreEntitiesDrawn, AreExportsDrawn, HoldsNullable, IsBeyond, MayGoOn}
+use Rattle.wasm_smith.specs.Refusals.{AreShapesValid, HoldsNonNullable, MayRefuse, shape_for}
+use Rattle.wasm_smith.specs.Required.{AddsLimitsOf, MayDefineMore, MayLackIn, MayRefuseRequired}
+use Rattle.wasm_smith.specs.declared.build.definitions.Definitions.{Definitions}
+use Rattle.wasm_smith.specs.declared.build.drawn.Drawn.{Drawn}
+use Rattle.wasm_smith.proofs.BroughtLemmas.{few_added, few_brought}
+use Rattle.wasm_smith.proofs.CountingLemmas.{all_kept}
+use Rattle.wasm_smith.proofs.DefinedMoreLemmas.{stands_within}
+use Rattle.wasm_smith.proofs.LackingLemmas.{shape_nullable}
+use Rattle.wasm_smith.proofs.NonNullableLemmas.{holds_or_not}
+use Rattle.wasm_smith.proofs.StandsWholeLemmas.{either_kept, not_types, stands_required, stands_whole}
+
+-- a shape for exports is used where there is no module shape
+pub exports_used : (config : Config) (shape : Shape) → config.module_shape ≡ None → config.exports ≡ Some shape → AreShapesValid config → IsShapeValid which.Exports config shape
+exports_used config shape none given valid =
+    let used : shape_for config which.Exports ≡ Some shape = rw (none, given) refl in
+    subst (λ (one : Option Shape). IfSome one (λ each. IsShapeValid which.Exports config each)) used (valid which.Exports)
+
+-- without either no shape fixes the exports
+pub exports_free : (config : Config) → config.module_shape ≡ None → config.exports ≡ None → FixesExports config → ⊥
+exports_free config none free (inl given) = let never = subst (λ (one : Option Shape). IsSome one) free given in absurd cc
+exports_free config none free (inr given) = let never = subst (λ (one : Option Shape). IsSome one) none given in absurd cc
+
+-- what is not there is none
+pub none_given : {A : Type 0} (given : Option A) → is_some given ≡ false → given ≡ None
+none_given None off = refl
+none_given (Some one) off = absurd cc
+
+-- where no exports are added what stands is whole
+pub stands_already : (config : Config) (drawn : Drawn) → AreEntitiesDrawn config drawn → AreExportsDrawn config drawn
+stands_already config drawn now = record {
+  whole = stands_whole config drawn now.may.so_far;
+  few_values = now.may.few_values;
+  nullable = now.may.nullable;
+  least_types = now.may.least_types;
+  least = now.least;
+  small = now.small;
+  floats = now.floats;
+}
+
+-- contents may be drawn over what stands with exports
+pub may_hold_contents : (config : Config) (drawn : Drawn) → Passes config → IsSanitized config → AreShapesValid config → AreExportsDrawn config drawn → MayHoldContents config drawn.types (spaces_in drawn.imported.spaces) drawn.imported.type_size
+may_hold_contents config drawn passes sanitized valid now =
+    let few : (count : Count) → IsOfEntities count → count_in (spaces_in drawn.imported.spaces) count < 2 ^ 32 = λ count is. omega (arith, now.whole.most count is, passes.few count, few_brought config valid count, few_added config valid count) in
+    record {
+      passes = passes;
+      sanitized = sanitized;
+      types = now.whole.stands.types;
+      sized = few_sized drawn.types.types now.few_values;
+      small = λ none. (now.small none).types;
+      entities = now.whole.stands.entities;
+      few = record { funcs = few counts.Funcs tt; tables = few counts.Tables tt; memories = few counts.Memories tt; globals = few counts.Globals tt; tags = few counts.Tags tt };
+      tables = now.least counts.Tables tt;
+      memories = now.least counts.Memories tt;
+      globals = now.least counts.Globals tt;
+      within = now.whole.within;
+      small_imports = λ none. (now.small none).imports;
+    }
+
+-- the exports of a shape add nothing to the type size
+nothing_more : {A : Type 0} (size more : ℕ) (of_module exports : Option A) (one : A) → of_module ≡ None → exports ≡ Some one → size ≡ size + (if is_some of_module || is_some exports then 0 else more)
+nothing_more size more of_module exports one none given = rw (none, given) (omega arith)
+
+pub required_size : (config : Config) (shape : Shape) (begun : Begun) (type_size : ℕ) → config.module_shape ≡ None → config.exports ≡ Some shape → type_size ≡ size_of_imports config begun.types.types (flattened begun.groups)
+    → ◌≡◌ {A = Exports} (record { exports = begun.exports; type_size = type_size }) (exports_of config begun)
+required_size config shape begun type_size none given is =
+    let size = begun_size config begun in
+    let whole : type_size ≡ size + (if is_some config.module_shape || is_some config.exports then 0 else exported_size begun.types.types begun.spaces begun.exports) =
+    is ∙ nothing_more size (exported_size begun.types.types begun.spaces begun.exports) config.module_shape config.exports shape none given in
+    ap (λ (n : ℕ). record { exports = begun.exports; type_size = n }) whole
+
+module _ (config : Config) (shape : Shape) (drawn : Drawn) (passes : Passes config) (valid : AreShapesValid config) (one : IsShapeValid which.Exports config shape) (now : StandsSoFar config drawn) where
+  room_for : (count : Count) → IsOfEntities count → count_in (spaces_in drawn.imported.spaces) count + length shape.exports < 2 ^ 32
+  room_for count is = omega (arith, now.most count is, passes.few count, few_brought config valid count, one.short.exports)
+
+  -- the exports of a shape may be defined behind what stands
+  pub may_require : IsSanitized config → MayDefineMore config drawn.types (spaces_in drawn.imported.spaces) drawn.definitions (length shape.exports)
+  may_require sanitized = record {
+    sanitized = sanitized;
+    valid = now.stands.types;
+    entities = now.stands.entities;
+    within = stands_within now.stands;
+    room = record { tags = room_for counts.Tags tt; funcs = room_for counts.Funcs tt; tables = room_for counts.Tables tt; memories = room_for counts.Memories tt; globals = room_for counts.Globals tt };
+  }
+
+  -- and their types behind those that do
+  pub types_room : length drawn.types.types + length shape.exports < 2 ^ 32
+  types_room = omega (arith, now.most_types, passes.few counts.Types, few_brought config valid counts.Types, one.short.exports)
+
+module _ (config : Config) (shape : Shape) (drawn : Drawn) (none : config.module_shape ≡ None) (given : config.exports ≡ Some shape) (may : MayGoOn config drawn) where
+  lacks : MayLackIn drawn.types.types shape → HoldsNonNullable config
+  lacks (inl value) = (which.Exports, rw (none, given) value)
+  lacks (inr field) = elim (holds_or_not config) [
+    | inl holds ↦ holds
+    | inr never ↦ absurd ((may.nullable never).fields field)
+  ]
+
+  lacks_so : (e : Error) → (e ≡ errors.Memory) ⊎ ((e ≡ errors.EmptyChoose) × MayLackIn drawn.types.types shape) → MayRefuse config e
+  lacks_so e (inl memory) = subst (MayRefuse config) (sym memory) tt
+  lacks_so e (inr (empty, lacking)) = subst (MayRefuse config) (sym empty) (lacks lacking)
+
+  -- the exports of a shape are refused where a module may be
+  pub required_refuses : (e : Error) → MayRefuseRequired config drawn.types.types shape e → MayRefuse config e
+  required_refuses (errors.IncorrectFormat SeveralMemories) (some, few) = (inl (rw (none, given) some), few)
+  required_refuses (errors.IncorrectFormat SeveralTables) (some, off) = (inl (rw (none, given) some), off)
+  required_refuses e refused = lacks_so e refused
+
+  required_nullable : (types : Space) (spaces : Held) → (HoldsNonNullableField types.types → HoldsNonNullableField drawn.types.types) → AddsLimitsOf shape (spaces_in drawn.imported.spaces) (spaces_in spaces) → (HoldsNonNullable config → ⊥)
+      → HoldsNullable types.types spaces.tables
+  required_nullable types spaces lacking limits never =
+      let before = may.nullable never in
+      let theirs = shape_nullable config which.Exports shape (rw (none, given) refl) never in
+      record {
+        fields = λ field. before.fields (lacking field);
+        elements =
+            either_kept HasNullableElements drawn.imported.spaces.tables (shape_spaces shape).tables spaces.tables before.elements
+            (λ table h. All-contains HasNullableElements (shape_spaces shape).tables table theirs.elements h) limits.tables;
+      }
+
+-- the exports of a shape are made behind what stands
+module _ (config : Config) (shape : Shape) (drawn : Drawn) (types : Space) (spaces : Held) (defined : Definitions) (none : config.module_shape ≡ None) (given : config.exports ≡ Some shape) where
+  pub required_drawn : AreEntitiesDrawn config drawn → Extends drawn.types.types types.types → length types.types ≤ length drawn.types.types + exported_of counts.Types shape
+      → (HoldsNonNullableField types.types → HoldsNonNullableField drawn.types.types) → (All (HasFewValues most_listed) drawn.types.types → All (HasFewValues most_listed) types.types)
+      → ((count : Count) → (count ≡ counts.Types → ⊥) → count_in (spaces_in spaces) count ≡ count_in (spaces_in drawn.imported.spaces) count + exported_of count shape)
+      → AddsLimitsOf shape (spaces_in drawn.imported.spaces) (spaces_in spaces)
+      → StandsBehind config (imported_spaces (flattened drawn.imported.groups)) types (spaces_in spaces) defined
+      → AreExportsDrawn config (record drawn { types = types; imported = record drawn.imported { spaces = spaces }; definitions = defined })
+  required_drawn now longer most lacking few counted limits stands = record {
+    whole = stands_required config shape drawn types spaces defined none given now.may.so_far longer most counted limits stands;
+    few_values = few now.may.few_values;
+    nullable = required_nullable config shape drawn none given now.may types spaces lacking limits;
+    least_types = let before = now.may.least_types in let fewer = no_fewer drawn.types.types longer.more in let end = ap (λ (all : List SubType). length all) longer.parts in omega (arith, before, fewer, end);
+    least = λ count is. let before = now.least count is in let here = counted count (not_types count is) in omega (arith, before, here);
+    small = λ without. let shapeless = without.exports in absurd cc;
+    floats = λ off without. let shapeless = without.exports in absurd cc;
+  }
+
+  pub required_beyond : (exports : List Export) → Extends drawn.types.types types.types → Extends drawn.types.groups types.groups → AreSpacesGrown (spaces_in drawn.imported.spaces) (spaces_in spaces)
+      → IsBeyond config (begun_of drawn) (record { types = types; groups = drawn.imported.groups; spaces = spaces_in spaces; defined = defined; exports = exports })
+  required_beyond exports longer groups grown = record {
+    types = longer;
+    groups = groups;
+    imports = λ fixes. refl;
+    spaces = grown;
+    exports = λ shaped. let never : false ≡ true = rw none at shaped in absurd cc;
+  }
+
+-- nothing is added where the exports were made before
+pub nothing_beyond : (config : Config) (drawn : Drawn) (exports : List Export) → exports ≡ drawn.contents.exports → IsBeyond config (begun_of drawn) (record (begun_of drawn) { exports = exports })
+nothing_beyond config drawn exports same =
+    let spaces = spaces_in drawn.imported.spaces in
+    record {
+      types = all_kept drawn.types.types;
+      groups = all_kept drawn.types.groups;
+      imports = λ fixes. refl;
+      spaces = record { tags = all_kept spaces.tags; funcs = all_kept spaces.funcs; tables = all_kept spaces.tables; memories = all_kept spaces.memories; globals = all_kept spaces.globals };
+      exports = λ shaped. same;
+    }

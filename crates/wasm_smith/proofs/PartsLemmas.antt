@@ -1,0 +1,76 @@
+-- The steps of drawing a module, one behind another, give the module that the bytes do, and parts that hold what each step left.
+use Rattle.std.proofs.Common.{◌≡◌, ◌∙◌, ℕ, ◌<◌, Bool, false, List, length, refl, sym, subst, arith}
+use Rattle.std.specs.Prelude.{IsTrue, Result, Ok}
+use Rattle.smith_bytes.specs.declared.error.Error.{Error}
+use Rattle.smith_types.specs.Imports.{flattened, imported_spaces}
+use Rattle.smith_types.specs.IndexSpaces.{spaces_in}
+use Rattle.smith_config.specs.declared.config.Config.{Config}
+use Rattle.smith_config.specs.InUse.{FixesImports, HasNoShapes}
+use Rattle.smith_imports.specs.Steps.{section_flag_at}
+use Rattle.smith_imports.specs.declared.imported.Imported.{Imported}
+use Rattle.smith_contents.specs.declared.exported.Exports.{Exports}
+use Rattle.wasm_smith.specs.Begun.{Begun, StandsWhole}
+use Rattle.wasm_smith.specs.Build.{begun_typed_at, defined_at, exported_at, exports_of, imported_at, in_full, module_at, module_of}
+use Rattle.wasm_smith.specs.Module.{Parts}
+use Rattle.wasm_smith.specs.DrawnContents.{AreContents, HasNoFloatContents, behind_exports_at, imported_in}
+use Rattle.wasm_smith.specs.DrawnParts.{IsDrawnFor}
+use Rattle.wasm_smith.specs.DrawnSteps.{AreExportsDrawn, AreFreeImports, HasSameImports}
+use Rattle.wasm_smith.specs.InterestingValues.{AreAll, IsInteresting32, IsInteresting64}
+use Rattle.wasm_smith.specs.declared.build.contents.Contents.{Contents}
+use Rattle.wasm_smith.specs.declared.build.drawn.Drawn.{Drawn}
+
+-- what each step reads, all of them read
+pub module_read : (distinct : Bool) (config : Config) (bytes : List ℕ) (typed imported defined whole : Begun) (flag : Bool) (made : Exports) (contents : Contents) (count : ℕ) (first second third fourth fifth last : List ℕ)
+    → begun_typed_at config bytes ≡ Ok (typed, first) → imported_at distinct config typed first ≡ Ok (imported, second) → section_flag_at (length imported.groups) second ≡ (flag, third)
+    → defined_at config imported third ≡ Ok (defined, fourth) → exported_at config defined fourth ≡ Ok (whole, fifth) → made ≡ exports_of config whole
+    → in_full (behind_exports_at config whole.types.types (imported_spaces (flattened whole.groups)) whole.spaces made fifth) ≡ Ok (contents, last) → count ≡ length (flattened whole.groups)
+    → module_at distinct config bytes ≡ Ok (record (module_of config whole contents flag) { num_imports = count }, last)
+unfolding module_at
+module_read distinct config bytes typed imported defined whole flag made contents count first second third fourth fifth last begins imports flags defines exports size behind counted =
+    let behind_own = subst (λ (own : Exports). in_full (behind_exports_at config whole.types.types (imported_spaces (flattened whole.groups)) whole.spaces own fifth) ≡ Ok (contents, last)) size behind in
+    rw (begins, imports, flags, defines, exports, behind_own, counted) refl
+
+-- what stands whole still does beside contents
+whole_with : {config : Config} {drawn : Drawn} (later : Drawn) → later.types ≡ drawn.types → later.imported ≡ drawn.imported → later.definitions ≡ drawn.definitions → StandsWhole config drawn → StandsWhole config later
+whole_with later types imported definitions h = record {
+  groups = rw imported h.groups;
+  count = rw imported h.count;
+  stands = rw (types, imported, definitions) h.stands;
+  most = rw imported h.most;
+  most_types = rw types h.most_types;
+  most_imports = rw imported h.most_imports;
+  tables = rw imported h.tables;
+  memories = rw imported h.memories;
+  type_size = rw (types, imported) h.type_size;
+  within = rw imported h.within;
+}
+
+-- imports stay what they are behind two steps
+pub same_imports : {first second third : Imported} → HasSameImports first second → HasSameImports second third → HasSameImports first third
+same_imports one two = record { groups = two.groups ∙ one.groups; count = two.count ∙ one.count; type_size = two.type_size ∙ one.type_size }
+
+free_so : {distinct : Bool} {config : Config} {old new : Imported} → HasSameImports old new → AreFreeImports distinct config old → AreFreeImports distinct config new
+free_so same free = record { apart = rw same.groups free.apart; least = rw same.count free.least }
+
+written_so : {old new : Imported} (flag : Bool) → HasSameImports old new → (0 < length old.groups → IsTrue flag) → 0 < length new.groups → IsTrue flag
+written_so flag same written some = written (rw same.groups at some)
+
+-- the parts of a module, of what stood once exports were made
+pub drawn_for : {distinct : Bool} {config : Config} {before : Imported} {drawn : Drawn} (contents : Contents) (flag : Bool) (narrow wide : List ℕ) → AreExportsDrawn config drawn
+    → ((FixesImports config → ⊥) → AreFreeImports distinct config before) → HasSameImports before drawn.imported → (0 < length before.groups → IsTrue flag)
+    → AreContents config drawn.types.types (imported_in drawn.imported) (spaces_in drawn.imported.spaces) drawn.imported.type_size contents → (config.allow_floats ≡ false → HasNoShapes config → HasNoFloatContents contents)
+    → AreAll (IsInteresting32 drawn.imported.spaces.tables drawn.imported.spaces.memories) narrow → AreAll (IsInteresting64 drawn.imported.spaces.tables drawn.imported.spaces.memories) wide
+    → IsDrawnFor distinct config (record drawn { contents = contents; encodes_imports = flag; interesting_values32 = narrow; interesting_values64 = wide })
+drawn_for {drawn = drawn} contents flag narrow wide h free same written kept calm those32 those64 =
+    let later : Drawn = record drawn { contents = contents; encodes_imports = flag; interesting_values32 = narrow; interesting_values64 = wide } in
+    record {
+      whole = whole_with later refl refl refl h.whole;
+      least_types = h.least_types;
+      least = h.least;
+      free = λ fixes. free_so same (free fixes);
+      contents = kept;
+      interesting64 = those64;
+      interesting32 = those32;
+      encodes_imports = written_so flag same written;
+      floats = λ off none. let so_far = h.floats off none in record { types = so_far.types; defined = so_far.defined; contents = calm off none };
+    }

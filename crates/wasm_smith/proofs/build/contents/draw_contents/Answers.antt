@@ -1,0 +1,15 @@
+use Rattle.wasm_smith.proofs.ContentsLemmas.{imports_told, may_hold_contents}
+use Rattle.smith_types.specs.IndexSpaces.{spaces_in}
+use Rattle.wasm_smith.proofs.RefusalLemmas.{contents_refuse, lacks_so}
+use Rattle.wasm_smith.proofs.build.contents.draw_contents.Goals as goal
+
+pub behind_exports-requires-clause-may : goal.behind_exports-requires-clause-may
+behind_exports-requires-clause-may c = may_hold_contents c.requires.passes c.requires.sanitized c.requires.valid c.requires.drawn
+
+pub behind_exports-requires-clause-told : goal.behind_exports-requires-clause-told
+behind_exports-requires-clause-told c = imports_told c.requires.drawn
+
+pub returns-clause-refusal : goal.returns-clause-refusal
+returns-clause-refusal c =
+    let drawn = c.args.drawn.now in
+    contents_refuse c.args.config.now drawn.types.types (spaces_in drawn.imported.spaces) c.behind_exports.result (lacks_so c.args.config.now drawn.types.types (spaces_in drawn.imported.spaces) c.requires.drawn.nullable) c.behind_exports.ensures.refusal
