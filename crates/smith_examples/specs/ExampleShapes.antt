@@ -1,11 +1,9 @@
 -- Shapes that the examples speak of, and modules that have them or not.
-use Rattle.std.specs.Prelude.{ℕ, true, false, List, [], ◌∷◌, Some, None, IsSome, codes, map}
-use Rattle.smith_bytes.specs.declared.error.Error.{Error}
-use Rattle.smith_bytes.specs.declared.error.Error.TheVariants.{Shape as Misshapen}
-use Rattle.smith_bytes.specs.declared.error.ShapeFault.TheVariants.{LeftOut}
+use Rattle.std.specs.Prelude.{ℕ, true, false, List, [], ◌∷◌, Some, None, codes, map}
 use Rattle.smith_types.specs.Flags.{funcref}
 use Rattle.smith_types.specs.ExampleTypes.{plain, nullable, not_null}
 use Rattle.smith_types.specs.declared.value_type.AbstractHeapType.TheVariants as heap
+use Rattle.smith_types.specs.declared.value_type.HeapType.TheVariants.{Concrete}
 use Rattle.smith_types.specs.declared.value_type.ValType.TheVariants.{F32, Ref}
 use Rattle.smith_types.specs.declared.entity_type.EntityType.TheVariants as entity
 use Rattle.smith_types.specs.declared.entity_type.ExportKind.{ExportKind}
@@ -18,7 +16,6 @@ pub use Rattle.smith_config.specs.ExampleShapes.{empty_shape}
 use Rattle.smith_config.specs.declared.shape.Shape.{Shape}
 use Rattle.smith_spell.specs.ExampleMembers.{alone, final, taking_a_number, foo_type, quux_type, taking}
 use Rattle.wasm_smith.specs.Module.{Parts}
-use Rattle.wasm_smith.specs.Refusals.{shape_for}
 use Rattle.smith_examples.specs.ExampleParts.{import_named, memory, table, global, trapping}
 use Rattle.smith_examples.specs.ExampleModules.{empty_module, group_of, three_memories}
 
@@ -158,7 +155,6 @@ memory_available = record empty_shape { imports = Single shared_bytes ∷ [] }
 abbrev pub room_for_two : Config
 room_for_two = record default_config { min_imports = 2; max_memories = 2; max_tables = 2 }
 
--- a refusal that comes until shapes are used
-abbrev pub IsRefusalToCome : Config → Error → Type 0
-IsRefusalToCome config (Misshapen for_use LeftOut) = IsSome (shape_for config for_use)
-IsRefusalToCome config _ = ⊥
+-- a global of references to a type that is not there
+abbrev pub untyped : Shape
+untyped = record empty_shape { globals = global (Ref (nullable (Concrete 0))) false ∷ [] }

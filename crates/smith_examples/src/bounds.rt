@@ -107,6 +107,7 @@ fn most()
     ensures another_type_size { ¬ KeepsBounds two_imports.config (record two_imports { type_size = 3 }) }
     ensures too_large_together { ¬ KeepsBounds (record default_config { max_type_size = 3 }) two_imports }
     ensures a_type_too_many { ¬ KeepsBounds (record default_config { max_types = 1 }) arrays }
+    ensures a_function_too_many { ¬ KeepsBounds (record default_config { max_funcs = 0 }) one_function }
     ensures an_element_too_many { ¬ KeepsBounds (record default_config { max_elements = 2 }) two_segments }
     ensures an_export_too_many { ¬ KeepsBounds (record default_config { max_exports = 0 }) exported_number }
     ensures any_exports_where_everything_is { KeepsBounds (record default_config { export_everything = true; max_exports = 0 }) two_exports }

@@ -38,6 +38,7 @@ fn refusals()
 
 fn faults()
     ensures of_nothing { ¬ MayRefuse default_config (Faulty (MinAboveMax counts.Tags)) }
+    ensures too_many_types_asked_for { MayRefuse (record default_config { min_types = 101 }) (Faulty (MinAboveMax counts.Types)) }
     ensures too_many_imports_asked_for { MayRefuse (record default_config { min_imports = 101 }) (Faulty (MinAboveMax counts.Imports)) }
     ensures imports_of_a_shape { ¬ MayRefuse (for_imports environment (record default_config { min_imports = 101 })) (Faulty (MinAboveMax counts.Imports)) }
     ensures imports_of_a_module { ¬ MayRefuse (for_module environment (record default_config { min_imports = 101 })) (Faulty (MinAboveMax counts.Imports)) }
@@ -48,6 +49,7 @@ fn faults()
     ensures not_the_first { ¬ MayRefuse (record default_config { min_types = 101; max_tags = 2147483649 }) (Faulty (MaxTooLarge counts.Tags)) }
     ensures a_name_twice { MayRefuse (for_module twice_exported default_config) (Misshapen ModuleShape DuplicateExport) }
     ensures a_name_twice_for_another_use { ¬ MayRefuse (for_module twice_exported default_config) (Misshapen Exports DuplicateExport) }
+    ensures a_name_twice_beside_available_imports { MayRefuse (for_imports environment (for_exports twice_exported default_config)) (Misshapen Exports DuplicateExport) }
     ensures a_name_twice_beside_a_module { ¬ MayRefuse (for_module exporting (for_exports twice_exported default_config)) (Misshapen Exports DuplicateExport) }
     ensures two_names { ¬ MayRefuse (for_module exporting default_config) (Misshapen ModuleShape DuplicateExport) }
 {}

@@ -4,7 +4,6 @@ use Rattle.std.specs.Prelude.{◌⊎◌, ◌↔◌, ◌||◌, IfOk, IfErr, OnOk,
 use Rattle.std.specs.Io.KnownBytes.{Appends}
 use Rattle.smith_bytes.specs.declared.error.Error.{Error}
 use Rattle.smith_bytes.specs.declared.error.Error.TheVariants.{Memory}
-use Rattle.smith_config.specs.Arbitrary.{config_at}
 use Rattle.smith_config.specs.Config.{default_config}
 use Rattle.wasm_smith.specs.Generated.{IsGenerated}
 use Rattle.wasm_smith.specs.Module.{Parts}
@@ -26,11 +25,6 @@ answer_told drawn left input answer before after (Err e) read allowed written to
 pub answered_by_default : (drawn : Bool) (input : List ℕ) (answer : Result Parts Error) (left : List ℕ) → drawn ≡ false → IsGenerated false default_config input answer left → IfErr answer (λ e. e ≡ Memory) → MayAnswer drawn input answer
 answered_by_default false input answer left off generated memory_alone = record { answered = record { left = left; generated = generated }; memory_alone = memory_alone }
 answered_by_default true input answer left off generated memory_alone = cc
-
--- what is answered for the configuration that the input gives may be where one is drawn
-pub answered_as_drawn : (drawn : Bool) (input : List ℕ) (answer : Result Parts Error) (left : List ℕ) → drawn ≡ true → IsGenerated false (config_at input).0 (config_at input).1 answer left → MayAnswer drawn input answer
-answered_as_drawn false input answer left on generated = cc
-answered_as_drawn true input answer left on generated = record { left = left; generated = generated }
 
 -- the sink has failed exactly where this is answered
 pub failed_writing : (before after : Bool) (result : Result Outcome RunFault) → before ≡ false → IfErr result (λ e. e ≡ fault.Write) → after ≡ (before || is_err result)

@@ -9,6 +9,9 @@ returns-clause-a_type_too_many c = λ bounds. let never : 2 ≤ 1 = bounds.most 
 pub returns-clause-an_available_import_too_many : goal.returns-clause-an_available_import_too_many
 returns-clause-an_available_import_too_many c = λ bounds. let never : 2 ≤ 1 = bounds.most counts.Imports tt in omega (arith, never)
 
+pub returns-clause-a_function_too_many : goal.returns-clause-a_function_too_many
+returns-clause-a_function_too_many c = λ bounds. let never : 1 ≤ 0 = bounds.most counts.Funcs tt in omega (arith, never)
+
 pub returns-clause-an_element_too_many : goal.returns-clause-an_element_too_many
 returns-clause-an_element_too_many c = λ bounds. let never : 3 ≤ 2 = bounds.most counts.Elements tt in omega (arith, never)
 
