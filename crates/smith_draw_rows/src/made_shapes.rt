@@ -41,13 +41,27 @@ pub const EXTERNAL_TABLE: TableType = TableType {
 };
 
 /// A global of a type that is not set and not shared.
-pub const fn constant(val_type: ValType) -> GlobalType {
+pub fn constant(val_type: ValType) -> GlobalType {
     GlobalType {
         val_type,
         mutable: false,
         shared: false,
     }
 }
+
+/// A number of 32 bits that is not set and not shared.
+pub const NUMBER: GlobalType = GlobalType {
+    val_type: ValType::I32,
+    mutable: false,
+    shared: false,
+};
+
+/// A number of 64 bits that is not set and not shared.
+pub const WIDE_NUMBER: GlobalType = GlobalType {
+    val_type: ValType::I64,
+    mutable: false,
+    shared: false,
+};
 
 /// A shape of nothing.
 pub fn no_shape(alloc: Global) -> Shape {
@@ -188,12 +202,6 @@ pub fn ping_and_memory(alloc: Global) -> Result<Shape, Error> {
     let ping = function(alloc, true, &[ValType::I32], &[])?;
     add_type(alloc, &mut shape, ping)?;
     add_import(alloc, &mut shape, "env", "ping", EntityType::Func(0))?;
-    add_import(
-        alloc,
-        &mut shape,
-        "env",
-        "memory",
-        EntityType::Memory(PAGE),
-    )?;
+    add_import(alloc, &mut shape, "env", "memory", EntityType::Memory(PAGE))?;
     Ok(shape)
 }
