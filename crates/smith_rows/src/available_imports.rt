@@ -251,7 +251,8 @@ fn no_more_imports_are_asked_for(rt: HostRuntime) -> Result<(), Fail> {
 // The imports that are taken of five, and what they add to the type size.
 fn taken(alloc: Global, rules: Rules, input: &[u8]) -> Result<([Option<OneImport>; 5], u32), Fail> {
     let found = made(alloc, Offer::Five, rules, input)?;
-    Ok((found.imported.imports, found.imported.type_size))
+    let imports = found.imported.imports;
+    Ok((imports, found.imported.type_size))
 }
 
 #[test]
@@ -348,7 +349,8 @@ fn grouped(
     input: &[u8],
 ) -> Result<([Option<Group>; 5], Groups), Fail> {
     let found = made(alloc, offer, rules, input)?;
-    Ok((found.imported.groups, found.groups))
+    let groups = found.imported.groups;
+    Ok((groups, found.groups))
 }
 
 // The groups of the types of the five imports.
@@ -415,7 +417,8 @@ fn all_types_of_the_shape_are_added(rt: HostRuntime) -> Result<(), Fail> {
 // What the bytes say of three globals, where there are no types.
 fn grouped_globals(alloc: Global, input: &[u8]) -> Result<[Option<Group>; 5], Fail> {
     let found = grouped(alloc, Offer::Globals, Rules::Defaults, input)?;
-    Ok(found.0)
+    let (groups, _) = found;
+    Ok(groups)
 }
 
 #[test]
