@@ -1,11 +1,11 @@
 -- Configurations without shapes.
-use Rattle.std.proofs.Common.{rules, ◌≡◌, None, Option, ap, subst, inl, inr}
+use Rattle.std.proofs.Common.{◌≡◌, None, Option, ap, subst}
 use Rattle.std.specs.Prelude.{IsSomeAnd}
 use Rattle.smith_bytes.specs.declared.error.Which.{Which}
 use Rattle.smith_bytes.specs.declared.error.Which.TheVariants as which
 use Rattle.smith_config.specs.declared.config.Config.{Config}
 use Rattle.smith_config.specs.declared.shape.Shape.{Shape}
-use Rattle.smith_config.specs.InUse.{FixesExports, HasNoShapes, shapes_of}
+use Rattle.smith_config.specs.InUse.{HasNoShapes, shapes_of}
 use Rattle.smith_config.specs.Shapes.{Shapes, in_use, no_shapes}
 use Rattle.wasm_smith.specs.Refusals.{AreShapesValid, shape_for}
 
@@ -24,8 +24,3 @@ no_shapes_valid config none for_use = rw (none_for config for_use none) tt
 -- no shape that is used has a property
 pub none_used : (P : Shape → Type 0) (config : Config) (for_use : Which) → HasNoShapes config → IsSomeAnd (shape_for config for_use) P → ⊥
 none_used P config for_use none h = subst (λ (given : Option Shape). IsSomeAnd given P) (none_for config for_use none) h
-
--- and none fixes exports
-pub none_fixed : (config : Config) → HasNoShapes config → FixesExports config → ⊥
-none_fixed config none (inl fixed) = let given = rw none.exports at fixed in search rules
-none_fixed config none (inr fixed) = let given = rw none.module_shape at fixed in search rules
