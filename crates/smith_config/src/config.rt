@@ -107,7 +107,8 @@ pub struct Config {
     pub table_max_size_required: bool,
 
     /// The greatest sum of the sizes of imports and exports. Default 1000. A function's size is 1
-    /// and its parameters and results, any other item's is 1, and each name costs 1 more.
+    /// and its parameters and results, any other item's is 1, and each name costs 1 more. Names of
+    /// `available_imports` cost nothing, nor do the exports of `exports` and all of `module_shape`.
     pub max_type_size: u32,
 
     /// How many instructions with operands a constant expression may nest before it takes a
@@ -125,7 +126,8 @@ pub struct Config {
     /// takes the place of `min_exports` and `max_exports`.
     pub export_everything: bool,
 
-    /// Whether f32 and f64 may occur in types and constants. Default true.
+    /// Whether f32 and f64 may occur in types and constants. Default true. A shape may bring them
+    /// all the same.
     pub allow_floats: bool,
 
     /// Whether active segments stay inside their tables and memories, so that no module traps
@@ -252,17 +254,22 @@ pub struct Config {
     /// components are made.
     pub max_values: usize,
 
-    /// Imports of which a module gives some, in order, in place of drawn ones. Default none.
-    /// `min_imports` is without effect beside it, and it is set to none beside `module_shape`.
+    /// Imports of which a module has some, in order, in place of drawn ones: those that the input
+    /// picks and that stay within the maximums and the type size. Default none. The types of the
+    /// shape come first, all of them; its definitions and exports are not used. `min_imports` is
+    /// without effect beside it, and it is set to none beside `module_shape`.
     pub available_imports: Option<Shape>,
 
-    /// The exports of a module, with the items that they name, in place of drawn ones. Default
-    /// none. `min_exports`, `max_exports` and `export_everything` are without effect beside it, and
-    /// it is set to none beside `module_shape`.
+    /// The exports of a module, in place of drawn ones. Default none. For each an item is defined
+    /// that has the same type: for a function or a tag a type is added that takes and gives the
+    /// same. The types of the shape are final function types without a supertype. `min_exports`,
+    /// `max_exports` and `export_everything` are without effect beside it, and it is set to none
+    /// beside `module_shape`.
     pub exports: Option<Shape>,
 
-    /// The types, imports and exports of a module, which keeps all of them and draws the rest.
-    /// Default none. The minimums and maximums of imports and exports, `export_everything`,
+    /// The first types of a module, and all its imports and exports, in order. Default none. For
+    /// each export an item is defined that has the same type, for an export of an import too; the
+    /// rest is drawn. The minimums and maximums of imports and exports, `export_everything`,
     /// `available_imports` and `exports` are without effect beside it.
     pub module_shape: Option<Shape>,
 }

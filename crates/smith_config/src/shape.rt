@@ -1,6 +1,9 @@
 use smith_types::{ExportKind, GlobalType, Imports, Items, MemoryType, Name, SubType, TableType};
 
 /// What a module is asked to have: the types, imports, definitions and exports of a module, without bodies.
+///
+/// Which parts of it a module has is told by the field of `Config` that holds it. What is defined
+/// here counts only by the exports that name it: a module has an item of its own for each.
 #[derive(Debug, Drop, PartialEq)]
 pub struct Shape {
     /// The types in their recursive groups.

@@ -82,7 +82,7 @@ impl Module {
     ghost use Rattle.smith_config.specs.Config.{default_config};
     ghost use Rattle.wasm_smith.specs.Generated.{IsGenerated, is_distinct};
 
-    /// Draws a module from the bytes, for the default configuration: [`Module::new`] says how.
+    /// Draws a module from the bytes, for the default configuration: [`Module::new`] says how. Only want of memory refuses it.
     pub fn arbitrary(alloc: Global, u: &mut Unstructured<'_>) -> Result<Module, Error>
         ensures generated { IsGenerated false default_config u.old result u.new }
         ensures memory { IfErr result (λ e. e ≡ Error.Memory) }
@@ -90,23 +90,24 @@ impl Module {
         Module::new(alloc, Config::default(), u)
     }
 
-    /// Draws a module from the bytes. The configuration is sanitised and checked first.
+    /// Draws a module from the bytes. The configuration is sanitised and checked first, then each shape that is used.
     ///
-    /// A module shape is used alone; beside one another stand available imports and exports. A shape that is used is kept as it
-    /// is given.
+    /// A module shape is used alone: the module has its types first, and its imports and exports. Else available imports give
+    /// their types first, and the imports that the bytes pick, and a shape for exports gives the exports.
     ///
-    /// A configuration that fails its check is refused by its first fault, then a shape that fails its check by the first of its
-    /// faults: the module shape, else the available imports and then the exports. Behind these are refused a minimum that can't
-    /// be met, exports of everything that pass the type size, a second memory or table of a shape where one may be, a reference
-    /// of a shape that may not be null and for which there is no value, and want of memory.
+    /// A configuration that fails its check is refused by its first fault, then a shape by the first of its own: the module shape,
+    /// else the available imports and then the exports. Where these pass, a minimum may be refused that can't be met, exports of
+    /// everything that pass the type size, a second memory or table that a shape brings where only one may be, and a choice from
+    /// nothing where a shape holds a reference that may not be null. Want of memory may refuse too, but not in place of a fault of
+    /// the configuration.
     pub fn new(alloc: Global, config: Config, u: &mut Unstructured<'_>) -> Result<Module, Error>
         ensures { IsGenerated false config u.old result u.new }
     {
         Module::new_internal(alloc, config, u, DuplicateImportsBehavior::Allowed)
     }
 
-    /// Draws a module from the bytes as [`Module::new`] does, with imports whose pairs of names are distinct where `behavior`
-    /// asks for it.
+    /// Draws a module from the bytes as [`Module::new`] does. Where `behavior` asks for it, imports have distinct pairs of names,
+    /// unless a shape fixes them.
     pub fn new_internal(
         alloc: Global,
         mut config: Config,
@@ -123,7 +124,8 @@ impl Module {
         build(alloc, config, behavior.is_distinct(), u)
     }
 
-    /// The configuration that the module was drawn for, sanitised. Its available imports were used up and show as none.
+    /// The configuration that the module was drawn for, sanitised. Its available imports were used up and show as none; a module
+    /// shape and a shape for exports show as they were.
     pub fn config(&self) -> &Config
         ensures { result.now ≡ self.now.config }
     {
