@@ -37,7 +37,8 @@ pub record Shapes : Type 0 where
 abbrev pub no_shapes : Shapes
 no_shapes = record { available_imports = None; exports = None; module_shape = None }
 
--- those that are used: beside a module shape no other is. The definitions of modules speak of these
+-- those that are used: beside a module shape no other is. The definitions of modules speak of these, or of fields that a sanitised
+-- configuration has alike
 abbrev pub in_use : Shapes → Shapes
 in_use shapes = if is_some shapes.module_shape then record no_shapes { module_shape = shapes.module_shape } else shapes
 

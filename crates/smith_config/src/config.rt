@@ -262,15 +262,17 @@ pub struct Config {
 
     /// The exports of a module, in place of drawn ones. Default none. For each an item is defined
     /// that has the same type: for a function or a tag a type is added that takes and gives the
-    /// same. The types of the shape are final function types without a supertype. `min_exports`,
-    /// `max_exports` and `export_everything` are without effect beside it, and it is set to none
-    /// beside `module_shape`.
+    /// same. The types of the shape are final function types without a supertype. `min_exports`
+    /// and `export_everything` are without effect beside it, and so is `max_exports`, but that no
+    /// maximum is above `2^31`. It is set to none beside `module_shape`.
     pub exports: Option<Shape>,
 
-    /// The first types of a module, and all its imports and exports, in order. Default none. For
-    /// each export an item is defined that has the same type, for an export of an import too; the
-    /// rest is drawn. The minimums and maximums of imports and exports, `export_everything`,
-    /// `available_imports` and `exports` are without effect beside it.
+    /// The first types of a module, and all its imports and exports, in order. Default none. Empty
+    /// groups of imports are left out, and without compact imports each import stands alone. For
+    /// each export an item is defined that has the same type, for an export of an import too; what
+    /// nothing exports has no effect. The rest is drawn. The minimums of imports and exports,
+    /// `export_everything`, `available_imports` and `exports` are without effect beside it, and so
+    /// are the maximums of imports and exports, but that no maximum is above `2^31`.
     pub module_shape: Option<Shape>,
 }
 

@@ -7,7 +7,10 @@ use smith_draw_rows::made_types::function;
 use smith_draw_rows::repeated::{same, told};
 use std::alloc::Global;
 use std::test::Fail;
-use wasm_smith::{Config, EntityType, Error, Module, Unstructured, ValType};
+use wasm_smith::{
+    AbstractHeapType, Config, DuplicateImportsBehavior, EntityType, Error, GlobalType, HeapType,
+    Module, RefType, Unstructured, ValType,
+};
 
 /// Which imports are available.
 #[derive(Clone, Copy, Debug)]
@@ -18,6 +21,8 @@ enum Offer {
     Five,
     /// Three globals of one module, the last of another type.
     Globals,
+    /// A global that holds a reference that may not be null.
+    Reference,
 }
 
 // A tag.
@@ -75,12 +80,37 @@ fn three_globals(alloc: Global) -> Result<Shape, Error> {
     Ok(shape)
 }
 
+const NEVER_NULL: GlobalType = GlobalType {
+    val_type: ValType::Ref(RefType {
+        nullable: false,
+        heap_type: HeapType::Abstract {
+            shared: false,
+            ty: AbstractHeapType::I31,
+        },
+    }),
+    mutable: false,
+    shared: false,
+};
+
+fn one_reference(alloc: Global) -> Result<Shape, Error> {
+    let mut shape = no_shape(alloc);
+    add_import(
+        alloc,
+        &mut shape,
+        "env",
+        "one",
+        EntityType::Global(NEVER_NULL),
+    )?;
+    Ok(shape)
+}
+
 fn shape_of(alloc: Global, offer: Offer) -> Result<Shape, Error> {
     match offer {
         Offer::PingAndMemory => ping_and_memory(alloc),
         Offer::Tag => one_tag(alloc),
         Offer::Five => five(alloc),
         Offer::Globals => three_globals(alloc),
+        Offer::Reference => one_reference(alloc),
     }
 }
 
@@ -101,11 +131,13 @@ enum Rules {
     NoGlobals,
     /// More imports at least than there may be, and a memory.
     Minimums,
+    /// No two drawn imports have the same pair of names.
+    Distinct,
 }
 
 fn set_rules(config: &mut Config, rules: Rules) {
     match rules {
-        Rules::Defaults => {}
+        Rules::Defaults | Rules::Distinct => {}
         Rules::WithoutExceptions => config.exceptions_enabled = false,
         Rules::WithoutCompactImports => config.compact_imports_enabled = false,
         Rules::TypeSize(most) => config.max_type_size = most,
@@ -150,9 +182,17 @@ fn facts_of(module: &Module) -> Facts {
     }
 }
 
+fn behavior_of(rules: Rules) -> DuplicateImportsBehavior {
+    match rules {
+        Rules::Distinct => DuplicateImportsBehavior::Disallowed,
+        _ => DuplicateImportsBehavior::Allowed,
+    }
+}
+
 fn made_once(alloc: Global, offer: Offer, rules: Rules, input: &[u8]) -> Result<Facts, Error> {
     let config = config_of(alloc, offer, rules)?;
-    let module = Module::new(alloc, config, &mut Unstructured::new(input))?;
+    let mut u = Unstructured::new(input);
+    let module = Module::new_internal(alloc, config, &mut u, behavior_of(rules))?;
     Ok(told(module, facts_of))
 }
 
@@ -182,6 +222,26 @@ fn a_function_and_a_memory(rt: HostRuntime) -> Result<(), Fail> {
     assert!(rt; found.shows_none);
     assert!(rt; found.encodes_imports);
     assert_eq!(rt; found.memories, [1, 0]);
+    Ok(())
+}
+
+#[test]
+fn names_are_kept_where_pairs_are_distinct(rt: HostRuntime) -> Result<(), Fail> {
+    let found = made(rt.alloc(), Offer::PingAndMemory, Rules::Distinct, &[1, 1])?;
+    assert_eq!(rt;
+        found.imported.imports,
+        [Some(PING), Some(MEMORY), None, None, None]
+    );
+    Ok(())
+}
+
+#[test]
+fn a_reference_that_may_not_be_null(rt: HostRuntime) -> Result<(), Fail> {
+    let found = made(rt.alloc(), Offer::Reference, Rules::Defaults, &[1])?;
+    assert_eq!(rt;
+        found.imported.imports[0],
+        Some((Named::Env, Named::One, EntityType::Global(NEVER_NULL)))
+    );
     Ok(())
 }
 

@@ -35,7 +35,7 @@ count_of m counts.ElementSegments = length m.elems
 count_of m counts.Elements = sum_by (λ (segment : ElementSegment). item_count segment.items) m.elems
 count_of m counts.DataSegments = length m.segments
 
--- whether an exported item is one of a kind; a function or a tag brings a type too
+-- whether an exported item is one of a kind; a function or a tag of a shape for exports brings a type too
 abbrev pub counts_as : Count → ExportKind → ℕ
 counts_as counts.Tags kind.Tag = 1
 counts_as counts.Funcs kind.Func = 1

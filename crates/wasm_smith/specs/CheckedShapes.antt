@@ -13,14 +13,14 @@ use Rattle.wasm_smith.specs.Refusals.{shape_for}
 abbrev pub IsFaultOf : Config → Option Shape → Which → Error → Type 0
 IsFaultOf config given for_use e = IsSomeAnd given (λ shape. IsRefused for_use config shape e)
 
--- the use comes before this one where shapes are checked
+-- the use comes before this one where shapes are checked; beside a module shape no other is used
 abbrev pub ComesBefore : Which → Which → Type 0
 ComesBefore which.ModuleShape which.AvailableImports = ⊤
 ComesBefore which.ModuleShape which.Exports = ⊤
 ComesBefore which.AvailableImports which.Exports = ⊤
 ComesBefore _ _ = ⊥
 
--- the first shape of a configuration that may not be handed in is refused
+-- the first shape of a configuration that may not be handed in is refused, or there is no memory to check it or one before it
 pub record IsFirstFaulty (config : Config) (e : Error) : Type 0 where
   pub for_use : Which
   pub refused : IsFaultOf config (shape_for config for_use) for_use e

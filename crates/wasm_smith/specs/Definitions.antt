@@ -1,5 +1,5 @@
 -- Which items of each kind are defined behind those that stand, and which bytes they take. Rules of this project.
-use Rattle.std.specs.Prelude.{ℕ, ◌+◌, ◌-◌, ◌&&◌, ◌==◌, nat_lt, nat_le, Option, None, List, [], ◌++◌, map, take, length, Result, Ok, Err, if◌then◌else◌, unwrap_or}
+use Rattle.std.specs.Prelude.{ℕ, ◌+◌, ◌-◌, ◌&&◌, ◌==◌, nat_lt, nat_le, Option, Some, None, List, [], ◌++◌, map, take, length, Result, Ok, Err, if◌then◌else◌, unwrap_or}
 use Rattle.smith_bytes.specs.declared.error.Count.{Count}
 use Rattle.smith_bytes.specs.declared.error.Count.TheVariants as counts
 use Rattle.smith_bytes.specs.declared.error.Why.{Why}
@@ -96,10 +96,11 @@ global_scope config standing globals =
 abbrev pub Table : Type 0
 Table = TableType × Option (List ConstInstr)
 
+-- where there is nothing to choose from for its initialiser, it has one that is no expression
 unfoldable pub table_at : Config → Standing → List ℕ → Table × List ℕ
 table_at config standing bytes =
     let table = table_type_at config standing.types bytes in
-    let initial = unwrap_or (table_init_at config (table_scope config standing) table.0.element_type table.1) (None, table.1) in
+    let initial = unwrap_or (table_init_at config (table_scope config standing) table.0.element_type table.1) (Some [], table.1) in
     ((table.0, initial.0), initial.1)
 
 -- the tables behind those that stood before, and their initialisers behind those that there were

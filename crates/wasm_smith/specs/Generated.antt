@@ -18,7 +18,7 @@ use Rattle.wasm_smith.specs.ShapesKept.{KeepsShapes}
 use Rattle.wasm_smith.specs.declared.module.DuplicateImportsBehavior.{DuplicateImportsBehavior}
 use Rattle.wasm_smith.specs.declared.module.DuplicateImportsBehavior.TheVariants.{Allowed, Disallowed}
 
--- whether no two imports may have the same pair of names
+-- whether no two imports may have the same pair of names, where no shape fixes them
 abbrev pub is_distinct : DuplicateImportsBehavior → Bool
 is_distinct Allowed = false
 is_distinct Disallowed = true

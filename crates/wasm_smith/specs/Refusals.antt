@@ -55,7 +55,7 @@ MayBeShort config counts.Exports = MayLackExports config
 MayBeShort config counts.Tags = Unit {0}
 MayBeShort config counts.Elements = Unit {0}
 
--- a minimum that a shape replaces is not asked for
+-- a minimum that a shape replaces, or that of exports where everything is exported, is not asked for
 abbrev pub MayBeUnmet : Config → Count → Type 0
 MayBeUnmet config count = IsBounded config count × ((0 < minimum_of config count) × MayBeShort config count)
 

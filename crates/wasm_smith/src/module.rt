@@ -96,7 +96,7 @@ impl Module {
     /// their types first, and the imports that the bytes pick, and a shape for exports gives the exports.
     ///
     /// A configuration that fails its check is refused by its first fault, then a shape by the first of its own: the module shape,
-    /// else the available imports and then the exports. Where these pass, a minimum may be refused that can't be met, exports of
+    /// else the available imports and then the exports. Where these pass, a minimum may be refused that isn't met, exports of
     /// everything that pass the type size, a second memory or table that a shape brings where only one may be, and a choice from
     /// nothing where a shape holds a reference that may not be null. Want of memory may refuse too, but not in place of a fault of
     /// the configuration.
@@ -286,7 +286,7 @@ impl Module {
         self.drawn.encodes_imports
     }
 
-    /// What the drawn imports and exports cost together.
+    /// What imports and exports cost together. Those that a shape fixes cost nothing, but available imports cost their sizes.
     pub fn type_size(&self) -> u32
         ensures { result ≡ self.now.type_size }
     {

@@ -92,7 +92,7 @@ fn parts(
     Ok(())
 }
 
-/// Draws the parts of a module. Where `distinct` is set, no two imports have the same pair of names.
+/// Draws the parts of a module. Where `distinct` is set and no shape fixes the imports, no two have the same pair of names.
 pub(crate) fn draw(
     alloc: Global,
     config: &Config,

@@ -47,7 +47,7 @@ use smith_types::Items;
 use std::alloc::Global;
 
 /// Draws a module for a configuration that is sanitised and passes its check, and whose shapes pass theirs. Where `distinct` is
-/// set, no two of its imports have the same pair of names.
+/// set and no shape fixes the imports, no two of these have the same pair of names.
 pub(crate) fn build(
     alloc: Global,
     config: Config,

@@ -19,7 +19,7 @@ use smith_bytes::{Error, Unstructured};
 use smith_config::Config;
 use std::alloc::Global;
 
-/// Begins a module with the shapes that `config` uses, and draws types behind theirs.
+/// Begins a module with the module shape or the available imports of `config`, and draws types behind theirs.
 #[tactic(auto, unfolding(crate::specs::Build::begun_typed_at))]
 pub(crate) fn begin_with_types(
     alloc: Global,
