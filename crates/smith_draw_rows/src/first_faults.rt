@@ -1,5 +1,6 @@
+use crate::made_shapes::no_shape;
 use crate::made_types::empty_struct;
-use crate::shape_parts::{Rules, fault, no_shape};
+use crate::shape_parts::{Rules, fault};
 use smith_config::Shape;
 use smith_types::{ExportKind, GlobalType, HeapType, Items, MemoryType, Name, RefType, ValType};
 use std::alloc::Global;

@@ -1,5 +1,6 @@
+use crate::made_shapes::no_shape;
 use crate::made_types::empty_struct;
-use crate::shape_parts::{Rules, chain, fault, module_fault, no_shape, of_type, of_types};
+use crate::shape_parts::{Rules, chain, fault, module_fault, of_type, of_types};
 use smith_config::Shape;
 use smith_types::{
     CompositeInnerType, CompositeType, ExportKind, FieldType, GlobalType, HeapType, Items, Name,

@@ -20,6 +20,7 @@ mod gc_draws;
 mod hostile_shapes;
 #[cfg(test)]
 mod kinds;
+pub mod made_shapes;
 pub mod made_types;
 #[cfg(test)]
 mod matching_types;

@@ -1,3 +1,4 @@
+use crate::made_shapes::no_shape;
 use crate::made_types::empty_struct;
 use crate::repeated::{same, told};
 use smith_config::{Config, Shape};
@@ -5,20 +6,6 @@ use smith_types::{Items, SubType};
 use std::alloc::Global;
 use std::test::Fail;
 use wasm_smith::{Error, ShapeFault, Which};
-
-/// A shape of nothing.
-pub(crate) fn no_shape(alloc: Global) -> Shape {
-    Shape {
-        groups: Items::new(alloc),
-        imports: Items::new(alloc),
-        funcs: Items::new(alloc),
-        tags: Items::new(alloc),
-        tables: Items::new(alloc),
-        memories: Items::new(alloc),
-        globals: Items::new(alloc),
-        exports: Items::new(alloc),
-    }
-}
 
 /// A shape of one group of types.
 pub(crate) fn of_types(alloc: Global, types: Items<SubType>) -> Result<Shape, Error> {

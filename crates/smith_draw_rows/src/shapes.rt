@@ -1,9 +1,10 @@
+use crate::made_shapes::{add_export, add_import, constant, no_shape};
 use crate::made_types::{empty_struct, function};
-use crate::shape_parts::{Rules, chain, fault, module_fault, no_shape, of_type, of_types};
+use crate::shape_parts::{Rules, chain, fault, module_fault, of_type, of_types};
 use smith_config::Shape;
 use smith_types::{
-    AbstractHeapType, EntityType, ExportKind, GlobalType, HeapType, Import, Imports, MemoryType,
-    Name, RefType, TableType, ValType,
+    AbstractHeapType, EntityType, ExportKind, GlobalType, HeapType, MemoryType, RefType, TableType,
+    ValType,
 };
 use std::alloc::Global;
 use std::test::Fail;
@@ -18,14 +19,6 @@ const fn reference(nullable: bool, heap_type: HeapType) -> ValType {
         nullable,
         heap_type,
     })
-}
-
-const fn constant(val_type: ValType) -> GlobalType {
-    GlobalType {
-        val_type,
-        mutable: false,
-        shared: false,
-    }
 }
 
 const fn table(minimum: u64, maximum: Option<u64>) -> TableType {
@@ -70,19 +63,6 @@ fn of_memory(alloc: Global, memory: MemoryType) -> Result<Shape, Error> {
     let mut shape = no_shape(alloc);
     shape.memories.push(memory)?;
     Ok(shape)
-}
-
-// Adds an export.
-fn export(
-    alloc: Global,
-    shape: &mut Shape,
-    name: &str,
-    kind: ExportKind,
-    index: u32,
-) -> Result<(), Error> {
-    shape
-        .exports
-        .push((Name::from_text(alloc, name)?, kind, index))
 }
 
 #[test]
@@ -136,7 +116,7 @@ fn a_tag_with_a_result(rt: HostRuntime) -> Result<(), Fail> {
 // A shape of an export, of a memory that is not there.
 fn of_export(alloc: Global) -> Result<Shape, Error> {
     let mut shape = no_shape(alloc);
-    export(alloc, &mut shape, "m", ExportKind::Memory, 0)?;
+    add_export(alloc, &mut shape, "m", ExportKind::Memory, 0)?;
     Ok(shape)
 }
 
@@ -229,8 +209,8 @@ fn vectors_need_a_feature(rt: HostRuntime) -> Result<(), Fail> {
 // A global that is exported twice by one name.
 fn of_two_exports(alloc: Global) -> Result<Shape, Error> {
     let mut shape = of_global(alloc, constant(ValType::I32))?;
-    export(alloc, &mut shape, "a", ExportKind::Global, 0)?;
-    export(alloc, &mut shape, "a", ExportKind::Global, 0)?;
+    add_export(alloc, &mut shape, "a", ExportKind::Global, 0)?;
+    add_export(alloc, &mut shape, "a", ExportKind::Global, 0)?;
     Ok(shape)
 }
 
@@ -246,7 +226,7 @@ fn two_exports_of_one_name(rt: HostRuntime) -> Result<(), Fail> {
 fn of_open_function(alloc: Global) -> Result<Shape, Error> {
     let mut shape = of_type(alloc, function(alloc, false, &[], &[])?)?;
     shape.funcs.push(0)?;
-    export(alloc, &mut shape, "f", ExportKind::Func, 0)?;
+    add_export(alloc, &mut shape, "f", ExportKind::Func, 0)?;
     Ok(shape)
 }
 
@@ -327,19 +307,10 @@ fn shared_globals(rt: HostRuntime) -> Result<(), Fail> {
     Ok(())
 }
 
-// The import of a tag of the first type.
-fn tag(alloc: Global) -> Result<Imports, Error> {
-    Ok(Imports::Single(Import {
-        module: Name::from_text(alloc, "")?,
-        name: Name::from_text(alloc, "")?,
-        entity_type: EntityType::Tag(0),
-    }))
-}
-
 // A tag to import.
 fn of_imported_tag(alloc: Global) -> Result<Shape, Error> {
     let mut shape = of_type(alloc, function(alloc, true, &[], &[])?)?;
-    shape.imports.push(tag(alloc)?)?;
+    add_import(alloc, &mut shape, "", "", EntityType::Tag(0))?;
     Ok(shape)
 }
 

@@ -1,6 +1,6 @@
-use smith_bytes::{ConfigFault, Count, Error, ShapeFault, Unstructured, Which};
+use smith_bytes::{ConfigFault, Count, Error, Unstructured};
 use smith_config::{Config, Shape};
-use smith_draw_rows::repeated::told;
+use smith_draw_rows::repeated::{same, told};
 use smith_types::{EntityType, ExportKind, Import, Imports, Items, MemoryType, Name};
 use std::alloc::{AllocError, Global};
 use std::test::Fail;
@@ -183,23 +183,49 @@ fn minimums_that_shapes_replace(rt: HostRuntime) -> Result<(), Fail> {
     Ok(())
 }
 
-// Why no module is made, if none is.
-fn refusal(alloc: Global, uses: Uses, u: &mut Unstructured<'_>) -> Result<Option<Error>, Error> {
-    Ok(Module::new(alloc, with_shapes(alloc, uses)?, u).err())
+// The same where there may be a second memory.
+fn used(alloc: Global, uses: Uses) -> Result<Config, Error> {
+    let mut config = seven_types();
+    config.max_memories = 2;
+    give_shapes(alloc, &mut config, uses)?;
+    Ok(config)
+}
+
+// Whether the module shows no available imports, and these shapes besides.
+fn is_shown(alloc: Global, module: &Module, uses: Uses) -> Result<bool, Error> {
+    let shown = module.config();
+    told(used(alloc, uses)?, |config| {
+        Ok(
+            shown.available_imports.is_none()
+                && shown.exports == config.exports
+                && shown.module_shape == config.module_shape
+                && shown.max_types == 7,
+        )
+    })
+}
+
+// Whether a module shows these shapes, where it was given those.
+fn shows(alloc: Global, uses: Uses, shown: Uses) -> Result<bool, Error> {
+    let module = Module::new(alloc, used(alloc, uses)?, &mut Unstructured::new(&[]))?;
+    told(module, |module| is_shown(alloc, module, shown))
 }
 
 #[test]
-fn shapes_are_refused_by_name(rt: HostRuntime) -> Result<(), Fail> {
+fn a_module_shows_its_shapes(rt: HostRuntime) -> Result<(), Fail> {
     let cases = [
-        ([true, true, true], Which::ModuleShape),
-        ([true, true, false], Which::AvailableImports),
-        ([false, true, false], Which::Exports),
+        ([false, false, false], [false, false, false]),
+        ([true, false, false], [false, false, false]),
+        ([false, true, false], [false, true, false]),
+        ([true, true, false], [false, true, false]),
+        ([false, false, true], [false, false, true]),
+        ([true, true, true], [false, false, true]),
     ];
-    for (uses, which) in cases {
-        let left_out = Error::Shape(which, ShapeFault::LeftOut);
-        let mut u = Unstructured::new(&[1, 2]);
-        assert_eq!(rt; refusal(rt.alloc(), uses, &mut u)?, Some(left_out));
-        assert_eq!(rt; u.len(), 2, "left");
+    for (uses, shown) in cases {
+        let first = shows(rt.alloc(), uses, shown)?;
+        assert!(rt;
+            same(first, shows(rt.alloc(), uses, shown)?)?,
+            "at {uses:?}"
+        );
     }
     Ok(())
 }

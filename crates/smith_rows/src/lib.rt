@@ -2,6 +2,8 @@
 #![tactic(auto)]
 
 #[cfg(test)]
+mod available_imports;
+#[cfg(test)]
 mod configured_shapes;
 #[cfg(test)]
 mod data_segments;
@@ -9,6 +11,8 @@ mod data_segments;
 mod element_segments;
 #[cfg(test)]
 mod exported_modules;
+#[cfg(test)]
+mod fixed_exports;
 #[cfg(test)]
 mod gc_modules;
 #[cfg(test)]
@@ -20,11 +24,15 @@ mod library_example;
 #[cfg(test)]
 mod listed_functions;
 #[cfg(test)]
+mod module_shapes;
+#[cfg(test)]
 mod modules;
 #[cfg(test)]
 mod raw_bodies;
 #[cfg(test)]
 mod reach;
+#[cfg(test)]
+mod refused_shapes;
 #[cfg(test)]
 mod repeated_modules;
 #[cfg(test)]
@@ -35,5 +43,7 @@ mod spelled_lists;
 mod tagged_modules;
 #[cfg(test)]
 mod termination;
+#[cfg(test)]
+mod told_shapes;
 #[cfg(test)]
 mod unmet_minimums;

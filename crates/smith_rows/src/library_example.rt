@@ -1,7 +1,11 @@
-//! The example of the README: what it shows compiles and answers.
+//! The examples of the README: what they show compiles and answers.
 
+use smith_draw_rows::made_types::function;
+use smith_draw_rows::repeated::told;
 use std::alloc::Global;
-use wasm_smith::{CompositeInnerType, Config, Error, Module, Unstructured};
+use wasm_smith::{
+    CompositeInnerType, Config, Error, Items, Module, SubType, Unstructured, ValType, spell,
+};
 
 fn parameters_of(alloc: Global, input: &[u8]) -> Result<usize, Error> {
     let mut config = Config::default();
@@ -28,4 +32,56 @@ fn functions_take_what_the_bytes_say(rt: HostRuntime) {
     let spelled = [1, 1, 1, 1, 1, 0, 0, 0, 0, 0, 0, 0, 1, 0];
     assert_eq!(rt; parameters_of(rt.alloc(), &spelled).ok(), Some(1));
     assert_eq!(rt; parameters_of(rt.alloc(), &[]).ok(), Some(0));
+}
+
+fn seed(
+    alloc: Global,
+    groups: &[Items<SubType>],
+    corpus: &mut Vec<Items<u8>>,
+) -> Result<(), Error> {
+    let config = Config::default();
+    if let Some(seed) = spell(alloc, &config, groups, &[0])? {
+        corpus.push(seed)?; // `Module::new` on these bytes, whatever a fuzzer puts behind them, has these groups and this function
+    }
+    Ok(())
+}
+
+// A group of one function type that takes an i32.
+fn one_group(alloc: Global) -> Result<Vec<Items<SubType>>, Error> {
+    let mut group = Items::new(alloc);
+    group.push(function(alloc, true, &[ValType::I32], &[])?)?;
+    let mut groups = Vec::new(alloc);
+    groups.push(group)?;
+    Ok(groups)
+}
+
+// A corpus of what is found for the group.
+fn corpus_of(alloc: Global) -> Result<Vec<Items<u8>>, Error> {
+    let mut corpus = Vec::new(alloc);
+    told(
+        one_group(alloc)?,
+        |groups| seed(alloc, groups.as_slice(), &mut corpus),
+    )?;
+    Ok(corpus)
+}
+
+// How many parameters the functions have that each seed gives.
+fn parameters_of_seeds(alloc: Global, corpus: &[Items<u8>]) -> Result<(usize, usize), Error> {
+    let mut count: usize = 0;
+    for seed in corpus {
+        count = count.saturating_add(parameters_of(alloc, seed.as_slice())?);
+    }
+    Ok((corpus.len(), count))
+}
+
+fn seeded(alloc: Global) -> Result<(usize, usize), Error> {
+    told(
+        corpus_of(alloc)?,
+        |corpus| parameters_of_seeds(alloc, corpus.as_slice()),
+    )
+}
+
+#[test]
+fn a_seed_has_the_functions_that_are_asked_for(rt: HostRuntime) {
+    assert_eq!(rt; seeded(rt.alloc()).ok(), Some((1, 1)));
 }

@@ -1,5 +1,5 @@
 -- What exports, segments, a start function and interesting values ask of types, imports and definitions.
-use Rattle.std.proofs.Common.{◌≡◌, ℕ, ◌^◌, ◌<◌, ◌≤◌, Bool, false, List, length, Option, Some, None, Ok, ap, sym, ◌+◌, arith, inl, inr}
+use Rattle.std.proofs.Common.{◌≡◌, ℕ, ◌^◌, ◌<◌, ◌≤◌, false, length, Option, Some, None, arith, inl, inr}
 use Rattle.std.specs.Prelude.{◌⊎◌, All, IfSome, IsTrue}
 use Rattle.std.proofs.lemmas.List.Elements.{All-weaker}
 use Rattle.smith_bytes.specs.declared.error.Count.TheVariants as counts
@@ -7,55 +7,20 @@ use Rattle.smith_types.specs.Entities.{IsMemoryValid, page_log2}
 use Rattle.smith_types.specs.Features.{Features}
 use Rattle.smith_types.specs.Imports.{IndexSpaces}
 use Rattle.smith_types.specs.Space.{Space}
-use Rattle.smith_types.specs.ValidTypes.{AreTypesValid}
 use Rattle.smith_types.specs.declared.entity_type.MemoryType.{MemoryType}
-use Rattle.smith_types.specs.declared.composite_type.SubType.{SubType}
 use Rattle.smith_config.specs.declared.config.Config.{Config}
-use Rattle.smith_config.specs.Faults.{Passes}
 use Rattle.smith_config.specs.Features.{features_of}
 use Rattle.smith_config.specs.InUse.{FixesExports}
-use Rattle.smith_config.specs.Sanitized.{IsSanitized}
 use Rattle.smith_draw.specs.ConstScopes.{AreSpacesValid}
-use Rattle.smith_draw.specs.FuncSizes.{IsSmall}
 use Rattle.smith_draw.specs.declared.spaces.Spaces.{Spaces}
-use Rattle.wasm_smith.proofs.DefinedLemmas.{all_behind}
-use Rattle.smith_bytes.specs.declared.error.Count.{Count}
 use Rattle.smith_types.specs.IndexSpaces.{spaces_in}
-use Rattle.smith_imports.specs.ShapeImports.{count_in}
-use Rattle.wasm_smith.specs.Begun.{IsOfEntities}
 use Rattle.wasm_smith.specs.Contents.{MayHoldContents, AreSpacesOver}
 use Rattle.wasm_smith.specs.DrawnContents.{TellsImported, imported_in}
 use Rattle.wasm_smith.specs.DrawnSteps.{AreExportsDrawn}
-use Rattle.wasm_smith.specs.Refusals.{AreShapesValid}
 use Rattle.wasm_smith.specs.declared.build.drawn.Drawn.{Drawn}
-use Rattle.wasm_smith.proofs.BroughtLemmas.{few_brought, few_added}
 use Rattle.wasm_smith.proofs.StandsBehindLemmas.{defined_end}
 use Rattle.smith_contents.specs.DrawnElements.{MayDrawElements}
 use Rattle.smith_contents.specs.Exported.{MayExport, MayExportFreely, MayDrawExports}
-use Rattle.smith_contents.proofs.SizedLemmas.{few_sized}
-use Rattle.smith_imports.specs.Imported.{HasNullableElements, IsImported, spaces_of}
-use Rattle.wasm_smith.specs.declared.build.definitions.Definitions.{Definitions}
-use Rattle.smith_imports.specs.declared.imported.Imported.{Imported}
-
--- contents may be drawn once exports are made
-pub may_hold_contents : {config : Config} {drawn : Drawn} → Passes config → IsSanitized config → AreShapesValid config → AreExportsDrawn config drawn → MayHoldContents config drawn.types (spaces_in drawn.imported.spaces) drawn.imported.type_size
-may_hold_contents {config = config} {drawn = drawn} passes sanitized valid h =
-    let few : (count : Count) → IsOfEntities count → count_in (spaces_in drawn.imported.spaces) count < 2 ^ 32 =
-    λ count is. omega (arith, h.whole.most count is, passes.few count, few_brought config valid count, few_added config valid count) in
-    record {
-      passes = passes;
-      sanitized = sanitized;
-      types = h.whole.stands.types;
-      sized = few_sized drawn.types.types h.few_values;
-      small = λ none. (h.small none).types;
-      entities = h.whole.stands.entities;
-      few = record { funcs = few counts.Funcs tt; tables = few counts.Tables tt; memories = few counts.Memories tt; globals = few counts.Globals tt; tags = few counts.Tags tt };
-      tables = h.least counts.Tables tt;
-      memories = h.least counts.Memories tt;
-      globals = h.least counts.Globals tt;
-      within = h.whole.within;
-      small_imports = λ none. (h.small none).imports;
-    }
 
 -- what is defined tells what is imported
 pub imports_told : {config : Config} {drawn : Drawn} → AreExportsDrawn config drawn → TellsImported (imported_in drawn.imported) (spaces_in drawn.imported.spaces) drawn.definitions

@@ -1,5 +1,5 @@
 -- A module that is put together of drawn parts has no more than it may, and as much as is asked for.
-use Rattle.std.proofs.Common.{rules, ◌≡◌, ℕ, ◌+◌, ◌≤◌, Bool, List, Option, Some, None, inl, inr, refl, arith, max}
+use Rattle.std.proofs.Common.{◌≡◌, ℕ, ◌+◌, ◌≤◌, Bool, List, Option, Some, None, inl, inr, refl, arith, max}
 use Rattle.std.specs.Prelude.{is_some, ◌||◌, sum_by, if◌then◌else◌}
 use Rattle.smith_bytes.specs.declared.error.Count.{Count}
 use Rattle.smith_bytes.specs.declared.error.Count.TheVariants as counts
@@ -13,7 +13,6 @@ use Rattle.wasm_smith.specs.Bounds.{KeepsBounds, MeetsMinimums, HasMost, HasLeas
 use Rattle.smith_types.specs.Imports.{IndexSpaces}
 use Rattle.smith_types.specs.IndexSpaces.{spaces_in}
 use Rattle.smith_types.specs.declared.composite_type.SubType.{SubType}
-use Rattle.smith_config.specs.InUse.{FixesExports}
 use Rattle.smith_contents.specs.declared.exported.Exports.{Exports}
 use Rattle.wasm_smith.specs.Begun.{size_of_imports}
 use Rattle.wasm_smith.specs.Build.{parts_of}
@@ -22,6 +21,7 @@ use Rattle.wasm_smith.specs.DrawnParts.{IsDrawnFor}
 use Rattle.smith_contents.specs.Exporting.{Export, item_size, exported_size}
 use Rattle.wasm_smith.specs.Module.{Parts, module_spaces}
 use Rattle.wasm_smith.specs.declared.build.drawn.Drawn.{Drawn}
+use Rattle.wasm_smith.proofs.MadeExportsLemmas.{exports_free}
 
 -- an export has the size of its item
 same_size : (m : Parts) (of_kind : ExportKind) (index : ℕ) → export_size m of_kind index ≡ item_size m.types (module_spaces m) of_kind index
@@ -34,10 +34,6 @@ same_size m kind.Tag index = refl
 same_sizes : (m : Parts) (exports : List Export) → sum_by (λ (one : Export). export_size m one.1 one.2 + 1) exports ≡ exported_size m.types (module_spaces m) exports
 same_sizes m exports = λ i. sum_by (λ (one : Export). same_size m one.1 one.2 i + 1) exports
 
-not_fixed : (config : Config) → config.module_shape ≡ None → config.exports ≡ None → FixesExports config → ⊥
-not_fixed config none free (inl fixed) = let given = rw free at fixed in search rules
-not_fixed config none free (inr fixed) = let given = rw none at fixed in search rules
-
 module _ (config : Config) (m : Parts) where
   -- the size of exports is counted as one that is drawn, or as none
   exports_counted : exports_size config m ≡ (if is_some config.module_shape || is_some config.exports then 0 else exported_size m.types (module_spaces m) m.exports)
@@ -48,7 +44,7 @@ sized_so : (config : Config) (types : List SubType) (spaces : IndexSpaces) (size
     → made.type_size ≡ size + (if is_some of_module || is_some exports then 0 else exported_size types spaces made.exports)
 sized_so config types spaces size made (Some shape) exports given also h = let fixed = h.fixed_size (inr (rw given refl)) in omega (arith, fixed)
 sized_so config types spaces size made None (Some shape) none given h = let fixed = h.fixed_size (inl (rw given refl)) in omega (arith, fixed)
-sized_so config types spaces size made None None none free h = h.type_size (λ fixes. not_fixed config none free fixes)
+sized_so config types spaces size made None None none free h = h.type_size (λ fixes. exports_free config none free fixes)
 
 pub made_size : (config : Config) (types : List SubType) (spaces : IndexSpaces) (size : ℕ) (made : Exports) → AreExportsMade config types spaces size made
     → made.type_size ≡ size + (if is_some config.module_shape || is_some config.exports then 0 else exported_size types spaces made.exports)

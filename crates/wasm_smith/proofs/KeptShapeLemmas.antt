@@ -1,5 +1,5 @@
 -- The shapes that a module begins with are kept by what is drawn behind them, and by the module that shows them.
-use Rattle.std.proofs.Common.{rules, ◌≡◌, ◌∙◌, ℕ, suc, Bool, List, [], ◌∷◌, ◌++◌, Option, Some, None, inl, inr, refl, ap, subst, sym}
+use Rattle.std.proofs.Common.{◌≡◌, ◌∙◌, ℕ, suc, Bool, List, [], ◌∷◌, ◌++◌, Option, Some, None, inl, inr, refl, ap, subst, sym}
 use Rattle.std.specs.Prelude.{◌&&◌, IfSome, if◌then◌else◌}
 use Rattle.std.specs.List.{AllZip}
 use Rattle.smith_bytes.specs.declared.error.Count.{Count}
@@ -13,7 +13,7 @@ use Rattle.smith_config.specs.declared.config.Config.{Config}
 use Rattle.smith_config.specs.declared.shape.Shape.{Shape}
 use Rattle.smith_config.specs.Faults.{maximum_of}
 use Rattle.smith_config.specs.InUse.{shapes_of}
-use Rattle.smith_config.specs.Shapes.{in_use, shape_imports, shape_spaces, shape_types}
+use Rattle.smith_config.specs.Shapes.{shape_imports, shape_spaces, shape_types}
 use Rattle.smith_imports.specs.ShapeImports.{count_for, is_allowed, is_fitting, is_picked, taken_from}
 use Rattle.wasm_smith.specs.Begun.{Begun, begun_of}
 use Rattle.wasm_smith.specs.Build.{parts_of}

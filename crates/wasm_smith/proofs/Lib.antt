@@ -42,7 +42,6 @@ pub mod KeptShapeLemmas
 pub mod PartsLemmas
 pub mod LackingLemmas
 pub mod BegunTypedLemmas
-pub mod GivenLemmas
 pub mod AddedImportLemmas
 pub mod ExportsGrownLemmas
 pub mod BroughtLemmas

@@ -1,7 +1,6 @@
 -- The steps of drawing a module, one behind another, give the module that the bytes do, and parts that hold what each step left.
-use Rattle.std.proofs.Common.{◌≡◌, ◌∙◌, ℕ, ◌<◌, Bool, false, List, length, refl, sym, subst, arith}
-use Rattle.std.specs.Prelude.{IsTrue, Result, Ok}
-use Rattle.smith_bytes.specs.declared.error.Error.{Error}
+use Rattle.std.proofs.Common.{◌≡◌, ◌∙◌, ℕ, ◌<◌, Bool, false, List, length, refl, subst}
+use Rattle.std.specs.Prelude.{IsTrue, Ok}
 use Rattle.smith_types.specs.Imports.{flattened, imported_spaces}
 use Rattle.smith_types.specs.IndexSpaces.{spaces_in}
 use Rattle.smith_config.specs.declared.config.Config.{Config}
@@ -11,7 +10,6 @@ use Rattle.smith_imports.specs.declared.imported.Imported.{Imported}
 use Rattle.smith_contents.specs.declared.exported.Exports.{Exports}
 use Rattle.wasm_smith.specs.Begun.{Begun, StandsWhole}
 use Rattle.wasm_smith.specs.Build.{begun_typed_at, defined_at, exported_at, exports_of, imported_at, in_full, module_at, module_of}
-use Rattle.wasm_smith.specs.Module.{Parts}
 use Rattle.wasm_smith.specs.DrawnContents.{AreContents, HasNoFloatContents, behind_exports_at, imported_in}
 use Rattle.wasm_smith.specs.DrawnParts.{IsDrawnFor}
 use Rattle.wasm_smith.specs.DrawnSteps.{AreExportsDrawn, AreFreeImports, HasSameImports}

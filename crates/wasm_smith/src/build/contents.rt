@@ -111,5 +111,13 @@ pub(crate) fn draw_contents(
     ensures left { KeepsPieces u.old u.new }
 {
     let imported = &drawn.imported;
-    behind_exports(alloc, config, &drawn.types, imported, &drawn.definitions, made, u)
+    behind_exports(
+        alloc,
+        config,
+        &drawn.types,
+        imported,
+        &drawn.definitions,
+        made,
+        u,
+    )
 }

@@ -1,10 +1,11 @@
-use Rattle.wasm_smith.proofs.ContentsLemmas.{imports_told, may_hold_contents}
+use Rattle.wasm_smith.proofs.ContentsLemmas.{imports_told}
+use Rattle.wasm_smith.proofs.MadeExportsLemmas.{may_hold_contents}
 use Rattle.smith_types.specs.IndexSpaces.{spaces_in}
 use Rattle.wasm_smith.proofs.RefusalLemmas.{contents_refuse, lacks_so}
 use Rattle.wasm_smith.proofs.build.contents.draw_contents.Goals as goal
 
 pub behind_exports-requires-clause-may : goal.behind_exports-requires-clause-may
-behind_exports-requires-clause-may c = may_hold_contents c.requires.passes c.requires.sanitized c.requires.valid c.requires.drawn
+behind_exports-requires-clause-may c = may_hold_contents c.args.config.now c.args.drawn.now c.requires.passes c.requires.sanitized c.requires.valid c.requires.drawn
 
 pub behind_exports-requires-clause-told : goal.behind_exports-requires-clause-told
 behind_exports-requires-clause-told c = imports_told c.requires.drawn

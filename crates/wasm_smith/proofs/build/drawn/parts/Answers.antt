@@ -1,6 +1,7 @@
 use Rattle.wasm_smith.specs.declared.build.drawn.Drawn.{Drawn}
-use Rattle.wasm_smith.proofs.ContentsLemmas.{may_hold_contents, pages_small}
+use Rattle.wasm_smith.proofs.ContentsLemmas.{pages_small}
 use Rattle.wasm_smith.proofs.KeptShapeLemmas.{kept_beyond, shapes_kept}
+use Rattle.wasm_smith.proofs.MadeExportsLemmas.{may_hold_contents}
 use Rattle.wasm_smith.proofs.PartsLemmas.{drawn_for, module_read, same_imports}
 use Rattle.wasm_smith.proofs.build.drawn.parts.Goals as goal
 
@@ -9,7 +10,7 @@ returns-in_err-drawn-clause-left c = λ whole h.
     c.draw_contents.ensures.left whole (c.exports.ensures.left whole (c.add_definitions.ensures.left whole (c.section_flag-encodes_imports.ensures.draws.left whole (c.add_imports.ensures.left whole (c.begin_with_types.ensures.left whole h)))))
 
 pub interesting_values-requires : goal.interesting_values-requires
-interesting_values-requires c = record { pages = rw c.as_slice-2.ensures (pages_small (may_hold_contents c.requires.passes c.requires.sanitized c.requires.valid c.in_ok-made.ensures.drawn)) }
+interesting_values-requires c = record { pages = rw c.as_slice-2.ensures (pages_small (may_hold_contents c.args.config.now c.exports.new.drawn c.requires.passes c.requires.sanitized c.requires.valid c.in_ok-made.ensures.drawn)) }
 
 pub returns-in_err-narrow-clause-left : goal.returns-in_err-narrow-clause-left
 returns-in_err-narrow-clause-left c = λ whole h.
