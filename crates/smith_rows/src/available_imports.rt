@@ -309,7 +309,7 @@ fn no_more_imports_are_asked_for(rt: HostRuntime) -> Result<(), Fail> {
 }
 
 // The imports that are taken of five, and what they add to the type size.
-fn taken(alloc: Global, rules: Rules, input: &[u8]) -> Result<([Option<OneImport>; 5], u32), Fail> {
+fn taken(alloc: Global, rules: Rules, input: &[u8]) -> Result<Taken, Fail> {
     let found = made(alloc, Offer::Five, rules, input)?;
     let imports = found.imported.imports;
     Ok((imports, found.imported.type_size))
@@ -336,57 +336,75 @@ fn odd_bytes_pick_in_order(rt: HostRuntime) -> Result<(), Fail> {
     Ok(())
 }
 
+/// The imports that are taken of five where each is picked, and what they add to the type size.
+type Taken = ([Option<OneImport>; 5], u32);
+
+/// Where a kind is full, or not allowed.
+const BY_KIND: [(Rules, Taken); 7] = [
+    (
+        Rules::Defaults,
+        ([Some(FOO), Some(BAR), Some(QUX), Some(QUUX), None], 7),
+    ),
+    (
+        Rules::Memories(2),
+        ([Some(FOO), Some(BAR), Some(BAZ), Some(QUX), Some(QUUX)], 8),
+    ),
+    (
+        Rules::Memories(0),
+        ([Some(FOO), Some(QUX), Some(QUUX), None, None], 6),
+    ),
+    (
+        Rules::NoFuncs,
+        ([Some(BAR), Some(QUX), Some(QUUX), None, None], 3),
+    ),
+    (
+        Rules::NoTags,
+        ([Some(FOO), Some(BAR), Some(QUUX), None, None], 6),
+    ),
+    (
+        Rules::WithoutExceptions,
+        ([Some(FOO), Some(BAR), Some(QUUX), None, None], 6),
+    ),
+    (
+        Rules::NoGlobals,
+        ([Some(FOO), Some(BAR), Some(QUX), None, None], 6),
+    ),
+];
+
+/// Where the type size, or the number of imports, is small.
+const BY_SIZE: [(Rules, Taken); 6] = [
+    (
+        Rules::TypeSize(3),
+        ([Some(BAR), Some(QUX), Some(QUUX), None, None], 3),
+    ),
+    (Rules::TypeSize(4), ([Some(FOO), None, None, None, None], 4)),
+    (
+        Rules::TypeSize(5),
+        ([Some(FOO), Some(BAR), None, None, None], 5),
+    ),
+    (
+        Rules::Imports(2),
+        ([Some(FOO), Some(BAR), None, None, None], 5),
+    ),
+    (
+        Rules::Imports(3),
+        ([Some(FOO), Some(BAR), Some(QUX), None, None], 6),
+    ),
+    (Rules::Imports(0), ([None; 5], 0)),
+];
+
 #[test]
 fn what_does_not_fit_is_skipped(rt: HostRuntime) -> Result<(), Fail> {
-    let cases = [
-        (
-            Rules::Defaults,
-            ([Some(FOO), Some(BAR), Some(QUX), Some(QUUX), None], 7),
-        ),
-        (
-            Rules::Memories(2),
-            ([Some(FOO), Some(BAR), Some(BAZ), Some(QUX), Some(QUUX)], 8),
-        ),
-        (
-            Rules::Memories(0),
-            ([Some(FOO), Some(QUX), Some(QUUX), None, None], 6),
-        ),
-        (
-            Rules::NoFuncs,
-            ([Some(BAR), Some(QUX), Some(QUUX), None, None], 3),
-        ),
-        (
-            Rules::NoTags,
-            ([Some(FOO), Some(BAR), Some(QUUX), None, None], 6),
-        ),
-        (
-            Rules::WithoutExceptions,
-            ([Some(FOO), Some(BAR), Some(QUUX), None, None], 6),
-        ),
-        (
-            Rules::NoGlobals,
-            ([Some(FOO), Some(BAR), Some(QUX), None, None], 6),
-        ),
-        (
-            Rules::TypeSize(3),
-            ([Some(BAR), Some(QUX), Some(QUUX), None, None], 3),
-        ),
-        (Rules::TypeSize(4), ([Some(FOO), None, None, None, None], 4)),
-        (
-            Rules::TypeSize(5),
-            ([Some(FOO), Some(BAR), None, None, None], 5),
-        ),
-        (
-            Rules::Imports(2),
-            ([Some(FOO), Some(BAR), None, None, None], 5),
-        ),
-        (
-            Rules::Imports(3),
-            ([Some(FOO), Some(BAR), Some(QUX), None, None], 6),
-        ),
-        (Rules::Imports(0), ([None; 5], 0)),
-    ];
-    for (rules, want) in cases {
+    for (rules, want) in BY_KIND {
+        let found = taken(rt.alloc(), rules, &[1, 1, 1, 1, 1])?;
+        assert_eq!(rt; found, want, "at {rules:?}");
+    }
+    Ok(())
+}
+
+#[test]
+fn what_is_too_much_is_skipped(rt: HostRuntime) -> Result<(), Fail> {
+    for (rules, want) in BY_SIZE {
         let found = taken(rt.alloc(), rules, &[1, 1, 1, 1, 1])?;
         assert_eq!(rt; found, want, "at {rules:?}");
     }
