@@ -87,7 +87,8 @@ impl Module {
         ensures generated { IsGenerated false default_config u.old result u.new }
         ensures memory { IfErr result (λ e. e ≡ Error.Memory) }
     {
-        Module::new(alloc, Config::default(), u)
+        let config = Config::default();
+        Module::new(alloc, config, u)
     }
 
     /// Draws a module from the bytes. The configuration is sanitised and checked first, then each shape that is used.
