@@ -1,7 +1,7 @@
 -- What passes has no fault, and what has none passes.
-use Rattle.std.proofs.Common.{◌≡◌, ℕ, ◌+◌, ◌<◌, take, drop, get_or, arith, subst, refl, suc}
+use Rattle.std.proofs.Common.{◌≡◌, ℕ, ◌+◌, ◌<◌, ◌≤◌, ◌^◌, take, drop, get_or, arith, subst, refl, suc}
 use Rattle.std.proofs.Math.Seq.{split_at}
-use Rattle.std.specs.List.{All}
+use Rattle.std.specs.List.{All, AllByRecursion as Each}
 use Rattle.smith_bytes.specs.declared.error.Count.{Count}
 use Rattle.smith_bytes.specs.declared.error.Count.TheVariants.{
   Types,
@@ -24,7 +24,8 @@ use Rattle.smith_bytes.specs.declared.error.ConfigFault.TheVariants.{
   Memory64Bytes,
 }
 use Rattle.smith_config.specs.declared.config.Config.{Config}
-use Rattle.smith_config.specs.Faults.{minimum_of, maximum_of, HasFault, IsFirstFault, Passes, faults}
+use Rattle.smith_config.specs.Decided.{IsInOrder}
+use Rattle.smith_config.specs.Faults.{minimum_of, maximum_of, IsBounded, HasFault, IsFirstFault, Passes, counts, faults}
 
 pub no_fault : (config : Config) → Passes config → (fault : ConfigFault) → ¬ HasFault config fault
 no_fault config p (MinAboveMax count) h = let le = p.ordered count h.0 in omega arith
@@ -81,3 +82,41 @@ first_fault config i d lt none there = record {
   earlier = none;
   there = there;
 }
+
+-- what holds of each count in turn holds of any
+of_each : (P : Count → Type 0) → Each P counts → (count : Count) → P count
+of_each P h Types = h.0
+of_each P h Imports = h.1.0
+of_each P h Tags = h.1.1.0
+of_each P h Funcs = h.1.1.1.0
+of_each P h Globals = h.1.1.1.1.0
+of_each P h Exports = h.1.1.1.1.1.0
+of_each P h ElementSegments = h.1.1.1.1.1.1.0
+of_each P h Elements = h.1.1.1.1.1.1.1.0
+of_each P h DataSegments = h.1.1.1.1.1.1.1.1.0
+of_each P h Memories = h.1.1.1.1.1.1.1.1.1.0
+of_each P h Tables = h.1.1.1.1.1.1.1.1.1.1.0
+
+each_of : (P : Count → Type 0) → ((count : Count) → P count) → Each P counts
+each_of P h = (h Types, (h Imports, (h Tags, (h Funcs, (h Globals, (h Exports, (h ElementSegments, (h Elements, (h DataSegments, (h Memories, (h Tables, tt)))))))))))
+
+pub in_order : (config : Config) (count : Count) → (IsBounded config count → minimum_of config count ≤ maximum_of config count) → IsInOrder config count
+in_order config count kept = record { kept = kept }
+
+pub kept_in_order : (config : Config) (count : Count) → IsInOrder config count → IsBounded config count → minimum_of config count ≤ maximum_of config count
+kept_in_order config count ordered = ordered.kept
+
+pub passes_by : (config : Config) → Each (IsInOrder config) counts
+    → Each (λ count. maximum_of config count ≤ 2 ^ 31) counts × ((config.max_memory32_bytes ≤ 2 ^ 32) × (config.max_memory64_bytes ≤ 2 ^ 64)) → Passes config
+passes_by config ordered few = record {
+  ordered = λ count. (of_each (IsInOrder config) ordered count).kept;
+  few = of_each _ few.0;
+  memory32 = few.1.0;
+  memory64 = few.1.1;
+}
+
+pub ordered_counts : (config : Config) → Passes config → Each (IsInOrder config) counts
+ordered_counts config p = each_of (IsInOrder config) (λ count. record { kept = p.ordered count })
+
+pub few_counts : (config : Config) → Passes config → Each (λ count. maximum_of config count ≤ 2 ^ 31) counts × ((config.max_memory32_bytes ≤ 2 ^ 32) × (config.max_memory64_bytes ≤ 2 ^ 64))
+few_counts config p = (each_of _ p.few, (p.memory32, p.memory64))

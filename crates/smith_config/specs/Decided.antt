@@ -4,7 +4,10 @@ use Rattle.smith_types.specs.Space.{Space}
 use Rattle.smith_types.specs.Imports.{IndexSpaces}
 use Rattle.smith_types.specs.Decided.{AreFuncsValid, AreTagsValid, AreExportsFound}
 use Rattle.smith_types.specs.declared.entity_type.ExportKind.{ExportKind}
+use Rattle.smith_bytes.specs.declared.error.Count.{Count}
+use Rattle.smith_config.specs.declared.config.Config.{Config}
 use Rattle.smith_config.specs.declared.shape.Shape.{Shape}
+use Rattle.smith_config.specs.Faults.{minimum_of, maximum_of, IsBounded}
 use Rattle.smith_config.specs.Shapes.{most_listed, space_of, shape_spaces}
 
 -- no list that a shape holds itself is too long
@@ -28,3 +31,7 @@ pub record AreIndicesFound (space : Space) (spaces : IndexSpaces) (exported : Li
 pub record IsMade (shape : Shape) (space : Space) (spaces : IndexSpaces) : Type 0 where
   pub types_are : space ≡ space_of shape.groups
   pub spaces_are : spaces ≡ shape_spaces shape
+
+-- the minimum of a count has no effect, or is at most the maximum
+pub record IsInOrder (config : Config) (count : Count) : Type 0 where
+  pub kept : IsBounded config count → minimum_of config count ≤ maximum_of config count

@@ -1,5 +1,7 @@
-ghost use Rattle.std.specs.Prelude.{◌≡◌, ◌↔◌, IsTrue, IsOk, IfErr};
-ghost use Rattle.smith_config.specs.Faults.{minimum_of, maximum_of, IsBounded, HasFault, IsFirstFault, Passes};
+ghost use Rattle.std.specs.Prelude.{◌≡◌, ◌↔◌, ◌≤◌, ◌^◌, IsTrue, IsOk, IfErr};
+ghost use Rattle.std.specs.List.{AllByRecursion as Each};
+ghost use Rattle.smith_config.specs.Decided.{IsInOrder};
+ghost use Rattle.smith_config.specs.Faults.{counts, minimum_of, maximum_of, IsBounded, HasFault, IsFirstFault, Passes};
 
 use crate::Config;
 use smith_bytes::{ConfigFault, Count};
@@ -50,12 +52,66 @@ impl Config {
         ensures passes { IsOk result ↔ Passes self.now }
         ensures fault { IfErr result (λ fault. IsFirstFault self.now fault) }
     {
+        if self.passes() {
+            return Ok(());
+        }
         for fault in FAULTS {
             if self.has_fault(fault) {
                 return Err(fault);
             }
         }
         Ok(())
+    }
+
+    /// Whether there is no fault, without a look for the first.
+    fn passes(&self) -> bool
+        ensures { IsTrue result ↔ Passes self.now }
+    {
+        self.are_ordered() && self.are_few()
+    }
+
+    /// Whether no minimum that has an effect is above its maximum.
+    fn are_ordered(&self) -> bool
+        ensures { IsTrue result ↔ Each (IsInOrder self.now) counts }
+    {
+        self.is_ordered(Count::Types)
+            && self.is_ordered(Count::Imports)
+            && self.is_ordered(Count::Tags)
+            && self.is_ordered(Count::Funcs)
+            && self.is_ordered(Count::Globals)
+            && self.is_ordered(Count::Exports)
+            && self.is_ordered(Count::ElementSegments)
+            && self.is_ordered(Count::Elements)
+            && self.is_ordered(Count::DataSegments)
+            && self.is_ordered(Count::Memories)
+            && self.is_ordered(Count::Tables)
+    }
+
+    /// Whether the minimum of a count has no effect or is at most the maximum.
+    #[tactic(auto, using(crate::proofs::FaultLemmas::in_order, crate::proofs::FaultLemmas::kept_in_order))]
+    fn is_ordered(&self, count: Count) -> bool
+        ensures { IsTrue result ↔ IsInOrder self.now count }
+    {
+        !self.is_bounded(count) || self.minimum(count) <= self.maximum(count)
+    }
+
+    /// Whether no maximum is too large.
+    fn are_few(&self) -> bool
+        ensures { IsTrue result ↔ Each (λ count. maximum_of self.now count ≤ 2 ^ 31) counts × ((self.now.max_memory32_bytes ≤ 2 ^ 32) × (self.now.max_memory64_bytes ≤ 2 ^ 64)) }
+    {
+        self.max_types <= MOST
+            && self.max_imports <= MOST
+            && self.max_tags <= MOST
+            && self.max_funcs <= MOST
+            && self.max_globals <= MOST
+            && self.max_exports <= MOST
+            && self.max_element_segments <= MOST
+            && self.max_elements <= MOST
+            && self.max_data_segments <= MOST
+            && self.max_memories <= MOST
+            && self.max_tables <= MOST
+            && self.max_memory32_bytes <= MEMORY32_BYTES
+            && self.max_memory64_bytes <= MEMORY64_BYTES
     }
 
     fn has_fault(&self, fault: ConfigFault) -> bool

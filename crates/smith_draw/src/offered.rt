@@ -111,7 +111,7 @@ fn abstract_offered(
     ensures exact { IfOk result (λ offered. offered ≡ map (Abstract shared) abstracts.now ++ of_kinds types.now shared kinds.now) }
     ensures memory { IfErr result (λ e. e ≡ Error.Memory) }
 {
-    let mut offered = Items::new(alloc);
+    let mut offered = Items::with_capacity(alloc, abstracts.len() + types.len())?;
     push_abstract(&mut offered, shared, abstracts)?;
     push_of_kinds(&mut offered, types, shared, kinds)?;
     Ok(offered)

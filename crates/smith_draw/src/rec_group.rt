@@ -96,6 +96,7 @@ fn new_group(
 {
     let start = types.types().len();
     let size = group_size(config, allow_empty, config.max_types - start, u);
+    types.reserve(size)?;
     types_until(alloc, config, types, (start + size) as u32, u)?;
     types.push_group()?;
     Ok(())

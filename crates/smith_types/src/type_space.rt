@@ -96,7 +96,7 @@ impl TypeSpace {
         }
     }
 
-    /// A space without types and groups, with room for `types` types.
+    /// A space without types and groups, with room for `types` types, each in a group of its own.
     pub fn with_capacity(alloc: Global, types: usize) -> Result<TypeSpace, Error>
         ensures ok { IfOk result (λ space. space ≡ record { types = []; groups = [] }) }
         ensures memory { IfErr result (λ e. e ≡ Error.Memory) }
@@ -106,7 +106,7 @@ impl TypeSpace {
             types: Vec::with_capacity(alloc, types)?,
             places,
             extensible: Vec::new(alloc),
-            groups: Vec::new(alloc),
+            groups: Vec::with_capacity(alloc, types)?,
         })
     }
 
@@ -186,6 +186,16 @@ impl TypeSpace {
                 Err(Error::Memory)
             }
         }
+    }
+
+    /// Makes room for `additional` more types, so that adding them moves nothing. No type is added.
+    pub fn reserve(&mut self, additional: usize) -> Result<(), Error>
+        ensures value { self.new ≡ self.old }
+        ensures memory { IfErr result (λ e. e ≡ Error.Memory) }
+    {
+        self.places.reserve(additional)?;
+        self.extensible.reserve(additional)?;
+        Ok(self.types.reserve(additional)?)
     }
 
     /// Makes a group, maybe empty, of the types behind the last group.
