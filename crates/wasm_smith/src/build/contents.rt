@@ -1,6 +1,6 @@
 //! What is drawn behind all definitions.
 
-ghost use Rattle.std.specs.Prelude.{◌≡◌, [], false, IfOk, IfErr, All};
+ghost use Rattle.std.specs.Prelude.{◌≡◌, [], None, false, IfOk, IfErr, All};
 ghost use Rattle.smith_bytes.specs.Source.{KeepsPieces};
 ghost use Rattle.smith_types.specs.Floats.{HasNoFloat};
 ghost use Rattle.smith_types.specs.IndexSpaces.{spaces_in};
@@ -41,7 +41,14 @@ pub(crate) struct Contents {
 impl Contents {
     /// Nothing, which takes no memory.
     pub(crate) fn none(alloc: Global) -> Self
-        ensures exports { result.exports ≡ [] }
+        ensures { result ≡ record {
+          exports = [];
+          type_size = 0;
+          encodes_types = false;
+          start = None;
+          segments = record { elements = []; data_segments = [] };
+          code = [];
+        } }
     {
         Contents {
             exports: Items::new(alloc),

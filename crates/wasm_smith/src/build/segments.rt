@@ -1,4 +1,4 @@
-ghost use Rattle.std.specs.Prelude.{IfOk, IfErr, All};
+ghost use Rattle.std.specs.Prelude.{◌≡◌, [], IfOk, IfErr, All};
 ghost use Rattle.smith_bytes.specs.Source.{KeepsPieces};
 ghost use Rattle.smith_types.specs.Floats.{HasNoFloat};
 ghost use Rattle.wasm_smith.specs.Contents.{MayHoldContents, MayRefuseContents};
@@ -24,7 +24,9 @@ pub(crate) struct Segments {
 
 impl Segments {
     /// No segments, which take no memory.
-    pub(crate) fn none(alloc: Global) -> Self {
+    pub(crate) fn none(alloc: Global) -> Self
+        ensures { result ≡ record { elements = []; data_segments = [] } }
+    {
         Segments {
             elements: Items::new(alloc),
             data_segments: Items::new(alloc),
