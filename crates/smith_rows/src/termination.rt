@@ -1,3 +1,4 @@
+use smith_draw_rows::repeated::same;
 use std::alloc::Global;
 use std::test::Fail;
 use wasm_smith::{Config, ConstInstr, Error, GlobalType, Items, Module, Unstructured, ValType};
@@ -83,20 +84,28 @@ fn two_counters() -> [Counter; 2] {
     ]
 }
 
-#[test]
-fn a_function_that_only_traps(rt: HostRuntime) -> Result<(), Fail> {
+// The defaults without garbage collection, with at most one type and one function.
+fn one_function() -> Config {
     let mut config = Config::default();
     config.gc_enabled = false;
     config.max_types = 1;
     config.max_funcs = 1;
-    let made = counted_twice(rt.alloc(), config, &[1, 1, 0, 0, 0, 0, 0, 0, 1])?;
-    assert_eq!(rt; made, two_counters());
+    config
+}
+
+#[test]
+fn a_function_that_only_traps(rt: HostRuntime) -> Result<(), Fail> {
+    let input = [1, 1, 0, 0, 0, 0, 0, 0, 1];
+    let first = counted_twice(rt.alloc(), one_function(), &input)?;
+    let second = counted_twice(rt.alloc(), one_function(), &input)?;
+    assert_eq!(rt; same(first, second)?, two_counters());
     Ok(())
 }
 
 #[test]
 fn the_empty_module(rt: HostRuntime) -> Result<(), Fail> {
-    let made = counted_twice(rt.alloc(), Config::default(), &[])?;
-    assert_eq!(rt; made, two_counters());
+    let first = counted_twice(rt.alloc(), Config::default(), &[])?;
+    let second = counted_twice(rt.alloc(), Config::default(), &[])?;
+    assert_eq!(rt; same(first, second)?, two_counters());
     Ok(())
 }
