@@ -9,7 +9,7 @@ use Rattle.smith_types.specs.declared.entity_type.MemoryType.{MemoryType}
 use Rattle.smith_config.specs.declared.config.Config.{Config}
 use Rattle.smith_config.specs.Config.{default_config}
 use Rattle.smith_spell.specs.ExampleMembers.{final, giving_two, taking_a_number, bytes_array, plain_function}
-use Rattle.wasm_smith.specs.Definitions.{Standing, standing_over}
+use Rattle.smith_definitions.specs.Definitions.{Standing, standing_over}
 use Rattle.smith_examples.specs.ExampleParts.{memory, table, number}
 
 -- a function with results, an array, two functions without results, and one that is shared

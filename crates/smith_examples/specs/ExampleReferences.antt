@@ -7,7 +7,7 @@ use Rattle.smith_types.specs.declared.imports.Imports.TheVariants.{Single}
 use Rattle.smith_types.specs.declared.const_instr.ConstInstr.TheVariants.{GlobalGet, RefFunc}
 use Rattle.smith_types.specs.ExampleTypes.{nullable}
 use Rattle.smith_config.specs.Config.{default_config}
-use Rattle.wasm_smith.specs.Module.{Parts}
+use Rattle.smith_definitions.specs.Module.{Parts}
 use Rattle.smith_examples.specs.ExampleModules.{one_function, one_import}
 use Rattle.smith_examples.specs.ExampleParts.{global, number, import_named}
 

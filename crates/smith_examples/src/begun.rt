@@ -5,14 +5,14 @@ ghost use Rattle.smith_types.specs.declared.entity_type.ExportKind.TheVariants a
 ghost use Rattle.smith_config.specs.Config.{default_config};
 ghost use Rattle.smith_config.specs.Shapes.{space_of};
 ghost use Rattle.wasm_smith.specs.Begun.{begun_at, nothing_begun};
-ghost use Rattle.wasm_smith.specs.Defined.{nothing_defined};
-ghost use Rattle.wasm_smith.specs.Module.{module_spaces};
+ghost use Rattle.smith_definitions.specs.Defined.{nothing_defined};
+ghost use Rattle.smith_definitions.specs.Module.{module_spaces};
 ghost use Rattle.smith_examples.specs.ExampleParts.{memory};
 ghost use Rattle.smith_examples.specs.ExampleModules.{three_memories};
 ghost use Rattle.smith_examples.specs.ExampleShapes.{for_module, for_imports, imported_memories, memories_in_and_out, environment};
 
 // A module shape brings its imports without the empty groups, and a memory for its export.
-#[tactic(auto, unfolding(wasm_smith::specs::Begun::begun_at, wasm_smith::specs::Begun::begun_by_module_at, wasm_smith::specs::RequiredExports::required_from, wasm_smith::specs::RequiredExports::entity_required_at, wasm_smith::specs::RequiredExports::defined_with_at))]
+#[tactic(auto, unfolding(wasm_smith::specs::Begun::begun_at, wasm_smith::specs::Begun::begun_by_module_at, smith_definitions::specs::RequiredExports::required_from, smith_definitions::specs::RequiredExports::entity_required_at, smith_definitions::specs::RequiredExports::defined_with_at))]
 fn of_a_module_shape()
     ensures nothing { begun_at default_config (7 ∷ []) ≡ Ok (nothing_begun, 7 ∷ []) }
     ensures imports { begun_at (for_module imported_memories (record default_config { max_memories = 3 })) (7 ∷ [])

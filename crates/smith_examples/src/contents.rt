@@ -10,7 +10,7 @@ ghost use Rattle.smith_types.specs.declared.segments.Offset.TheVariants.{Const32
 ghost use Rattle.smith_config.specs.Config.{default_config};
 ghost use Rattle.smith_config.specs.Shapes.{space_of};
 ghost use Rattle.wasm_smith.specs.Contents.{MayHoldContents, MayRefuseContents};
-ghost use Rattle.wasm_smith.specs.Definitions.{table_scope};
+ghost use Rattle.smith_definitions.specs.Definitions.{table_scope};
 ghost use Rattle.wasm_smith.specs.DrawnContents.{AreSegmentsFit, AreExportsMade, AreContents};
 ghost use Rattle.smith_contents.specs.DrawnElements.{IsPlaced};
 ghost use Rattle.smith_examples.specs.ExampleDefinitions.{beside_globals, no_imports};

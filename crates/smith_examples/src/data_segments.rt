@@ -8,7 +8,7 @@ ghost use Rattle.smith_types.specs.declared.segments.DataSegmentKind.TheVariants
 ghost use Rattle.smith_types.specs.declared.segments.Offset.TheVariants.{Const32, Const64, Global};
 ghost use Rattle.smith_config.specs.Config.{default_config};
 ghost use Rattle.smith_contents.specs.DataSegments.{counting_at, data_at};
-ghost use Rattle.wasm_smith.specs.Definitions.{global_scope};
+ghost use Rattle.smith_definitions.specs.Definitions.{global_scope};
 ghost use Rattle.smith_examples.specs.ExampleDefinitions.{beside_globals};
 ghost use Rattle.smith_examples.specs.ExampleParts.{active_data, memory, number};
 

@@ -12,7 +12,7 @@ ghost use Rattle.smith_types.specs.declared.segments.Elements.TheVariants.{Funct
 ghost use Rattle.smith_types.specs.declared.value_type.AbstractHeapType.TheVariants as heap;
 ghost use Rattle.smith_config.specs.Config.{default_config};
 ghost use Rattle.smith_spell.specs.ExampleMembers.{final, plain_function};
-ghost use Rattle.wasm_smith.specs.Definitions.{table_scope};
+ghost use Rattle.smith_definitions.specs.Definitions.{table_scope};
 ghost use Rattle.smith_contents.specs.Held.{HasItems};
 ghost use Rattle.smith_contents.specs.DrawnElements.{MayRefuseElements};
 ghost use Rattle.smith_contents.specs.ElementSegments.{elements_at, constant_offset_at, are_functions_at, most_items, unshared_funcs};

@@ -10,7 +10,7 @@ ghost use Rattle.smith_types.specs.declared.code.Instructions.TheVariants.{Unrea
 ghost use Rattle.smith_types.specs.ExampleTypes.{struct, constant};
 ghost use Rattle.smith_config.specs.Config.{default_config};
 ghost use Rattle.smith_spell.specs.ExampleMembers.{final, taking};
-ghost use Rattle.wasm_smith.specs.Promises.{HasDistinctImports, HasNoFloats, ExportsEverything, HasNoStart, HasNoFuel, IsInside, WritesSections, KeepsPromises};
+ghost use Rattle.smith_definitions.specs.Promises.{HasDistinctImports, HasNoFloats, ExportsEverything, HasNoStart, HasNoFuel, IsInside, WritesSections, KeepsPromises};
 ghost use Rattle.smith_examples.specs.ExampleShapes.{for_module, for_imports, for_exports, environment, exporting};
 ghost use Rattle.smith_examples.specs.ExampleParts.{global, number, import_named, passive_elements};
 ghost use Rattle.smith_examples.specs.ExampleModules.{a_float, one_function, one_number, one_table, one_data_segment, one_import, one_of_each, all_of_each, two_elements, two_imports, two_exports, named_imports, exported_twice, last_bytes, filled_table, table_from_a_number};

@@ -14,11 +14,11 @@ use Rattle.smith_config.specs.Sanitized.{IsSanitized}
 use Rattle.smith_imports.specs.Imported.{HasNoFloatValue, HasNullableElements, IsImported, MayImport}
 use Rattle.smith_imports.specs.declared.imported.Imported.{Imported}
 use Rattle.wasm_smith.specs.Begun.{begun_of}
-use Rattle.wasm_smith.specs.Bounds.{brought}
+use Rattle.smith_definitions.specs.Bounds.{brought}
 use Rattle.wasm_smith.specs.DrawnSteps.{AreImportsDrawn, AreTypesDrawn, IsBeyond}
 use Rattle.wasm_smith.specs.declared.build.drawn.Drawn.{Drawn}
-use Rattle.wasm_smith.proofs.CountingLemmas.{all_kept}
-use Rattle.wasm_smith.proofs.DefinedMoreLemmas.{none_float}
+use Rattle.smith_definitions.proofs.ExtensionLemmas.{all_kept}
+use Rattle.smith_definitions.proofs.DefinedMoreLemmas.{none_float}
 use Rattle.wasm_smith.proofs.FreelyImportedLemmas.{freely_stands}
 
 -- no shape is there where the test for one says so

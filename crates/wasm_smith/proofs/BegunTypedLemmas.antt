@@ -27,7 +27,7 @@ use Rattle.smith_imports.specs.Imported.{HasNullableElements}
 use Rattle.smith_contents.proofs.SizedLemmas.{shape_few}
 use Rattle.wasm_smith.specs.Begun.{Begun, HasNothing, IsBegun, IsBegunByModule, IsBegunByImports}
 use Rattle.wasm_smith.specs.DrawnSteps.{AreTypesDrawn, HoldsNullable}
-use Rattle.wasm_smith.specs.Refusals.{AreShapesValid, HoldsNonNullable}
+use Rattle.smith_definitions.specs.Refusals.{AreShapesValid, HoldsNonNullable}
 use Rattle.wasm_smith.specs.declared.build.drawn.Drawn.{Drawn}
 use Rattle.wasm_smith.proofs.BegunLemmas.{module_used, imports_used}
 use Rattle.wasm_smith.proofs.BegunStandsLemmas.{begun_stands}

@@ -7,7 +7,7 @@ use Rattle.std.specs.List.{All}
 use Rattle.std.proofs.lemmas.List.{length-append, append_assoc}
 use Rattle.std.proofs.lemmas.List.Elements.{All-nil, All-cons, All-append, All-weaker}
 use Rattle.smith_types.specs.Flags.{IsInstrEnabled}
-use Rattle.smith_types.specs.Grown.{Extends, IsContextGrown, AreSpacesGrown}
+use Rattle.smith_types.specs.Grown.{IsContextGrown, AreSpacesGrown}
 use Rattle.smith_types.specs.Imports.{Defines}
 use Rattle.smith_types.specs.Entities.{IsGlobalValid}
 use Rattle.smith_types.specs.Expressions.{Context, IsConstExpr, seeing, seen_by_tables, seen_by_global, seen_by_segments}
@@ -24,9 +24,10 @@ use Rattle.smith_types.proofs.EntityGrowthLemmas.{no_fewer}
 use Rattle.smith_types.proofs.ExpressionGrowthLemmas.{IsConstExpr-grown}
 use Rattle.smith_types.proofs.SegmentGrowthLemmas.{IsElementValid-grown, IsDataValid-grown}
 use Rattle.smith_types.proofs.ExportGrowthLemmas.{AreExportsValid-grown}
-use Rattle.wasm_smith.specs.Module.{module_context, Parts, IsValid, IsGlobalDefined, module_features, module_spaces, module_imports, table_context, global_context, segment_context}
+use Rattle.smith_definitions.specs.Module.{module_context, Parts, IsValid, IsGlobalDefined, module_features, module_spaces, module_imports, table_context, global_context, segment_context}
 use Rattle.wasm_smith.specs.Termination.{counter, AddsFuel, AnswersFuel}
-use Rattle.wasm_smith.proofs.InitialLemmas.{IsTableInitialised-grown}
+use Rattle.smith_definitions.proofs.ExtensionLemmas.{all_kept}
+use Rattle.smith_definitions.proofs.InitialLemmas.{IsTableInitialised-grown}
 
 -- a constant number gives a number
 pub number_given : (context : Context) (value : ℤ) → IsConstExpr context I32 (I32Const value ∷ [])
@@ -40,9 +41,6 @@ counted fuel index m = record m {
   defined_globals = m.defined_globals ++ (index, I32Const (cast_signed w32 fuel) ∷ []) ∷ [];
   fuel_globals = m.fuel_globals ++ index ∷ [];
 }
-
-pub all_kept : {A : Type 0} (xs : List A) → Extends xs xs
-all_kept xs = record { more = []; parts = search rules }
 
 -- with no more than was there, a list is what it was
 no_more : {A : Type 0} (xs : List A) → xs ++ [] ≡ xs

@@ -16,14 +16,14 @@ use Rattle.smith_draw.specs.ConstBounds.{HoldsNonNullableField}
 use Rattle.smith_imports.specs.Imported.{HasNullableElements}
 use Rattle.smith_imports.specs.ShapeImports.{count_in}
 use Rattle.wasm_smith.specs.Begun.{IsOfEntities, StandsSoFar}
-use Rattle.wasm_smith.specs.Defined.{AreDefinedMore, AreFilled, HasRoom, HaveNoFloats, MayDefine, MayRefuseDefined}
+use Rattle.smith_definitions.specs.Defined.{AreDefinedMore, AreFilled, HasRoom, HaveNoFloats, MayDefine, MayRefuseDefined}
 use Rattle.wasm_smith.specs.DrawnSteps.{AreEntitiesDrawn, AreImportsDrawn, MayGoOn}
-use Rattle.wasm_smith.specs.Refusals.{AreShapesValid, HoldsNonNullable, MayRefuse}
-use Rattle.wasm_smith.specs.declared.build.definitions.Definitions.{Definitions}
+use Rattle.smith_definitions.specs.Refusals.{AreShapesValid, HoldsNonNullable, MayRefuse}
+use Rattle.smith_definitions.specs.declared.definitions.Definitions.{Definitions}
 use Rattle.wasm_smith.specs.declared.build.drawn.Drawn.{Drawn}
 use Rattle.wasm_smith.proofs.BroughtLemmas.{few_brought}
-use Rattle.wasm_smith.proofs.DefinedLemmas.{all_behind}
-use Rattle.wasm_smith.proofs.DefinedMoreLemmas.{filled_grown, may_define_behind}
+use Rattle.smith_definitions.proofs.DefinedLemmas.{all_behind}
+use Rattle.smith_definitions.proofs.DefinedMoreLemmas.{filled_grown, may_define_behind}
 use Rattle.wasm_smith.proofs.ExportsGrownLemmas.{exports_grown}
 use Rattle.wasm_smith.proofs.NonNullableLemmas.{holds_or_not}
 use Rattle.wasm_smith.proofs.StandsDefinedLemmas.{stands_defined}

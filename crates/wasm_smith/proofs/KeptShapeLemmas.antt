@@ -18,10 +18,10 @@ use Rattle.smith_imports.specs.ShapeImports.{count_for, is_allowed, is_fitting, 
 use Rattle.wasm_smith.specs.Begun.{Begun, begun_of}
 use Rattle.wasm_smith.specs.Build.{parts_of}
 use Rattle.wasm_smith.specs.DrawnSteps.{BeginsWithTypes, IsBeyond, KeepsBegun, KeepsImportsSoFar, KeepsModuleSoFar}
-use Rattle.wasm_smith.specs.ShapesKept.{Export, IsSameExport, IsSameType, KeepsAvailableImports, KeepsModuleShape, KeepsShapes}
+use Rattle.smith_definitions.specs.ShapesKept.{Export, IsSameExport, IsSameType, KeepsAvailableImports, KeepsModuleShape, KeepsShapes}
 use Rattle.wasm_smith.specs.declared.build.drawn.Drawn.{Drawn}
 use Rattle.wasm_smith.proofs.ExportsGrownLemmas.{same_exports_grown}
-use Rattle.wasm_smith.proofs.RequiredExportsLoop.{extends_both}
+use Rattle.smith_definitions.proofs.RequiredExportsLoop.{extends_both}
 
 -- what a configuration shows of itself in a module
 abbrev shown : Config → Config

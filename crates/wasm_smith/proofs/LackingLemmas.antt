@@ -33,10 +33,10 @@ use Rattle.smith_draw.specs.ConstBounds.{IsNonNullable}
 use Rattle.smith_draw.specs.ConstScopes.{fields_of}
 use Rattle.smith_imports.specs.Imported.{HasNullableElements}
 use Rattle.wasm_smith.specs.Begun.{MayRefuseBegun}
-use Rattle.wasm_smith.specs.Bounds.{brought_by_module}
+use Rattle.smith_definitions.specs.Bounds.{brought_by_module}
 use Rattle.wasm_smith.specs.DrawnSteps.{HoldsNullable}
-use Rattle.wasm_smith.specs.Refusals.{Brings, HoldsNonNullable, MayRefuse, shape_for}
-use Rattle.wasm_smith.specs.Required.{MayLackIn, MayRefuseRequired}
+use Rattle.smith_definitions.specs.Refusals.{Brings, HoldsNonNullable, MayRefuse, shape_for}
+use Rattle.smith_definitions.specs.Required.{MayLackIn, MayRefuseRequired}
 use Rattle.wasm_smith.proofs.NonNullableLemmas.{holds_or_not}
 
 -- not a reference that may not be null

@@ -29,18 +29,18 @@ use Rattle.smith_contents.specs.Exporting.{Export, exported_size}
 use Rattle.smith_contents.specs.declared.exported.Exports.{Exports}
 use Rattle.smith_contents.proofs.SizedLemmas.{few_sized}
 use Rattle.wasm_smith.specs.Begun.{Begun, IsOfEntities, StandsSoFar, begun_of, size_of_imports}
-use Rattle.wasm_smith.specs.Bounds.{exported_of}
+use Rattle.smith_definitions.specs.Bounds.{exported_of}
 use Rattle.wasm_smith.specs.Build.{begun_size, exports_of}
 use Rattle.wasm_smith.specs.Contents.{MayHoldContents}
-use Rattle.wasm_smith.specs.Defined.{StandsBehind}
+use Rattle.smith_definitions.specs.Defined.{StandsBehind}
 use Rattle.wasm_smith.specs.DrawnSteps.{AreEntitiesDrawn, AreExportsDrawn, HoldsNullable, IsBeyond, MayGoOn}
-use Rattle.wasm_smith.specs.Refusals.{AreShapesValid, HoldsNonNullable, MayRefuse, shape_for}
-use Rattle.wasm_smith.specs.Required.{AddsLimitsOf, MayDefineMore, MayLackIn, MayRefuseRequired}
-use Rattle.wasm_smith.specs.declared.build.definitions.Definitions.{Definitions}
+use Rattle.smith_definitions.specs.Refusals.{AreShapesValid, HoldsNonNullable, MayRefuse, shape_for}
+use Rattle.smith_definitions.specs.Required.{AddsLimitsOf, MayDefineMore, MayLackIn, MayRefuseRequired}
+use Rattle.smith_definitions.specs.declared.definitions.Definitions.{Definitions}
 use Rattle.wasm_smith.specs.declared.build.drawn.Drawn.{Drawn}
 use Rattle.wasm_smith.proofs.BroughtLemmas.{few_added, few_brought}
-use Rattle.wasm_smith.proofs.CountingLemmas.{all_kept}
-use Rattle.wasm_smith.proofs.DefinedMoreLemmas.{stands_within}
+use Rattle.smith_definitions.proofs.ExtensionLemmas.{all_kept}
+use Rattle.smith_definitions.proofs.DefinedMoreLemmas.{stands_within}
 use Rattle.wasm_smith.proofs.LackingLemmas.{shape_nullable}
 use Rattle.wasm_smith.proofs.NonNullableLemmas.{holds_or_not}
 use Rattle.wasm_smith.proofs.StandsWholeLemmas.{either_kept, not_types, stands_required, stands_whole}

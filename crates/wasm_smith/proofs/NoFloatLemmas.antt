@@ -15,7 +15,7 @@ use Rattle.smith_draw.specs.ConstFloats.{GivesNoFloat}
 use Rattle.wasm_smith.specs.Build.{parts_of}
 use Rattle.wasm_smith.specs.DrawnParts.{HasNoFloatParts}
 use Rattle.smith_contents.specs.Held.{expressions_of}
-use Rattle.wasm_smith.specs.Promises.{HasNoFloats, initial_of}
+use Rattle.smith_definitions.specs.Promises.{HasNoFloats, initial_of}
 use Rattle.wasm_smith.specs.declared.build.drawn.Drawn.{Drawn}
 
 of_types : (types : List SubType) → Each HasNoFloat types → All IsNoFloat (flat_map (λ (t : SubType). values_of t.composite_type.inner) types)

@@ -11,7 +11,7 @@ use Rattle.smith_config.specs.declared.config.Config.{Config}
 use Rattle.smith_config.specs.declared.shape.Shape.{Shape}
 use Rattle.smith_config.specs.Shapes.{shape_values}
 use Rattle.smith_draw.specs.ConstBounds.{IsNonNullable}
-use Rattle.wasm_smith.specs.Refusals.{HoldsNonNullable, shape_for}
+use Rattle.smith_definitions.specs.Refusals.{HoldsNonNullable, shape_for}
 
 never_null : ValType → Bool
 never_null (value.Ref reference) = not reference.nullable

@@ -13,7 +13,7 @@ use Rattle.wasm_smith.specs.Build.{begun_typed_at, defined_at, exported_at, expo
 use Rattle.wasm_smith.specs.DrawnContents.{AreContents, HasNoFloatContents, behind_exports_at, imported_in}
 use Rattle.wasm_smith.specs.DrawnParts.{IsDrawnFor}
 use Rattle.wasm_smith.specs.DrawnSteps.{AreExportsDrawn, AreFreeImports, HasSameImports}
-use Rattle.wasm_smith.specs.InterestingValues.{AreAll, IsInteresting32, IsInteresting64}
+use Rattle.smith_definitions.specs.InterestingValues.{AreAll, IsInteresting32, IsInteresting64}
 use Rattle.wasm_smith.specs.declared.build.contents.Contents.{Contents}
 use Rattle.wasm_smith.specs.declared.build.drawn.Drawn.{Drawn}
 

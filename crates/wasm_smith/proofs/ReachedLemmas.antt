@@ -28,33 +28,33 @@ use Rattle.smith_spell.specs.SpellAnswers.{IsSpellable}
 use Rattle.smith_spell.specs.Spelling.{SpellsMember, SpellsRest, SpellsNoTag, SpellsFuncs, SpellsGlobal, SpellsNoStart, SpellsSegments}
 use Rattle.smith_spell.proofs.FamilyFitLemmas.{family_fits}
 use Rattle.wasm_smith.specs.Begun.{Begun, begun_at, nothing_begun}
-use Rattle.wasm_smith.specs.Build.{GivesOrLacks, IsGiven, as_drawn, begun_size, begun_typed_at, defined_at, defined_in, definitions_at, exported_at, exported_for, exports_of, imported_at, in_full, module_at, module_of, typed_at}
-use Rattle.wasm_smith.specs.Defined.{nothing_defined}
-use Rattle.wasm_smith.specs.Definitions.{standing_over, tables_at, memories_at, globals_at}
+use Rattle.wasm_smith.specs.Build.{GivesOrLacks, IsGiven, as_drawn, begun_size, begun_typed_at, defined_at, exported_at, exported_for, exports_of, imported_at, in_full, module_at, module_of, typed_at}
+use Rattle.smith_definitions.specs.Defined.{nothing_defined}
+use Rattle.smith_definitions.specs.Definitions.{defined_in, definitions_at, standing_over, tables_at, memories_at, globals_at}
 use Rattle.wasm_smith.specs.DrawnContents.{segment_scope, all_segments_at, behind_exports_at}
 use Rattle.wasm_smith.specs.Members.{HasMember, HasRest}
-use Rattle.wasm_smith.specs.Module.{Parts}
+use Rattle.smith_definitions.specs.Module.{Parts}
 use Rattle.smith_contents.specs.PassiveData.{passive_data}
 use Rattle.wasm_smith.specs.Reached.{ReachesMembers, ReachesRests}
-use Rattle.wasm_smith.specs.Refusals.{AsksNothingImpossible}
-use Rattle.wasm_smith.specs.RequiredExports.{then_with}
+use Rattle.smith_definitions.specs.Refusals.{AsksNothingImpossible}
+use Rattle.smith_definitions.specs.RequiredExports.{then_with}
 use Rattle.smith_contents.specs.AllExports.{exports_at}
 use Rattle.smith_contents.specs.Exporting.{Export}
 use Rattle.smith_contents.specs.declared.exported.Exports.{Exports}
 use Rattle.smith_imports.specs.Importing.{imports_at}
 use Rattle.smith_imports.specs.Steps.{◌>>=◌, section_flag_at}
 use Rattle.wasm_smith.specs.declared.build.contents.Contents.{Contents}
-use Rattle.wasm_smith.specs.declared.build.definitions.Definitions.{Definitions}
-use Rattle.wasm_smith.proofs.DefinedMemoryLemmas.{no_memory_read}
-use Rattle.wasm_smith.proofs.DefinedTableLemmas.{no_table_read}
+use Rattle.smith_definitions.specs.declared.definitions.Definitions.{Definitions}
+use Rattle.smith_definitions.proofs.DefinedMemoryLemmas.{no_memory_read}
+use Rattle.smith_definitions.proofs.DefinedTableLemmas.{no_table_read}
 use Rattle.wasm_smith.proofs.NoShapeLemmas.{no_shapes_valid, none_used}
 use Rattle.smith_contents.proofs.ElementCountLemmas.{elements_none}
 use Rattle.smith_contents.proofs.ExportRefusalLemmas.{exports_free, no_export_read}
 use Rattle.smith_imports.proofs.NoImportLemmas.{no_import_read}
-use Rattle.wasm_smith.proofs.NumberedGlobalLemmas.{listed_read}
+use Rattle.smith_definitions.proofs.NumberedGlobalLemmas.{listed_read}
 use Rattle.smith_contents.proofs.PassiveDataLemmas.{data_read}
 use Rattle.smith_contents.proofs.StartLemmas.{start_none}
-use Rattle.wasm_smith.proofs.TypedLemmas.{no_tag_read, funcs_read}
+use Rattle.smith_definitions.proofs.TypedLemmas.{no_tag_read, funcs_read}
 
 -- whether an empty section is written is a byte
 flag_by : (empty : Bool) (piece after : List ℕ) → Where empty SpellsAnyByte piece → (cond empty (bool_at (piece ++ after)) (true, piece ++ after)).1 ≡ after

@@ -17,10 +17,10 @@ use Rattle.smith_config.specs.declared.shape.Shape.{Shape}
 use Rattle.smith_config.specs.Shapes.{shape_spaces}
 use Rattle.smith_imports.specs.ShapeImports.{count_in}
 use Rattle.wasm_smith.specs.Begun.{IsMemoryKept, IsOfEntities, IsTableKept, StandsSoFar, StandsWhole}
-use Rattle.wasm_smith.specs.Bounds.{added, exported_of}
-use Rattle.wasm_smith.specs.Defined.{StandsBehind}
-use Rattle.wasm_smith.specs.Required.{AddsLimitsOf}
-use Rattle.wasm_smith.specs.declared.build.definitions.Definitions.{Definitions}
+use Rattle.smith_definitions.specs.Bounds.{added, exported_of}
+use Rattle.smith_definitions.specs.Defined.{StandsBehind}
+use Rattle.smith_definitions.specs.Required.{AddsLimitsOf}
+use Rattle.smith_definitions.specs.declared.definitions.Definitions.{Definitions}
 use Rattle.wasm_smith.specs.declared.build.drawn.Drawn.{Drawn}
 use Rattle.wasm_smith.proofs.GrownSizeLemmas.{imports_grown}
 

@@ -26,12 +26,12 @@ use Rattle.smith_bytes.specs.declared.error.Count.{Count}
 use Rattle.smith_bytes.specs.declared.error.Count.TheVariants as counts
 use Rattle.smith_draw.specs.Bounds.{IsTableWithin, IsMemoryWithin}
 use Rattle.smith_contents.specs.Exporting.{Export}
-use Rattle.wasm_smith.specs.Bounds.{added, brought, brought_by_module, of_shapes}
-use Rattle.wasm_smith.specs.Defined.{StandsBehind, nothing_defined}
-use Rattle.wasm_smith.specs.Required.{MayRefuseRequired}
-use Rattle.wasm_smith.specs.RequiredExports.{Required, required_at, then_with}
-use Rattle.wasm_smith.specs.ShapesKept.{IsSameExport}
-use Rattle.wasm_smith.specs.declared.build.definitions.Definitions.{Definitions}
+use Rattle.smith_definitions.specs.Bounds.{added, brought, brought_by_module, of_shapes}
+use Rattle.smith_definitions.specs.Defined.{StandsBehind, nothing_defined}
+use Rattle.smith_definitions.specs.Required.{MayRefuseRequired}
+use Rattle.smith_definitions.specs.RequiredExports.{Required, required_at, then_with}
+use Rattle.smith_definitions.specs.ShapesKept.{IsSameExport}
+use Rattle.smith_definitions.specs.declared.definitions.Definitions.{Definitions}
 use Rattle.wasm_smith.specs.declared.build.drawn.Drawn.{Drawn}
 
 -- what stands of a module: types, groups of imports, index spaces, what is defined in them, and exports

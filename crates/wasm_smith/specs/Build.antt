@@ -5,8 +5,6 @@ use Rattle.smith_bytes.specs.declared.error.Error.{Error}
 use Rattle.smith_bytes.specs.declared.error.Error.TheVariants as errors
 use Rattle.smith_bytes.specs.declared.error.Why.{Why}
 use Rattle.smith_types.specs.Imports.{IndexSpaces, flattened, imported_spaces}
-use Rattle.smith_types.specs.declared.composite_type.SubType.{SubType}
-use Rattle.smith_types.specs.declared.const_instr.ConstInstr.{ConstInstr}
 use Rattle.smith_config.specs.declared.config.Config.{Config}
 use Rattle.smith_config.specs.declared.shape.Shape.{Shape}
 use Rattle.smith_draw.specs.RecGroups.{types_at}
@@ -16,36 +14,14 @@ use Rattle.smith_contents.specs.AllExports.{exports_at}
 use Rattle.smith_contents.specs.Exporting.{exported_size}
 use Rattle.smith_contents.specs.declared.exported.Exports.{Exports}
 use Rattle.wasm_smith.specs.Begun.{Begun, begun_at, begun_of, size_of_imports}
-use Rattle.wasm_smith.specs.Definitions.{standing_among, tags_at, funcs_at, tables_at, memories_at, globals_at}
+use Rattle.smith_definitions.specs.Definitions.{definitions_at}
 use Rattle.wasm_smith.specs.DrawnContents.{behind_exports_at}
-use Rattle.wasm_smith.specs.Module.{Parts}
-use Rattle.wasm_smith.specs.Refusals.{MayGive}
-use Rattle.wasm_smith.specs.RequiredExports.{Required, required_at, then_with}
+use Rattle.smith_definitions.specs.Module.{Parts}
+use Rattle.smith_definitions.specs.Refusals.{MayGive}
+use Rattle.smith_definitions.specs.RequiredExports.{Required, required_at, then_with}
 use Rattle.wasm_smith.specs.declared.build.contents.Contents.{Contents}
-use Rattle.wasm_smith.specs.declared.build.definitions.Definitions.{Definitions}
+use Rattle.smith_definitions.specs.declared.definitions.Definitions.{Definitions}
 use Rattle.wasm_smith.specs.declared.build.drawn.Drawn.{Drawn}
-
--- what is defined in index spaces behind what stood before, with these initialisers of tables and globals
-abbrev pub defined_in : IndexSpaces → Definitions → IndexSpaces → List (Option (List ConstInstr)) → List (ℕ × List ConstInstr) → Definitions
-defined_in before defined spaces tables globals = record {
-  num_tags = defined.num_tags + (length spaces.tags - length before.tags);
-  num_funcs = defined.num_funcs + (length spaces.funcs - length before.funcs);
-  tables = tables;
-  num_memories = defined.num_memories + (length spaces.memories - length before.memories);
-  globals = globals;
-}
-
--- the index spaces that the bytes give behind what stood before, and what is defined in them; what isn't defined is imported
-unfoldable pub definitions_at : Config → List SubType → IndexSpaces → Definitions → List ℕ → Result ((IndexSpaces × Definitions) × List ℕ) Why
-definitions_at config types before defined bytes = do
-  tags ← tags_at config types before.tags bytes
-  funcs ← funcs_at config types before.funcs tags.1
-  let standing = standing_among types funcs.0 (length before.funcs - defined.num_funcs) (length before.globals - length defined.globals) before.globals
-  let tables = tables_at config standing before.tables defined.tables funcs.1
-  let memories = memories_at config before.memories tables.1
-  let globals = globals_at config standing before.globals defined.globals memories.1
-  let spaces : IndexSpaces = record { tags = tags.0; funcs = funcs.0; tables = tables.0.0; memories = memories.0; globals = globals.0.0 }
-  Ok ((spaces, defined_in before defined spaces tables.0.1 globals.0.1), globals.1)
 
 -- what stands, with more types behind those that do
 abbrev pub typed_at : Config → Begun → List ℕ → Begun × List ℕ

@@ -7,7 +7,7 @@ use Rattle.smith_config.specs.declared.config.Config.{Config}
 use Rattle.smith_config.specs.declared.shape.Shape.{Shape}
 use Rattle.smith_config.specs.ShapeFaults.{IsRefused}
 use Rattle.smith_config.specs.Shapes.{IsShapeValid}
-use Rattle.wasm_smith.specs.Refusals.{shape_for}
+use Rattle.smith_definitions.specs.Refusals.{shape_for}
 
 -- a shape that is given for a use is refused: for its first fault, or for want of memory, of which one that is too long takes none
 abbrev pub IsFaultOf : Config → Option Shape → Which → Error → Type 0

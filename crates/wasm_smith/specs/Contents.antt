@@ -17,7 +17,7 @@ use Rattle.smith_draw.specs.FuncSizes.{IsSmall}
 use Rattle.smith_draw.specs.declared.spaces.Spaces.{Spaces}
 use Rattle.smith_contents.specs.DrawnElements.{MayLackItem}
 use Rattle.smith_contents.specs.Exported.{IsIndexed, IsSized}
-use Rattle.wasm_smith.specs.Refusals.{MayRefuse}
+use Rattle.smith_definitions.specs.Refusals.{MayRefuse}
 
 -- contents may be drawn over these index spaces, where the imports add this much to the type size: all is valid, sizes and indices
 -- have 32 bits, and there are as many tables, memories and globals as are asked for; without shapes function types are small, and

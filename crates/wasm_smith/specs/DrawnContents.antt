@@ -18,8 +18,8 @@ use Rattle.smith_draw.specs.ConstFloats.{GivesNoFloat}
 use Rattle.smith_contents.specs.Held.{HasItems}
 use Rattle.smith_contents.specs.ExportedItems.{AreAllExported}
 use Rattle.smith_contents.specs.DataSegments.{data_at}
-use Rattle.wasm_smith.specs.Defined.{standing_in}
-use Rattle.wasm_smith.specs.Definitions.{global_scope}
+use Rattle.smith_definitions.specs.Defined.{standing_in}
+use Rattle.smith_definitions.specs.Definitions.{global_scope}
 use Rattle.smith_contents.specs.DrawnBodies.{bodies_at}
 use Rattle.smith_contents.specs.ElementSegments.{elements_at, items_in}
 use Rattle.smith_contents.specs.Exporting.{exported_size}
@@ -28,7 +28,7 @@ use Rattle.smith_contents.specs.Start.{start_at}
 use Rattle.smith_contents.specs.declared.exported.Exports.{Exports}
 use Rattle.smith_imports.specs.Steps.{◌>>=◌, section_flag_at}
 use Rattle.wasm_smith.specs.declared.build.contents.Contents.{Contents}
-use Rattle.wasm_smith.specs.declared.build.definitions.Definitions.{Definitions}
+use Rattle.smith_definitions.specs.declared.definitions.Definitions.{Definitions}
 use Rattle.smith_imports.specs.declared.imported.Imported.{Imported}
 use Rattle.wasm_smith.specs.declared.build.segments.Segments.{Segments}
 

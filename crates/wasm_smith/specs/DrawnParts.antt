@@ -8,10 +8,10 @@ use Rattle.smith_config.specs.Faults.{minimum_of}
 use Rattle.smith_config.specs.InUse.{HasNoShapes, FixesImports}
 use Rattle.smith_imports.specs.ShapeImports.{count_in}
 use Rattle.wasm_smith.specs.Begun.{StandsWhole, IsOfEntities}
-use Rattle.wasm_smith.specs.Defined.{HaveNoFloats}
+use Rattle.smith_definitions.specs.Defined.{HaveNoFloats}
 use Rattle.wasm_smith.specs.DrawnContents.{AreContents, HasNoFloatContents, imported_in}
 use Rattle.wasm_smith.specs.DrawnSteps.{AreFreeImports}
-use Rattle.wasm_smith.specs.InterestingValues.{AreAll, IsInteresting32, IsInteresting64}
+use Rattle.smith_definitions.specs.InterestingValues.{AreAll, IsInteresting32, IsInteresting64}
 use Rattle.wasm_smith.specs.declared.build.drawn.Drawn.{Drawn}
 
 -- no part that is drawn holds a float

@@ -21,9 +21,9 @@ use Rattle.smith_imports.specs.Imported.{HasNoImports, HasNullableElements}
 use Rattle.smith_imports.specs.ShapeImports.{kept_groups, taken_from, count_in}
 use Rattle.smith_imports.specs.declared.imported.Imported.{Imported}
 use Rattle.wasm_smith.specs.Begun.{Begun, StandsSoFar, StandsWhole, IsOfEntities}
-use Rattle.wasm_smith.specs.Defined.{HaveNoFloats, nothing_defined}
-use Rattle.wasm_smith.specs.Refusals.{HoldsNonNullable}
-use Rattle.wasm_smith.specs.ShapesKept.{IsSameExport}
+use Rattle.smith_definitions.specs.Defined.{HaveNoFloats, nothing_defined}
+use Rattle.smith_definitions.specs.Refusals.{HoldsNonNullable}
+use Rattle.smith_definitions.specs.ShapesKept.{IsSameExport}
 use Rattle.wasm_smith.specs.declared.build.drawn.Drawn.{Drawn}
 
 -- no field of a type, and no element of a table, is a reference that may not be null

@@ -10,7 +10,7 @@ use Rattle.smith_types.specs.declared.entity_type.GlobalType.{GlobalType}
 use Rattle.smith_types.specs.declared.const_instr.ConstInstr.TheVariants.{I32Const}
 use Rattle.smith_types.specs.declared.code.Code.{Code}
 use Rattle.smith_contents.specs.Held.{IsRaw}
-use Rattle.wasm_smith.specs.Module.{Parts, IsValid}
+use Rattle.smith_definitions.specs.Module.{Parts, IsValid}
 
 -- some body of a module is raw bytes
 abbrev pub HasRawBody : Parts → Type 0

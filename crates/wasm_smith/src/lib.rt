@@ -2,7 +2,6 @@
 #![tactic(auto)]
 
 mod build;
-mod interesting_values;
 pub mod laws;
 mod module;
 mod termination;

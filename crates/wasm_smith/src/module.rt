@@ -23,7 +23,7 @@ pub struct Module {
 }
 
 impl Model for Module {
-    ghost use Rattle.wasm_smith.specs.Module.{Parts};
+    ghost use Rattle.smith_definitions.specs.Module.{Parts};
 
     ghost Value = { Parts };
 

@@ -6,14 +6,14 @@ ghost use Rattle.smith_bytes.specs.declared.error.Which.TheVariants.{AvailableIm
 ghost use Rattle.smith_config.specs.Sanitized.{IsSanitized};
 ghost use Rattle.smith_config.specs.Shapes.{IsShapeValid, shape_types};
 ghost use Rattle.wasm_smith.specs.Begun.{begun_of, HasNothing, begun_by_module_at, begun_by_imports_at, begun_at, IsBegunByModule, IsBegunByImports, IsBegun, MayRefuseBegun};
-ghost use Rattle.wasm_smith.specs.Refusals.{AreShapesValid};
-ghost use Rattle.wasm_smith.specs.Required.{MayRefuseRequired};
-ghost use Rattle.wasm_smith.specs.RequiredExports.{Answers};
+ghost use Rattle.smith_definitions.specs.Refusals.{AreShapesValid};
+ghost use Rattle.smith_definitions.specs.Required.{MayRefuseRequired};
+ghost use Rattle.smith_definitions.specs.RequiredExports.{Answers};
 
 use crate::build::drawn::Drawn;
-use crate::build::required_exports::exports_of_shape;
 use smith_bytes::{Error, Unstructured};
 use smith_config::{Config, Shape};
+use smith_definitions::exports_of_shape;
 use smith_imports::{available_imports, imports_of_shape, types_of_shape};
 use smith_types::TypeSpace;
 use std::alloc::Global;

@@ -5,23 +5,22 @@ ghost use Rattle.smith_bytes.specs.Source.{KeepsPieces};
 ghost use Rattle.smith_config.specs.Faults.{Passes};
 ghost use Rattle.smith_config.specs.Sanitized.{IsSanitized};
 ghost use Rattle.wasm_smith.specs.Begun.{HasNothing};
-ghost use Rattle.wasm_smith.specs.Bounds.{KeepsBounds, MeetsMinimums};
+ghost use Rattle.smith_definitions.specs.Bounds.{KeepsBounds, MeetsMinimums};
 ghost use Rattle.wasm_smith.specs.Build.{GivesOrLacks, parts_of, as_drawn, module_at};
 ghost use Rattle.wasm_smith.specs.DrawnParts.{IsDrawnFor};
-ghost use Rattle.wasm_smith.specs.InterestingValues.{HasInterestingValues};
-ghost use Rattle.wasm_smith.specs.Module.{IsValid};
-ghost use Rattle.wasm_smith.specs.Promises.{KeepsPromises};
-ghost use Rattle.wasm_smith.specs.Refusals.{AreShapesValid, MayRefuse};
-ghost use Rattle.wasm_smith.specs.ShapesKept.{KeepsShapes};
+ghost use Rattle.smith_definitions.specs.InterestingValues.{HasInterestingValues};
+ghost use Rattle.smith_definitions.specs.Module.{IsValid};
+ghost use Rattle.smith_definitions.specs.Promises.{KeepsPromises};
+ghost use Rattle.smith_definitions.specs.Refusals.{AreShapesValid, MayRefuse};
+ghost use Rattle.smith_definitions.specs.ShapesKept.{KeepsShapes};
 
 use crate::build::contents::{Contents, draw_contents};
-use crate::build::definitions::Definitions;
 use crate::build::exports::exports;
 use crate::build::section_flag::section_flag;
 use crate::build::steps::{add_definitions, add_imports, begin_with_types};
-use crate::interesting_values::interesting_values;
 use smith_bytes::{Error, Unstructured};
 use smith_config::Config;
+use smith_definitions::{Definitions, collect_interesting_values};
 use smith_imports::Imported;
 use smith_types::{Items, TypeSpace};
 use std::alloc::Global;
@@ -82,7 +81,7 @@ fn parts(
     let made = exports(alloc, config, drawn, u)?;
     drawn.contents = draw_contents(alloc, config, drawn, made, u)?;
     drawn.encodes_imports = encodes_imports;
-    let (narrow, wide) = interesting_values(
+    let (narrow, wide) = collect_interesting_values(
         alloc,
         drawn.imported.spaces.tables.as_slice(),
         drawn.imported.spaces.memories.as_slice(),

@@ -6,7 +6,7 @@ ghost use Rattle.smith_bytes.specs.Takes.{Takes};
 ghost use Rattle.smith_imports.specs.Imported.{MayImport, IsImported, HasNoImports, SpellsNoImport};
 ghost use Rattle.smith_imports.specs.Importing.{imports_at};
 ghost use Rattle.smith_imports.specs.Steps.{Gives};
-ghost use Rattle.wasm_smith.specs.Refusals.{MayRefuse};
+ghost use Rattle.smith_definitions.specs.Refusals.{MayRefuse};
 
 use smith_bytes::{Error, Unstructured};
 use smith_config::Config;

@@ -6,11 +6,11 @@ ghost use Rattle.wasm_smith.specs.DrawnContents.{TellsImported, AreSegmentsFit, 
 ghost use Rattle.smith_imports.specs.Imported.{spaces_of};
 ghost use Rattle.smith_imports.specs.Steps.{Gives};
 
-use crate::build::definitions::Definitions;
 use crate::build::segment_spaces::segment_spaces;
 use smith_bytes::{Error, Unstructured};
 use smith_config::Config;
 use smith_contents::{arbitrary_data, arbitrary_elements};
+use smith_definitions::Definitions;
 use smith_imports::Imported;
 use smith_types::{DataSegment, ElementSegment, Items, TypeSpace};
 use std::alloc::Global;

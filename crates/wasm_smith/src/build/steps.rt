@@ -8,15 +8,15 @@ ghost use Rattle.smith_config.specs.Sanitized.{IsSanitized};
 ghost use Rattle.wasm_smith.specs.Begun.{HasNothing, begun_of};
 ghost use Rattle.wasm_smith.specs.Build.{GivesOrLacks, begun_typed_at, imported_at, defined_at};
 ghost use Rattle.wasm_smith.specs.DrawnSteps.{AreTypesDrawn, AreImportsDrawn, AreFreeImports, AreEntitiesDrawn, HasSameImports, IsBeyond, KeepsBegun};
-ghost use Rattle.wasm_smith.specs.Refusals.{AreShapesValid, MayRefuse};
+ghost use Rattle.smith_definitions.specs.Refusals.{AreShapesValid, MayRefuse};
 
 use crate::build::begun::begin;
-use crate::build::definitions::define;
 use crate::build::drawn::Drawn;
 use crate::build::imports::imports;
 use crate::build::types::more_types;
 use smith_bytes::{Error, Unstructured};
 use smith_config::Config;
+use smith_definitions::define;
 use std::alloc::Global;
 
 /// Begins a module with the module shape or the available imports of `config`, and draws types behind theirs.

@@ -12,9 +12,9 @@ use Rattle.std.specs.Str.{is_utf8, chars}
 use Rattle.std.specs.Str.Lossy.{utf8_valid_len}
 use Rattle.smith_contents.specs.AllExports.{exports_at}
 use Rattle.wasm_smith.specs.Begun.{begun_at}
-use Rattle.wasm_smith.specs.Build.{module_at, begun_typed_at, imported_at, defined_at as defined_behind, exported_at, definitions_at}
+use Rattle.wasm_smith.specs.Build.{module_at, begun_typed_at, imported_at, defined_at as defined_behind, exported_at}
 use Rattle.smith_contents.specs.DataSegments.{data_at, counting_at, segments_at}
-use Rattle.wasm_smith.specs.Definitions.{defined_at, typed_at, tags_at, funcs_at, tables_at, memories_at, globals_at}
+use Rattle.smith_definitions.specs.Definitions.{definitions_at, defined_at, typed_at, tags_at, funcs_at, tables_at, memories_at, globals_at}
 use Rattle.smith_contents.specs.DrawnBodies.{bodies_at}
 use Rattle.wasm_smith.specs.DrawnContents.{behind_exports_at, all_segments_at}
 use Rattle.smith_contents.specs.ElementSegments.{elements_at, kinds_at, table_kinds_at, element_segments_at}

@@ -7,7 +7,7 @@ use Rattle.smith_types.specs.declared.entity_type.EntityType.TheVariants as enti
 use Rattle.smith_types.specs.declared.entity_type.ExportKind.{ExportKind}
 use Rattle.smith_types.specs.declared.const_instr.ConstInstr.TheVariants.{I32Const, GlobalGet}
 use Rattle.smith_spell.proofs.EachPlaceLemmas.{distinct_alone}
-use Rattle.wasm_smith.specs.Module.{module_spaces, global_context}
+use Rattle.smith_definitions.specs.Module.{module_spaces, global_context}
 use Rattle.wasm_smith.proofs.CountingLemmas.{number_given}
 use Rattle.smith_examples.specs.ExampleParts.{global, number}
 use Rattle.smith_examples.specs.ExampleGiven.{exported_number, three_numbers}

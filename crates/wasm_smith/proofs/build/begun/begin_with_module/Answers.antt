@@ -7,9 +7,9 @@ use Rattle.smith_config.specs.Shapes.{shape_imports, space_of}
 use Rattle.smith_contents.specs.Exporting.{Export}
 use Rattle.smith_imports.specs.ShapeImports.{count_in, kept_groups}
 use Rattle.wasm_smith.specs.Begun.{Begun, begun_by_module_at}
-use Rattle.wasm_smith.specs.Defined.{nothing_defined}
-use Rattle.wasm_smith.specs.Bounds.{exported_of}
-use Rattle.wasm_smith.specs.RequiredExports.{Required, standing_with, then_with}
+use Rattle.smith_definitions.specs.Defined.{nothing_defined}
+use Rattle.smith_definitions.specs.Bounds.{exported_of}
+use Rattle.smith_definitions.specs.RequiredExports.{Required, standing_with, then_with}
 use Rattle.wasm_smith.proofs.BegunLemmas.{stands_alone, may_begin, brought_so, tables_of_shape, memories_of_shape, refused_with}
 use Rattle.wasm_smith.proofs.build.begun.begin_with_module.Goals as goal
 

@@ -9,8 +9,8 @@ pub returns-in_err-drawn-clause-left : goal.returns-in_err-drawn-clause-left
 returns-in_err-drawn-clause-left c = λ whole h.
     c.draw_contents.ensures.left whole (c.exports.ensures.left whole (c.add_definitions.ensures.left whole (c.section_flag-encodes_imports.ensures.draws.left whole (c.add_imports.ensures.left whole (c.begin_with_types.ensures.left whole h)))))
 
-pub interesting_values-requires : goal.interesting_values-requires
-interesting_values-requires c = record { pages = rw c.as_slice-2.ensures (pages_small (may_hold_contents c.args.config.now c.exports.new.drawn c.requires.passes c.requires.sanitized c.requires.valid c.in_ok-made.ensures.drawn)) }
+pub collect_interesting_values-requires : goal.collect_interesting_values-requires
+collect_interesting_values-requires c = record { pages = rw c.as_slice-2.ensures (pages_small (may_hold_contents c.args.config.now c.exports.new.drawn c.requires.passes c.requires.sanitized c.requires.valid c.in_ok-made.ensures.drawn)) }
 
 pub returns-in_err-narrow-clause-left : goal.returns-in_err-narrow-clause-left
 returns-in_err-narrow-clause-left c = λ whole h.

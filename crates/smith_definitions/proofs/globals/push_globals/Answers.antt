@@ -1,0 +1,48 @@
+use Rattle.std.proofs.Common.{arith}
+use Rattle.std.proofs.Math.Bool.{and-true}
+use Rattle.std.proofs.lemmas.List.{length-take-le}
+use Rattle.smith_bytes.specs.declared.error.Count.TheVariants as counts
+use Rattle.smith_definitions.specs.Definitions.{standing_among}
+use Rattle.smith_definitions.proofs.GlobalsLoop.{none_made, define_more, define_stop, define_full, count_is}
+use Rattle.smith_definitions.proofs.globals.push_globals.Goals as goal
+
+pub loop-made-init : goal.loop-made-init
+loop-made-init c = none_made c.args.config.now (standing_among c.args.types.now.types c.args.funcs.now c.args.imported_funcs c.args.imported_globals c.args.globals.now) c.args.globals.now c.args.initials.now c.args.u.now c.requires.valid
+
+pub returns-then-not-goes_on-clause-exact : goal.returns-then-not-goes_on-clause-exact
+returns-then-not-goes_on-clause-exact c =
+    define_stop c.loop-made.invariant (rw (c.saturating_sub-made-end.ensures, c.len-before.ensures) at c.loop-made-test.true) (rw (c.saturating_sub-least.ensures, c.len-before.ensures) at c.goes_on.ensures.exact) c.if-not-goes_on.true
+
+pub initialised_global-requires-clause-standing : goal.initialised_global-requires-clause-standing
+initialised_global-requires-clause-standing c =
+    let may = c.requires.may in
+    let count = count_is c.loop-made.invariant in
+    let same = c.as_slice.ensures in
+    record {
+      types = may.valid;
+      funcs = may.funcs;
+      globals = rw same c.loop-made.invariant.valid;
+      imported = rw same (omega (arith, count, c.requires.imported));
+      few_funcs = may.few_funcs;
+      few_globals = rw same (omega (arith, count, c.len-before.ensures, c.saturating_sub-made-end.ensures, c.loop-made-test.true, c.requires.few, may.passes.few counts.Globals));
+    }
+
+pub loop-made-preserved : goal.loop-made-preserved
+loop-made-preserved c =
+    let drawn = c.in_ok-global.ensures in
+    let visible = and-true c.args.config.now.gc_enabled in
+    let seen = length-take-le c.args.imported_globals c.args.globals.now c.requires.imported in
+    define_more c.loop-made.invariant (rw (c.saturating_sub-made-end.ensures, c.len-before.ensures) at c.loop-made-test.true) (rw (c.saturating_sub-least.ensures, c.len-before.ensures) at c.goes_on.ensures.exact) c.if-not-goes_on.false
+    (rw (c.as_slice.ensures, visible, ← seen) at drawn.exact)
+    drawn.valid
+    (rw (c.as_slice.ensures, visible, ← seen) at drawn.initialised)
+    drawn.floats
+    drawn.constants
+    c.in_ok-push.ensures.ok
+    c.in_ok-push-2.ensures.ok
+    c.goes_on.ensures.left
+    drawn.left
+
+pub returns-clause-exact : goal.returns-clause-exact
+returns-clause-exact c =
+    define_full c.loop-made.invariant (rw (c.saturating_sub-made-end.ensures, c.len-before.ensures) at c.loop-made-test.false) (rw c.len-before.ensures at c.ask_past_full.ensures.exact)

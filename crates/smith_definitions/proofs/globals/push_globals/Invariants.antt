@@ -1,0 +1,6 @@
+use Rattle.smith_definitions.specs.Definitions.{standing_among}
+use Rattle.smith_definitions.proofs.GlobalsLoop.{AreDefining}
+use Rattle.smith_definitions.proofs.globals.push_globals.Given as goal
+
+abbrev pub invariant-loop-made : goal.invariant-loop-made
+invariant-loop-made l = AreDefining l.config (standing_among l.types.types l.funcs l.imported_funcs l.imported_globals l.fn.globals) l.fn.globals l.fn.initials l.made l.globals l.initials l.fn.u l.u

@@ -1,0 +1,16 @@
+use Rattle.std.proofs.Common.{true}
+use Rattle.std.proofs.lemmas.Result.{IfOk-weaker}
+use Rattle.smith_types.specs.IndexSpaces.{spaces_in}
+use Rattle.smith_definitions.proofs.RequiredEntityLemmas.{answered, refused_initial, global_lacking, global_made}
+use Rattle.smith_definitions.proofs.required_entities.define_global.Goals as goal
+
+pub returns-in_err-initial-clause-exact : goal.returns-in_err-initial-clause-exact
+returns-in_err-initial-clause-exact c =
+    refused_initial _ c.from_residual.result c.args.types.now.types c.args.global.val_type c.in_err-initial.field-0.0 _ c.from_residual.ensures.1 (rw c.scope-spaces.ensures.types at c.in_err-initial.ensures.refusal)
+    (λ empty. global_lacking c.args.config.now c.args.types.now.types (spaces_in c.args.spaces.now) c.args.definitions.now _ c.args.u.now c.args.global (c.scope-spaces.ensures.seen c.args.config.now true) (c.in_err-initial.ensures.none empty))
+
+pub returns-clause-exact : goal.returns-clause-exact
+returns-clause-exact c =
+    answered _ c.push.result _ c.push.ensures.memory (IfOk-weaker c.push.result _ _
+    (λ done longer. global_made c.args.config.now c.args.types.now.types (spaces_in c.args.spaces.now) c.args.definitions.now _ c.args.u.now c.args.global (c.scope-spaces.ensures.seen c.args.config.now true) _ _ _ _ c.len-index.ensures longer c.in_ok-initial.ensures.exact)
+    c.push.ensures.ok)

@@ -1,0 +1,6 @@
+use Rattle.smith_types.specs.IndexSpaces.{spaces_in}
+use Rattle.smith_definitions.proofs.RequiredExportsLoop.{AreRequiring}
+use Rattle.smith_definitions.proofs.shape_exports.push_exports.Given as goal
+
+abbrev pub invariant-loop-one : goal.invariant-loop-one
+invariant-loop-one l = AreRequiring l.own_types l.config l.shape l.fn.types (spaces_in l.fn.spaces) l.fn.definitions l.one-index l.types (spaces_in l.spaces) l.definitions l.exports l.fn.u l.u

@@ -1,0 +1,54 @@
+-- Interesting values as they are collected: in any order, and maybe more than once. Rules of this project.
+use Rattle.std.specs.Prelude.{◌≡◌, ◌⊎◌, ℕ, ◌+◌, ◌*◌, ◌^◌, ◌<◌, List, [], ◌∷◌, ◌++◌}
+use Rattle.std.specs.List.{All, Any, Contains}
+use Rattle.std.specs.List.Sorted.{IsStrictlyIncreasing}
+use Rattle.smith_types.specs.declared.entity_type.TableType.{TableType}
+use Rattle.smith_types.specs.declared.entity_type.MemoryType.{MemoryType}
+use Rattle.smith_definitions.specs.InterestingValues.{IsNearPower, IsPattern, IsFloatEdge, IsNearTable, IsNearMemory}
+
+-- numbers of which this holds, all of them and no other
+pub record AreExactly (Holds : ℕ → Type 0) (numbers : List ℕ) : Type 0 where
+  pub each : All Holds numbers
+  pub whole : (n : ℕ) → Holds n → Contains numbers n
+
+-- a number of 64 bits of which this holds, and a number of 32 bits that is the low half of one
+abbrev pub Wide : (ℕ → Type 0) → ℕ → Type 0
+Wide Holds n = (n < 2 ^ 64) × Holds n
+
+abbrev pub Narrow : (ℕ → Type 0) → ℕ → Type 0
+Narrow Holds n = (n < 2 ^ 32) × ((high : ℕ) × Wide Holds (high * 2 ^ 32 + n))
+
+-- new is old with those of 64 bits of which this holds, and nothing else
+pub record Adds (Holds : ℕ → Type 0) (old new : List ℕ) : Type 0 where
+  pub more : List ℕ
+  pub parts : new ≡ old ++ more
+  pub exactly : AreExactly (Wide Holds) more
+
+-- interesting in each module
+abbrev pub IsConstant : ℕ → Type 0
+IsConstant n = IsNearPower n ⊎ (IsPattern n ⊎ IsFloatEdge n)
+
+-- near a limit of elements: it or one more
+abbrev pub IsNearElements : ℕ → ℕ → Type 0
+IsNearElements limit n = (n ≡ limit) ⊎ (n ≡ limit + 1)
+
+-- so far above or below a limit
+abbrev pub IsBeside : ℕ → ℕ → ℕ → Type 0
+IsBeside limit distance n = (n ≡ limit + distance) ⊎ (n + distance ≡ limit)
+
+abbrev pub distances : List ℕ
+distances = 1 ∷ 2 ∷ 4 ∷ 8 ∷ 16 ∷ []
+
+-- near a limit of bytes: it, or at one of these distances
+abbrev pub IsNearBytes : ℕ → ℕ → Type 0
+IsNearBytes limit n = (n ≡ limit) ⊎ Any (λ distance. IsBeside limit distance n) distances
+
+-- near a limit of one of these
+abbrev pub IsNearLimit : List TableType → List MemoryType → ℕ → Type 0
+IsNearLimit tables memories n = Any (IsNearTable n) tables ⊎ Any (IsNearMemory n) memories
+
+-- made holds what numbers hold, each once, in ascending order
+pub record IsInOrder (numbers made : List ℕ) : Type 0 where
+  pub ascending : IsStrictlyIncreasing made
+  pub keeps : (n : ℕ) → Contains numbers n → Contains made n
+  pub adds_none : (n : ℕ) → Contains made n → Contains numbers n

@@ -1,0 +1,148 @@
+-- What the exports that a shape fixes need and keep, and when they may be refused. Rules of this project.
+use Rattle.std.specs.Prelude.{◌≡◌, false, ℕ, ◌+◌, ◌<◌, ◌≤◌, ◌⊎◌, Bool, true, Option, Some, None, List, length, slice_get, All}
+use Rattle.std.specs.List.{Any, AllZip, Contains}
+use Rattle.smith_bytes.specs.declared.error.Count.{Count}
+use Rattle.smith_bytes.specs.declared.error.Count.TheVariants as counts
+use Rattle.smith_bytes.specs.declared.error.Error.{Error}
+use Rattle.smith_bytes.specs.declared.error.Error.TheVariants as errors
+use Rattle.smith_bytes.specs.declared.error.Which.{Which}
+use Rattle.smith_bytes.specs.declared.error.Which.TheVariants as which
+use Rattle.smith_bytes.specs.declared.error.Why.TheVariants.{SeveralMemories, SeveralTables}
+use Rattle.smith_types.specs.Entities.{AreEntitiesValid}
+use Rattle.smith_types.specs.Expressions.{IsConstExpr}
+use Rattle.smith_types.specs.Grown.{Extends, AreSpacesGrown}
+use Rattle.smith_types.specs.Imports.{IndexSpaces}
+use Rattle.smith_types.specs.IndexSpaces.{with_entity}
+use Rattle.smith_types.specs.Space.{Space}
+use Rattle.smith_types.specs.ValidTypes.{AreTypesValid}
+use Rattle.smith_types.specs.declared.value_type.ValType.TheVariants.{Ref}
+use Rattle.smith_types.specs.declared.composite_type.SubType.{SubType}
+use Rattle.smith_types.specs.declared.const_instr.ConstInstr.{ConstInstr}
+use Rattle.smith_types.specs.declared.entity_type.EntityType.{EntityType}
+use Rattle.smith_types.specs.declared.entity_type.EntityType.TheVariants as entity
+use Rattle.smith_config.specs.declared.config.Config.{Config}
+use Rattle.smith_config.specs.declared.shape.Shape.{Shape}
+use Rattle.smith_config.specs.Features.{features_of}
+use Rattle.smith_config.specs.Sanitized.{IsSanitized}
+use Rattle.smith_config.specs.Shapes.{most_listed, shape_types, shape_spaces, shape_values, IsShapeValid}
+use Rattle.smith_draw.specs.ConstBounds.{IsNonNullable, HoldsNonNullableField}
+use Rattle.smith_draw.specs.FuncSizes.{HasFewValues}
+use Rattle.smith_definitions.specs.Bounds.{counts_as, exported_of}
+use Rattle.smith_imports.specs.ShapeImports.{count_in}
+use Rattle.smith_definitions.specs.Defined.{AreWithin, HasRoom, StandsBehind}
+use Rattle.smith_imports.specs.ImportedEntities.{kind_of}
+use Rattle.smith_definitions.specs.Module.{IsTableInitialised}
+use Rattle.smith_definitions.specs.RequiredExports.{several, scope_beside, with_table, with_global}
+use Rattle.smith_definitions.specs.ShapesKept.{Export, IsSameExport, IsSameType}
+use Rattle.smith_definitions.specs.declared.definitions.Definitions.{Definitions}
+
+-- that many more entities may be defined behind what stands
+pub record MayDefineMore (config : Config) (space : Space) (spaces : IndexSpaces) (defined : Definitions) (more : ℕ) : Type 0 where
+  pub sanitized : IsSanitized config
+  pub valid : AreTypesValid (features_of config) space
+  pub entities : AreEntitiesValid (features_of config) space.types spaces
+  pub within : AreWithin spaces defined
+  pub room : HasRoom spaces more
+
+-- no type has a declared supertype
+abbrev pub HasNoSupertypes : List SubType → Type 0
+HasNoSupertypes types = (index : ℕ) (t : SubType) → slice_get types index ≡ Some t → t.supertype ≡ None
+
+-- the entity of an export of a shape is over types that stand already, or has a type of its own, which is the same
+abbrev pub IsKeptType : Bool → List SubType → List SubType → EntityType → EntityType → Type 0
+IsKeptType true ours theirs mine yours = IsSameType ours theirs mine yours
+IsKeptType false ours theirs mine yours = mine ≡ yours
+
+-- what is defined once an entity is that stands behind these: a table and a global have an initialiser
+abbrev pub IsInitialised : Config → List SubType → IndexSpaces → (old new : Definitions) → EntityType → Type 0
+IsInitialised config types spaces old new (entity.Tag index) = new ≡ record old { num_tags = old.num_tags + 1 }
+IsInitialised config types spaces old new (entity.Func index) = new ≡ record old { num_funcs = old.num_funcs + 1 }
+IsInitialised config types spaces old new (entity.Memory memory) = new ≡ record old { num_memories = old.num_memories + 1 }
+IsInitialised config types spaces old new (entity.Table table) =
+    (initial : Option (List ConstInstr)) × (new ≡ with_table old initial) × IsTableInitialised (scope_beside config types spaces old false) table initial
+IsInitialised config types spaces old new (entity.Global global) =
+    (initial : List ConstInstr) × (new ≡ with_global old (length spaces.globals) initial) × IsConstExpr (scope_beside config types spaces old true) global.val_type initial
+
+-- an entity is defined behind those that stand
+pub record IsDefinedMore (config : Config) (types : List SubType) (spaces : IndexSpaces) (defined : Definitions) (more_spaces : IndexSpaces) (more : Definitions) (added : EntityType) : Type 0 where
+  pub spaces_are : more_spaces ≡ with_entity spaces added
+  pub initialised : IsInitialised config types spaces defined more added
+  pub alone : several config spaces added ≡ None
+
+-- a table or a global that holds references that may not be null
+abbrev pub IsNeverNull : EntityType → Type 0
+IsNeverNull (entity.Table table) = IsNonNullable (Ref table.element_type)
+IsNeverNull (entity.Global global) = IsNonNullable global.val_type
+IsNeverNull _ = ⊥
+
+-- why an initialiser of an entity may be refused: for want of memory, or where there may be nothing to choose from
+abbrev pub MayRefuseInitial : List SubType → EntityType → Error → Type 0
+MayRefuseInitial types added e = (e ≡ errors.Memory) ⊎ ((e ≡ errors.EmptyChoose) × (IsNeverNull added ⊎ HoldsNonNullableField types))
+
+-- why an entity may be refused: so may its initialiser, and a second memory or a second table without its feature
+abbrev pub MayRefuseEntity : Config → List SubType → EntityType → Error → Type 0
+MayRefuseEntity config types added (errors.IncorrectFormat SeveralMemories) = (counts_as counts.Memories (kind_of added) ≡ 1) × (config.max_memories ≤ 1)
+MayRefuseEntity config types added (errors.IncorrectFormat SeveralTables) = (counts_as counts.Tables (kind_of added) ≡ 1) × (config.reference_types_enabled ≡ false)
+MayRefuseEntity config types added e = MayRefuseInitial types added e
+
+-- what the shape of a module is handed in for, where an entity has its own type or not
+abbrev pub use_of : Bool → Which
+use_of true = which.Exports
+use_of false = which.ModuleShape
+
+-- the exports of a shape may be made: it may be handed in, and its types begin those that stand where no others are added
+pub record MayRequire (own_types : Bool) (config : Config) (shape : Shape) (space : Space) : Type 0 where
+  pub valid : IsShapeValid (use_of own_types) config shape
+  pub present : own_types ≡ false → Extends (shape_types shape) space.types
+
+-- tables and memories that are added are of the types of a shape's
+pub record AddsLimitsOf (shape : Shape) (old new : IndexSpaces) : Type 0 where
+  pub tables : All (λ table. Contains old.tables table ⊎ Contains (shape_spaces shape).tables table) new.tables
+  pub memories : All (λ memory. Contains old.memories memory ⊎ Contains (shape_spaces shape).memories memory) new.memories
+
+-- what an export of a shape, and what is defined for it, keep of what stands
+pub record IsRequiredMore (own_types : Bool) (config : Config) (shape : Shape) (old_types : Space) (old : IndexSpaces) (old_defined : Definitions) (types : Space) (spaces : IndexSpaces) (defined : Definitions) (one made : Export) : Type 0 where
+  pub same : IsSameExport (IsKeptType own_types types.types (shape_types shape)) spaces (shape_spaces shape) made one
+  pub types_grown : Extends old_types.types types.types
+  pub groups_grown : Extends old_types.groups types.groups
+  pub types_most : length types.types ≤ length old_types.types + 1
+  pub spaces_grown : AreSpacesGrown old spaces
+  pub counted : (count : Count) → (count ≡ counts.Types → ⊥) → count_in spaces count ≡ count_in old count + counts_as count one.1
+  pub types_counted : length types.types ≤ length old_types.types + counts_as counts.Types one.1
+  pub limits : AddsLimitsOf shape old spaces
+  pub unchanged : own_types ≡ false → types ≡ old_types
+  pub lacking : HoldsNonNullableField types.types → HoldsNonNullableField old_types.types
+  pub few_values : All (HasFewValues most_listed) old_types.types → All (HasFewValues most_listed) types.types
+  pub may : (more : ℕ) → MayDefineMore config old_types old old_defined (more + 1) → MayDefineMore config types spaces defined more
+  pub stands : (imported : IndexSpaces) → StandsBehind config imported old_types old old_defined → StandsBehind config imported types spaces defined
+
+-- the exports of a shape are made: the same in order, valid, of what is defined behind what stood before
+pub record AreRequired (own_types : Bool) (config : Config) (shape : Shape) (old_types : Space) (old : IndexSpaces) (old_defined : Definitions) (types : Space) (spaces : IndexSpaces) (defined : Definitions) (exports : List Export) : Type 0 where
+  pub same : AllZip (IsSameExport (IsKeptType own_types types.types (shape_types shape)) spaces (shape_spaces shape)) exports shape.exports
+  pub types_grown : Extends old_types.types types.types
+  pub groups_grown : Extends old_types.groups types.groups
+  pub spaces_grown : AreSpacesGrown old spaces
+  pub counted : (count : Count) → (count ≡ counts.Types → ⊥) → count_in spaces count ≡ count_in old count + exported_of count shape
+  pub types_counted : length types.types ≤ length old_types.types + exported_of counts.Types shape
+  pub limits : AddsLimitsOf shape old spaces
+  pub unchanged : own_types ≡ false → types ≡ old_types
+  pub lacking : HoldsNonNullableField types.types → HoldsNonNullableField old_types.types
+  pub few_values : All (HasFewValues most_listed) old_types.types → All (HasFewValues most_listed) types.types
+  pub stands : (imported : IndexSpaces) → StandsBehind config imported old_types old old_defined → StandsBehind config imported types spaces defined
+
+-- a shape holds a reference that may not be null, or types do
+abbrev pub MayLackIn : List SubType → Shape → Type 0
+MayLackIn types shape = Any IsNonNullable (shape_values shape) ⊎ HoldsNonNullableField types
+
+-- why an export of a shape may be refused, over these types
+abbrev pub MayRefuseExported : Config → List SubType → Shape → Export → Error → Type 0
+MayRefuseExported config types shape one (errors.IncorrectFormat SeveralMemories) = (counts_as counts.Memories one.1 ≡ 1) × (config.max_memories ≤ 1)
+MayRefuseExported config types shape one (errors.IncorrectFormat SeveralTables) = (counts_as counts.Tables one.1 ≡ 1) × (config.reference_types_enabled ≡ false)
+MayRefuseExported config types shape one e = (e ≡ errors.Memory) ⊎ ((e ≡ errors.EmptyChoose) × MayLackIn types shape)
+
+-- why the exports of a shape may be refused, over these types: a reference is there that may not be null, or the shape has a
+-- memory or a table that may not stand beside others
+abbrev pub MayRefuseRequired : Config → List SubType → Shape → Error → Type 0
+MayRefuseRequired config types shape (errors.IncorrectFormat SeveralMemories) = (0 < exported_of counts.Memories shape) × (config.max_memories ≤ 1)
+MayRefuseRequired config types shape (errors.IncorrectFormat SeveralTables) = (0 < exported_of counts.Tables shape) × (config.reference_types_enabled ≡ false)
+MayRefuseRequired config types shape e = (e ≡ errors.Memory) ⊎ ((e ≡ errors.EmptyChoose) × MayLackIn types shape)

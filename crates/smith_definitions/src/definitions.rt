@@ -1,0 +1,106 @@
+ghost use Rattle.std.specs.Prelude.{◌≡◌, false, IfErr, OnOk, All};
+ghost use Rattle.smith_bytes.specs.Source.{KeepsPieces};
+ghost use Rattle.smith_types.specs.Floats.{HasNoFloat};
+ghost use Rattle.smith_types.specs.IndexSpaces.{spaces_in};
+ghost use Rattle.smith_definitions.specs.Definitions.{definitions_at};
+ghost use Rattle.smith_imports.specs.Steps.{Gives};
+ghost use Rattle.smith_definitions.specs.Defined.{nothing_defined, MayDefine, MayRefuseDefined, AreDefinedMore, HaveNoFloats};
+
+use crate::funcs::funcs;
+use crate::globals::globals;
+use crate::memories::memories;
+use crate::standing::standing_imported;
+use crate::tables::tables;
+use crate::tags::tags;
+use smith_bytes::{Error, Unstructured};
+use smith_config::Config;
+use smith_types::{ConstInstr, IndexSpaces, Items, TypeSpace};
+use std::alloc::Global;
+
+/// What is defined behind imports: how many tags, functions and memories, and the initialisers of tables and globals.
+#[derive(Drop)]
+pub struct Definitions {
+    /// How many tags are defined.
+    pub num_tags: usize,
+    /// How many functions are defined.
+    pub num_funcs: usize,
+    /// The initialiser of each defined table, where it has one.
+    pub tables: Items<Option<Items<ConstInstr>>>,
+    /// How many memories are defined.
+    pub num_memories: usize,
+    /// The index and the initialiser of each defined global.
+    pub globals: Items<(u32, Items<ConstInstr>)>,
+}
+
+impl Definitions {
+    /// Nothing is defined, which takes no memory.
+    pub fn none(alloc: Global) -> Self
+        ensures { result ≡ nothing_defined }
+    {
+        Definitions {
+            num_tags: 0,
+            num_funcs: 0,
+            tables: Items::new(alloc),
+            num_memories: 0,
+            globals: Items::new(alloc),
+        }
+    }
+}
+
+/// Defines tags, functions, tables, memories and globals, in this order, behind those that stand in `spaces`: what isn't counted
+/// in `definitions` is imported.
+///
+/// `config` is sanitised and passes its check, and what stands is valid over `types` and within its bounds.
+#[tactic(auto, unfolding(crate::specs::Definitions::definitions_at))]
+pub fn define(
+    alloc: Global,
+    config: &Config,
+    types: &TypeSpace,
+    spaces: &mut IndexSpaces,
+    definitions: &mut Definitions,
+    u: &mut Unstructured<'_>,
+) -> Result<(), Error>
+    requires may { MayDefine config.now types.now (spaces_in spaces.old) definitions.old }
+    ensures exact { Gives (λ _. ((spaces_in spaces.new, definitions.new), u.new)) result (definitions_at config.now types.now.types (spaces_in spaces.old) definitions.old u.old) }
+    ensures defined { OnOk result (AreDefinedMore config.now types.now (spaces_in spaces.old) definitions.old (spaces_in spaces.new) definitions.new) }
+    ensures floats { config.now.allow_floats ≡ false → All HasNoFloat types.now.types → HaveNoFloats (spaces_in spaces.old) definitions.old → OnOk result (HaveNoFloats (spaces_in spaces.new) definitions.new) }
+    ensures refusal { IfErr result (MayRefuseDefined config.now types.now.types) }
+    ensures left { KeepsPieces u.old u.new }
+{
+    let tags_before = spaces.tags.len();
+    let funcs_before = spaces.funcs.len();
+    let memories_before = spaces.memories.len();
+    let globals_before = spaces.globals.len();
+    let globals_defined = definitions.globals.len();
+    let imported_funcs = funcs_before - definitions.num_funcs;
+    let imported_globals = globals_before - globals_defined;
+    tags(alloc, config, types, &mut spaces.tags, u)?;
+    funcs(alloc, config, types, &mut spaces.funcs, u)?;
+    let func_types = spaces.funcs.as_slice();
+    let all_globals = spaces.globals.as_slice();
+    let standing = standing_imported(
+        types,
+        func_types,
+        imported_funcs,
+        all_globals,
+        imported_globals,
+    );
+    let initials = &mut definitions.tables;
+    tables(alloc, config, &standing, &mut spaces.tables, initials, u)?;
+    memories(config, &mut spaces.memories, u)?;
+    globals(
+        alloc,
+        config,
+        types,
+        func_types,
+        imported_funcs,
+        imported_globals,
+        &mut spaces.globals,
+        &mut definitions.globals,
+        u,
+    )?;
+    definitions.num_tags += spaces.tags.len() - tags_before;
+    definitions.num_funcs += spaces.funcs.len() - funcs_before;
+    definitions.num_memories += spaces.memories.len() - memories_before;
+    Ok(())
+}

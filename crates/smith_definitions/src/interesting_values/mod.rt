@@ -1,0 +1,78 @@
+//! The interesting values of a module: those of every module, and those near the limits of its tables and memories.
+
+ghost use Rattle.std.specs.Prelude.{◌≡◌, ◌≤◌, List, All, IfOk, IfErr};
+ghost use Rattle.smith_types.specs.Entities.{page_log2};
+ghost use Rattle.smith_types.specs.declared.entity_type.TableType.{TableType as Table};
+ghost use Rattle.smith_types.specs.declared.entity_type.MemoryType.{MemoryType as Memory};
+ghost use Rattle.smith_definitions.specs.InterestingValues.{AreAll, IsInteresting64, IsInteresting32};
+ghost use Rattle.smith_definitions.specs.CollectedValues.{AreExactly, Wide, IsNearLimit, IsInOrder};
+
+mod constants;
+mod limits;
+
+use constants::{narrow_constants, wide_constants};
+use limits::near_limits;
+use smith_bytes::Error;
+use smith_types::{Items, MemoryType, TableType};
+use std::alloc::Global;
+
+// The sort keeps runs that are in order already, so that it merges the constants with what is behind them.
+fn in_order64(mut wide: Vec<u64>) -> Result<Items<u64>, Error>
+    ensures order { IfOk result (IsInOrder wide.items) }
+    ensures memory { IfErr result (λ e. e ≡ Error.Memory) }
+{
+    wide.sort()?;
+    wide.dedup();
+    Ok(Items::from_vec(wide))
+}
+
+fn in_order32(mut narrow: Vec<u32>) -> Result<Items<u32>, Error>
+    ensures order { IfOk result (IsInOrder narrow.items) }
+    ensures memory { IfErr result (λ e. e ≡ Error.Memory) }
+{
+    narrow.sort()?;
+    narrow.dedup();
+    Ok(Items::from_vec(narrow))
+}
+
+// The values of 64 bits, of a module with these numbers near its limits.
+fn wide_values(alloc: Global, near: &[u64]) -> Result<Items<u64>, Error>
+    ensures those { (tables : List Table) (memories : List Memory) → AreExactly (Wide (IsNearLimit tables memories)) near.now
+        → IfOk result (AreAll (IsInteresting64 tables memories)) }
+    ensures memory { IfErr result (λ e. e ≡ Error.Memory) }
+{
+    let mut numbers = Vec::from_slice(alloc, wide_constants())?;
+    numbers.extend_from_slice(near)?;
+    in_order64(numbers)
+}
+
+// Those of 32 bits, which are the low halves.
+fn narrow_values(alloc: Global, near: &[u64]) -> Result<Items<u32>, Error>
+    ensures those { (tables : List Table) (memories : List Memory) → AreExactly (Wide (IsNearLimit tables memories)) near.now
+        → IfOk result (AreAll (IsInteresting32 tables memories)) }
+    ensures memory { IfErr result (λ e. e ≡ Error.Memory) }
+{
+    let mut numbers = Vec::from_slice(alloc, narrow_constants())?;
+    for number in near {
+        numbers.push((*number % (1 << 32)) as u32)?;
+    }
+    in_order32(numbers)
+}
+
+/// Collects the interesting values of a module with `tables` and `memories`, each once and in ascending order: those of 32 bits, and
+/// those of 64 bits. A page of a memory has at most 2^16 bytes.
+pub fn collect_interesting_values(
+    alloc: Global,
+    tables: &[TableType],
+    memories: &[MemoryType],
+) -> Result<(Items<u32>, Items<u64>), Error>
+    requires pages { All (λ (memory : Memory). page_log2 memory.page_size_log2 ≤ 16) memories.now }
+    ensures narrow { IfOk result (λ values. AreAll (IsInteresting32 tables.now memories.now) values.0) }
+    ensures wide { IfOk result (λ values. AreAll (IsInteresting64 tables.now memories.now) values.1) }
+    ensures memory { IfErr result (λ e. e ≡ Error.Memory) }
+{
+    let near = near_limits(alloc, tables, memories)?;
+    let narrow = narrow_values(alloc, near.as_slice())?;
+    let wide = wide_values(alloc, near.as_slice())?;
+    Ok((narrow, wide))
+}

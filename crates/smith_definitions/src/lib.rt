@@ -1,0 +1,21 @@
+//! What a module is, and what is defined in it: entities, exports that a shape asks for, and interesting values.
+#![tactic(auto)]
+
+mod definitions;
+mod funcs;
+mod globals;
+mod interesting_values;
+mod memories;
+mod past_full;
+mod required_entities;
+mod required_types;
+mod shape_entities;
+mod shape_exports;
+mod standing;
+mod tables;
+mod tags;
+mod typed;
+
+pub use definitions::{Definitions, define};
+pub use interesting_values::collect_interesting_values;
+pub use shape_exports::{exports_of_shape, required_exports};

@@ -1,6 +1,0 @@
-use Rattle.smith_types.specs.IndexSpaces.{spaces_in}
-use Rattle.wasm_smith.proofs.RequiredExportsLoop.{AreRequiring}
-use Rattle.wasm_smith.proofs.build.required_exports.push_exports.Given as goal
-
-abbrev pub invariant-loop-one : goal.invariant-loop-one
-invariant-loop-one l = AreRequiring l.own_types l.config l.shape l.fn.types (spaces_in l.fn.spaces) l.fn.definitions l.one-index l.types (spaces_in l.spaces) l.definitions l.exports l.fn.u l.u

@@ -1,9 +1,0 @@
-use Rattle.std.proofs.Common.{refl}
-use Rattle.std.specs.Prelude.{map}
-use Rattle.wasm_smith.specs.declared.interesting_values.constants.TheConstants.{NARROW}
-use Rattle.wasm_smith.proofs.CollectedValueLemmas.{low_half, low_halves}
-use Rattle.wasm_smith.proofs.ConstantValueLemmas.{constants, constants_exactly, same_members}
-use Rattle.wasm_smith.proofs.interesting_values.constants.narrow_constants.Goals as goal
-
-pub returns : goal.returns
-returns c = same_members (map low_half constants) NARROW (low_halves constants constants_exactly) refl refl

@@ -1,7 +1,0 @@
-use Rattle.std.proofs.Common.{refl}
-use Rattle.wasm_smith.specs.declared.interesting_values.constants.TheConstants.{WIDE}
-use Rattle.wasm_smith.proofs.ConstantValueLemmas.{constants, constants_exactly, same_members}
-use Rattle.wasm_smith.proofs.interesting_values.constants.wide_constants.Goals as goal
-
-pub returns : goal.returns
-returns c = same_members constants WIDE constants_exactly refl refl
