@@ -6,15 +6,19 @@ ghost use Rattle.smith_config.specs.Faults.{Passes};
 ghost use Rattle.smith_config.specs.Features.{features_of};
 ghost use Rattle.smith_config.specs.Sanitized.{IsSanitized};
 
-use crate::repeated::{same, told};
 use crate::type_spaces::{spaces_of, types_from};
-use smith_draw::{arbitrary_const_expr, arbitrary_table_init, globals_for_const_expr};
+use smith_bytes::{Error, Unstructured};
+use smith_config::Config;
+use smith_config_rows::repeated::{same, told};
+use smith_draw::{
+    Entities, Spaces, arbitrary_const_expr, arbitrary_table_init, arbitrary_types,
+    globals_for_const_expr,
+};
 use smith_types::{
     AbstractHeapType, ConstInstr, GlobalType, HeapType, Items, RefType, TypeSpace, ValType,
 };
 use std::alloc::Global;
 use std::test::Fail;
-use wasm_smith::{Config, Entities, Error, Spaces, Unstructured, arbitrary_types};
 
 // The defaults with that much fuel, and with arrays limited by it or not.
 fn settled(fuel: u32, limited: bool) -> Result<Config, Error>

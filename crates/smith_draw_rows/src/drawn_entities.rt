@@ -1,17 +1,18 @@
 ghost use Rattle.smith_config.specs.Sanitized.{IsSanitized};
 
-use crate::repeated::{same, told};
 use crate::type_spaces::{spaces_of, three_functions};
-use smith_draw::{TypeUse, count_types, list_types};
+use smith_bytes::{Error, Unstructured};
+use smith_config::Config;
+use smith_config_rows::repeated::{same, told};
+use smith_draw::{
+    TypeUse, arbitrary_global_type, arbitrary_offset, arbitrary_table_type, arbitrary_tag_type,
+    count_types, list_types,
+};
 use smith_types::{
     AbstractHeapType, GlobalType, HeapType, Items, RefType, TableType, TypeSpace, ValType,
 };
 use std::alloc::Global;
 use std::test::Fail;
-use wasm_smith::{
-    Config, Error, Unstructured, arbitrary_global_type, arbitrary_offset, arbitrary_table_type,
-    arbitrary_tag_type,
-};
 
 // The defaults, sanitised.
 fn defaults() -> Config

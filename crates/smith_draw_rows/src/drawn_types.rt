@@ -1,15 +1,17 @@
 ghost use Rattle.smith_config.specs.Sanitized.{IsSanitized};
 
-use crate::function_types::{is_function, takes_and_gives};
-use crate::repeated::{same, told};
 use crate::type_spaces::spaces_of;
+use smith_bytes::{Error, Unstructured};
+use smith_config::Config;
+use smith_config_rows::function_types::{is_function, takes_and_gives};
+use smith_config_rows::repeated::{same, told};
+use smith_draw::{
+    Entities, Spaces, arbitrary_func_type, arbitrary_heap_type, arbitrary_locals,
+    arbitrary_rec_group, arbitrary_ref_type, arbitrary_valtype,
+};
 use smith_types::{AbstractHeapType, FuncType, HeapType, RefType, TypeSpace, ValType};
 use std::alloc::Global;
 use std::test::Fail;
-use wasm_smith::{
-    Config, Entities, Error, Spaces, Unstructured, arbitrary_func_type, arbitrary_heap_type,
-    arbitrary_locals, arbitrary_rec_group, arbitrary_ref_type, arbitrary_valtype,
-};
 
 // The defaults without garbage collection, sanitised, and without exceptions, floats and several results where there are
 // to be fewer.

@@ -1,17 +1,19 @@
 ghost use Rattle.smith_config.specs.Sanitized.{IsSanitized};
 
-use crate::repeated::{same, told};
 use crate::type_spaces::spaces_of;
+use smith_bytes::Unstructured;
+use smith_config::Config;
+use smith_config_rows::repeated::{same, told};
+use smith_draw::{
+    Entities, Spaces, arbitrary_composite_type, arbitrary_field_type, arbitrary_storage_type,
+    arbitrary_struct_type,
+};
 use smith_types::{
     ArrayType, CompositeInnerType, CompositeType, FieldType, Items, StorageType, StructType,
     TypeSpace,
 };
 use std::alloc::Global;
 use std::test::Fail;
-use wasm_smith::{
-    Config, Entities, Spaces, Unstructured, arbitrary_composite_type, arbitrary_field_type,
-    arbitrary_storage_type, arbitrary_struct_type,
-};
 
 // The defaults, sanitised.
 fn defaults() -> Config

@@ -1,17 +1,19 @@
-use crate::repeated::{same, told};
-use crate::type_spaces::{spaces_of, two_structs};
+use crate::type_spaces::spaces_of;
+use smith_bytes::{Error, Unstructured};
+use smith_config::Config;
+use smith_config_rows::made_types::two_structs;
+use smith_config_rows::repeated::{same, told};
+use smith_draw::{
+    Entities, Spaces, arbitrary_matching_field_type, arbitrary_matching_func_type,
+    arbitrary_matching_heap_type, arbitrary_matching_ref_type, arbitrary_matching_storage_type,
+    arbitrary_matching_val_type, arbitrary_super_type_of_heap_type,
+    arbitrary_super_type_of_ref_type, arbitrary_super_type_of_val_type,
+};
 use smith_types::{
     AbstractHeapType, FieldType, FuncType, HeapType, Items, RefType, StorageType, ValType,
 };
 use std::alloc::Global;
 use std::test::Fail;
-use wasm_smith::{
-    Config, Entities, Error, Spaces, Unstructured, arbitrary_matching_field_type,
-    arbitrary_matching_func_type, arbitrary_matching_heap_type, arbitrary_matching_ref_type,
-    arbitrary_matching_storage_type, arbitrary_matching_val_type,
-    arbitrary_super_type_of_heap_type, arbitrary_super_type_of_ref_type,
-    arbitrary_super_type_of_val_type,
-};
 
 fn with_descriptors() -> Config {
     let mut config = Config::default();

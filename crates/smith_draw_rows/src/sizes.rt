@@ -1,10 +1,11 @@
 ghost use Rattle.smith_config.specs.Faults.{Passes};
 
-use crate::repeated::{same, told};
+use smith_bytes::{Error, Unstructured};
+use smith_config::Config;
+use smith_config_rows::repeated::{same, told};
 use smith_draw::{arbitrary_limits64, arbitrary_memtype, gradually_grow};
 use smith_types::MemoryType;
 use std::test::Fail;
-use wasm_smith::{Config, Error, Unstructured};
 
 // A number of 0 to a million, mostly of 0 to 10,000, and how many bytes it leaves.
 fn grown_once(input: &[u8]) -> (u64, usize) {

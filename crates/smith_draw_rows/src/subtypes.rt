@@ -4,16 +4,18 @@ ghost use Rattle.smith_config.specs.Faults.{Passes};
 ghost use Rattle.smith_config.specs.Features.{features_of};
 ghost use Rattle.smith_config.specs.Sanitized.{IsSanitized};
 
-use crate::function_types::is_function;
-use crate::repeated::{same, told};
 use crate::type_spaces::{spaces_of, types_from};
+use smith_bytes::{Error, Unstructured};
+use smith_config::Config;
+use smith_config_rows::function_types::is_function;
+use smith_config_rows::repeated::{same, told};
+use smith_draw::{
+    Entities, Spaces, arbitrary_matching_struct_type, arbitrary_sub_type,
+    arbitrary_sub_type_of_super_type, arbitrary_types, clone_rec_group,
+};
 use smith_types::{FieldType, Items, StorageType, StructType, SubType, TypeSpace, ValType};
 use std::alloc::Global;
 use std::test::Fail;
-use wasm_smith::{
-    Config, Entities, Error, Spaces, Unstructured, arbitrary_matching_struct_type,
-    arbitrary_sub_type, arbitrary_sub_type_of_super_type, arbitrary_types, clone_rec_group,
-};
 
 // The defaults, with garbage collection or without.
 fn settled(gc: bool) -> Result<Config, Error>

@@ -1,4 +1,4 @@
-//! Type spaces for the worked cases: those that bytes give, two structs, and what may be drawn over them without entities.
+//! Type spaces for the worked cases: those that bytes give, three functions, and what may be drawn over them without entities.
 
 ghost use Rattle.std.specs.Prelude.{◌≡◌, [], IfOk};
 ghost use Rattle.smith_types.specs.ValidTypes.{AreTypesValid};
@@ -6,10 +6,12 @@ ghost use Rattle.smith_config.specs.Faults.{Passes};
 ghost use Rattle.smith_config.specs.Features.{features_of};
 ghost use Rattle.smith_config.specs.Sanitized.{IsSanitized};
 
-use crate::made_types::{empty_struct, function};
+use smith_bytes::{Error, Unstructured};
+use smith_config::Config;
+use smith_config_rows::made_types::{empty_struct, function};
+use smith_draw::{Entities, Spaces, add_type, arbitrary_types};
 use smith_types::{SubType, TypeSpace, ValType};
 use std::alloc::Global;
-use wasm_smith::{Config, Entities, Error, Spaces, Unstructured, add_type, arbitrary_types};
 
 /// These types, without entities.
 pub(crate) fn spaces_of<'a>(types: &'a TypeSpace) -> Spaces<'a>
@@ -47,15 +49,6 @@ fn add(types: &mut TypeSpace, added: SubType) -> Result<(), Error> {
         let _ = add_type(types, added)?;
     }
     Ok(())
-}
-
-/// A struct type, and one below it.
-pub(crate) fn two_structs(alloc: Global) -> Result<TypeSpace, Error> {
-    let mut types = TypeSpace::new(alloc);
-    add(&mut types, empty_struct(alloc, false, None))?;
-    add(&mut types, empty_struct(alloc, false, Some(0)))?;
-    types.push_group()?;
-    Ok(types)
 }
 
 /// A struct type, and three of functions, of which the second alone gives something.

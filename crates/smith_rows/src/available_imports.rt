@@ -1,10 +1,10 @@
 use crate::told_shapes::{Group, Groups, Imported, Named, OneImport, groups_of, imported_of};
 use smith_config::Shape;
-use smith_draw_rows::made_shapes::{
+use smith_config_rows::made_shapes::{
     NUMBER, PAGE, TEN_PAGES, WIDE_NUMBER, add_import, add_type, no_shape, ping_and_memory,
 };
-use smith_draw_rows::made_types::function;
-use smith_draw_rows::repeated::{same, told};
+use smith_config_rows::made_types::function;
+use smith_config_rows::repeated::{same, told};
 use std::alloc::Global;
 use std::test::Fail;
 use wasm_smith::{

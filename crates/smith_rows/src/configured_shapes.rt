@@ -1,6 +1,6 @@
 use smith_bytes::{ConfigFault, Count, Error, Unstructured};
 use smith_config::{Config, Shape};
-use smith_draw_rows::repeated::{same, told};
+use smith_config_rows::repeated::{same, told};
 use smith_types::{EntityType, ExportKind, Import, Imports, Items, MemoryType, Name};
 use std::alloc::{AllocError, Global};
 use std::test::Fail;

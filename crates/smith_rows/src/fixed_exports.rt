@@ -1,10 +1,10 @@
 use crate::told_shapes::{Exported, Groups, Named, exported_of, groups_of};
 use smith_config::Shape;
-use smith_draw_rows::function_types::is_function;
-use smith_draw_rows::made_shapes::{
+use smith_config_rows::function_types::is_function;
+use smith_config_rows::made_shapes::{
     EXTERNAL_TABLE, TEN_PAGES, add_export, constant, no_shape, one_of_each, ping_and_memory,
 };
-use smith_draw_rows::repeated::{same, told};
+use smith_config_rows::repeated::{same, told};
 use smith_types::{AbstractHeapType, HeapType, SubType};
 use std::alloc::Global;
 use std::test::Fail;

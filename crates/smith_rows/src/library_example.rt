@@ -1,7 +1,7 @@
 //! The examples of the README: what they show compiles and answers.
 
-use smith_draw_rows::made_types::function;
-use smith_draw_rows::repeated::told;
+use smith_config_rows::made_types::function;
+use smith_config_rows::repeated::told;
 use std::alloc::Global;
 use wasm_smith::{
     CompositeInnerType, Config, Error, Items, Module, SubType, Unstructured, ValType, spell,

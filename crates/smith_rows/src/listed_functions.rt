@@ -1,4 +1,4 @@
-use smith_draw_rows::repeated::{same, told};
+use smith_config_rows::repeated::{same, told};
 use std::alloc::Global;
 use std::test::Fail;
 use wasm_smith::{

@@ -1,10 +1,10 @@
 use crate::told_shapes::{Exported, Group, Imported, Named, OneImport, exported_of, imported_of};
 use smith_config::Shape;
-use smith_draw_rows::made_shapes::{
+use smith_config_rows::made_shapes::{
     PAGE, WIDE_NUMBER, add_export, add_import, add_type, no_shape, three_memories,
 };
-use smith_draw_rows::made_types::function;
-use smith_draw_rows::repeated::{same, told};
+use smith_config_rows::made_types::function;
+use smith_config_rows::repeated::{same, told};
 use std::alloc::Global;
 use std::test::Fail;
 use wasm_smith::{Config, ConstInstr, EntityType, Error, ExportKind, Items, Module, Unstructured};

@@ -1,5 +1,5 @@
-use smith_draw_rows::function_types::is_function;
-use smith_draw_rows::repeated::{same, told};
+use smith_config_rows::function_types::is_function;
+use smith_config_rows::repeated::{same, told};
 use smith_types::{CompositeInnerType, FieldType, HeapType, RefType, StorageType, SubType};
 use std::alloc::Global;
 use std::ops::Range;

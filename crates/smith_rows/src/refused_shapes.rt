@@ -1,6 +1,6 @@
 use smith_config::Shape;
-use smith_draw_rows::made_shapes::{PAGE, add_export, add_import, constant, no_shape};
-use smith_draw_rows::repeated::same;
+use smith_config_rows::made_shapes::{PAGE, add_export, add_import, constant, no_shape};
+use smith_config_rows::repeated::same;
 use smith_types::{AbstractHeapType, HeapType, RefType, TableType};
 use std::alloc::Global;
 use std::test::Fail;

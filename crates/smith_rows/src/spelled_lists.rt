@@ -1,5 +1,5 @@
-use smith_draw_rows::made_types::{empty_struct, function};
-use smith_draw_rows::repeated::{same, told};
+use smith_config_rows::made_types::{empty_struct, function};
+use smith_config_rows::repeated::{same, told};
 use smith_types::{
     ArrayType, CompositeInnerType, CompositeType, FieldType, HeapType, Items, RefType, StorageType,
     StructType, SubType, ValType,

@@ -1,11 +1,11 @@
 use crate::made_shapes::no_shape;
 use crate::made_types::empty_struct;
 use crate::repeated::{same, told};
+use smith_bytes::{Error, ShapeFault, Which};
 use smith_config::{Config, Shape};
 use smith_types::{Items, SubType};
 use std::alloc::Global;
 use std::test::Fail;
-use wasm_smith::{Error, ShapeFault, Which};
 
 /// A shape of one group of types.
 pub(crate) fn of_types(alloc: Global, types: Items<SubType>) -> Result<Shape, Error> {

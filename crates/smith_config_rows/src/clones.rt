@@ -1,11 +1,11 @@
 use crate::repeated::told;
+use smith_bytes::Error;
 use smith_types::{
     ArrayType, CompositeInnerType, CompositeType, EntityType, FieldType, FuncType, ImportItem,
     Imports, Items, Name, StorageType, StructType, SubType, TypeSpace, ValType,
 };
 use std::alloc::Global;
 use std::test::Fail;
-use wasm_smith::Error;
 
 const BYTE: FieldType = FieldType {
     element_type: StorageType::I8,

@@ -1,6 +1,7 @@
 use crate::made_shapes::no_shape;
 use crate::made_types::empty_struct;
 use crate::shape_parts::{Rules, chain, fault, module_fault, of_type, of_types};
+use smith_bytes::{Error, ShapeFault, Which};
 use smith_config::Shape;
 use smith_types::{
     CompositeInnerType, CompositeType, ExportKind, FieldType, GlobalType, HeapType, Items, Name,
@@ -8,7 +9,6 @@ use smith_types::{
 };
 use std::alloc::Global;
 use std::test::Fail;
-use wasm_smith::{Error, ShapeFault, Which};
 
 // How many there are of each thing.
 const MANY: u32 = 10_000;

@@ -1,6 +1,7 @@
 use crate::made_shapes::{add_export, add_import, constant, no_shape};
 use crate::made_types::{empty_struct, function};
 use crate::shape_parts::{Rules, chain, fault, module_fault, of_type, of_types};
+use smith_bytes::{Error, ShapeFault, Which};
 use smith_config::Shape;
 use smith_types::{
     AbstractHeapType, EntityType, ExportKind, GlobalType, HeapType, MemoryType, RefType, TableType,
@@ -8,7 +9,6 @@ use smith_types::{
 };
 use std::alloc::Global;
 use std::test::Fail;
-use wasm_smith::{Error, ShapeFault, Which};
 
 const fn plain(ty: AbstractHeapType) -> HeapType {
     HeapType::Abstract { shared: false, ty }

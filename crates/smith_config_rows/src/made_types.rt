@@ -1,8 +1,8 @@
+use smith_bytes::Error;
 use smith_types::{
-    CompositeInnerType, CompositeType, FuncType, Items, StructType, SubType, ValType,
+    CompositeInnerType, CompositeType, FuncType, Items, StructType, SubType, TypeSpace, ValType,
 };
 use std::alloc::Global;
-use wasm_smith::Error;
 
 /// A struct type without fields.
 pub fn empty_struct(alloc: Global, is_final: bool, supertype: Option<u32>) -> SubType {
@@ -36,4 +36,20 @@ pub fn function(
             shared: false,
         },
     })
+}
+
+fn add(types: &mut TypeSpace, added: SubType) -> Result<(), Error> {
+    if types.may_follow(&added) {
+        let _ = types.push_type(added)?;
+    }
+    Ok(())
+}
+
+/// A struct type, and one below it.
+pub fn two_structs(alloc: Global) -> Result<TypeSpace, Error> {
+    let mut types = TypeSpace::new(alloc);
+    add(&mut types, empty_struct(alloc, false, None))?;
+    add(&mut types, empty_struct(alloc, false, Some(0)))?;
+    types.push_group()?;
+    Ok(types)
 }

@@ -1,10 +1,10 @@
 use crate::made_shapes::{names_of, one_of_each, ping_and_memory, three_memories};
 use crate::shape_parts::{Rules, fault};
+use smith_bytes::{Error, Which};
 use smith_config::Shape;
 use smith_types::EntityType;
 use std::alloc::Global;
 use std::test::Fail;
-use wasm_smith::{Error, Which};
 
 // Groups of memories, and one of no function, whose type is not there.
 fn of_groups(alloc: Global) -> Result<Shape, Error> {

@@ -3,8 +3,8 @@ ghost use Rattle.smith_types.specs.declared.composite_type.CompositeInnerType.Th
 ghost use Rattle.smith_types.specs.declared.value_type.HeapType.TheVariants.{Concrete};
 ghost use Rattle.smith_types.specs.declared.value_type.ValType.TheVariants.{I32, I64, F64};
 
+use crate::made_types::two_structs;
 use crate::repeated::same;
-use crate::type_spaces::two_structs;
 use smith_types::{
     AbstractHeapType, CompositeInnerType, CompositeType, EntityType, FieldType, FuncType, HeapType,
     Import, ImportItem, Imports, Items, Name, RefType, StorageType, StructType, SubType, TypeSpace,

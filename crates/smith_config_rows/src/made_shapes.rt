@@ -1,11 +1,11 @@
 use crate::made_types::function;
+use smith_bytes::Error;
 use smith_config::Shape;
 use smith_types::{
     AbstractHeapType, EntityType, ExportKind, GlobalType, HeapType, Import, ImportItem, Imports,
     Items, MemoryType, Name, RefType, SubType, TableType, ValType,
 };
 use std::alloc::Global;
-use wasm_smith::Error;
 
 /// A memory of one page.
 pub const PAGE: MemoryType = MemoryType {

@@ -1,11 +1,11 @@
 use crate::made_shapes::no_shape;
 use crate::made_types::empty_struct;
 use crate::shape_parts::{Rules, fault};
+use smith_bytes::{Error, ShapeFault, Which};
 use smith_config::Shape;
 use smith_types::{ExportKind, GlobalType, HeapType, Items, MemoryType, Name, RefType, ValType};
 use std::alloc::Global;
 use std::test::Fail;
-use wasm_smith::{Error, ShapeFault, Which};
 
 // The faults in the order in which they are looked for, but for lists that are too long.
 const FAULTS: [ShapeFault; 7] = [
