@@ -10,8 +10,6 @@ mod kebab;
 pub mod laws;
 mod names;
 mod repeat;
-#[cfg(test)]
-mod rows;
 mod text;
 mod unstructured;
 

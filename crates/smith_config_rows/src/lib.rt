@@ -1,6 +1,8 @@
-//! Worked cases of types, configurations and shapes, each with the result that it must have.
+//! Worked cases of the byte source, types, configurations and shapes, each with the result that it must have.
 #![tactic(auto)]
 
+#[cfg(test)]
+mod byte_source;
 #[cfg(test)]
 mod clones;
 #[cfg(test)]

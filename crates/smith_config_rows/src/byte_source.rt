@@ -1,4 +1,7 @@
-use crate::*;
+use smith_bytes::{
+    ConfigFault, Count, Error, ShapeFault, Unstructured, Which, Why, arbitrary_loop, limited_str,
+    limited_string, unique_kebab_string, unique_string, unique_url,
+};
 use std::alloc::Global;
 use std::collections::HashSet;
 use std::process::Abort;
