@@ -1,7 +1,10 @@
 use smith_config_rows::repeated::{same, told};
 use std::alloc::Global;
 use std::test::Fail;
-use wasm_smith::{Config, Error, ExportKind, Module, Name, Unstructured, Why};
+use wasm_smith::{
+    Config, ConstInstr, Error, ExportKind, GlobalType, Items, Module, Name, Unstructured, ValType,
+    Why,
+};
 
 /// The name of an export.
 #[derive(Clone, Copy, Debug, PartialEq)]
@@ -17,6 +20,11 @@ struct Exported {
     tags: usize,
     funcs: usize,
     globals: usize,
+    /// The types of the first tag and of the first function.
+    types: [Option<u32>; 2],
+    global: Option<GlobalType>,
+    /// The number that the first defined global begins with.
+    number: Option<i32>,
     exports: usize,
     first: Option<(Named, ExportKind, u32)>,
     last: Option<(Named, ExportKind, u32)>,
@@ -37,11 +45,27 @@ fn export_of(export: &(Name, ExportKind, u32)) -> (Named, ExportKind, u32) {
     (name_of(&export.0), export.1, export.2)
 }
 
+fn number_of(initial: &Items<ConstInstr>) -> Option<i32> {
+    match initial.as_slice() {
+        [ConstInstr::I32Const(value)] => Some(*value),
+        _ => None,
+    }
+}
+
 fn exported_of(module: &Module) -> Exported {
     Exported {
         tags: module.tags().len(),
         funcs: module.funcs().len(),
         globals: module.globals().len(),
+        types: [
+            module.tags().first().copied(),
+            module.funcs().first().copied(),
+        ],
+        global: module.globals().first().copied(),
+        number: module
+            .defined_globals()
+            .first()
+            .and_then(|(_, initial)| number_of(initial)),
         exports: module.exports().len(),
         first: module.exports().first().map(export_of),
         last: module.exports().last().map(export_of),
@@ -107,6 +131,9 @@ fn two_functions_that_are_exported(rt: HostRuntime) -> Result<(), Fail> {
         tags: 0,
         funcs: 2,
         globals: 0,
+        types: [None, Some(0)],
+        global: None,
+        number: None,
         exports: 2,
         first: Some((Named::Empty, ExportKind::Func, 0)),
         last: Some((Named::One, ExportKind::Func, 1)),
@@ -138,6 +165,9 @@ fn one_of_each_that_is_asked_for(rt: HostRuntime) -> Result<(), Fail> {
         tags: 1,
         funcs: 1,
         globals: 0,
+        types: [Some(0), Some(0)],
+        global: None,
+        number: None,
         exports: 1,
         first: Some((Named::Empty, ExportKind::Func, 0)),
         last: Some((Named::Empty, ExportKind::Func, 0)),
@@ -148,6 +178,13 @@ fn one_of_each_that_is_asked_for(rt: HostRuntime) -> Result<(), Fail> {
     assert_eq!(rt; found, Ok(want));
     Ok(())
 }
+
+// An unshared immutable number of 32 bits.
+const CONSTANT_NUMBER: GlobalType = GlobalType {
+    val_type: ValType::I32,
+    mutable: false,
+    shared: false,
+};
 
 #[test]
 fn a_global_that_is_exported(rt: HostRuntime) -> Result<(), Fail> {
@@ -163,6 +200,9 @@ fn a_global_that_is_exported(rt: HostRuntime) -> Result<(), Fail> {
         tags: 0,
         funcs: 0,
         globals: 1,
+        types: [None, None],
+        global: Some(CONSTANT_NUMBER),
+        number: Some(0),
         exports: 1,
         first: Some((Named::Empty, ExportKind::Global, 0)),
         last: Some((Named::Empty, ExportKind::Global, 0)),

@@ -17,13 +17,15 @@ struct Facts {
     encodes_imports: bool,
     /// Whether each group holds unshared immutable numbers of 32 bits, of the module without a name.
     holds_numbers: bool,
-    /// Whether the names of the imports are the empty one and this.
-    second_name: Second,
+    /// Whether each group is an import by itself.
+    all_single: bool,
+    first_name: Named,
+    second_name: Named,
 }
 
-/// The name of the second import.
+/// The name of an import.
 #[derive(Clone, Copy, Debug, PartialEq)]
-enum Second {
+enum Named {
     Empty,
     One,
     LetterB,
@@ -49,12 +51,16 @@ fn holds_numbers(group: &Imports) -> bool {
     }
 }
 
-fn second_of(text: &str) -> Second {
+fn is_single(group: &Imports) -> bool {
+    matches!(group, Imports::Single(_))
+}
+
+fn name_of(text: &str) -> Named {
     match text {
-        "" => Second::Empty,
-        "1" => Second::One,
-        "b" => Second::LetterB,
-        _ => Second::Other,
+        "" => Named::Empty,
+        "1" => Named::One,
+        "b" => Named::LetterB,
+        _ => Named::Other,
     }
 }
 
@@ -67,14 +73,23 @@ fn name_at(group: &Imports, place: usize) -> Option<&str> {
     }
 }
 
+// The name of the first import, where there is one.
+fn first_name(groups: &[Imports]) -> Named {
+    let name = match groups {
+        [group, ..] => name_at(group, 0),
+        [] => None,
+    };
+    name.map_or(Named::Other, name_of)
+}
+
 // The name of the second import, in the first group or in the second.
-fn second_name(groups: &[Imports]) -> Second {
+fn second_name(groups: &[Imports]) -> Named {
     let name = match groups {
         [group] => name_at(group, 1),
         [_, group] => name_at(group, 0),
         _ => None,
     };
-    name.map_or(Second::Other, second_of)
+    name.map_or(Named::Other, name_of)
 }
 
 fn facts_of(module: &Module) -> Facts {
@@ -86,6 +101,8 @@ fn facts_of(module: &Module) -> Facts {
         type_size: module.type_size(),
         encodes_imports: module.should_encode_imports(),
         holds_numbers: module.imports().iter().all(holds_numbers),
+        all_single: module.imports().iter().all(is_single),
+        first_name: first_name(module.imports()),
         second_name: second_name(module.imports()),
     }
 }
@@ -132,7 +149,7 @@ fn made(
 }
 
 // Two imported numbers.
-fn two_numbers(groups: usize, second_name: Second) -> Facts {
+fn two_numbers(groups: usize, second_name: Named) -> Facts {
     Facts {
         groups,
         imports: 2,
@@ -141,6 +158,8 @@ fn two_numbers(groups: usize, second_name: Second) -> Facts {
         type_size: 4,
         encodes_imports: true,
         holds_numbers: true,
+        all_single: groups == 2,
+        first_name: Named::Empty,
         second_name,
     }
 }
@@ -160,7 +179,7 @@ fn a_group_of_one_type_meets_the_minimum_of_globals(rt: HostRuntime) -> Result<(
     };
     let input = [0, 1, 255, 255, 255, 255, 0, 0, 0, 1, 1, 98, 1, 0, 0];
     let found = made(rt.alloc(), asked, DuplicateImportsBehavior::Allowed, &input)?;
-    assert_eq!(rt; found, Ok(two_numbers(1, Second::LetterB)));
+    assert_eq!(rt; found, Ok(two_numbers(1, Named::LetterB)));
     Ok(())
 }
 
@@ -168,8 +187,8 @@ fn a_group_of_one_type_meets_the_minimum_of_globals(rt: HostRuntime) -> Result<(
 fn a_name_that_repeats_in_a_group(rt: HostRuntime) -> Result<(), Fail> {
     let input = [0, 1, 255, 255, 255, 255, 0, 0, 0, 1, 1, 0, 0, 0];
     let cases = [
-        (DuplicateImportsBehavior::Allowed, Second::Empty),
-        (DuplicateImportsBehavior::Disallowed, Second::One),
+        (DuplicateImportsBehavior::Allowed, Named::Empty),
+        (DuplicateImportsBehavior::Disallowed, Named::One),
     ];
     for (behavior, second) in cases {
         let found = made(rt.alloc(), AT_MOST_TWO, behavior, &input)?;
@@ -185,8 +204,8 @@ fn a_name_that_repeats_beside_another(rt: HostRuntime) -> Result<(), Fail> {
         ..AT_MOST_TWO
     };
     let cases = [
-        (DuplicateImportsBehavior::Allowed, Second::Empty),
-        (DuplicateImportsBehavior::Disallowed, Second::One),
+        (DuplicateImportsBehavior::Allowed, Named::Empty),
+        (DuplicateImportsBehavior::Disallowed, Named::One),
     ];
     for (behavior, second) in cases {
         let found = made(rt.alloc(), asked, behavior, &[])?;
@@ -223,7 +242,9 @@ fn one_import_is_asked_for(rt: HostRuntime) -> Result<(), Fail> {
         type_size: 2,
         encodes_imports: true,
         holds_numbers: true,
-        second_name: Second::Other,
+        all_single: true,
+        first_name: Named::Empty,
+        second_name: Named::Other,
     };
     let found = made(rt.alloc(), asked, DuplicateImportsBehavior::Allowed, &[])?;
     assert_eq!(rt; found, Ok(one));

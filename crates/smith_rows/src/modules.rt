@@ -1,5 +1,5 @@
 use smith_config_rows::function_types::is_function;
-use smith_config_rows::repeated::told;
+use smith_config_rows::repeated::{same, told};
 use smith_types::{MemoryType, SubType, ValType};
 use std::alloc::Global;
 use std::ops::Range;
@@ -105,6 +105,27 @@ fn facts_of(module: &Module) -> Facts {
 fn facts_from(alloc: Global, config: Config, input: &[u8]) -> Result<Facts, Error> {
     let module = Module::new(alloc, config, &mut Unstructured::new(input))?;
     Ok(told(module, facts_of))
+}
+
+fn text_of(alloc: Global, module: &Module) -> Result<String, Error> {
+    Ok(format!(in alloc; "{module:?}")?)
+}
+
+// The text of the module of no bytes.
+fn text_once(alloc: Global) -> Result<String, Error> {
+    let module = Module::new(alloc, Config::default(), &mut Unstructured::new(&[]))?;
+    told(module, |module| text_of(alloc, module))
+}
+
+#[test]
+fn a_module_prints_its_configuration(rt: HostRuntime) -> Result<(), Fail> {
+    let text = same(text_once(rt.alloc())?, text_once(rt.alloc())?)?;
+    assert!(rt;
+        text.as_str()
+            .starts_with("Module { config: Config { min_types: 0, ")
+    );
+    assert!(rt; text.as_str().ends_with(" }, ...: \"...\" }"));
+    Ok(())
 }
 
 #[test]
