@@ -2,7 +2,7 @@
 use Rattle.std.specs.Prelude.{ℕ, zero, suc, Bool, true, false, List, [], ◌∷◌, ◌++◌, length, nat_lt, if◌then◌else◌}
 use Rattle.smith_bytes.specs.Draws.{bool_at}
 
--- whether one more item is drawn: without asking while there are too few items
+-- whether a list goes on: without a draw where it has too few items, else by a drawn bool
 abbrev pub goes_at : Bool → List ℕ → Bool × List ℕ
 goes_at true bytes = (true, bytes)
 goes_at false bytes = bool_at bytes

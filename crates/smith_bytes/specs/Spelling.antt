@@ -29,12 +29,12 @@ pub record SpellsAnyByte (piece : List ℕ) : Type 0 where
   pub byte : ℕ
   pub whole : piece ≡ byte ∷ []
 
--- one piece where this holds, else nothing
+-- a piece where the condition holds, else no byte
 abbrev pub Where : Bool → (List ℕ → Type 0) → List ℕ → Type 0
 Where true Piece piece = Piece piece
 Where false Piece piece = piece ≡ []
 
--- that a loop with at most this many turns ends before its first, where it might have one
+-- that a loop of at most `most` turns ends before the first turn, where `most` is above zero
 abbrev pub SpellsNone : ℕ → List ℕ → Type 0
 SpellsNone most = Where (nat_lt 0 most) (SpellsBool false)
 

@@ -6,7 +6,7 @@ pub record Takes {A : Type 0} (Spelled : A → List ℕ → Type 0) (old : List 
   pub made : (value : A) (piece after : List ℕ) → Spelled value piece → old ≡ piece ++ after → drawn ≡ value
   pub left : (value : A) (piece after : List ℕ) → Spelled value piece → old ≡ piece ++ after → new ≡ after
 
--- spells a value for which this holds
+-- a piece spells a value for which `Holds` holds
 pub record SpellsSuch {A : Type 0} (Holds : A → Type 0) (Spelled : A → List ℕ → Type 0) (value : A) (piece : List ℕ) : Type 0 where
   pub holds : Holds value
   pub spelled : Spelled value piece

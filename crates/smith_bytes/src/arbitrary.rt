@@ -3,17 +3,18 @@ ghost use Rattle.smith_bytes.specs.Source.{KeepsPieces};
 
 use crate::unstructured::Unstructured;
 
-/// A whole number type without a sign, of which a range can be drawn.
+/// An unsigned integer type, of which [`Unstructured::int_in_range`] can draw a range.
 pub trait Int: Copy {
     ghost use Rattle.std.specs.Prelude.{ℕ};
 
+    /// The number that a value stands for.
     ghost number: { Self → ℕ };
 
-    /// The same number in the widest type.
+    /// Converts the number to 128 bits.
     fn widen(self) -> u128
         ensures { result ≡ number self };
 
-    /// The same number in this type, which holds the greater number `most`.
+    /// Converts `wide`, which is at most the number `most` of the type, to the type.
     fn narrow(wide: u128, most: Self) -> Self
         requires { wide ≤ number most }
         ensures { number result ≡ wide };
@@ -91,13 +92,15 @@ impl Int for usize {
     }
 }
 
-/// A type of which a value can be drawn.
+/// A type of which a value can be drawn. An integer is read from as many bytes as it has, the lowest first. A bool is the lowest
+/// bit of a byte.
 pub trait Arbitrary: Drop {
     ghost use Rattle.std.specs.Prelude.{ℕ, List};
 
+    /// The value that is drawn from some bytes, and the bytes that are left.
     ghost drawn: { List ℕ → Self × List ℕ };
 
-    /// A value from the front of the source.
+    /// Draws a value from the front of `u`. Bytes past the end are read as zeros.
     fn arbitrary(u: &mut Unstructured<'_>) -> Self
         ensures exact { drawn u.old ≡ (result, u.new) }
         ensures left { KeepsPieces u.old u.new };

@@ -1,7 +1,7 @@
 ghost use Rattle.std.specs.Prelude.{◌≡◌, ◌≤◌, ◌<◌, ◌^◌, length};
 ghost use Rattle.smith_bytes.specs.Draws.{little_endian, big_endian, digit_count};
 
-/// How many base-256 digits a number has, none for zero.
+/// Counts the base-256 digits of `number`, none for zero.
 pub(crate) fn count_digits(number: u128) -> usize
     ensures exact { result ≡ digit_count number }
     ensures within { result ≤ 16 }
@@ -10,7 +10,7 @@ pub(crate) fn count_digits(number: u128) -> usize
     16 - number.leading_zeros() as usize / 8
 }
 
-/// The number whose base-256 digits these are, the lowest first.
+/// Reads the number whose base-256 digits are `digits`, at most eight, the lowest first.
 pub(crate) fn read_little_endian(digits: &[u8]) -> u64
     requires few { length digits.now ≤ 8 }
     ensures exact { result ≡ little_endian digits.now }
@@ -23,7 +23,7 @@ pub(crate) fn read_little_endian(digits: &[u8]) -> u64
     number
 }
 
-/// The number of up to sixteen base-256 digits, the lowest first.
+/// Reads the number whose base-256 digits are `digits`, at most sixteen, the lowest first.
 pub(crate) fn read_wide_little_endian(digits: &[u8]) -> u128
     requires few { length digits.now ≤ 16 }
     ensures exact { result ≡ little_endian digits.now }
@@ -32,7 +32,7 @@ pub(crate) fn read_wide_little_endian(digits: &[u8]) -> u128
     (u128::from(read_little_endian(high)) << 64) + u128::from(read_little_endian(low))
 }
 
-/// The number whose base-256 digits these are, the highest first.
+/// Reads the number whose base-256 digits are `digits`, at most eight, the highest first.
 pub(crate) fn read_big_endian(digits: &[u8]) -> u64
     requires few { length digits.now ≤ 8 }
     ensures exact { result ≡ big_endian digits.now }
@@ -44,7 +44,7 @@ pub(crate) fn read_big_endian(digits: &[u8]) -> u64
     number
 }
 
-/// The number of up to sixteen base-256 digits, the highest first.
+/// Reads the number whose base-256 digits are `digits`, at most sixteen, the highest first.
 pub(crate) fn read_wide_big_endian(digits: &[u8]) -> u128
     requires few { length digits.now ≤ 16 }
     ensures exact { result ≡ big_endian digits.now }

@@ -4,46 +4,63 @@ ghost use Rattle.smith_bytes.specs.declared.error.Error.TheVariants.{Memory};
 use std::alloc::{AllocError, AllocFailed};
 use thiserror::Error;
 
-/// A count that a configuration bounds from both sides, in the order in which they are checked.
+/// A count that a configuration bounds from both sides. Configurations are checked in the order of the variants.
 #[derive(Clone, Copy, Debug, PartialEq, Eq, Error)]
 pub enum Count {
+    /// Bounded by `min_types` and `max_types`.
     #[error("types")]
     Types,
+    /// Bounded by `min_imports` and `max_imports`.
     #[error("imports")]
     Imports,
+    /// Bounded by `min_tags` and `max_tags`.
     #[error("tags")]
     Tags,
+    /// Bounded by `min_funcs` and `max_funcs`.
     #[error("functions")]
     Funcs,
+    /// Bounded by `min_globals` and `max_globals`.
     #[error("globals")]
     Globals,
+    /// Bounded by `min_exports` and `max_exports`.
     #[error("exports")]
     Exports,
+    /// Bounded by `min_element_segments` and `max_element_segments`.
     #[error("element segments")]
     ElementSegments,
+    /// Bounded by `min_elements` and `max_elements`.
     #[error("elements of a segment")]
     Elements,
+    /// Bounded by `min_data_segments` and `max_data_segments`.
     #[error("data segments")]
     DataSegments,
+    /// Bounded by `min_memories` and `max_memories`.
     #[error("memories")]
     Memories,
+    /// Bounded by `min_tables` and `max_tables`.
     #[error("tables")]
     Tables,
 }
 
-/// Why no module has the shape that was asked for.
+/// Why the input gives nothing of the form that was asked for.
 #[derive(Clone, Copy, Debug, PartialEq, Eq, Error)]
 pub enum Why {
+    /// The count ends below its minimum.
     #[error("the minimum of {0} can't be met")]
     Unmet(Count),
+    /// The exports would take the type size above `max_type_size`, where everything is exported.
     #[error("the exports would pass the type size")]
     TypeSize,
+    /// A shape brings a second memory, and `max_memories` is at most 1.
     #[error("a shape brings a second memory, and only one is enabled")]
     SeveralMemories,
+    /// A shape brings a second table, without `reference_types_enabled`.
     #[error("a shape brings a second table, and only one is enabled")]
     SeveralTables,
+    /// The closure of a loop answered false among the calls that its minimum asks for.
     #[error("a loop ended below its minimum")]
     Loop,
+    /// A body is raw bytes, which can't be made to terminate.
     #[error("a body is raw bytes")]
     RawBody,
 }
@@ -51,44 +68,59 @@ pub enum Why {
 /// What is wrong with a configuration.
 #[derive(Clone, Copy, Debug, PartialEq, Eq, Error)]
 pub enum ConfigFault {
+    /// The minimum of the count is above its maximum.
     #[error("the minimum of {0} is above the maximum")]
     MinAboveMax(Count),
+    /// The maximum of the count is above `2^31`.
     #[error("the maximum of {0} is above 2^31")]
     MaxTooLarge(Count),
+    /// `max_memory32_bytes` is above `2^32`.
     #[error("the bytes of a 32-bit memory are above 2^32")]
     Memory32Bytes,
+    /// `max_memory64_bytes` is above `2^64`.
     #[error("the bytes of a 64-bit memory are above 2^64")]
     Memory64Bytes,
 }
 
-/// One of the three shapes of a configuration.
+/// The use of a shape, named after the field of the configuration that holds the shape.
 #[derive(Clone, Copy, Debug, PartialEq, Eq, Error)]
 pub enum Which {
+    /// The imports of which a module has some: `available_imports`.
     #[error("available imports")]
     AvailableImports,
+    /// The exports of a module: `exports`.
     #[error("exports")]
     Exports,
+    /// The first types of a module, and all imports and exports: `module_shape`.
     #[error("module shape")]
     ModuleShape,
 }
 
-/// What is wrong with a shape.
+/// What is wrong with a shape. Faults are looked for in the order of the variants.
 #[derive(Clone, Copy, Debug, PartialEq, Eq, Error)]
 pub enum ShapeFault {
+    /// A list has more than `2^29` items, or all groups together have more types or imports.
     #[error("a list is too long")]
     TooLong,
+    /// A type, or a reference to a type, isn't valid even where every feature is on.
     #[error("a reference or supertype isn't valid")]
     BadType,
+    /// A function, a tag or an export names what doesn't stand or is of another kind.
     #[error("an index is out of its space, or of the wrong kind")]
     Index,
+    /// A memory type or the limits of a table aren't valid, or a type has more than 62 supertypes above it.
     #[error("a limit isn't in range")]
     Limit,
+    /// The configuration lacks a feature that the shape needs.
     #[error("a feature isn't enabled")]
     Feature,
+    /// Two exports have the same name.
     #[error("two exports have one name")]
     DuplicateExport,
+    /// A shape for exports has a type that isn't a final function type without a supertype, or a concrete reference.
     #[error("a type of an export isn't plain")]
     NotPlain,
+    /// Something other than a memory is shared, or a reference is exact.
     #[error("a part that shapes leave out")]
     LeftOut,
 }
@@ -96,13 +128,13 @@ pub enum ShapeFault {
 /// Why a call gave no value.
 #[derive(Clone, Copy, Debug, PartialEq, Eq, Error)]
 pub enum Error {
-    /// There was nothing to choose from.
+    /// A choice was asked for among no items.
     #[error("nothing to choose from")]
     EmptyChoose,
     /// Fewer bytes are left than were asked for.
     #[error("not enough bytes are left")]
     NotEnoughData,
-    /// What was asked for can't be made from these bytes.
+    /// The input gives nothing of the form that was asked for.
     #[error("incorrect format: {0}")]
     IncorrectFormat(Why),
     /// The sanitised configuration fails its check.
@@ -111,7 +143,7 @@ pub enum Error {
     /// A shape fails its check.
     #[error("shape of {0}: {1}")]
     Shape(Which, ShapeFault),
-    /// A growth was refused.
+    /// The allocator refused memory.
     #[error("out of memory")]
     Memory,
 }
@@ -119,7 +151,7 @@ pub enum Error {
 impl Error {
     ghost use Rattle.smith_bytes.specs.ErrorNames.{kind_name};
 
-    /// The name of the kind of refusal, as a line of text can hold it: `Memory`, `Config`. At most 15 bytes.
+    /// The name of the variant without what the variant holds, for lines of text: `Memory`, `Config`.
     pub fn name(&self) -> &'static str
         ensures name { result.now ≡ kind_name self.now }
         ensures short { length result.now ≤ 15 }

@@ -6,7 +6,7 @@ use crate::error::Error;
 use crate::unstructured::Unstructured;
 use std::alloc::Global;
 
-/// A kebab name of at most `max_size` characters, and one that lets it end.
+/// Draws a kebab name of at most `max_size` characters, with a letter more where the name could not end.
 #[tactic(auto, unfolding(crate::specs::Kebab::kebab_at))]
 pub(crate) fn kebab_string(
     alloc: Global,
@@ -25,7 +25,7 @@ pub(crate) fn kebab_string(
     Ok(name)
 }
 
-/// The first `size` characters of a kebab name.
+/// Draws the first `size` characters of a kebab name.
 fn characters(alloc: Global, size: usize, u: &mut Unstructured<'_>) -> Result<String, Error>
     ensures exact { IfOk result (λ name. characters_at size [] u.old ≡ (string_bytes name, u.new)) }
     ensures memory { IfErr result (λ e. e ≡ Error.Memory) }
@@ -39,7 +39,7 @@ fn characters(alloc: Global, size: usize, u: &mut Unstructured<'_>) -> Result<St
     Ok(name)
 }
 
-/// One character more behind the name so far.
+/// Draws the character that follows `name`.
 #[tactic(auto, unfolding(crate::specs::Kebab::character_at))]
 fn next_character(name: &str, u: &mut Unstructured<'_>) -> u8
     ensures exact { character_at name.now u.old ≡ (result, u.new) }
@@ -49,7 +49,7 @@ fn next_character(name: &str, u: &mut Unstructured<'_>) -> u8
     character_of(name, u.int_in_range(0..=36u8))
 }
 
-/// The character that a number of 0 to 36 stands for, behind the name so far.
+/// The character that `number`, which is at most 36, stands for behind `name`.
 fn character_of(name: &str, number: u8) -> u8
     requires few { number ≤ 36 }
     ensures exact { result ≡ character name.now number }
@@ -64,7 +64,7 @@ fn character_of(name: &str, number: u8) -> u8
     }
 }
 
-/// Whether a name can't end here: it is empty, or ends in a dash.
+/// Whether a kebab name can't end as `name` does: `name` is empty, or ends in a dash.
 fn is_open_name(name: &str) -> bool
     ensures { result ≡ is_open name.now }
 {

@@ -7,6 +7,7 @@ mod error;
 mod examples;
 mod growth;
 mod kebab;
+/// Laws: functions that do nothing, whose clauses say what holds.
 pub mod laws;
 mod names;
 mod repeat;

@@ -12,8 +12,8 @@ use std::alloc::Global;
 use std::collections::HashSet;
 use std::fmt::Write;
 
-/// Draws a text that is not among `names`, and adds it to them: at most `max_size` bytes, and
-/// behind them what makes the text new.
+/// Draws a text that is not among `names`, and adds the text to `names`. The text has at most `max_size` drawn bytes. Behind
+/// these stands the size of `names` in decimal digits, as often as it takes until the text is new.
 pub fn unique_string(
     alloc: Global,
     max_size: usize,
@@ -30,8 +30,8 @@ pub fn unique_string(
     unique(names, limited_string(alloc, max_size, u)?)
 }
 
-/// Draws a kebab name that is not among `names`, and adds it to them: at most `max_size`
-/// characters, a letter that lets the name end, and what makes it new.
+/// Draws a kebab name that is not among `names`, and adds the name to `names`. The name has at most `max_size` drawn characters.
+/// Behind these stands a letter where the name could not end without, then what makes the name new, as in [`unique_string`].
 pub fn unique_kebab_string(
     alloc: Global,
     max_size: usize,
@@ -49,8 +49,8 @@ pub fn unique_kebab_string(
     unique(names, kebab_string(alloc, max_size, u)?)
 }
 
-/// Draws the address of a page of `https://example.com/`. Its path is a kebab name as in
-/// [`unique_kebab_string`], which is not among `names`, and is added to them.
+/// Draws the address of a page of `https://example.com/`. The path is a kebab name of at most `max_size` drawn characters, as in
+/// [`unique_kebab_string`]. The path alone is what is not among `names`, and what is added to `names`.
 pub fn unique_url(
     alloc: Global,
     max_size: usize,
@@ -72,7 +72,7 @@ pub fn unique_url(
     Ok(url)
 }
 
-/// The address with this path.
+/// The address of the page `path`.
 fn url_of(alloc: Global, path: &str) -> Result<String, Error>
     ensures exact { IfOk result (λ url. string_bytes url ≡ url_front ++ path.now) }
     ensures memory { IfErr result (λ e. e ≡ Error.Memory) }
@@ -80,7 +80,7 @@ fn url_of(alloc: Global, path: &str) -> Result<String, Error>
     Ok(format!(in alloc; "https://example.com/{path}")?)
 }
 
-/// The text made new, and added to the names.
+/// Makes `text` a name that is new among `names`, and adds the name to `names`.
 fn unique(names: &mut HashSet<String>, text: String) -> Result<String, Error>
     ensures made { IfOk result (λ name. IsMadeNew names.old (string_bytes text) (string_bytes name)) }
     ensures added { IfOk result (λ name. AddsName names.old names.new (string_bytes name)) }
@@ -92,7 +92,7 @@ fn unique(names: &mut HashSet<String>, text: String) -> Result<String, Error>
     Ok(name)
 }
 
-/// The text, and behind it the number of names as often as it takes until it is new.
+/// Makes `text` new among `names`: behind it stands the size of `names` as often as that takes.
 fn made_new(names: &HashSet<String>, text: String) -> Result<String, Error>
     ensures made { IfOk result (λ name. IsMadeNew names.now (string_bytes text) (string_bytes name)) }
     ensures memory { IfErr result (λ e. e ≡ Error.Memory) }

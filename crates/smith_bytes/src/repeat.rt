@@ -7,11 +7,12 @@ use crate::error::{Error, Why};
 use crate::growth::goes_on;
 use crate::unstructured::Unstructured;
 
-/// Calls `f` at least `min` and at most `max` times: behind the first `min` calls as long as a
-/// drawn bool is true, and as long as `f` answers true. `min` is at most `max`.
+/// Calls `f` with `u` at least `min` and at most `max` times. Behind the first `min` calls a bool is drawn from `u` before each
+/// call: a false one ends the loop. A false answer of `f` ends the loop too.
 ///
-/// A false answer among the first `min` calls is refused with `Why::Loop`, and an error of `f` is
-/// handed on at once.
+/// `min` is at most `max`, and `f` may be called with any source, and again after each call.
+///
+/// A false answer among the first `min` calls is refused by `Why::Loop`. An error of `f` is handed on at once.
 pub fn arbitrary_loop<'a, F: FnMut(&mut Unstructured<'a>) -> Result<bool, Error>>(
     u: &mut Unstructured<'a>,
     min: usize,
@@ -36,7 +37,7 @@ pub fn arbitrary_loop<'a, F: FnMut(&mut Unstructured<'a>) -> Result<bool, Error>
     Ok(())
 }
 
-/// One call.
+/// Calls `f` once, with `u`. `f` may be called with any source, and again after each call.
 fn called<'a, F: FnMut(&mut Unstructured<'a>) -> Result<bool, Error>>(
     f: &mut F,
     u: &mut Unstructured<'a>,
@@ -49,7 +50,7 @@ fn called<'a, F: FnMut(&mut Unstructured<'a>) -> Result<bool, Error>>(
     f(u)
 }
 
-/// What a false answer means behind `calls` calls that were answered true.
+/// The result of a loop of at least `min` calls that is answered false behind `calls` calls answered true.
 fn at_false(min: usize, calls: usize) -> Result<(), Error>
     ensures few { calls < min → result ≡ Err (Error.IncorrectFormat Why.Loop) }
     ensures enough { min ≤ calls → result ≡ Ok tt }

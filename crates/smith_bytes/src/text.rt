@@ -7,8 +7,9 @@ use crate::error::Error;
 use crate::unstructured::Unstructured;
 use std::alloc::Global;
 
-/// A text of at most `max_size` bytes. It lives as long as the input, not as long as this loan of
-/// the source.
+/// Draws a text of at most `max_size` bytes: a length is drawn, and the longest front of as many bytes that is UTF-8 is the text.
+///
+/// The text lives as long as the input, not only as long as the loan of `u`.
 #[tactic(auto, unfolding(crate::specs::Names::text_at))]
 pub fn limited_str<'a>(max_size: usize, u: &mut Unstructured<'a>) -> &'a str
     ensures exact { text_at max_size u.old ≡ (result.now, u.new) }
@@ -20,7 +21,7 @@ pub fn limited_str<'a>(max_size: usize, u: &mut Unstructured<'a>) -> &'a str
     text
 }
 
-/// Draws a text of at most `max_size` bytes, as an owned string.
+/// Draws a text of at most `max_size` bytes as [`limited_str`] does, and copies the text into memory of `alloc`.
 pub fn limited_string(
     alloc: Global,
     max_size: usize,
@@ -33,7 +34,7 @@ pub fn limited_string(
     Ok(limited_str(max_size, u).to_string(alloc)?)
 }
 
-/// The longest front that is UTF-8.
+/// The longest front of `bytes` that is UTF-8.
 fn utf8_front(bytes: &[u8]) -> &str
     ensures exact { result.now ≡ take (utf8_valid_len bytes.now) bytes.now }
     ensures size { length result.now ≡ utf8_valid_len bytes.now }

@@ -14,7 +14,7 @@ use std::ops::RangeInclusive;
 
 /// A source of bytes, from which values are drawn. A clause sees the bytes that are left.
 ///
-/// Past the end of the bytes a draw reads zeros, so that it always gives a value.
+/// Past the end of the bytes a draw reads zeros, so that each draw gives a value.
 #[derive(Drop)]
 pub struct Unstructured<'a> {
     bytes: &'a [u8],
@@ -29,14 +29,14 @@ impl<'a> Model for Unstructured<'a> {
 }
 
 impl<'a> Unstructured<'a> {
-    /// A source of the bytes `bytes`.
+    /// Makes a source of the bytes `bytes`.
     pub fn new(bytes: &'a [u8]) -> Self
         ensures { result ≡ bytes.now }
     {
         Unstructured { bytes }
     }
 
-    /// How many bytes are left.
+    /// The number of bytes that are left.
     pub fn len(&self) -> usize
         ensures { result ≡ length self.now }
     {
@@ -50,7 +50,7 @@ impl<'a> Unstructured<'a> {
         self.bytes.is_empty()
     }
 
-    /// Draws a value of the type `T`, as [`Arbitrary`] says for it.
+    /// Draws a value of the type `T`, as the type says by [`Arbitrary`].
     pub fn arbitrary<T: Arbitrary>(&mut self) -> T
         ensures exact { T.drawn self.old ≡ (result, self.new) }
         ensures left { KeepsPieces self.old self.new }
@@ -58,7 +58,7 @@ impl<'a> Unstructured<'a> {
         T::arbitrary(self)
     }
 
-    /// Draws a number of `range`, whose start is not above its end.
+    /// Draws a number of `range`. The start of `range` is at most its end.
     #[tactic(auto, unfolding(crate::specs::Draws::range_at))]
     pub fn int_in_range<T: Int>(&mut self, range: RangeInclusive<T>) -> T
         requires ordered { T.number (range_inclusive_start range) ≤ T.number (range_inclusive_end range) }
@@ -84,7 +84,7 @@ impl<'a> Unstructured<'a> {
         1 + self.offset(m.widen() - 1) <= n.widen()
     }
 
-    /// Draws a place in `items` and lends the item there. An empty list alone is refused, by `EmptyChoose`.
+    /// Draws a place in `items` and lends the item at that place. Refuses empty `items` alone, by `EmptyChoose`.
     #[tactic(auto, unfolding(crate::specs::Draws::choose_at))]
     pub fn choose<'b, T>(&mut self, items: &'b [T]) -> Result<&'b T, Error>
         ensures exact { IfOk result (λ item. choose_at items.now self.old ≡ (Some item.now, self.new)) }
@@ -99,9 +99,9 @@ impl<'a> Unstructured<'a> {
         Ok(&items[self.int_in_range(0..=items.len() - 1)])
     }
 
-    /// Takes the first `n` bytes. Where fewer are left: `NotEnoughData`.
+    /// Takes the first `n` bytes. Refuses by `NotEnoughData` where fewer bytes are left, and takes none.
     ///
-    /// What is lent lives as long as the input, not as long as this loan of the source.
+    /// The bytes live as long as the input, not only as long as the loan of the source.
     pub fn bytes(&mut self, n: usize) -> Result<&'a [u8], Error>
         ensures enough { IsOk result ↔ (n ≤ length self.old) }
         ensures lent { IfOk result (λ piece. piece.now ≡ take n self.old) }
@@ -116,7 +116,7 @@ impl<'a> Unstructured<'a> {
         Ok(self.up_to(n))
     }
 
-    /// Lends the first `n` bytes, which are left in the source. None where fewer are left.
+    /// Lends the first `n` bytes, which stay in the source, or gives None where fewer bytes are left.
     pub fn peek_bytes(&self, n: usize) -> Option<&'a [u8]>
         ensures enough { IsSome result ↔ (n ≤ length self.now) }
         ensures lent { IfSome result (λ piece. piece.now ≡ take n self.now) }
@@ -124,7 +124,7 @@ impl<'a> Unstructured<'a> {
         self.bytes.get(..n)
     }
 
-    /// Draws a length that the bytes left can hold, told by the bytes at their end.
+    /// Draws a length by bytes that are taken from the end. The length is at most the number of bytes that are left.
     #[tactic(auto, using(crate::proofs::PieceLemmas::keeps_take), unfolding(crate::specs::Draws::len_at))]
     pub fn arbitrary_len(&mut self) -> usize
         ensures exact { len_at self.old ≡ (result, self.new) }
@@ -137,7 +137,7 @@ impl<'a> Unstructured<'a> {
         Unstructured { bytes: end }.int_in_range(0..=most)
     }
 
-    /// The first `n` bytes, or all that are left where there are fewer.
+    /// Takes the first `n` bytes, or all bytes where fewer are left.
     #[tactic(auto, using(crate::proofs::PieceLemmas::keeps_drop))]
     pub(crate) fn up_to(&mut self, n: usize) -> &'a [u8]
         ensures taken { result.now ≡ take n self.old }
@@ -149,7 +149,7 @@ impl<'a> Unstructured<'a> {
         piece
     }
 
-    /// A whole number of one byte.
+    /// Draws a number of one byte.
     #[tactic(auto, using(crate::proofs::PieceLemmas::keeps_drop), unfolding(crate::specs::Draws::whole_at))]
     pub(crate) fn byte(&mut self) -> u8
         ensures exact { whole_at 1 self.old ≡ (result, self.new) }
@@ -164,7 +164,7 @@ impl<'a> Unstructured<'a> {
         }
     }
 
-    /// A whole number of `n` bytes.
+    /// Draws a number of `n` bytes, at most eight.
     #[tactic(auto, using(crate::proofs::EndianLemmas::front_fits), unfolding(crate::specs::Draws::whole_at))]
     pub(crate) fn whole(&mut self, n: usize) -> u64
         requires { n ≤ 8 }
@@ -175,7 +175,7 @@ impl<'a> Unstructured<'a> {
         read_little_endian(self.up_to(n))
     }
 
-    /// A whole number of sixteen bytes.
+    /// Draws a number of sixteen bytes.
     #[tactic(auto, unfolding(crate::specs::Draws::whole_at))]
     pub(crate) fn wide(&mut self) -> u128
         ensures exact { whole_at 16 self.old ≡ (result, self.new) }
@@ -184,7 +184,7 @@ impl<'a> Unstructured<'a> {
         read_wide_little_endian(self.up_to(16))
     }
 
-    /// A number of at most `most`, of one byte at most.
+    /// Draws a number of at most `most`, by one byte at most.
     #[tactic(auto, unfolding(crate::specs::Draws::range_at, crate::specs::Draws::whole_at, crate::specs::Draws::digit_count))]
     fn byte_offset(&mut self, most: u8) -> u8
         ensures exact { range_at 0 most self.old ≡ (result, self.new) }
@@ -197,7 +197,7 @@ impl<'a> Unstructured<'a> {
         (u16::from(self.byte()) % (u16::from(most) + 1)) as u8
     }
 
-    /// A number of at most `most`.
+    /// Draws a number of at most `most`.
     #[tactic(auto, unfolding(crate::specs::Draws::range_at))]
     fn offset(&mut self, most: u128) -> u128
         ensures exact { range_at 0 most self.old ≡ (result, self.new) }
@@ -220,7 +220,7 @@ impl<'a> Unstructured<'a> {
     }
 }
 
-/// How many bytes at the end of `n` bytes tell a length.
+/// The number of bytes at the end of `n` bytes that tell a length.
 fn size_of_length(n: usize) -> usize
     ensures exact { result ≡ length_size n }
     ensures within { result ≤ n }

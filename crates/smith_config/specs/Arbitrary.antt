@@ -107,7 +107,7 @@ rules_at config bytes = in_turn (
     coin (λ config b. record config { limit_arrays_in_const_exprs = b }) ∷
     []) config bytes
 
--- what isn't drawn: nothing is asked for at least, and what few engines have is off
+-- what isn't drawn: each least count is 0, and what few engines have is off
 abbrev pub undrawn_config : Config
 undrawn_config = record default_config {
   max_components = 0;

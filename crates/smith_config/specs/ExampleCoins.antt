@@ -14,10 +14,10 @@ changing_bytes =
     0 ∷ 1 ∷ 0 ∷ 1 ∷ 0 ∷ 35 ∷ 6 ∷
     -- the first, third, fifth, seventh and ninth of the other nine, of which the third needs vectors
     1 ∷ 0 ∷ 1 ∷ 0 ∷ 1 ∷ 0 ∷ 1 ∷ 0 ∷ 1 ∷
-    -- the first, third, fifth, seventh, ninth and eleventh kind of instructions
-    1 ∷ 0 ∷ 1 ∷ 0 ∷ 1 ∷ 0 ∷ 1 ∷ 0 ∷ 1 ∷ 0 ∷ 1 ∷ 0 ∷
+    -- numeric, vector, parametric, table, memory and aggregate instructions
+    0 ∷ 1 ∷ 0 ∷ 1 ∷ 0 ∷ 1 ∷ 0 ∷ 1 ∷ 0 ∷ 1 ∷ 0 ∷ 1 ∷
     -- rules
-    1 ∷ 0 ∷ 0 ∷ 36 ∷ 0 ∷ 1 ∷ 0 ∷ 37 ∷ 1 ∷ []
+    0 ∷ 0 ∷ 0 ∷ 36 ∷ 1 ∷ 0 ∷ 1 ∷ 37 ∷ 0 ∷ []
 
 -- the numbers that they give
 abbrev counted_config : Config
@@ -52,10 +52,9 @@ changing_config = record counted_config {
   threads_enabled = true;
   gc_enabled = true;
   memory64_enabled = true;
-  allowed_instructions = record { 0 = 1365 };
-  table_max_size_required = true;
-  allow_floats = true;
-  limit_arrays_in_const_exprs = true;
+  allowed_instructions = record { 0 = 2991 };
+  disallow_traps = true;
+  extended_const_enabled = true;
 }
 
 -- the same numbers, and each bool the other way round
@@ -65,10 +64,10 @@ turned_bytes =
     31 ∷ 1 ∷ 0 ∷ 0 ∷ 0 ∷ 0 ∷ 33 ∷ 0 ∷ 0 ∷ 0 ∷ 0 ∷ 0 ∷ 0 ∷ 0 ∷ 0 ∷ 34 ∷ 5 ∷
     1 ∷ 0 ∷ 1 ∷ 0 ∷ 0 ∷ 35 ∷ 6 ∷
     0 ∷ 1 ∷ 0 ∷ 1 ∷ 0 ∷ 1 ∷ 0 ∷ 1 ∷ 0 ∷
-    0 ∷ 1 ∷ 0 ∷ 1 ∷ 0 ∷ 1 ∷ 0 ∷ 1 ∷ 0 ∷ 1 ∷ 0 ∷ 1 ∷
-    0 ∷ 0 ∷ 0 ∷ 36 ∷ 1 ∷ 0 ∷ 1 ∷ 37 ∷ 0 ∷ []
+    1 ∷ 0 ∷ 1 ∷ 0 ∷ 1 ∷ 0 ∷ 1 ∷ 0 ∷ 1 ∷ 0 ∷ 1 ∷ 0 ∷
+    1 ∷ 0 ∷ 0 ∷ 36 ∷ 0 ∷ 1 ∷ 0 ∷ 37 ∷ 1 ∷ []
 
--- what these give: numeric, vector, parametric, table, memory and aggregate instructions
+-- what these give
 abbrev pub turned_config : Config
 turned_config = record counted_config {
   max_tables = 1;
@@ -78,7 +77,8 @@ turned_config = record counted_config {
   exceptions_enabled = true;
   tail_call_enabled = true;
   compact_imports_enabled = true;
-  allowed_instructions = record { 0 = 2991 };
-  disallow_traps = true;
-  extended_const_enabled = true;
+  allowed_instructions = record { 0 = 1365 };
+  table_max_size_required = true;
+  allow_floats = true;
+  limit_arrays_in_const_exprs = true;
 }

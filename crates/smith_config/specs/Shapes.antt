@@ -33,12 +33,12 @@ pub record Shapes : Type 0 where
   pub exports : Option Shape
   pub module_shape : Option Shape
 
--- none of them
+-- no shape
 abbrev pub no_shapes : Shapes
 no_shapes = record { available_imports = None; exports = None; module_shape = None }
 
--- those that are used: beside a module shape no other is. The definitions of modules speak of these, or of fields that a sanitised
--- configuration has alike
+-- the shapes that are used: beside a module shape no other is. The definitions of modules speak of these, or of fields that a
+-- sanitised configuration has alike
 abbrev pub in_use : Shapes → Shapes
 in_use shapes = if is_some shapes.module_shape then record no_shapes { module_shape = shapes.module_shape } else shapes
 
@@ -112,7 +112,7 @@ pub record IsNothingLeftOut (listed : List SubType) (spaces : IndexSpaces) : Typ
   pub tables : All (λ (table : TableType). table.shared ≡ false) spaces.tables
   pub globals : All (λ (global : GlobalType). global.shared ≡ false) spaces.globals
 
--- so it is of a shape's
+-- the same of the types and index spaces of a shape
 abbrev pub HasNothingLeftOut : Shape → Type 0
 HasNothingLeftOut shape = IsNothingLeftOut (shape_types shape) (shape_spaces shape)
 
@@ -133,12 +133,12 @@ abbrev pub HasNoConcrete : ValType → Type 0
 HasNoConcrete (Ref reference) = IsNotConcrete reference.heap_type
 HasNoConcrete _ = Unit {0}
 
--- such types alone, and no concrete reference to any of them
+-- plain types alone, and no concrete reference to any of them
 pub record ArePlain (listed : List SubType) (spaces : IndexSpaces) : Type 0 where
   pub types : All IsTypePlain listed
   pub values : All HasNoConcrete (values_in listed spaces)
 
--- a shape that may be handed in for exports: its types are such
+-- a shape that may be handed in for exports: its types are plain
 abbrev pub IsPlain : Shape → Type 0
 IsPlain shape = ArePlain (shape_types shape) (shape_spaces shape)
 
@@ -155,7 +155,7 @@ AreCountsFor AvailableImports features spaces = Unit {0}
 AreCountsFor Exports features spaces = AreCountsEnabled features spaces
 AreCountsFor ModuleShape features spaces = AreCountsEnabled features spaces
 
--- those of a shape do
+-- the same of the index spaces of a shape
 abbrev pub AreCountsFit : Which → Features → Shape → Type 0
 AreCountsFit which features shape = AreCountsFor which features (shape_spaces shape)
 

@@ -6,7 +6,7 @@ ghost use Rattle.smith_config.specs.Faults.{counts, minimum_of, maximum_of, IsBo
 use crate::Config;
 use smith_bytes::{ConfigFault, Count};
 
-/// Every fault, in the order in which they are looked for.
+/// Every fault, in the order in which faults are looked for.
 const FAULTS: [ConfigFault; 24] = [
     ConfigFault::MinAboveMax(Count::Types),
     ConfigFault::MinAboveMax(Count::Imports),
@@ -44,10 +44,10 @@ const MEMORY32_BYTES: u64 = 1 << 32;
 const MEMORY64_BYTES: u128 = 1 << 64;
 
 impl Config {
-    /// Looks for what is out of range or contradicts itself: first over all pairs of a minimum and
-    /// a maximum, then over the maximums, each in the order of [`Count`], then over the bytes of
-    /// memories. The pair of imports is left out where a shape fixes the imports, that of exports
-    /// where a shape fixes the exports or everything is exported.
+    /// Looks for what is out of range or contradicts itself, and gives the first fault: first over
+    /// all pairs of a minimum and a maximum, then over the maximums, each in the order of [`Count`],
+    /// then over the bytes of memories. The pair of imports is left out where a shape fixes the
+    /// imports, the pair of exports where a shape fixes the exports or everything is exported.
     pub fn check(&self) -> Result<(), ConfigFault>
         ensures passes { IsOk result ↔ Passes self.now }
         ensures fault { IfErr result (λ fault. IsFirstFault self.now fault) }
@@ -63,7 +63,7 @@ impl Config {
         Ok(())
     }
 
-    /// Whether there is no fault, without a look for the first.
+    /// Whether the configuration has no fault, without a look for the first fault.
     fn passes(&self) -> bool
         ensures { IsTrue result ↔ Passes self.now }
     {
@@ -87,7 +87,7 @@ impl Config {
             && self.is_ordered(Count::Tables)
     }
 
-    /// Whether the minimum of a count has no effect or is at most the maximum.
+    /// Whether the minimum of `count` has no effect or is at most the maximum.
     #[tactic(auto, using(crate::proofs::FaultLemmas::in_order, crate::proofs::FaultLemmas::kept_in_order))]
     fn is_ordered(&self, count: Count) -> bool
         ensures { IsTrue result ↔ IsInOrder self.now count }

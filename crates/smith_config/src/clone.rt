@@ -21,7 +21,7 @@ impl CloneIn for Shape {
 }
 
 impl Shape {
-    /// Copies into fresh memory.
+    /// Copies the shape into fresh memory of `alloc`.
     pub fn clone(&self, alloc: Global) -> Result<Self, Error>
         ensures ok { IfOk result (λ copy. copy ≡ self.now) }
         ensures memory { IfErr result (λ e. e ≡ Error.Memory) }
@@ -31,7 +31,7 @@ impl Shape {
 }
 
 impl Config {
-    /// Copies into fresh memory, of which only the shapes take some.
+    /// Copies the configuration. Only the shapes take memory of `alloc`.
     pub fn clone(&self, alloc: Global) -> Result<Self, Error>
         ensures ok { IfOk result (λ copy. copy ≡ self.now) }
         ensures memory { IfErr result (λ e. e ≡ Error.Memory) }

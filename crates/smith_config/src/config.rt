@@ -7,37 +7,37 @@ use smith_types::InstructionKinds;
 /// What may be asked of a module: how much of each kind, which proposals, and which further rules.
 ///
 /// `Config::default()` asks for a module of moderate size with the finished proposals on. A field
-/// is changed by writing it: `Config { max_types: 3, ..Config::default() }`. What contradicts
-/// itself is settled by [`Config::sanitize`], what is out of range is found by [`Config::check`];
-/// every generator call does both first.
+/// is changed by a struct update: `Config { max_types: 3, ..Config::default() }`. Fields that
+/// contradict one another are settled by [`Config::sanitize`], fields out of range are found by
+/// [`Config::check`]; every generator call does both first.
 ///
-/// Counts cover the whole index space, imported items with those that the module defines. A
-/// maximum may be at most `2^31`, and a minimum at most its maximum.
+/// Counts cover the whole index space: imported items, and items that the module defines. A
+/// maximum is at most `2^31`, and a minimum at most its maximum.
 #[derive(Debug, Drop)]
 pub struct Config {
     /// The least number of types. Default 0.
     pub min_types: usize,
 
     /// The greatest number of types. Default 100. Functions and tags need function types, so 0
-    /// leaves them out too.
+    /// leaves out functions and tags too.
     pub max_types: usize,
 
-    /// The least number of imports, compact groups counted by their items. Default 0. More than
-    /// the maximums of the kinds, or than `max_type_size`, allow is refused while drawing.
+    /// The least number of imports, compact groups counted by their items. Default 0. A number
+    /// that the maximums of the kinds, or `max_type_size`, don't allow is refused while drawing.
     pub min_imports: usize,
 
     /// The greatest number of imports, compact groups counted by their items. Default 100.
     pub max_imports: usize,
 
-    /// The least number of tags. Default 0. Needs `exceptions_enabled` and a function type without
-    /// results, else what is missing is refused while drawing.
+    /// The least number of tags. Default 0. Tags need `exceptions_enabled` and a function type
+    /// without results; too few tags are refused while drawing.
     pub min_tags: usize,
 
     /// The greatest number of tags. Default 100.
     pub max_tags: usize,
 
-    /// The least number of functions. Default 0. Needs a function type, else what is missing is
-    /// refused while drawing.
+    /// The least number of functions. Default 0. Functions need a function type; too few functions
+    /// are refused while drawing.
     pub min_funcs: usize,
 
     /// The greatest number of functions. Default 100.
@@ -55,22 +55,22 @@ pub struct Config {
     /// The greatest number of exports. Default 100. Without effect under `export_everything`.
     pub max_exports: usize,
 
-    /// The least number of element segments. Default 0. Without `bulk_memory_enabled` they need a
-    /// table.
+    /// The least number of element segments. Default 0. Without `bulk_memory_enabled` element
+    /// segments need a table.
     pub min_element_segments: usize,
 
     /// The greatest number of element segments. Default 100.
     pub max_element_segments: usize,
 
     /// The least number of items in each element segment. Default 0. A segment that lists
-    /// functions stays empty where the module has none to list.
+    /// functions stays empty where the module has no function to list.
     pub min_elements: usize,
 
     /// The greatest number of items in all element segments together. Default 100.
     pub max_elements: usize,
 
-    /// The least number of data segments. Default 0. Without `bulk_memory_enabled` they need a
-    /// memory.
+    /// The least number of data segments. Default 0. Without `bulk_memory_enabled` data segments
+    /// need a memory.
     pub min_data_segments: usize,
 
     /// The greatest number of data segments. Default 100.
@@ -79,7 +79,8 @@ pub struct Config {
     /// The least number of memories. Default 0.
     pub min_memories: u32,
 
-    /// The greatest number of memories. Default 1. Above 1 it turns the multi-memory proposal on.
+    /// The greatest number of memories. Default 1. A number above 1 turns the multi-memory proposal
+    /// on.
     pub max_memories: usize,
 
     /// The least number of tables. Default 0.
@@ -96,23 +97,25 @@ pub struct Config {
     /// default.
     pub max_memory64_bytes: u128,
 
-    /// Whether each memory states a maximum. Default false; a shared memory always states one.
+    /// Whether each memory states a maximum. Default false; a shared memory always has a
+    /// maximum.
     pub memory_max_size_required: bool,
 
     /// The greatest minimum and maximum of a table, in elements. Default 1,000,000; 32-bit tables
-    /// stay below `2^32` whatever it says.
+    /// stay below `2^32` in any case.
     pub max_table_elements: u64,
 
     /// Whether each table states a maximum. Default false.
     pub table_max_size_required: bool,
 
-    /// The greatest sum of the sizes of imports and exports. Default 1000. A function's size is 1
-    /// and its parameters and results, any other item's is 1, and each name costs 1 more. Names of
-    /// `available_imports` cost nothing, nor do the exports of `exports` and all of `module_shape`.
+    /// The greatest sum of the sizes of imports and exports. Default 1000. The size of a function
+    /// is 1 and the number of its parameters and results, the size of any other item is 1, and each
+    /// name costs 1 more. Names of `available_imports` cost nothing, nor do the exports of `exports`
+    /// and all of `module_shape`.
     pub max_type_size: u32,
 
-    /// How many instructions with operands a constant expression may nest before it takes a
-    /// shortest end. Default 50.
+    /// The greatest number of instructions with operands that a constant expression nests before it
+    /// takes a shortest end. Default 50.
     pub const_expr_fuel: u32,
 
     /// Whether the lengths of arrays in constant expressions are small numbers, paid from
@@ -122,24 +125,25 @@ pub struct Config {
     /// Whether a module may have a start function. Default true.
     pub allow_start_export: bool,
 
-    /// Whether each function, table, memory, global and tag is exported, once. Default false. It
-    /// takes the place of `min_exports` and `max_exports`.
+    /// Whether each function, table, memory, global and tag is exported, once. Default false. Where
+    /// true, `min_exports` and `max_exports` have no effect.
     pub export_everything: bool,
 
-    /// Whether f32 and f64 may occur in types and constants. Default true. A shape may bring them
+    /// Whether f32 and f64 may occur in types and constants. Default true. A shape may bring floats
     /// all the same.
     pub allow_floats: bool,
 
     /// Whether active segments stay inside their tables and memories, so that no module traps
-    /// while it is instantiated. Default false. It can force one element or page past
-    /// `max_table_elements`, `max_memory32_bytes` and `max_memory64_bytes`.
+    /// while it is instantiated. Default false. Where true, a table may have one element and a
+    /// memory one page whatever `max_table_elements`, `max_memory32_bytes` and `max_memory64_bytes`
+    /// say.
     pub disallow_traps: bool,
 
     /// Whether a body may be raw bytes of the input, which need not be valid. Default false.
     pub allow_invalid_funcs: bool,
 
     /// References as value types, tables of more than functions, element expressions, a second
-    /// table. Default true. `gc_enabled` and what builds on it need it.
+    /// table. Default true. Needed by `gc_enabled`.
     pub reference_types_enabled: bool,
 
     /// Struct and array types, recursive groups, subtypes, typed references. Default true; off
@@ -155,14 +159,14 @@ pub struct Config {
     /// Passive and declared segments, and segments that name a table. Default true.
     pub bulk_memory_enabled: bool,
 
-    /// The value type v128. Default true. `relaxed_simd_enabled` needs it.
+    /// The value type v128. Default true. Needed by `relaxed_simd_enabled`.
     pub simd_enabled: bool,
 
     /// Tags and exception references. Default true.
     pub exceptions_enabled: bool,
 
-    /// Shared memories. Default true. `shared_everything_threads_enabled` and
-    /// `acquire_release_atomics_enabled` need it.
+    /// Shared memories. Default true. Needed by `shared_everything_threads_enabled` and
+    /// `acquire_release_atomics_enabled`.
     pub threads_enabled: bool,
 
     /// Shared types, tables, globals and functions. Default false; off without `gc_enabled` or
@@ -210,8 +214,8 @@ pub struct Config {
     /// hold no drawn instruction.
     pub allowed_instructions: InstructionKinds,
 
-    /// How often the offset of a memory access lies inside the memory. Kept without effect: bodies
-    /// hold no drawn instruction.
+    /// The weights by which the offset of a memory access lies inside the memory. Kept without
+    /// effect: bodies hold no drawn instruction.
     pub memory_offset_choices: MemoryOffsetChoices,
 
     /// The greatest number of instructions in a body. Default 100. Kept without effect: bodies
@@ -222,8 +226,8 @@ pub struct Config {
     /// drawn instruction.
     pub canonicalize_nans: bool,
 
-    /// Whether custom sections are made. Default false. Kept without effect: a module here has
-    /// none.
+    /// Whether custom sections are made. Default false. Kept without effect: a module here has no
+    /// custom section.
     pub generate_custom_sections: bool,
 
     /// The least length, in bytes, of an encoded whole number. Default 1. Kept without effect:
@@ -254,25 +258,26 @@ pub struct Config {
     /// components are made.
     pub max_values: usize,
 
-    /// Imports of which a module has some, in order, in place of drawn ones: those that the input
-    /// picks and that stay within the maximums and the type size. Default none. The types of the
-    /// shape come first, all of them; its definitions and exports are not used. `min_imports` is
-    /// without effect beside it, and it is set to none beside `module_shape`.
+    /// Imports of which a module has some, in order, in place of drawn imports: the module has those
+    /// that the input picks and that stay within the maximums and the type size. Default none. All
+    /// types of the shape come first; the definitions and exports of the shape are not used.
+    /// `min_imports` is without effect beside the shape. Beside `module_shape` the field is set to
+    /// none.
     pub available_imports: Option<Shape>,
 
-    /// The exports of a module, in place of drawn ones. Default none. For each an item is defined
-    /// that has the same type: for a function or a tag a type is added that takes and gives the
-    /// same. The types of the shape are final function types without a supertype. `min_exports`
-    /// and `export_everything` are without effect beside it, and so is `max_exports`, but that no
-    /// maximum is above `2^31`. It is set to none beside `module_shape`.
+    /// The exports of a module, in place of drawn exports. Default none. For each export an item is
+    /// defined that has the same type: for a function or a tag a type is added that takes and gives
+    /// the same. The types of the shape are final function types without a supertype. `min_exports`
+    /// and `export_everything` are without effect beside the shape, and so is `max_exports`, but
+    /// that no maximum is above `2^31`. Beside `module_shape` the field is set to none.
     pub exports: Option<Shape>,
 
     /// The first types of a module, and all its imports and exports, in order. Default none. Empty
     /// groups of imports are left out, and without compact imports each import stands alone. For
-    /// each export an item is defined that has the same type, for an export of an import too; what
-    /// nothing exports has no effect. The rest is drawn. The minimums of imports and exports,
-    /// `export_everything`, `available_imports` and `exports` are without effect beside it, and so
-    /// are the maximums of imports and exports, but that no maximum is above `2^31`.
+    /// each export an item is defined that has the same type, for an export of an import too; a
+    /// definition that nothing exports has no effect. The rest is drawn. The minimums of imports and
+    /// exports, `export_everything`, `available_imports` and `exports` are without effect beside the
+    /// shape, and so are the maximums of imports and exports, but that no maximum is above `2^31`.
     pub module_shape: Option<Shape>,
 }
 

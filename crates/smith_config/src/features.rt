@@ -6,7 +6,7 @@ use crate::Config;
 use smith_types::WasmFeatures;
 
 impl Config {
-    /// The features that a module drawn for this configuration may use.
+    /// The features that a module drawn for the configuration may use.
     pub fn features(&self) -> WasmFeatures
         ensures { features_in result ≡ features_of self.now }
     {

@@ -6,6 +6,7 @@ mod check;
 mod clone;
 mod config;
 mod features;
+/// Laws: functions that do nothing, whose clauses say what holds.
 pub mod laws;
 mod offset_choices;
 mod sanitize;

@@ -4,24 +4,27 @@ ghost use Rattle.smith_config.specs.OffsetChoices.{default_choices, zero_choices
 use std::str::FromStr;
 use thiserror::Error;
 
-/// How often a memory access has an offset inside the memory's minimum, between its minimum and its
-/// maximum, and past its maximum: three weights, each read against the sum of all. Default (90, 9,
-/// 1).
+/// The weights by which the offset of a memory access lies inside the minimum of the memory, between
+/// the minimum and the maximum, and past the maximum. Each weight is read against the sum of the
+/// three. Default (90, 9, 1).
 ///
-/// As text they stand in this order, with commas between them.
+/// As text the weights stand in the order of the fields, with commas between them.
 #[derive(Clone, Copy, Debug, PartialEq, Eq)]
 pub struct MemoryOffsetChoices(pub u32, pub u32, pub u32);
 
 /// Why a text is no [`MemoryOffsetChoices`].
 #[derive(Clone, Copy, Debug, PartialEq, Eq, Error)]
 pub enum OffsetChoicesFault {
+    /// The text has fewer than three parts, all of them numbers.
     #[error("need three numbers between commas")]
     NeedThree,
-    /// The part at this place, from 0, isn't a number below `2^32`.
+    /// The part at a place, counted from 0, isn't a number below `2^32`.
     #[error("part {0} isn't a number of 32 bits")]
     Number(usize),
+    /// The text has more than three parts, the first three of them numbers.
     #[error("more than three parts")]
     TooMany,
+    /// All three numbers are zero.
     #[error("one of the three must be above zero")]
     AllZero,
 }

@@ -2,8 +2,9 @@ use smith_types::{ExportKind, GlobalType, Imports, Items, MemoryType, Name, SubT
 
 /// What a module is asked to have: the types, imports, definitions and exports of a module, without bodies.
 ///
-/// Which parts of it a module has is told by the field of `Config` that holds it. What is defined
-/// here counts only by the exports that name it: a module has an item of its own for each.
+/// Which parts of a shape a module has is told by the field of `Config` that holds the shape. A
+/// definition counts only by the exports that name it: a module has an item of its own for each
+/// export.
 #[derive(Debug, Drop, PartialEq)]
 pub struct Shape {
     /// The types in their recursive groups.
@@ -20,6 +21,6 @@ pub struct Shape {
     pub memories: Items<MemoryType>,
     /// The globals that are defined.
     pub globals: Items<GlobalType>,
-    /// Names, kinds and indices of what is exported. Indices count what is imported first.
+    /// The name, kind and index of each export. Indices count imported items first.
     pub exports: Items<(Name, ExportKind, u32)>,
 }

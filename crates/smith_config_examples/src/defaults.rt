@@ -1,6 +1,6 @@
 // Every field of the configuration that is asked for where nothing else is said.
 
-ghost use Rattle.std.specs.Prelude.{◌≡◌, ◌^◌, [], ◌∷◌, true, false, replicate, All};
+ghost use Rattle.std.specs.Prelude.{◌≡◌, ◌^◌, [], ◌∷◌, true, false, None, replicate, All};
 ghost use Rattle.smith_types.specs.Instructions.{every_kind};
 ghost use Rattle.smith_config.specs.Config.{default_config};
 
@@ -15,6 +15,12 @@ fn counts()
     ensures ten { All (λ most. most ≡ 10) (
         default_config.max_components ∷ default_config.max_instances ∷ default_config.max_modules ∷ default_config.max_nesting_depth ∷ default_config.max_values ∷ []) }
     ensures aliases { default_config.max_aliases ≡ 1000 }
+{}
+
+fn shapes()
+    ensures imports { default_config.available_imports ≡ None }
+    ensures exports { default_config.exports ≡ None }
+    ensures module { default_config.module_shape ≡ None }
 {}
 
 fn sizes()

@@ -8,7 +8,7 @@ use std::collections::HashSet;
 use std::process::Abort;
 use std::test::Fail;
 
-/// Names with these among them.
+/// A set of the names `names`.
 fn names_of(alloc: Global, names: &[&str]) -> Result<HashSet<String>, Fail> {
     let mut set = HashSet::new(alloc);
     for name in names {
@@ -17,7 +17,7 @@ fn names_of(alloc: Global, names: &[&str]) -> Result<HashSet<String>, Fail> {
     Ok(set)
 }
 
-// What these bytes draw, twice.
+// The value that `input` draws, drawn twice.
 fn drawn<T: Arbitrary + PartialEq>(input: &[u8]) -> Result<T, Fail> {
     same(
         Unstructured::new(input).arbitrary(),
@@ -57,7 +57,7 @@ fn numbers_in_ranges() -> [u128; 6] {
     ]
 }
 
-// Bools that are true in one of 255 cases.
+// A bool that is true in 1 of 255 cases.
 fn seldom(input: &[u8]) -> bool {
     Unstructured::new(input).ratio(1u8, 255)
 }
@@ -72,7 +72,7 @@ fn ranges_are_big_endian(rt: HostRuntime) -> Result<(), Fail> {
     Ok(())
 }
 
-// A length, and how many bytes it leaves.
+// The length that `input` draws, and the number of bytes that are left.
 fn length_of(input: &[u8]) -> (usize, usize) {
     let mut u = Unstructured::new(input);
     let length = u.arbitrary_len();
@@ -132,7 +132,7 @@ fn choices(rt: HostRuntime) {
     }
 }
 
-// A name of a set that these bytes make new, and how many names there are then.
+// The name that `input` makes new among `taken`, and the number of names then.
 fn made_new(alloc: Global, taken: &[&str], input: &[u8]) -> Result<(String, usize), Fail> {
     let mut names = names_of(alloc, taken)?;
     let name = unique_string(alloc, 1000, &mut names, &mut Unstructured::new(input))?;
@@ -169,7 +169,7 @@ fn addresses_are_made_new(rt: HostRuntime) -> Result<(), Fail> {
     Ok(())
 }
 
-/// What the loop answers where the calls answer so in turn, and how many calls there were.
+/// The result of a loop whose calls answer `answers` in turn and true behind them, and the number of calls.
 fn loop_of(answers: &[Result<bool, Error>], bytes: &[u8]) -> (Result<(), Error>, usize) {
     let mut calls = 0;
     let result = arbitrary_loop(&mut Unstructured::new(bytes), 2, 5, |_u| {

@@ -41,7 +41,7 @@ fn sub_type(alloc: Global, number: u32) -> Result<SubType, Error> {
     })
 }
 
-// Whether the copies of these types are equal to them.
+// Whether a copy of `ty` is equal to `ty`.
 fn is_inner_copied(alloc: Global, ty: &CompositeInnerType) -> Result<bool, Error> {
     Ok(ty.clone(alloc)? == *ty)
 }

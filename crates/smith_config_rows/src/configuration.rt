@@ -144,7 +144,7 @@ fn references_off_leave_one_table(rt: HostRuntime) -> Result<(), Fail> {
     Ok(())
 }
 
-// The defaults with these bounds.
+// The defaults with other bounds of tags and types.
 fn with_bounds(min_tags: usize, max_tags: usize, max_types: usize) -> Config {
     let mut config = Config::default();
     config.min_tags = min_tags;
@@ -153,12 +153,12 @@ fn with_bounds(min_tags: usize, max_tags: usize, max_types: usize) -> Config {
     config
 }
 
-// What the check says of them.
+// What the check says of the defaults with other bounds.
 fn checked_once(min_tags: usize, max_tags: usize, max_types: usize) -> Result<(), ConfigFault> {
     told(with_bounds(min_tags, max_tags, max_types), Config::check)
 }
 
-// The same, asked twice.
+// What the check says of the defaults with other bounds, asked twice.
 fn checked(
     min_tags: usize,
     max_tags: usize,

@@ -50,7 +50,7 @@ fn add_struct(alloc: Global, shape: &mut Shape) -> Result<(), Error> {
     shape.groups.push(types)
 }
 
-// Adds what has this fault, and no other.
+// Adds to `shape` what has the fault `fault`, and no other.
 fn add_fault(alloc: Global, shape: &mut Shape, fault: ShapeFault) -> Result<(), Error> {
     let missing = ValType::Ref(RefType {
         nullable: true,
@@ -68,7 +68,7 @@ fn add_fault(alloc: Global, shape: &mut Shape, fault: ShapeFault) -> Result<(), 
     }
 }
 
-// A shape that has the fault at this place, and all that are looked for later.
+// A shape that has the fault at `place`, and all faults that are looked for later.
 fn with_faults_from(alloc: Global, place: usize) -> Result<Shape, Error> {
     let mut shape = no_shape(alloc);
     shape.globals.push(global(ValType::I32, false))?;
@@ -99,7 +99,7 @@ fn the_first_fault_is_told(rt: HostRuntime) -> Result<(), Fail> {
     Ok(())
 }
 
-// A shape that has this fault alone.
+// A shape that has the fault `fault` alone.
 fn with_fault(alloc: Global, fault: ShapeFault) -> Result<Shape, Error> {
     let mut shape = no_shape(alloc);
     shape.globals.push(global(ValType::I32, false))?;

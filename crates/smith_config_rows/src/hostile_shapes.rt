@@ -10,7 +10,7 @@ use smith_types::{
 use std::alloc::Global;
 use std::test::Fail;
 
-// How many there are of each thing.
+// The number of types, fields or exports of a case.
 const MANY: u32 = 10_000;
 
 #[test]
@@ -36,7 +36,7 @@ fn a_cycle_of_supertypes(rt: HostRuntime) -> Result<(), Fail> {
     Ok(())
 }
 
-// A constant field that refers to the type of this index.
+// A constant field that refers to the type of the index `index`.
 fn field_of(index: u32) -> FieldType {
     FieldType {
         element_type: StorageType::Val(ValType::Ref(RefType {
@@ -47,7 +47,7 @@ fn field_of(index: u32) -> FieldType {
     }
 }
 
-// A struct type of these fields.
+// A struct type of the fields `fields`.
 fn struct_of(is_final: bool, supertype: Option<u32>, fields: Items<FieldType>) -> SubType {
     SubType {
         is_final,
@@ -59,7 +59,7 @@ fn struct_of(is_final: bool, supertype: Option<u32>, fields: Items<FieldType>) -
     }
 }
 
-// A struct type of many fields that refer to it.
+// A struct type of many fields that refer to the type itself.
 fn wide_struct(alloc: Global) -> Result<SubType, Error> {
     let mut fields = Items::new(alloc);
     for _ in 0..MANY {
@@ -75,14 +75,14 @@ fn a_struct_of_many_fields(rt: HostRuntime) -> Result<(), Fail> {
     Ok(())
 }
 
-// A struct type below another, of one field.
+// A struct type below `supertype`, of a field that refers to the type `to`.
 fn referring(alloc: Global, to: u32, supertype: Option<u32>) -> Result<SubType, Error> {
     let mut fields = Items::new(alloc);
     fields.push(field_of(to))?;
     Ok(struct_of(false, supertype, fields))
 }
 
-// Struct types each of which is below the one before, and refers to the first.
+// Struct types each of which is below the type before, and refers to the first.
 fn referring_chain(alloc: Global) -> Result<Items<SubType>, Error> {
     let mut types = Items::new(alloc);
     types.push(referring(alloc, 0, None)?)?;
@@ -92,7 +92,7 @@ fn referring_chain(alloc: Global) -> Result<Items<SubType>, Error> {
     Ok(types)
 }
 
-// Below the last of them as many that refer to it, so that each is matched along the whole chain.
+// The chain, and below its last type as many types that refer to that type, so that each is matched along the whole chain.
 fn fan_below_a_chain(alloc: Global) -> Result<Items<SubType>, Error> {
     let mut types = referring_chain(alloc)?;
     for _ in 0..MANY {
@@ -131,7 +131,7 @@ fn indices_at_the_limit(rt: HostRuntime) -> Result<(), Fail> {
     Ok(())
 }
 
-// Adds many exports of the first global, each with a name of its own but the last, which has this one.
+// Adds many exports of the first global to `shape`, each with a name of its own but the last, which has the name `last`.
 fn export_many(alloc: Global, shape: &mut Shape, last: &str) -> Result<(), Error> {
     for index in 1..MANY {
         let name = Name::from_string(format!(in alloc; "{index}")?);

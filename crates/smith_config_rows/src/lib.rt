@@ -9,13 +9,17 @@ mod clones;
 mod configuration;
 #[cfg(test)]
 mod first_faults;
+/// Comparisons with function types.
 pub mod function_types;
 #[cfg(test)]
 mod hostile_shapes;
 #[cfg(test)]
 mod kinds;
+/// Shapes that worked cases share.
 pub mod made_shapes;
+/// Types that worked cases share.
 pub mod made_types;
+/// Runs that are made twice and compared.
 pub mod repeated;
 #[cfg(test)]
 mod shape_parts;

@@ -40,7 +40,7 @@ pub const EXTERNAL_TABLE: TableType = TableType {
     shared: false,
 };
 
-/// A global of a type that is not set and not shared.
+/// A global of the value type `val_type` that is not mutable and not shared.
 pub fn constant(val_type: ValType) -> GlobalType {
     GlobalType {
         val_type,
@@ -49,21 +49,21 @@ pub fn constant(val_type: ValType) -> GlobalType {
     }
 }
 
-/// A number of 32 bits that is not set and not shared.
+/// A global of a number of 32 bits that is not mutable and not shared.
 pub const NUMBER: GlobalType = GlobalType {
     val_type: ValType::I32,
     mutable: false,
     shared: false,
 };
 
-/// A number of 64 bits that is not set and not shared.
+/// A global of a number of 64 bits that is not mutable and not shared.
 pub const WIDE_NUMBER: GlobalType = GlobalType {
     val_type: ValType::I64,
     mutable: false,
     shared: false,
 };
 
-/// A shape of nothing.
+/// Makes a shape of nothing.
 pub fn no_shape(alloc: Global) -> Shape {
     Shape {
         groups: Items::new(alloc),
@@ -77,14 +77,14 @@ pub fn no_shape(alloc: Global) -> Shape {
     }
 }
 
-/// Adds a type in a group of its own.
+/// Adds the type `ty` to `shape`, in a group of its own.
 pub fn add_type(alloc: Global, shape: &mut Shape, ty: SubType) -> Result<(), Error> {
     let mut group = Items::new(alloc);
     group.push(ty)?;
     shape.groups.push(group)
 }
 
-/// Adds an import by itself.
+/// Adds an import of the type `entity_type` to `shape`, by itself.
 pub fn add_import(
     alloc: Global,
     shape: &mut Shape,
@@ -99,7 +99,7 @@ pub fn add_import(
     }))
 }
 
-/// Adds an export.
+/// Adds an export of the name `name` to `shape`: the entity of the index `index` in the space of the kind `kind`.
 pub fn add_export(
     alloc: Global,
     shape: &mut Shape,
@@ -112,7 +112,7 @@ pub fn add_export(
         .push((Name::from_text(alloc, name)?, kind, index))
 }
 
-/// A group of memories as imports of different types, each of one page.
+/// Makes a compact group of imports from `module` by the names `texts`, each a memory of one page with a type of its own.
 pub fn items_of(alloc: Global, module: &str, texts: &[&str]) -> Result<Imports, Error> {
     let mut items = Items::new(alloc);
     for text in texts {
@@ -127,7 +127,7 @@ pub fn items_of(alloc: Global, module: &str, texts: &[&str]) -> Result<Imports, 
     })
 }
 
-/// A group of imports of one type.
+/// Makes a compact group of imports from `module` by the names `texts`, which share the type `entity_type`.
 pub fn names_of(
     alloc: Global,
     module: &str,
@@ -154,7 +154,7 @@ fn add_groups(alloc: Global, imports: &mut Items<Imports>) -> Result<(), Error> 
     imports.push(names_of(alloc, "env", memory, &[])?)
 }
 
-/// Three memories to import, one and two in a group, with empty groups between them.
+/// Makes a shape of three memories to import, one and two in a group, with empty groups between them.
 pub fn three_memories(alloc: Global) -> Result<Shape, Error> {
     let mut shape = no_shape(alloc);
     add_groups(alloc, &mut shape.imports)?;
@@ -187,7 +187,7 @@ fn export_each(alloc: Global, shape: &mut Shape) -> Result<(), Error> {
     add_export(alloc, shape, "quux", ExportKind::Tag, 0)
 }
 
-/// An export of each kind: a function from i32 to i64, a constant f32, a memory, a table, and a tag of an f32.
+/// Makes a shape of an export of each kind: a function from i32 to i64, a constant f32, a memory, a table, and a tag of an f32.
 pub fn one_of_each(alloc: Global) -> Result<Shape, Error> {
     let mut shape = no_shape(alloc);
     add_types(alloc, &mut shape)?;
@@ -196,7 +196,7 @@ pub fn one_of_each(alloc: Global) -> Result<Shape, Error> {
     Ok(shape)
 }
 
-/// A function that takes an i32, and a memory, to import.
+/// Makes a shape of a function that takes an i32, and of a memory, to import.
 pub fn ping_and_memory(alloc: Global) -> Result<Shape, Error> {
     let mut shape = no_shape(alloc);
     let ping = function(alloc, true, &[ValType::I32], &[])?;

@@ -4,7 +4,7 @@ use smith_types::{
 };
 use std::alloc::Global;
 
-/// A struct type without fields.
+/// Makes a struct type without fields, below the type `supertype` where that is given.
 pub fn empty_struct(alloc: Global, is_final: bool, supertype: Option<u32>) -> SubType {
     SubType {
         is_final,
@@ -18,7 +18,7 @@ pub fn empty_struct(alloc: Global, is_final: bool, supertype: Option<u32>) -> Su
     }
 }
 
-/// A function type that takes and gives these.
+/// Makes a function type that takes `params` and gives `results`.
 pub fn function(
     alloc: Global,
     is_final: bool,
@@ -45,7 +45,7 @@ fn add(types: &mut TypeSpace, added: SubType) -> Result<(), Error> {
     Ok(())
 }
 
-/// A struct type, and one below it.
+/// Makes a space of a struct type, and of a struct type below.
 pub fn two_structs(alloc: Global) -> Result<TypeSpace, Error> {
     let mut types = TypeSpace::new(alloc);
     add(&mut types, empty_struct(alloc, false, None))?;

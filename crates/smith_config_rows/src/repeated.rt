@@ -2,7 +2,7 @@ ghost use Rattle.std.specs.Fn.{FnOnceTakesAt};
 
 use std::test::Fail;
 
-/// What two runs give, which has to be the same.
+/// Gives `first`, the result of a run, where `second`, the result of another run, is equal. Fails else.
 pub fn same<T: PartialEq + Drop>(first: T, second: T) -> Result<T, Fail> {
     if first == second {
         Ok(first)
@@ -11,7 +11,9 @@ pub fn same<T: PartialEq + Drop>(first: T, second: T) -> Result<T, Fail> {
     }
 }
 
-/// What is told of a value, which is let go. A caller that holds a module or a configuration itself is dear to prove.
+/// Gives what `tell` tells of `made`, and drops `made`. `tell` may be called with `made`.
+///
+/// A caller that holds a module or a configuration itself is dear to prove.
 pub fn told<M: Drop, T, F: FnOnce(&M) -> T>(made: M, tell: F) -> T
     requires { FnOnceTakesAt F.FnOnce tell made }
 {

@@ -7,21 +7,21 @@ use smith_types::{Items, SubType};
 use std::alloc::Global;
 use std::test::Fail;
 
-/// A shape of one group of types.
+/// Makes a shape of the types `types`, in one group.
 pub(crate) fn of_types(alloc: Global, types: Items<SubType>) -> Result<Shape, Error> {
     let mut shape = no_shape(alloc);
     shape.groups.push(types)?;
     Ok(shape)
 }
 
-/// A shape of one type.
+/// Makes a shape of the type `ty` alone.
 pub(crate) fn of_type(alloc: Global, ty: SubType) -> Result<Shape, Error> {
     let mut types = Items::new(alloc);
     types.push(ty)?;
     of_types(alloc, types)
 }
 
-/// Struct types, `count` of them, each below the type before.
+/// Makes `count` struct types, each below the type before.
 pub(crate) fn chain(alloc: Global, count: u32) -> Result<Items<SubType>, Error> {
     let mut types = Items::new(alloc);
     for index in 0..count {
@@ -39,7 +39,7 @@ pub(crate) enum Rules {
     WithShared,
     WithDescriptors,
     WithoutExceptions,
-    /// At most this number of memories.
+    /// At most a number of memories.
     Memories(usize),
     /// Three memories at most, and no compact groups of imports.
     WithoutCompactImports,
@@ -103,7 +103,7 @@ fn fault_by(
     )
 }
 
-/// The fault of a shape in a use, if it has one, looked for twice.
+/// Looks twice for the fault of `shape` in the use `which`.
 pub(crate) fn fault(
     alloc: Global,
     which: Which,
@@ -113,7 +113,7 @@ pub(crate) fn fault(
     told(shape, |shape| fault_by(alloc, which, rules, shape))
 }
 
-/// The fault of a module shape under the defaults, if it has one.
+/// Looks twice for the fault of `shape` as a module shape under the defaults.
 pub(crate) fn module_fault(alloc: Global, shape: Shape) -> Result<Option<ShapeFault>, Fail> {
     fault(alloc, Which::ModuleShape, Rules::Defaults, shape)
 }

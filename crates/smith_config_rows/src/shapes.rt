@@ -85,7 +85,7 @@ fn a_reference_to_no_type(rt: HostRuntime) -> Result<(), Fail> {
     Ok(())
 }
 
-// A shape of one function of a type of this index, without types.
+// A shape of a function of the type of the index `index`, without types.
 fn of_function(alloc: Global, index: u32) -> Result<Shape, Error> {
     let mut shape = no_shape(alloc);
     shape.funcs.push(index)?;
@@ -206,7 +206,7 @@ fn vectors_need_a_feature(rt: HostRuntime) -> Result<(), Fail> {
     Ok(())
 }
 
-// A global that is exported twice by one name.
+// A global that is exported twice by the same name.
 fn of_two_exports(alloc: Global) -> Result<Shape, Error> {
     let mut shape = of_global(alloc, constant(ValType::I32))?;
     add_export(alloc, &mut shape, "a", ExportKind::Global, 0)?;

@@ -176,6 +176,17 @@ fn a_function_type_is_cloned(rt: HostRuntime) -> Result<(), Fail> {
 }
 
 #[test]
+fn what_a_function_takes_is_cloned(rt: HostRuntime) -> Result<(), Fail> {
+    let alloc = rt.alloc();
+    let function = FuncType {
+        params: Items::from_slice(alloc, &[ValType::I32])?,
+        results: Items::from_slice(alloc, &[ValType::I64])?,
+    };
+    assert!(rt; function.clone(alloc)? == function);
+    Ok(())
+}
+
+#[test]
 fn a_function_counts_what_it_takes_and_gives(rt: HostRuntime) -> Result<(), Fail> {
     let mut space = TypeSpace::new(rt.alloc());
     let ty = function(rt.alloc())?;

@@ -6,7 +6,7 @@ use smith_types::EntityType;
 use std::alloc::Global;
 use std::test::Fail;
 
-// Groups of memories, and one of no function, whose type is not there.
+// Groups of memories, and an empty group of functions, whose type is not there.
 fn of_groups(alloc: Global) -> Result<Shape, Error> {
     let mut shape = three_memories(alloc)?;
     let nothing = names_of(alloc, "env", EntityType::Func(9), &[])?;

@@ -12,7 +12,7 @@ use Rattle.smith_contents.specs.Exporting.{Export, is_exported, HasNames, item_s
 use Rattle.smith_contents.specs.Exported.{IsCandidate, AreExported}
 use Rattle.smith_contents.proofs.ExportsFitLemmas.{none_fit, fit_push}
 
--- so many exports are drawn, and what is drawn from here on completes the whole
+-- `count` exports are drawn, and what is drawn from here on completes the whole
 pub record IsExporting {S : Type 0} (config : Config) (types : List SubType) (spaces : IndexSpaces) (imports count : ℕ) (exports : List Export) (size : ℕ) (names : HashSet (String Global) S) (start bytes : List ℕ) : Type 0 where
   pub count_is : length exports ≡ count
   pub kept : AreExported config types spaces imports exports size

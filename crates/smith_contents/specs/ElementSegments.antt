@@ -128,7 +128,7 @@ unfoldable pub item_type_at : Config → List SubType → KindChoice → List �
 item_type_at config types (choice.Active index table) bytes = matching_ref_type_at config types table.element_type bytes
 item_type_at config types _ bytes = ref_type_at config types false (length types) bytes
 
--- the most items of a segment, behind as many in all segments before it
+-- the most items of a segment, behind `total` items in all segments before
 abbrev pub most_items : Config → Option ℕ → ℕ → ℕ
 most_items config hint total = min (unwrap_or hint config.max_elements) (config.max_elements - total)
 
@@ -147,7 +147,7 @@ are_functions_at config ty bytes =
     else if is_funcref ty then bool_at bytes
     else (false, bytes)
 
--- items of these functions, at most that many
+-- at most `most` items among these functions
 unfoldable pub chosen_functions_at : Config → List ℕ → ℕ → List ℕ → List ℕ × List ℕ
 chosen_functions_at config funcs most bytes = grow_at (λ _. chosen_at 0 funcs) config.min_elements most [] bytes
 
@@ -163,16 +163,16 @@ functions_at config context most bytes =
 unfoldable pub expression_item_at : Config → Context → RefType → List ℕ → List ConstInstr × List ℕ
 expression_item_at config context ty bytes = unwrap_or (const_expr_at config context (Ref ty) bytes) ([], bytes)
 
--- items as expressions, at most that many
+-- at most `most` items as expressions
 unfoldable pub drawn_expressions_at : Config → Context → RefType → ℕ → List ℕ → List (List ConstInstr) × List ℕ
 drawn_expressions_at config context ty most bytes = grow_at (λ _. expression_item_at config context ty) config.min_elements most [] bytes
 
--- the same where as many may be as are asked for
+-- the same, refused where `most` items are fewer than are asked for
 unfoldable pub expressions_at : Config → Context → RefType → ℕ → List ℕ → Result (List (List ConstInstr) × List ℕ) Why
 expressions_at config context ty most bytes =
     if nat_lt most config.min_elements then Err (Unmet counts.Elements) else Ok (drawn_expressions_at config context ty most bytes)
 
--- the items of a segment of a type, at most that many
+-- at most `most` items of a segment of a type
 unfoldable pub items_at : Config → Context → RefType → ℕ → List ℕ → Result (Elements × List ℕ) Why
 items_at config context ty most bytes =
     let listed = are_functions_at config ty bytes in
@@ -187,7 +187,7 @@ items_at config context ty most bytes =
 abbrev pub items_in : List ElementSegment → ℕ
 items_in segments = sum_by (λ (segment : ElementSegment). item_count segment.items) segments
 
--- a segment of one of these kinds, behind as many items in all segments before it
+-- a segment of one of these kinds, behind `total` items in all segments before
 unfoldable pub element_segment_at : Config → Context → List KindChoice → ℕ → List ℕ → Result (ElementSegment × List ℕ) Why
 element_segment_at config context kinds total bytes = do
   let chosen = chosen_at choice.Passive kinds bytes
@@ -196,7 +196,7 @@ element_segment_at config context kinds total bytes = do
   items ← items_at config context ty.0 (most_items config kind.0.1 total) ty.1
   Ok (record { kind = kind.0.0; ty = ty.0; items = items.0 }, items.1)
 
--- segments of these kinds, at most that many behind those that are made
+-- at most `most` segments of these kinds behind those that are made
 unfoldable pub element_segments_at : Config → Context → List KindChoice → ℕ → List ElementSegment → List ℕ → Result (List ElementSegment × List ℕ) Why
 element_segments_at config context kinds zero made bytes = Ok (made, bytes)
 element_segments_at config context kinds (suc most) made bytes =

@@ -35,7 +35,7 @@ pub record MayExport (types : List SubType) (spaces : IndexSpaces) : Type 0 wher
   pub funcs : All (IsFuncValid types) spaces.funcs
   pub few : IsIndexed spaces
 
--- the size of a function, and one more, is at most that much
+-- the size of a function, and one more, is at most `most`
 abbrev pub IsFuncWithin : List SubType → ℕ → ℕ → Type 0
 IsFuncWithin types most func = size_in types (entity.Func func) + 1 ≤ most
 
@@ -60,7 +60,7 @@ pub record MayExportFreely (config : Config) (types : List SubType) (spaces : In
 abbrev pub IsStanding : IndexSpaces → ExportKind → ℕ → Type 0
 IsStanding spaces of_kind index = (ty : EntityType) × IsEntityAt spaces of_kind index ty
 
--- an item that may be exported where that much of the type size is left: it stands, and its size and one more is below that
+-- an item that may be exported where `left` of the type size is left: it stands, and its size and one more is below `left`
 pub record IsCandidate (types : List SubType) (spaces : IndexSpaces) (left : ℕ) (of_kind : ExportKind) (index : ℕ) : Type 0 where
   pub stands : IsStanding spaces of_kind index
   pub fits : item_size types spaces of_kind index + 1 < left

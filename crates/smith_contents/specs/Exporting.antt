@@ -92,7 +92,7 @@ item_size types spaces _ index = 1
 abbrev pub exported_size : List SubType → IndexSpaces → List Export → ℕ
 exported_size types spaces exports = sum_by (λ (one : Export). item_size types spaces one.1 one.2 + 1) exports
 
--- at most that many exports more, behind others, beside what the imports add to the type size: without asking while there are
+-- at most `most` exports more, behind others, beside what the imports add to the type size: without asking while there are
 -- too few, and while there is a candidate
 unfoldable pub exports_from : Config → List SubType → IndexSpaces → ℕ → ℕ → List Export → List ℕ → List Export × List ℕ
 exports_from config types spaces imports zero exports bytes = (exports, bytes)

@@ -16,7 +16,7 @@ use smith_types::{ExportKind, IndexSpaces, Items, TypeSpace};
 use std::alloc::Global;
 use std::collections::HashSet;
 
-/// How many functions, tables, memories, globals and tags there are together.
+/// Counts the functions, tables, memories, globals and tags of `spaces` together.
 fn count_items(spaces: &IndexSpaces) -> usize
     requires { IsIndexed (spaces_in spaces.now) }
     ensures { result ≡ length (every_item (spaces_in spaces.now)) }
@@ -28,7 +28,7 @@ fn count_items(spaces: &IndexSpaces) -> usize
         + spaces.tags.len()
 }
 
-/// The item at `place` among all: functions come first, then tables, memories, globals and tags, each by index.
+/// Finds the item at `place` among all of `spaces`: functions come first, then tables, memories, globals and tags, each by index.
 fn item_at(spaces: &IndexSpaces, place: usize) -> (ExportKind, u32)
     requires few { IsIndexed (spaces_in spaces.now) }
     requires within { place < length (every_item (spaces_in spaces.now)) }
@@ -53,7 +53,7 @@ fn item_at(spaces: &IndexSpaces, place: usize) -> (ExportKind, u32)
     (ExportKind::Tag, (place - tags) as u32)
 }
 
-/// Draws an export of each item, in order, unless they are too large together.
+/// Draws an export of each item of `spaces`, in order, unless the exports are too large together.
 #[tactic(auto, unfolding(crate::specs::AllExports::everything_at))]
 fn push_exports(
     alloc: Global,
@@ -88,7 +88,7 @@ fn push_exports(
     Ok(Exports { exports, type_size })
 }
 
-/// An export of every item in `spaces`, where the imports add `imports_size` to the type size.
+/// Draws an export of every item of `spaces`. The imports add `imports_size` to the type size.
 pub(crate) fn export_everything(
     alloc: Global,
     config: &Config,

@@ -14,7 +14,7 @@ use smith_draw::{Entities, Spaces, arbitrary_locals};
 use smith_types::{Code, Instructions, Items, TypeSpace};
 use std::alloc::Global;
 
-/// Draws a length and takes as many bytes.
+/// Draws a length, and takes that number of bytes.
 #[tactic(auto, unfolding(crate::specs::DrawnBodies::raw_bytes_at))]
 fn raw_bytes(alloc: Global, u: &mut Unstructured<'_>) -> Result<Instructions, Error>
     ensures { Draws (raw_bytes_at u.old) result u.old u.new }
@@ -24,7 +24,7 @@ fn raw_bytes(alloc: Global, u: &mut Unstructured<'_>) -> Result<Instructions, Er
     Ok(Instructions::Arbitrary(Items::from_slice(alloc, bytes)?))
 }
 
-/// Whether a body is raw bytes.
+/// Draws whether a body is raw bytes, where `config` allows invalid bodies.
 #[tactic(auto, unfolding(crate::specs::DrawnBodies::is_raw_at))]
 fn is_raw(config: &Config, u: &mut Unstructured<'_>) -> bool
     ensures { AlwaysDraws (is_raw_at config.now u.old) result u.old u.new }
@@ -87,7 +87,9 @@ fn drawn_bodies(
     Ok(bodies)
 }
 
-/// Draws a body for each of `count` functions: its locals over `types`, and what it does.
+/// Draws the bodies of `count` functions: locals over `types`, then `unreachable`, or raw bytes where `config` allows these.
+///
+/// `config` is sanitised.
 pub fn arbitrary_bodies(
     alloc: Global,
     config: &Config,

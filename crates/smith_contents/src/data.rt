@@ -21,10 +21,10 @@ use smith_draw::{Spaces, arbitrary_offset, choose, globals_for_const_expr};
 use smith_types::{DataSegment, DataSegmentKind, Items, MemoryType, Offset, ValType};
 use std::alloc::Global;
 
-/// What segments may be copied into, and the globals that may tell where.
+/// The memories that segments may be copied into, and the globals that may tell where.
 #[derive(Drop)]
 pub(crate) struct Targets {
-    /// The memories that count, each with its index.
+    /// The memories, each with its index.
     memories: Items<(u32, MemoryType)>,
     /// The globals that may tell an offset into a memory of 32 bits.
     globals32: Items<u32>,
@@ -46,7 +46,7 @@ fn byte_list(alloc: Global, u: &mut Unstructured<'_>) -> Result<Items<u8>, Error
     Ok(bytes)
 }
 
-/// Whether a memory counts as one that segments are copied into.
+/// Draws whether segments may be copied into `memory`: always where its minimum is above 0, else in one of eleven cases.
 #[tactic(auto, unfolding(crate::specs::DataSegments::counts_at))]
 fn counts(memory: MemoryType, u: &mut Unstructured<'_>) -> bool
     ensures { AlwaysDraws (counts_at memory u.old) result u.old u.new }
@@ -57,7 +57,7 @@ fn counts(memory: MemoryType, u: &mut Unstructured<'_>) -> bool
     u.int_in_range(0u32..=10) == 0
 }
 
-/// The memories that count, each with its index.
+/// Lists those of `memories` that segments may be copied into, each with its index.
 fn counting(
     alloc: Global,
     memories: &[MemoryType],
@@ -78,7 +78,7 @@ fn counting(
     Ok(counting)
 }
 
-/// Lists the globals that may tell an offset of this width.
+/// Lists the globals that may tell an offset: of 64 bits where `wide` is set, else of 32 bits.
 fn offset_globals(
     alloc: Global,
     config: &Config,
@@ -136,7 +136,7 @@ fn address(no_traps: bool, memory: MemoryType, size: usize, u: &mut Unstructured
     arbitrary_offset(inside, most, size, u)
 }
 
-/// The first `most` bytes.
+/// Cuts `init` to its first `most` bytes.
 fn cut(init: Items<u8>, most: u128) -> Items<u8>
     ensures { result ≡ take most init }
 {
@@ -190,7 +190,7 @@ fn placed(
     (Offset::Global(globals[place - 1]), init)
 }
 
-/// The globals that may tell an offset of this width.
+/// The globals of `targets` that may tell an offset: of 64 bits where `wide` is set, else of 32 bits.
 fn globals_for<'a>(targets: &'a Targets, wide: bool) -> &'a [u32]
     ensures { result.now ≡ globals_for targets.now wide }
 {
@@ -200,7 +200,7 @@ fn globals_for<'a>(targets: &'a Targets, wide: bool) -> &'a [u32]
     targets.globals32.as_slice()
 }
 
-/// Copies `init` into one of the memories that count.
+/// Draws a segment that copies `init` into one of the memories of `targets`.
 #[tactic(auto, unfolding(crate::specs::DataSegments::active_at))]
 fn active(
     config: &Config,
@@ -225,7 +225,7 @@ fn active(
     }
 }
 
-/// Whether a segment is passive.
+/// Draws whether a segment is passive, which needs bulk memory.
 #[tactic(auto, unfolding(crate::specs::DataSegments::passive_at))]
 fn passive(config: &Config, targets: &Targets, u: &mut Unstructured<'_>) -> bool
     ensures draws { AlwaysDraws (passive_at config.now targets.now u.old) result u.old u.new }
@@ -314,12 +314,16 @@ fn drawn_data(
     segments(alloc, config, &targets, u)
 }
 
-/// Draws the data segments: as many as are asked for, and no more than may be. They are copied into the memories of `spaces`, of
-/// which there are fewer than 2^32, from constant offsets on or from where its visible globals say.
+/// Draws the data segments: at least `min_data_segments` and at most `max_data_segments` of `config`. Active segments are copied
+/// into memories of `spaces`, at constant offsets or at the values of globals. The standard's section Validation, Data Segments.
+///
+/// `config` passes its check. The types of `spaces` are valid, and its functions, globals and memories are valid over them, each
+/// fewer than 2^32, with imported globals among its globals.
 ///
 /// # Errors
 ///
-/// `Unmet(DataSegments)` where some are asked for, there is no bulk memory, and no memory counts.
+/// `Unmet(DataSegments)` where `config` asks for segments without bulk memory, and no memory may be copied into. A memory without
+/// pages may be copied into only where the bytes say so.
 pub fn arbitrary_data(
     alloc: Global,
     config: &Config,

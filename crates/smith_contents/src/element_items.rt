@@ -74,7 +74,7 @@ pub(crate) fn item_type(
     drawn_item_type(alloc, config, spaces, choice, u)
 }
 
-/// Whether the type of this index is not shared.
+/// Whether the type at `index` is not shared.
 fn is_unshared_type(types: &[SubType], index: u32) -> bool
     ensures { result ≡ is_unshared_type types.now index }
 {
@@ -99,7 +99,7 @@ fn unshared_funcs(alloc: Global, types: &[SubType], funcs: &[u32]) -> Result<Ite
     Ok(indices)
 }
 
-/// Whether items of the type `ty` are listed as functions.
+/// Draws whether items of the type `ty` are listed as functions.
 #[tactic(auto, unfolding(crate::specs::ElementSegments::are_functions_at))]
 fn are_functions(config: &Config, ty: RefType, u: &mut Unstructured<'_>) -> bool
     ensures draws { AlwaysDraws (are_functions_at config.now ty u.old) result u.old u.new }
@@ -114,7 +114,7 @@ fn are_functions(config: &Config, ty: RefType, u: &mut Unstructured<'_>) -> bool
     false
 }
 
-/// Tells that a segment may have as many items as are asked for.
+/// Refuses where `most` items are fewer than `config` asks for in a segment.
 fn ask_enough(config: &Config, most: usize) -> Result<(), Error>
     ensures enough { OnOk result (config.now.min_elements ≤ most) }
     ensures unmet { IfErr result (λ e. (e ≡ Error.IncorrectFormat (Why.Unmet Count.Elements)) × (most < config.now.min_elements)) }
@@ -125,7 +125,7 @@ fn ask_enough(config: &Config, most: usize) -> Result<(), Error>
     Ok(())
 }
 
-/// Chooses items among the functions of `funcs`.
+/// Chooses at most `most` items among the functions of `funcs`.
 #[tactic(auto, unfolding(crate::specs::ElementSegments::chosen_functions_at))]
 fn chosen_functions(
     alloc: Global,
@@ -169,7 +169,7 @@ fn drawn_functions(
     chosen_functions(alloc, config, funcs.as_slice(), most, u)
 }
 
-/// Draws items that are functions, at most `most`.
+/// Draws at most `most` items that are functions.
 fn functions(
     alloc: Global,
     config: &Config,
@@ -187,7 +187,7 @@ fn functions(
     drawn_functions(alloc, config, spaces, most, u)
 }
 
-/// Draws an item as an expression.
+/// Draws an item of the type `ty` as an expression.
 #[tactic(auto, unfolding(crate::specs::ElementSegments::expression_item_at))]
 fn expression_item(
     alloc: Global,
@@ -255,7 +255,7 @@ fn expressions(
     drawn_expressions(alloc, config, spaces, ty, most, u)
 }
 
-/// Draws the items of a segment of the type `ty`, at most `most`.
+/// Draws at most `most` items of a segment of the type `ty`.
 #[tactic(auto, unfolding(crate::specs::ElementSegments::items_at))]
 pub(crate) fn items(
     alloc: Global,

@@ -12,13 +12,15 @@ use std::alloc::Global;
 /// A kind of element segment that may be chosen.
 #[derive(Clone, Copy)]
 pub(crate) enum KindChoice {
+    /// Kept for instructions that name the segment.
     Passive,
+    /// Kept to declare the functions that the segment names.
     Declared,
-    /// Copied into the table, which a segment names by its index, if at all.
+    /// Copied into a table of this type, which the segment names by its index, or doesn't name where the table is the first.
     Active(Option<u32>, TableType),
 }
 
-/// Whether a heap type is that of any functions that are not shared.
+/// Whether `heap_type` is that of any functions that are not shared.
 fn is_plain_func(heap_type: HeapType) -> bool
     ensures { result ≡ is_plain_func heap_type }
 {
@@ -31,14 +33,14 @@ fn is_plain_func(heap_type: HeapType) -> bool
     }
 }
 
-/// Whether references may be null and are to functions that are not shared.
+/// Whether `reference` may be null and is to functions that are not shared.
 pub(crate) fn is_funcref(reference: RefType) -> bool
     ensures { result ≡ is_funcref reference }
 {
     reference.nullable && is_plain_func(reference.heap_type)
 }
 
-/// Whether segments may be copied into `table`.
+/// Draws whether segments may be copied into `table`: always where its minimum is above 0, else in one of eleven cases.
 #[tactic(auto, unfolding(crate::specs::ElementSegments::is_offered_at))]
 fn is_offered(table: &TableType, u: &mut Unstructured<'_>) -> bool
     ensures { AlwaysDraws (is_offered_at table.now u.old) result u.old u.new }
@@ -76,7 +78,7 @@ fn push_named(
     Ok(())
 }
 
-/// The kinds that need no table.
+/// Lists the kinds that need no table, which need bulk memory.
 fn kept_kinds(alloc: Global, config: &Config) -> Result<Items<KindChoice>, Error>
     ensures ok { IfOk result (λ kinds. kinds ≡ kept_kinds config.now) }
     ensures memory { IfErr result (λ e. e ≡ Error.Memory) }

@@ -17,7 +17,7 @@ use smith_draw::{Spaces, arbitrary_offset, choose, globals_for_const_expr};
 use smith_types::{ElementKind, Items, Offset, TableType, ValType};
 use std::alloc::Global;
 
-/// The type of the addresses of a table.
+/// The type of the addresses of a table: i64 where `wide` is set, else i32.
 fn address_type(wide: bool) -> ValType
     ensures exact { result ≡ address_type wide }
     ensures valid { (features : Features) (end : ℕ) → IsValTypeValid features end result }
@@ -62,7 +62,7 @@ fn most_offset(config: &Config, table: &TableType) -> u64
     }
 }
 
-/// A constant of the address type of `table`.
+/// Makes `offset` a constant of the address type of `table`.
 fn constant_offset(table: &TableType, offset: u64) -> Offset
     requires { offset ≤ most_elements table.now.table64 }
     ensures exact { result ≡ constant_offset table.now offset }
@@ -75,7 +75,7 @@ fn constant_offset(table: &TableType, offset: u64) -> Offset
     Offset::Const32((offset as u32).cast_signed())
 }
 
-/// How many elements are to fit between `offset` and the minimum of `table`, if that is limited.
+/// Draws how many elements are to fit between `offset` and the minimum of `table`, or no limit.
 #[tactic(auto, unfolding(crate::specs::ElementSegments::hint_at))]
 fn hint(config: &Config, table: &TableType, offset: u64, u: &mut Unstructured<'_>) -> Option<u64>
     requires { offset ≤ most_offset config.now table.now }
@@ -112,7 +112,7 @@ fn drawn_constant(
     (constant_offset(table, offset), hint)
 }
 
-/// Whether an offset is read from one of `count` globals.
+/// Draws whether an offset is read from one of `count` globals.
 #[tactic(auto, unfolding(crate::specs::ElementSegments::is_global_wanted_at))]
 fn is_global_wanted(count: usize, u: &mut Unstructured<'_>) -> bool
     ensures draws { AlwaysDraws (is_global_wanted_at count u.old) result u.old u.new }
@@ -145,7 +145,7 @@ fn table_offset(
     Ok((Offset::Global(global), None))
 }
 
-/// Draws a segment of the kind `choice`, and how many elements are to fit, if that is limited.
+/// Draws the mode of a segment of the kind `choice`, and how many elements are to fit, or no limit.
 #[tactic(auto, unfolding(crate::specs::ElementSegments::kind_at))]
 pub(crate) fn kind(
     alloc: Global,

@@ -24,7 +24,7 @@ use smith_draw::{Spaces, choose};
 use smith_types::{ElementSegment, Elements, Items};
 use std::alloc::Global;
 
-/// The most items of a segment, behind `total` in all segments before it.
+/// The greatest number of items of a segment, behind `total` items in all segments before, within `hint` if that is given.
 fn most_items(config: &Config, hint: Option<u64>, total: usize) -> usize
     requires { total ≤ config.now.max_elements }
     ensures exact { result ≡ most_items config.now hint total }
@@ -37,7 +37,7 @@ fn most_items(config: &Config, hint: Option<u64>, total: usize) -> usize
     }
 }
 
-/// Draws a segment of one of these kinds, behind `total` items in all segments before it.
+/// Draws a segment of one of `kinds`, behind `total` items in all segments before.
 #[tactic(auto, unfolding(crate::specs::ElementSegments::element_segment_at), using(crate::proofs::ElementItemLemmas::segment_refused))]
 fn segment(
     alloc: Global,
@@ -65,7 +65,7 @@ fn segment(
     Ok(ElementSegment { kind, ty, items })
 }
 
-/// How many items a segment has.
+/// Counts the items of a segment.
 fn item_count(items: &Elements) -> usize
     ensures { result ≡ item_count items.now }
 {
@@ -75,7 +75,7 @@ fn item_count(items: &Elements) -> usize
     }
 }
 
-/// Draws segments of these kinds.
+/// Draws segments of `kinds`.
 fn segments(
     alloc: Global,
     config: &Config,
@@ -105,7 +105,7 @@ fn segments(
     Ok(segments)
 }
 
-/// Refuses to give no segment where some are asked for.
+/// Gives no segment, and refuses where `config` asks for segments.
 fn none(alloc: Global, config: &Config) -> Result<Items<ElementSegment>, Error>
     ensures none { IfOk result (λ segments. (segments ≡ []) × (config.now.min_element_segments ≡ 0)) }
     ensures unmet { IfErr result (λ e. (e ≡ Error.IncorrectFormat (Why.Unmet Count.ElementSegments)) × (0 < config.now.min_element_segments)) }
@@ -137,14 +137,18 @@ fn drawn_elements(
     segments(alloc, config, spaces, kinds.as_slice(), u)
 }
 
-/// Draws the element segments beside the tables of `spaces`: as many as are asked for, and no more than may be, each with as
-/// many items as are asked for, unless it lists functions and there is none that is not shared.
+/// Draws the element segments: at least `min_element_segments` and at most `max_element_segments` of `config`, each of at least
+/// `min_elements` items, and all together of at most `max_elements`. A segment that lists functions is empty where each function
+/// of `spaces` has a shared type. The standard's section Validation, Element Segments.
+///
+/// `config` is sanitised and passes its check. The types of `spaces` are valid, and its functions, tables and globals are valid
+/// over them, each fewer than 2^32, with imported globals among its globals.
 ///
 /// # Errors
 ///
-/// `Unmet(ElementSegments)` where some are asked for, there is no bulk memory, and no table is offered; `Unmet(Elements)` where
-/// a segment may not have as many items as are asked for; `EmptyChoose` where nothing gives an item, which comes only where a field
-/// of a type, or an element of a table, is a reference that may not be null.
+/// `Unmet(ElementSegments)` where `config` asks for segments without bulk memory, and no table may be copied into;
+/// `Unmet(Elements)` where a segment may have fewer than `min_elements` items; `EmptyChoose` where nothing gives an item, which
+/// comes only where a field of a type, or an element of a table, is a reference that may not be null.
 pub fn arbitrary_elements(
     alloc: Global,
     config: &Config,

@@ -12,10 +12,10 @@ use smith_bytes::Unstructured;
 use smith_imports::{choose_enabled, count_enabled};
 use smith_types::{EntityType, ExportKind, IndexSpaces, TypeSpace};
 
-/// The size of a table, a memory or a global, and one more.
+/// The size of a table, a memory or a global, plus 1.
 const SIZE_OF_OTHER: u32 = 2;
 
-/// The size of a function of the type of this index, and one more.
+/// The size of a function of the type `func`, plus 1.
 fn func_size(types: &TypeSpace, func: u32) -> u32
     requires sized { All IsSized types.now.types }
     requires valid { IsFuncValid types.now.types func }
@@ -24,7 +24,7 @@ fn func_size(types: &TypeSpace, func: u32) -> u32
     types.size_of(&EntityType::Func(func)) + 1
 }
 
-/// Whether the size of a function of the type of this index, and one more, is below what is left.
+/// Whether the size of a function of the type `func`, plus 1, is below `left`.
 fn is_func_below(types: &TypeSpace, left: u32, func: u32) -> bool
     requires sized { All IsSized types.now.types }
     requires valid { IsFuncValid types.now.types func }
@@ -33,7 +33,7 @@ fn is_func_below(types: &TypeSpace, left: u32, func: u32) -> bool
     func_size(types, func) < left
 }
 
-/// The greatest size of a function, and one more: 0 where there is no function.
+/// The greatest size of a function of `funcs`, plus 1: 0 where there is no function.
 pub(crate) fn most_of_funcs(types: &TypeSpace, funcs: &[u32]) -> u32
     requires sized { All IsSized types.now.types }
     requires valid { All (IsFuncValid types.now.types) funcs.now }
@@ -49,7 +49,7 @@ pub(crate) fn most_of_funcs(types: &TypeSpace, funcs: &[u32]) -> u32
     most
 }
 
-/// Counts the functions whose size, and one more, is below what is left.
+/// Counts the functions of `funcs` whose size, plus 1, is below `left`.
 fn count_funcs(types: &TypeSpace, funcs: &[u32], left: u32) -> usize
     requires sized { All IsSized types.now.types }
     requires valid { All (IsFuncValid types.now.types) funcs.now }
@@ -64,7 +64,7 @@ fn count_funcs(types: &TypeSpace, funcs: &[u32], left: u32) -> usize
     count
 }
 
-/// The index of the function at a place among those whose size, and one more, is below what is left.
+/// Finds the index of the function at `place` among those of `funcs` whose size, plus 1, is below `left`.
 fn func_at(types: &TypeSpace, funcs: &[u32], left: u32, mut place: usize) -> u32
     requires sized { All IsSized types.now.types }
     requires valid { All (IsFuncValid types.now.types) funcs.now }
@@ -83,8 +83,8 @@ fn func_at(types: &TypeSpace, funcs: &[u32], left: u32, mut place: usize) -> u32
     0
 }
 
-/// Counts the functions that may be exported. Where more than `most`, the greatest size of one and one more, is left, none is looked
-/// at.
+/// Counts the functions of `funcs` that may be exported. The size of each function, plus 1, is at most `most`: where `left` is
+/// above `most`, no function is looked at.
 fn count_func_candidates(types: &TypeSpace, funcs: &[u32], most: u32, left: u32) -> usize
     requires sized { All IsSized types.now.types }
     requires valid { All (IsFuncValid types.now.types) funcs.now }
@@ -97,7 +97,7 @@ fn count_func_candidates(types: &TypeSpace, funcs: &[u32], most: u32, left: u32)
     count_funcs(types, funcs, left)
 }
 
-/// The index of the function at a place among those that may be exported.
+/// Finds the index of the function at `place` among those of `funcs` that may be exported.
 fn func_candidate_at(types: &TypeSpace, funcs: &[u32], most: u32, left: u32, place: usize) -> u32
     requires sized { All IsSized types.now.types }
     requires valid { All (IsFuncValid types.now.types) funcs.now }
@@ -112,14 +112,14 @@ fn func_candidate_at(types: &TypeSpace, funcs: &[u32], most: u32, left: u32, pla
     func_at(types, funcs, left, place)
 }
 
-/// Counts `count` tables, memories or globals where they may be exported: all of them may, or none.
+/// Counts those of `count` tables, memories or globals that may be exported: all, or none.
 fn count_others(count: usize, left: u32) -> usize
     ensures { result ≡ (if nat_lt 2 left then count else 0) }
 {
     if left > SIZE_OF_OTHER { count } else { 0 }
 }
 
-/// Counts the items of a kind that may be exported where that much of the type size is left.
+/// Counts the items of the kind `kind` that may be exported where `left` of the type size is left.
 fn count_candidates(
     types: &TypeSpace,
     spaces: &IndexSpaces,
@@ -139,7 +139,7 @@ fn count_candidates(
     }
 }
 
-/// The index of the item at a place among those of a kind that may be exported.
+/// Finds the index of the item at `place` among those of the kind `kind` that may be exported.
 fn candidate_at(
     types: &TypeSpace,
     spaces: &IndexSpaces,
@@ -158,7 +158,7 @@ fn candidate_at(
     }
 }
 
-/// Chooses an item of a kind among those that may be exported, and gives its index.
+/// Chooses an item of the kind `kind` among those that may be exported, and gives its index.
 #[tactic(auto, unfolding(smith_draw::specs::Choices::chosen_at))]
 pub(crate) fn choose_candidate(
     types: &TypeSpace,
@@ -178,7 +178,7 @@ pub(crate) fn choose_candidate(
     candidate_at(types, spaces, most, left, kind, place)
 }
 
-/// A kind, with whether an item of it may be exported.
+/// Gives `kind`, with whether an item of that kind may be exported.
 fn candidate_row(
     types: &TypeSpace,
     spaces: &IndexSpaces,
@@ -192,7 +192,7 @@ fn candidate_row(
     (kind, count_candidates(types, spaces, most, left, kind) > 0)
 }
 
-/// The kinds in order, each with whether an item of it may be exported.
+/// Lists the kinds in order, each with whether an item of that kind may be exported.
 fn candidate_rows(
     types: &TypeSpace,
     spaces: &IndexSpaces,
@@ -210,7 +210,7 @@ fn candidate_rows(
     ]
 }
 
-/// Whether there is an item that may be exported.
+/// Whether an item may be exported where `left` of the type size is left.
 pub(crate) fn has_candidates(types: &TypeSpace, spaces: &IndexSpaces, most: u32, left: u32) -> bool
     requires { MayOffer types.now.types (spaces_in spaces.now) most }
     ensures { result ≡ nat_lt 0 (length (offered_kinds types.now.types (spaces_in spaces.now) left)) }

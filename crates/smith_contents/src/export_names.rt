@@ -7,7 +7,7 @@ use smith_types::Name;
 use std::alloc::Global;
 use std::collections::HashSet;
 
-/// Draws the name of an export, which is new beside the names so far, and added to them.
+/// Draws the name of an export, which is new among `names`, and added.
 pub(crate) fn export_name(
     alloc: Global,
     names: &mut HashSet<String>,

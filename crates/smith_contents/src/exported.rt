@@ -5,7 +5,7 @@ ghost use Rattle.smith_contents.specs.Exported.{MayExport};
 
 use smith_types::{EntityType, ExportKind, IndexSpaces, Items, Name, TypeSpace};
 
-/// The exports of a module.
+/// The exports of a module, and the type size that it has with them.
 #[derive(Drop)]
 pub struct Exports {
     /// The name of each export, and the kind and the index of its item.
@@ -14,7 +14,7 @@ pub struct Exports {
     pub type_size: u32,
 }
 
-/// The size of an item: of a function that of its type.
+/// The size of the item of the kind `kind` at `index`: that of its type for a function, else 1.
 pub(crate) fn item_size(
     types: &TypeSpace,
     spaces: &IndexSpaces,

@@ -20,7 +20,7 @@ fn takes_and_gives_nothing(inner: &CompositeInnerType) -> bool
     }
 }
 
-/// Whether functions of the type of this index may start a module.
+/// Whether functions of the type at `index` may start a module.
 fn is_start_type(types: &[SubType], index: u32) -> bool
     ensures { result ≡ is_start_type types.now index }
 {
@@ -30,7 +30,7 @@ fn is_start_type(types: &[SubType], index: u32) -> bool
     }
 }
 
-/// Counts the functions that may start the module.
+/// Counts the functions of `funcs` that may start the module.
 fn count_start_funcs(types: &[SubType], funcs: &[u32]) -> usize
     ensures { result ≡ length (start_funcs types.now funcs.now) }
 {
@@ -43,7 +43,7 @@ fn count_start_funcs(types: &[SubType], funcs: &[u32]) -> usize
     count
 }
 
-/// The index of the function at a place among those that may start the module.
+/// Finds the index of the function at `place` among those of `funcs` that may start the module.
 fn start_func_at(types: &[SubType], funcs: &[u32], mut place: usize) -> u32
     requires { length funcs.now < 2 ^ 32 }
     ensures { result ≡ slice_index_or (start_funcs types.now funcs.now) place 0 }
@@ -60,7 +60,7 @@ fn start_func_at(types: &[SubType], funcs: &[u32], mut place: usize) -> u32
     0
 }
 
-/// Whether one of `count` functions starts the module.
+/// Draws whether one of `count` functions starts the module, where `config` allows a start function.
 #[tactic(auto, unfolding(crate::specs::Start::start_wanted_at))]
 fn is_start_wanted(config: &Config, count: usize, u: &mut Unstructured<'_>) -> bool
     ensures draws { AlwaysDraws (start_wanted_at config.now count u.old) result u.old u.new }
@@ -90,8 +90,10 @@ fn drawn_start(
     Some(start_func_at(types, funcs, place))
 }
 
-/// Draws which function starts the module, if one does: the index among `funcs`, imported ones too, of one that takes and gives
-/// nothing. There are fewer than 2^32 functions.
+/// Draws the index of the start function, or none: a function among `funcs` that takes and gives nothing, imported or defined.
+/// The standard's section Validation, Start Function.
+///
+/// `funcs` holds the type index of each function, over `types`. There are fewer than 2^32 functions.
 pub fn arbitrary_start(
     config: &Config,
     types: &[SubType],

@@ -28,7 +28,7 @@ use Rattle.smith_definitions.proofs.DefinedLemmas.{defined_alone}
 abbrev AreMutable : List GlobalType → Type 0
 AreMutable globals = All (λ (global : GlobalType). global.mutable ≡ true) globals
 
--- a mutable global with this number, behind so many
+-- a mutable global with this number, behind `index` globals
 abbrev numbered : ℕ → ℤ → Global
 numbered index number = (mutable_i32, (index, I32Const number ∷ []))
 

@@ -141,7 +141,7 @@ module _ (config : Config) (imported : IndexSpaces) where
   abbrev context : List SubType → IndexSpaces → ℕ → Context
   context types spaces visible = context_at config (standing_in types imported spaces) spaces.globals visible
 
-  -- the same over types and entities of which so many are imported
+  -- the same over types and entities, by how many functions and globals are imported
   abbrev around : List SubType → IndexSpaces → ℕ → ℕ → ℕ → Context
   around types spaces funcs globals visible = record {
     features = features_of config;

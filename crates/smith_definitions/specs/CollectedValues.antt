@@ -28,22 +28,22 @@ pub record Adds (Holds : ℕ → Type 0) (old new : List ℕ) : Type 0 where
 abbrev pub IsConstant : ℕ → Type 0
 IsConstant n = IsNearPower n ⊎ (IsPattern n ⊎ IsFloatEdge n)
 
--- near a limit of elements: it or one more
+-- near a limit of elements: the limit, or one more
 abbrev pub IsNearElements : ℕ → ℕ → Type 0
 IsNearElements limit n = (n ≡ limit) ⊎ (n ≡ limit + 1)
 
--- so far above or below a limit
+-- a distance above or below a limit
 abbrev pub IsBeside : ℕ → ℕ → ℕ → Type 0
 IsBeside limit distance n = (n ≡ limit + distance) ⊎ (n + distance ≡ limit)
 
 abbrev pub distances : List ℕ
 distances = 1 ∷ 2 ∷ 4 ∷ 8 ∷ 16 ∷ []
 
--- near a limit of bytes: it, or at one of these distances
+-- near a limit of bytes: the limit, or at one of these distances
 abbrev pub IsNearBytes : ℕ → ℕ → Type 0
 IsNearBytes limit n = (n ≡ limit) ⊎ Any (λ distance. IsBeside limit distance n) distances
 
--- near a limit of one of these
+-- near a limit of one of these tables or memories
 abbrev pub IsNearLimit : List TableType → List MemoryType → ℕ → Type 0
 IsNearLimit tables memories n = Any (IsNearTable n) tables ⊎ Any (IsNearMemory n) memories
 

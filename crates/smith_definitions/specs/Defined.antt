@@ -40,7 +40,7 @@ pub record AreAdded {A : Type 0} (Holds : A → Type 0) (before space : List A) 
   pub parts : space ≡ before ++ more
   pub each : All Holds more
 
--- the indices of all entities have 32 bits, with that many more
+-- the indices of all entities have 32 bits, with `more` entities more of each kind
 pub record HasRoom (spaces : IndexSpaces) (more : ℕ) : Type 0 where
   pub tags : length spaces.tags + more < 2 ^ 32
   pub funcs : length spaces.funcs + more < 2 ^ 32
@@ -95,7 +95,7 @@ pub record AreWithin (spaces : IndexSpaces) (defined : Definitions) : Type 0 whe
   pub memories : defined.num_memories ≤ length spaces.memories
   pub globals : length defined.globals ≤ length spaces.globals
 
--- items may be defined behind these, of which so much is defined already
+-- items may be defined behind these entities, of which some are defined already
 pub record MayDefine (config : Config) (space : Space) (spaces : IndexSpaces) (defined : Definitions) : Type 0 where
   pub passes : Passes config
   pub sanitized : IsSanitized config

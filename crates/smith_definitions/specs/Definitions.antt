@@ -25,9 +25,9 @@ use Rattle.smith_imports.specs.Steps.{◌>>=◌}
 use Rattle.smith_definitions.specs.declared.definitions.Definitions.{Definitions}
 use Rattle.smith_draw.specs.declared.type_use.TypeUse.TheVariants as uses
 
--- the items of a kind that are defined behind as many that stand: one is drawn after another until there are as many as are
--- asked for, then while a bool asks for one; where some stood before and some may be, that bool is drawn once more when no more
--- may be
+-- the items of a kind that are defined behind `before` that stand: one is drawn after another until there are as many as are
+-- asked for, then while a bool asks for another; where some stood before and some may be, that bool is drawn once more when
+-- no more may be
 unfoldable pub defined_at : {A : Type 0} → (List A → List ℕ → A × List ℕ) → ℕ → ℕ → ℕ → List ℕ → List A × List ℕ
 defined_at draw least most before bytes =
     let grown = grow_at draw (least - before) (most - before) [] bytes in
@@ -37,8 +37,8 @@ defined_at draw least most before bytes =
 abbrev pub behind : {A : Type 0} → List A → List A × List ℕ → List A × List ℕ
 behind before drawn = (before ++ drawn.0, drawn.1)
 
--- tags or functions behind those that stood before, each by the index of its type, which is chosen among these; where there is none to
--- choose, none is defined, and too few are refused
+-- tags or functions behind those that stood before, each by the index of its type, which is chosen among these; where there is
+-- none to choose, none is defined, and too few are refused
 unfoldable pub typed_at : Count → List ℕ → ℕ → ℕ → List ℕ → List ℕ → Result (List ℕ × List ℕ) Why
 typed_at count choices least most before bytes =
     if length choices == 0 then (if nat_lt (length before) least then Err (Unmet count) else Ok (before, bytes))
@@ -71,7 +71,7 @@ abbrev pub standing_over : List SubType → List ℕ → ℕ → List GlobalType
 standing_over types funcs imported_funcs imported_globals =
     record { types = types; funcs = funcs; imported_funcs = imported_funcs; imported_globals = imported_globals }
 
--- what stands, where so many of the functions and globals are imported
+-- what stands, by how many of the functions and globals are imported
 abbrev pub standing_among : List SubType → List ℕ → ℕ → ℕ → List GlobalType → Standing
 standing_among types funcs imported_funcs imported_globals globals = standing_over types funcs imported_funcs (take imported_globals globals)
 

@@ -36,7 +36,7 @@ use Rattle.smith_definitions.specs.RequiredExports.{several, scope_beside, with_
 use Rattle.smith_definitions.specs.ShapesKept.{Export, IsSameExport, IsSameType}
 use Rattle.smith_definitions.specs.declared.definitions.Definitions.{Definitions}
 
--- that many more entities may be defined behind what stands
+-- `more` entities may be defined behind what stands
 pub record MayDefineMore (config : Config) (space : Space) (spaces : IndexSpaces) (defined : Definitions) (more : ℕ) : Type 0 where
   pub sanitized : IsSanitized config
   pub valid : AreTypesValid (features_of config) space

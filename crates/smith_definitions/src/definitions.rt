@@ -17,23 +17,23 @@ use smith_config::Config;
 use smith_types::{ConstInstr, IndexSpaces, Items, TypeSpace};
 use std::alloc::Global;
 
-/// What is defined behind imports: how many tags, functions and memories, and the initialisers of tables and globals.
+/// The definitions of a module: the numbers of tags, functions and memories, and the initialisers of tables and globals.
 #[derive(Drop)]
 pub struct Definitions {
-    /// How many tags are defined.
+    /// The number of defined tags.
     pub num_tags: usize,
-    /// How many functions are defined.
+    /// The number of defined functions.
     pub num_funcs: usize,
-    /// The initialiser of each defined table, where it has one.
+    /// The initialiser of each defined table, or none.
     pub tables: Items<Option<Items<ConstInstr>>>,
-    /// How many memories are defined.
+    /// The number of defined memories.
     pub num_memories: usize,
     /// The index and the initialiser of each defined global.
     pub globals: Items<(u32, Items<ConstInstr>)>,
 }
 
 impl Definitions {
-    /// Nothing is defined, which takes no memory.
+    /// Begins without definitions. Takes no memory.
     pub fn none(alloc: Global) -> Self
         ensures { result ≡ nothing_defined }
     {
@@ -47,10 +47,18 @@ impl Definitions {
     }
 }
 
-/// Defines tags, functions, tables, memories and globals, in this order, behind those that stand in `spaces`: what isn't counted
-/// in `definitions` is imported.
+/// Defines tags, functions, tables, memories and globals, in this order, behind the entities of `spaces`. Of each kind there are
+/// then at least as many as the minimum of `config`, and no more than the maximum, or than stood before. An entity of `spaces`
+/// that `definitions` does not count is imported. The standard's section Validation, Modules.
 ///
-/// `config` is sanitised and passes its check, and what stands is valid over `types` and within its bounds.
+/// `config` is sanitised and passes its check. `types` are valid, at least `min_types` and fewer than 2^32. The entities of
+/// `spaces` are valid over `types`, fewer than 2^32 of each kind, and the features that their numbers need are on. `definitions`
+/// counts no more entities than stand in `spaces`.
+///
+/// # Errors
+///
+/// `Unmet(Tags)` or `Unmet(Funcs)` where no type is right for a tag or a function; `EmptyChoose` where nothing gives a value of
+/// an initialiser, which comes only where a field of a type is a reference that may not be null.
 #[tactic(auto, unfolding(crate::specs::Definitions::definitions_at))]
 pub fn define(
     alloc: Global,

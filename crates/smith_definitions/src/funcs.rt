@@ -20,7 +20,7 @@ use smith_draw::{TypeUse, list_types};
 use smith_types::{Items, TypeSpace};
 use std::alloc::Global;
 
-/// Adds functions behind those that stand.
+/// Adds functions to `funcs`, behind those that stand.
 #[tactic(auto, unfolding(crate::specs::Definitions::funcs_at))]
 fn drawn_funcs(
     alloc: Global,
@@ -46,7 +46,7 @@ fn drawn_funcs(
     )
 }
 
-/// Adds functions behind those that stand: as many as are asked for, and no more than may be.
+/// Adds functions to `funcs`, behind those that stand, until there are at least `min_funcs` and at most `max_funcs` of `config`.
 pub(crate) fn funcs(
     alloc: Global,
     config: &Config,

@@ -45,7 +45,7 @@ fn initialised_global(
     Ok((global, (index, initial)))
 }
 
-/// Pushes globals behind those that stand, and their indices and initialisers behind those that there are.
+/// Adds globals to `globals`, behind those that stand, and the index and the initialiser of each to `initials`.
 fn push_globals<'a>(
     alloc: Global,
     config: &Config,
@@ -92,8 +92,8 @@ fn push_globals<'a>(
     Ok(())
 }
 
-/// Pushes as many globals behind those that stand as are asked for, and no more than may be, and adds the index and the initialiser
-/// of each.
+/// Adds globals to `globals`, behind those that stand, until there are at least `min_globals` and at most `max_globals`. The
+/// index and the initialiser of each are added to `initials`.
 pub(crate) fn globals<'a>(
     alloc: Global,
     config: &Config,

@@ -1,4 +1,4 @@
-//! What a module is, and what is defined in it: entities, exports that a shape asks for, and interesting values.
+//! The definition of a whole module, and what is defined in it: entities, exports that a shape asks for, interesting values.
 #![tactic(auto)]
 
 mod definitions;

@@ -16,7 +16,7 @@ use smith_config::Config;
 use smith_draw::arbitrary_memtype;
 use smith_types::{Items, MemoryType};
 
-/// Adds memories behind those that stand, each drawn as a memory type.
+/// Adds memories to `memories`, behind those that stand, each drawn as a memory type.
 #[tactic(auto, unfolding(crate::specs::Definitions::memories_at))]
 fn drawn_memories(
     config: &Config,
@@ -41,7 +41,7 @@ fn drawn_memories(
     Ok(())
 }
 
-/// Adds memories behind those that stand: as many as are asked for, and no more than may be.
+/// Adds memories to `memories`, behind those that stand, until there are at least `min_memories` and at most `max_memories`.
 pub(crate) fn memories(
     config: &Config,
     memories: &mut Items<MemoryType>,

@@ -20,7 +20,7 @@ use smith_draw::{Spaces, arbitrary_const_expr, arbitrary_table_init};
 use smith_types::{EntityType, ExportKind, GlobalType, IndexSpaces, TableType, TypeSpace};
 use std::alloc::Global;
 
-/// The index of the next item of a kind.
+/// The index of the next item of the kind `kind` in `spaces`.
 pub(crate) fn next_index(spaces: &IndexSpaces, kind: ExportKind) -> usize
     ensures { result ≡ next_index (spaces_in spaces.now) kind }
 {
@@ -33,7 +33,7 @@ pub(crate) fn next_index(spaces: &IndexSpaces, kind: ExportKind) -> usize
     }
 }
 
-/// Why an entity may not stand beside others: a second memory, or a second table, without its feature.
+/// The reason why the entity `added` may not stand beside `spaces`: a second memory, or a second table, without its feature.
 fn several(config: &Config, spaces: &IndexSpaces, added: &EntityType) -> Option<Why>
     ensures { result ≡ several config.now (spaces_in spaces.now) added.now }
 {
@@ -48,7 +48,7 @@ fn several(config: &Config, spaces: &IndexSpaces, added: &EntityType) -> Option<
     }
 }
 
-/// What an initialiser may refer to beside what stands.
+/// The types, functions and globals that an initialiser may refer to.
 fn scope<'a>(types: &'a TypeSpace, spaces: &'a IndexSpaces, definitions: &Definitions) -> Spaces<'a>
     requires within { AreWithin (spaces_in spaces.now) definitions.now }
     ensures types { result.types.now ≡ types.now }
@@ -64,7 +64,7 @@ fn scope<'a>(types: &'a TypeSpace, spaces: &'a IndexSpaces, definitions: &Defini
     )
 }
 
-/// Counts a table among those that are defined: draws its initialiser, if it has one.
+/// Draws the initialiser of `table`, or none, and adds it to `definitions`.
 fn define_table(
     alloc: Global,
     config: &Config,
@@ -86,7 +86,7 @@ fn define_table(
     definitions.tables.push(initial)
 }
 
-/// Counts a global among those that are defined, behind those that stand: draws its initialiser.
+/// Draws the initialiser of `global`, which comes behind the globals that stand, and adds it to `definitions`.
 fn define_global(
     alloc: Global,
     config: &Config,
@@ -109,7 +109,7 @@ fn define_global(
     definitions.globals.push((index, initial))
 }
 
-/// Counts an entity among those that are defined, a table or a global with its initialiser.
+/// Counts the entity `added` among `definitions`, a table or a global with its initialiser.
 #[tactic(auto, unfolding(crate::specs::RequiredExports::defined_with_at))]
 fn define_initial(
     alloc: Global,
@@ -141,7 +141,7 @@ fn define_initial(
     Ok(())
 }
 
-/// Defines an entity last in its index space, unless it may not stand there.
+/// Defines the entity `added` last in its index space of `spaces`, unless it may not stand there.
 #[tactic(auto, unfolding(crate::specs::RequiredExports::entity_required_at))]
 pub(crate) fn define_entity(
     alloc: Global,

@@ -9,7 +9,7 @@ use smith_config::Shape;
 use smith_types::{CloneIn, EntityType, Items, SubType, TypeSpace};
 use std::alloc::Global;
 
-/// The type of an index among types in their groups, where it stands.
+/// Finds the type at `index` among the types of `groups`, if it stands there.
 fn type_at(groups: &[Items<SubType>], index: usize) -> Option<&SubType>
     ensures { MatchOption result (slice_get (space_of groups.now).types index ≡ None) (λ ty. slice_get (space_of groups.now).types index ≡ Some ty.now) }
 {
@@ -23,7 +23,7 @@ fn type_at(groups: &[Items<SubType>], index: usize) -> Option<&SubType>
     None
 }
 
-/// Adds the type of an index among types in their groups, in a group of its own, and gives its new index.
+/// Adds the type at `index` of `groups` to `types`, in a group of its own, and gives its new index.
 fn push_own_type(
     alloc: Global,
     groups: &[Items<SubType>],
@@ -45,7 +45,7 @@ fn push_own_type(
     Ok(own)
 }
 
-/// The entity `theirs` of a shape, of a type of its own, which is added where it is that of a function or a tag.
+/// Gives the entity `theirs` of `shape` a type of its own: the type of a function or a tag is added to `types`.
 fn of_own_type(
     alloc: Global,
     shape: &Shape,
@@ -68,8 +68,8 @@ fn of_own_type(
     }
 }
 
-/// The entity `theirs` of a shape over the types that stand: where these hold the shape's types already, itself, else one of a type
-/// of its own.
+/// Gives the entity `theirs` of `shape` over `types`: with a type of its own where `own_types` is set, else as it is, since its
+/// type stands already.
 pub(crate) fn entity_over(
     alloc: Global,
     own_types: bool,

@@ -9,7 +9,7 @@ ghost use Rattle.smith_definitions.specs.RequiredExports.{entity_of};
 use smith_config::Shape;
 use smith_types::{EntityType, ExportKind, IndexSpaces};
 
-/// The item of an index space of a shape, where imported items come before those that are defined.
+/// Finds the item at `index` of an index space, where the items `imported` come before the items `defined`.
 fn item_behind<T: Copy>(imported: &[T], defined: &[T], index: usize) -> T
     requires { index < length (imported.now ++ defined.now) }
     ensures { slice_get (imported.now ++ defined.now) index ≡ Some result }
@@ -20,7 +20,7 @@ fn item_behind<T: Copy>(imported: &[T], defined: &[T], index: usize) -> T
     defined[index - imported.len()]
 }
 
-/// The entity of a kind and an index in the index spaces of a shape, which begin with `imported`.
+/// Finds the entity of the kind `kind` at `index` in the index spaces of `shape`, which begin with `imported`.
 pub(crate) fn entity_of_shape(
     shape: &Shape,
     imported: &IndexSpaces,

@@ -29,7 +29,7 @@ use smith_config::{Config, Shape};
 use smith_types::{ExportKind, IndexSpaces, Items, Name, TypeSpace, imported_spaces_of};
 use std::alloc::Global;
 
-/// An export as the export `one` of a shape, whose index spaces begin with `imported`, of an entity that is defined for it.
+/// Makes the export `one` of `shape`, whose index spaces begin with `imported`, of an entity that is defined for the export.
 fn export(
     alloc: Global,
     config: &Config,
@@ -61,7 +61,7 @@ fn export(
     Ok((name, one.1, index))
 }
 
-/// The exports of a shape, each of an entity that is defined for it.
+/// Makes the exports of `shape`, each of an entity that is defined for the export.
 fn push_exports(
     alloc: Global,
     config: &Config,
@@ -101,15 +101,17 @@ fn push_exports(
     Ok(exports)
 }
 
-/// Makes the exports of the shape for exports, each of an entity that is defined for it, with the same type. A function or a tag
-/// has a type of its own, which is added to `types` in a group of its own.
+/// Makes the exports of the shape for exports `shape`, each of an entity of the same type that is defined for the export. A
+/// function or a tag has a type of its own, which is added to `types` in a group of its own.
 ///
-/// `shape` passes its check as exports. `config` is sanitised and passes its check, and what stands is valid and within its bounds.
+/// `shape` passes [`Shape::check`] as exports for `config`, which is sanitised. `types` and the entities of `spaces` are valid,
+/// and there is room for another of each kind for each export of `shape`: fewer than 2^32 in all. `definitions` counts no more
+/// entities than stand in `spaces`.
 ///
 /// # Errors
 ///
-/// `SeveralTables` or `SeveralMemories` where the shape brings a second one and `config` allows one; `EmptyChoose` where nothing
-/// gives a reference that may not be null.
+/// `SeveralTables` where `shape` brings a second table and reference types are off; `SeveralMemories` where `shape` brings a
+/// second memory and `config` allows at most one; `EmptyChoose` where nothing gives a reference that may not be null.
 pub fn required_exports(
     alloc: Global,
     config: &Config,
@@ -142,9 +144,10 @@ pub fn required_exports(
     push_exports(alloc, config, true, shape, types, spaces, definitions, u)
 }
 
-/// Makes the exports of the shape of a module, whose types begin `types`: each of an entity that is defined for it, with its type.
+/// Makes the exports of the module shape `shape`, each of an entity of the same type that is defined for the export.
 ///
-/// `shape` passes its check as a module shape. `config` and what stands are as [`required_exports`] asks, and so are errors.
+/// `shape` passes [`Shape::check`] as a module shape for `config`, and `types` begin with the types of `shape`. All else is as
+/// [`required_exports`] asks, and so are errors.
 pub fn exports_of_shape(
     alloc: Global,
     config: &Config,

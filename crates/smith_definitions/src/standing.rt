@@ -3,7 +3,7 @@ ghost use Rattle.std.specs.Prelude.{◌≡◌, ◌≤◌, take, length};
 use smith_draw::{Entities, Spaces};
 use smith_types::{GlobalType, TypeSpace};
 
-/// What an initialiser may refer to: types, functions, and the globals so far.
+/// The types, functions and globals that an initialiser may refer to.
 pub(crate) fn standing<'a>(
     types: &'a TypeSpace,
     funcs: &'a [u32],
@@ -31,7 +31,7 @@ pub(crate) fn standing<'a>(
     }
 }
 
-/// What the initialiser of a table may refer to: types, functions, and the imported globals, which are the first of `globals`.
+/// The types, functions and globals that the initialiser of a table may refer to: only imported globals, the first of `globals`.
 pub(crate) fn standing_imported<'a>(
     types: &'a TypeSpace,
     funcs: &'a [u32],

@@ -22,7 +22,7 @@ use smith_draw::{Spaces, arbitrary_table_init, arbitrary_table_type};
 use smith_types::{ConstInstr, Items, TableType};
 use std::alloc::Global;
 
-/// Draws a table and its initialiser, if it has one.
+/// Draws a table and its initialiser, or none.
 fn initialised_table(
     alloc: Global,
     config: &Config,
@@ -41,7 +41,7 @@ fn initialised_table(
     Ok((table, initial))
 }
 
-/// Draws tables behind those that stand, and their initialisers behind those that there are.
+/// Adds tables to `tables`, behind those that stand, and the initialiser of each, or none, to `initials`.
 fn drawn_tables(
     alloc: Global,
     config: &Config,
@@ -72,8 +72,8 @@ fn drawn_tables(
     Ok(())
 }
 
-/// Defines as many tables behind those that stand as are asked for, and no more than may be, and adds the initialiser of each, if
-/// it has one.
+/// Adds tables to `tables`, behind those that stand, until there are at least `min_tables` and at most `max_tables`. The
+/// initialiser of each, or none, is added to `initials`.
 pub(crate) fn tables(
     alloc: Global,
     config: &Config,

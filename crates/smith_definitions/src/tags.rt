@@ -17,7 +17,7 @@ use smith_draw::{TypeUse, list_types};
 use smith_types::{Items, SubType, TypeSpace};
 use std::alloc::Global;
 
-/// The indices of the types that tags may have. Without exceptions there is none, and none is looked for.
+/// Lists the indices of the types that tags may have: none, without a look at `types`, where `config` has no exceptions.
 fn tag_types(alloc: Global, config: &Config, types: &[SubType]) -> Result<Items<u32>, Error>
     requires few { length types.now < 2 ^ 32 }
     ensures exact { IfOk result (λ indices. indices ≡ tag_types config.now types.now) }
@@ -29,7 +29,7 @@ fn tag_types(alloc: Global, config: &Config, types: &[SubType]) -> Result<Items<
     Ok(Items::new(alloc))
 }
 
-/// Adds tags behind those that stand.
+/// Adds tags to `tags`, behind those that stand.
 #[tactic(auto, unfolding(crate::specs::Definitions::tags_at))]
 fn drawn_tags(
     alloc: Global,
@@ -54,7 +54,7 @@ fn drawn_tags(
     )
 }
 
-/// Adds tags behind those that stand: as many as are asked for, and no more than may be.
+/// Adds tags to `tags`, behind those that stand, until there are at least `min_tags` and at most `max_tags` of `config`.
 pub(crate) fn tags(
     alloc: Global,
     config: &Config,

@@ -7,7 +7,7 @@ use Rattle.smith_bytes.specs.Draws.{range_at}
 abbrev pub enabled : {A : Type 0} → List (A × Bool) → List A
 enabled table = map (λ row. row.0) (filter (λ row. row.1) table)
 
--- the item at a drawn place of a list, and the other one where the list is empty
+-- the item at a drawn place of a list, and `other` where the list is empty
 unfoldable pub chosen_at : {A : Type 0} → A → List A → List ℕ → A × List ℕ
 chosen_at other items bytes =
     let place = range_at 0 (length items - 1) bytes in

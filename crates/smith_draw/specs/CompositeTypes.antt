@@ -49,7 +49,7 @@ inner_of_number_at config types must_share limit _ bytes =
 abbrev pub inner_number_at : Config → List ℕ → ℕ × List ℕ
 inner_number_at config bytes = if config.gc_enabled then range_at 0 2 bytes else (1, bytes)
 
--- sharedness, then a composite type of a number, over which everything is as shared (own rule)
+-- sharedness, then a composite type of a number, in which everything must be shared where it is (own rule)
 unfoldable pub composite_type_at : Config → List SubType → ℕ → List ℕ → CompositeType × List ℕ
 composite_type_at config types limit bytes =
     let shared = sharedness_at config false bytes in

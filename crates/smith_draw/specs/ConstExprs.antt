@@ -1,4 +1,4 @@
--- Drawn constant expressions: which one the bytes give.
+-- Drawn constant expressions: which expression the bytes give.
 use Rattle.std.specs.Prelude.{ℕ, zero, suc, ◌-◌, Bool, false, not, List, [], ◌∷◌, ◌++◌, Option, Some, None, option_and_then, if◌then◌else◌}
 use Rattle.std.specs.Option.{option_map}
 use Rattle.std.specs.Int.{cast_signed, w32}
@@ -35,7 +35,7 @@ behind instruction s = record s { made = s.made ++ instruction ∷ [] }
 abbrev pub length_at : State → State
 length_at s = let n = range_at 0 s.fuel s.bytes in state_of (s.made ++ instr.I32Const (cast_signed w32 n.0) ∷ []) (s.fuel - n.0) n.1
 
--- an operand, by the draw of a value: a length is drawn as one, save where lengths are limited
+-- an operand, by the draw of a value: a length is drawn as an i32, save where lengths are limited
 abbrev pub operand_at : Bool → (ValType → State → Option State) → Operand → State → Option State
 operand_at limited draw (Value value) s = draw value s
 operand_at limited draw Length s = if limited then Some (length_at s) else draw I32 s
@@ -53,7 +53,7 @@ made_at context limited draw wanted s choice =
     if is_extended choice then Some (state_of (s.made ++ extended.0) (s.fuel - 1) extended.1)
     else option_map (behind node.0.instruction) (operands_at (operand_at limited draw) node.0.operands (state_of s.made (s.fuel - 1) node.1))
 
--- what is drawn after the choice, if there is one
+-- what is drawn after the choice, if there is a choice
 abbrev pub chosen_at : Context → Bool → (ValType → State → Option State) → ValType → State → Option Choice → Option State
 chosen_at context limited draw wanted s None = None
 chosen_at context limited draw wanted s (Some choice) = made_at context limited draw wanted s choice

@@ -39,7 +39,7 @@ abbrev pub is_shared_heap : HeapType → Bool
 is_shared_heap (Abstract shared ty) = shared
 is_shared_heap _ = false
 
--- the reference that is converted to one of this type
+-- the reference type that is converted to the wanted type: of this heap type, and as nullable and as shared
 abbrev pub converted : ValType → AbstractHeapType → ValType
 converted (Ref reference) ty = Ref (record { nullable = reference.nullable; heap_type = Abstract (is_shared_heap reference.heap_type) ty })
 converted value ty = value

@@ -41,11 +41,11 @@ is_integer I32 = true
 is_integer I64 = true
 is_integer _ = false
 
--- a visible immutable global whose type is below
+-- a visible immutable global whose type is below the wanted type
 abbrev pub global_offers : Context → ValType → ℕ → GlobalType → List Choice
 global_offers context wanted index global = offered_if (not global.mutable && is_val_below context.types global.val_type wanted) (choice.Global index)
 
--- a function whose reference is below
+-- a function, if a reference to it is below the wanted type
 abbrev pub function_offers : Context → ValType → ℕ → ℕ → List Choice
 function_offers context wanted function index = offered_if (is_val_below context.types (function_reference context function index) wanted) (choice.Function function)
 
@@ -57,7 +57,7 @@ struct_ways fuel index fields = offered_if (nat_lt 0 fuel || (length fields == 0
 abbrev pub array_ways : ℕ → FieldType → List Choice
 array_ways index element = choice.Array index ∷ choice.FixedArray index ∷ offered_if (is_defaultable (unpacked element.element_type)) (choice.ArrayDefault index)
 
--- a type whose reference is below, where structs are created, or, with fuel, arrays
+-- a type, if a reference to a created value of it is below the wanted type, where structs are created, or, with fuel, arrays
 abbrev pub type_offers : Context → ValType → ℕ → Bool → ℕ → CompositeInnerType → List Choice
 type_offers context wanted fuel false index (inner.Struct structure) = if is_val_below context.types (created context index) wanted then struct_ways fuel index structure.fields else []
 type_offers context wanted fuel true index (inner.Array array) = if nat_lt 0 fuel && is_val_below context.types (created context index) wanted then array_ways index array.0 else []
@@ -103,7 +103,7 @@ unfoldable pub offers : Context → ValType → ℕ → List Choice
 offers context wanted fuel =
     each_from (global_offers context wanted) 0 (take context.visible context.globals) ++ (constant_offers context wanted ++ reference_offers context wanted fuel)
 
--- the visible immutable globals whose type is below, by index
+-- the visible immutable globals whose type is below the wanted type, by index
 abbrev pub readable_globals : Context → ValType → List ℕ
 readable_globals context wanted = each_from (λ index (global : GlobalType). offered_if (not global.mutable && is_val_below context.types global.val_type wanted) index) 0 (take context.visible context.globals)
 

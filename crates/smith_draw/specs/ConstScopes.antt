@@ -47,7 +47,7 @@ pub record IsScope (context : Context) : Type 0 where
   pub globals : All (λ (global : GlobalType). IsValTypeValid context.features (length context.types) global.val_type) context.globals
   pub fields : (index : ℕ) (t : SubType) → slice_get context.types index ≡ Some t → All (IsValTypeValid context.features (length context.types)) (field_values (fields_of t.composite_type.inner))
 
--- where the globals end that may be read: imported ones, and with garbage collection where it is allowed the defined ones
+-- where the globals end that may be read: the imported globals, or, with garbage collection where it is allowed, all
 abbrev pub visible_end : Config → Spaces → Bool → ℕ
 visible_end config spaces allow_defined = if config.gc_enabled && allow_defined then length spaces.entities.globals.now else spaces.entities.imported_globals
 
@@ -72,6 +72,6 @@ pub record AreSpacesValid (config : Config) (spaces : Spaces) : Type 0 where
   pub few_funcs : length spaces.entities.funcs.now < 2 ^ 32
   pub few_globals : length spaces.entities.globals.now < 2 ^ 32
 
--- a visible global whose type is below the wanted one (Validation, Constant Expressions)
+-- a visible global whose type is below the wanted type (Validation, Constant Expressions; own rules of subtypes as in `IsStep`)
 abbrev pub IsReadable : Context → ValType → ℕ → Type 0
 IsReadable context wanted index = (value : ValType) × IsVisible context index value × IsValBelow context.types value wanted

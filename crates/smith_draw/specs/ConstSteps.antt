@@ -52,12 +52,12 @@ pub record IsNode (context : Context) (wanted : ValType) (fuel : ℕ) (node : No
   pub valid : All (λ operand. IsValTypeValid context.features (length context.types) (operand_type operand)) node.operands
   pub lacks : (operand : Operand) (place : ℕ) → slice_get node.operands place ≡ Some operand → MayLack context.types (operand_type operand) → MayLack context.types wanted
 
--- each node that a choice makes is one of the wanted type, and an extended constant is one of an integer, and enabled
+-- each node that a choice makes gives the wanted type, and an extended constant is of an integer type, and enabled
 pub record IsFit (context : Context) (wanted : ValType) (fuel : ℕ) (choice : Choice) : Type 0 where
   pub node : (bytes : List ℕ) → IsNode context wanted fuel (node_at context.types wanted choice bytes).0
   pub extended : is_extended choice ≡ true → ((wanted ≡ I32) ⊎ (wanted ≡ I64)) × IsTrue context.features.extended_const
 
--- a step that is done left what its definition gives, and one that had nothing to choose from has none
+-- a step that succeeds leaves what its definition gives; of a step that had nothing to choose from, the definition gives none
 abbrev pub Reads : Result (Unit {0}) Error → State → Option State → Type 0
 Reads (Ok done) new read = read ≡ Some new
 Reads (Err errors.Memory) new read = Unit {0}

@@ -42,7 +42,7 @@ pub record IsNothing (spaces : Spaces) : Type 0 where
 abbrev pub NothingIsValid : Type 0
 NothingIsValid = (config : Config) (spaces : Spaces) → IsNothing spaces → AreSpacesValid config spaces
 
--- no type stands, but a function of one
+-- no type stands, but a function does
 abbrev pub AFunctionNeedsItsType : Type 0
 AFunctionNeedsItsType = (config : Config) (spaces : Spaces) → spaces.types.now.types ≡ [] → spaces.entities.funcs.now ≡ 0 ∷ [] → ¬ AreSpacesValid config spaces
 

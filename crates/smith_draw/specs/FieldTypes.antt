@@ -9,7 +9,7 @@ use Rattle.smith_bytes.specs.Draws.{bool_at, range_at}
 use Rattle.smith_bytes.specs.Growth.{grow_at}
 use Rattle.smith_draw.specs.ValueTypes.{val_type_at}
 
--- the storage type of a number: a packed one of 8 or 16 bits, or a value type (own rule)
+-- the storage type of a number: packed, of 8 or 16 bits, or a value type (own rule)
 abbrev pub storage_of_number_at : Config → List SubType → Bool → ℕ → ℕ → List ℕ → StorageType × List ℕ
 storage_of_number_at config types must_share limit zero bytes = (I8, bytes)
 storage_of_number_at config types must_share limit (suc zero) bytes = (I16, bytes)

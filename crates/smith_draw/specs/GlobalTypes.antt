@@ -9,7 +9,7 @@ use Rattle.smith_bytes.specs.Draws.{bool_at}
 use Rattle.smith_draw.specs.ValueTypes.{sharedness_at, val_type_at}
 use Rattle.smith_draw.specs.SharedHeapTypes.{is_heap_type_shared}
 
--- whether a global of a value type is shared: where that is a reference as its heap type, else by a draw (own rule)
+-- whether a global of a value type is shared: of a reference as its heap type, else by a draw (own rule)
 abbrev pub global_sharedness_at : Config → List SubType → ValType → List ℕ → Bool × List ℕ
 global_sharedness_at config types (Ref reference) bytes = (is_heap_type_shared types reference.heap_type, bytes)
 global_sharedness_at config types _ bytes = sharedness_at config false bytes

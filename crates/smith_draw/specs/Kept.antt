@@ -1,4 +1,4 @@
--- What is drawn in place of a type keeps of it.
+-- What a type that is drawn in place of another keeps of it.
 use Rattle.std.specs.Prelude.{ℕ, ◌≤◌, IsTrue, List, length, All}
 use Rattle.smith_types.specs.Features.{Features}
 use Rattle.smith_types.specs.ValidTypes.{IsValTypeValid, IsShareable, values_of_storage, values_of}

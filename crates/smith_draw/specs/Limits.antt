@@ -1,4 +1,4 @@
--- Drawn limits: numbers of which small ones are likely.
+-- Drawn limits: numbers of which small numbers are likely.
 use Rattle.std.specs.Prelude.{ℕ, ◌+◌, ◌-◌, ◌*◌, ◌/◌, Bool, true, Option, Some, None, List, nat_lt, ◌==◌, if◌then◌else◌}
 use Rattle.smith_bytes.specs.Draws.{whole_at, bool_at, range_at}
 

@@ -10,7 +10,7 @@ use Rattle.smith_bytes.specs.Draws.{range_at}
 use Rattle.smith_draw.specs.FieldTypes.{fields_until_at}
 use Rattle.smith_draw.specs.MatchingTypes.{matching_field_type_at, matched_fields_at, matching_func_type_at}
 
--- the number of extra fields, at most 5, then the matched fields, then the extra ones (own rule)
+-- the number of extra fields, at most 5, then the matched fields, then the extra fields (own rule)
 unfoldable pub matching_struct_type_at : Config → List SubType → Bool → ℕ → StructType → List ℕ → StructType × List ℕ
 matching_struct_type_at config types must_share limit structure bytes =
     let extra = range_at 0 5 bytes in
@@ -18,7 +18,7 @@ matching_struct_type_at config types must_share limit structure bytes =
     let fields = fields_until_at config types must_share limit (length matched.0 + extra.0) matched.0 matched.1 in
     (record { fields = fields.0 }, fields.1)
 
--- an array, a function or a struct that matches one (own rule)
+-- an array, a function or a struct that matches the given composite type (own rule)
 abbrev pub matching_inner_at : Config → List SubType → Bool → ℕ → CompositeInnerType → List ℕ → CompositeInnerType × List ℕ
 matching_inner_at config types must_share limit (Array array) bytes =
     let field = matching_field_type_at config types array.0 bytes in (Array (record { 0 = field.0 }), field.1)

@@ -13,7 +13,7 @@ use Rattle.smith_config.specs.declared.config.Config.{Config}
 use Rattle.smith_draw.specs.Choices.{chosen_at}
 use Rattle.smith_draw.specs.Offered.{subtypes_offered, supertypes_offered}
 
--- one item drawn for each of a list, in order (own rule)
+-- an item drawn for each item of a list, in order (own rule)
 unfoldable pub each_at : {A : Type 0} → (A → List ℕ → A × List ℕ) → List A → List ℕ → List A × List ℕ
 each_at draw [] bytes = ([], bytes)
 each_at draw (x ∷ xs) bytes =
@@ -21,7 +21,7 @@ each_at draw (x ∷ xs) bytes =
     let ys = each_at draw xs y.1 in
     (y.0 ∷ ys.0, ys.1)
 
--- one of the subtypes that are offered (own rule)
+-- a subtype among those that are offered (own rule)
 unfoldable pub matching_heap_type_at : Config → List SubType → HeapType → List ℕ → HeapType × List ℕ
 matching_heap_type_at config types ty bytes = chosen_at ty (subtypes_offered config types ty) bytes
 
@@ -50,11 +50,11 @@ matching_field_type_at config types field bytes =
     let drawn = matching_storage_type_at config types field.element_type bytes in
     if field.mutable then (field, bytes) else (record { element_type = drawn.0; mutable = false }, drawn.1)
 
--- a field for each, in order (own rule)
+-- a matching field for each field, in order (own rule)
 unfoldable pub matched_fields_at : Config → List SubType → List FieldType → List ℕ → List FieldType × List ℕ
 matched_fields_at config types fields bytes = each_at (matching_field_type_at config types) fields bytes
 
--- one of the supertypes that are offered (own rule)
+-- a supertype among those that are offered (own rule)
 unfoldable pub super_heap_type_at : Config → List SubType → HeapType → List ℕ → HeapType × List ℕ
 super_heap_type_at config types ty bytes = chosen_at ty (supertypes_offered config types ty) bytes
 

@@ -19,7 +19,7 @@ memory64_at config bytes = if config.memory64_enabled then bool_at bytes else (f
 unfoldable pub stated_page_at : List ℕ → Option ℕ × List ℕ
 stated_page_at bytes = let small = bool_at bytes in (Some (if small.0 then 0 else 16), small.1)
 
--- a page size, where one is stated
+-- a page size, where it is stated
 unfoldable pub page_size_at : Config → List ℕ → Option ℕ × List ℕ
 page_size_at config bytes =
     let stated = if config.custom_page_sizes_enabled then bool_at bytes else (false, bytes) in
@@ -39,6 +39,7 @@ unfoldable pub likely_pages : Config → Bool → Option ℕ → ℕ
 likely_pages config memory64 page_size =
     min (max (least_pages config) (2 ^ 30 / max 1 config.max_memories / 2 ^ page_log2 page_size)) (drawn_pages config memory64 page_size)
 
+-- a memory type: whether it is shared, the width of its addresses, its page size, then its limits
 unfoldable pub memtype_at : Config → List ℕ → MemoryType × List ℕ
 memtype_at config bytes =
     let shared = shared_memory_at config bytes in

@@ -12,7 +12,7 @@ use Rattle.smith_types.specs.Kinds.{bottom, shared}
 use Rattle.smith_types.specs.Types.{IsOrderly}
 use Rattle.smith_config.specs.declared.config.Config.{Config}
 
--- the abstract heap types below one that are offered, with itself (own rule)
+-- the abstract heap types that are offered below an abstract heap type, with itself (own rule)
 abbrev pub abstract_subtypes : AbstractHeapType → List AbstractHeapType
 abstract_subtypes heap.Any = heap.Any ∷ heap.Eq ∷ heap.Struct ∷ heap.Array ∷ heap.I31 ∷ heap.None ∷ []
 abstract_subtypes heap.Eq = heap.Eq ∷ heap.Struct ∷ heap.Array ∷ heap.I31 ∷ heap.None ∷ []
@@ -27,7 +27,7 @@ abstract_subtypes heap.NoExtern = heap.NoExtern ∷ []
 abstract_subtypes heap.Exn = heap.Exn ∷ []
 abstract_subtypes heap.NoExn = heap.NoExn ∷ []
 
--- the abstract heap types above one that are offered, with itself (own rule)
+-- the abstract heap types that are offered above an abstract heap type, with itself (own rule)
 abbrev pub abstract_supertypes : AbstractHeapType → List AbstractHeapType
 abstract_supertypes heap.Any = heap.Any ∷ []
 abstract_supertypes heap.Eq = heap.Eq ∷ heap.Any ∷ []
@@ -79,7 +79,7 @@ is_shared_as false t = not (shared t)
 abbrev pub is_kind : Bool → AbstractHeapType → SubType → Bool
 is_kind is_shared kind t = is_shared_as is_shared t && is_of_kind kind t.composite_type.inner
 
--- there is an index, and it is the given one
+-- there is an index, and it is the given index
 abbrev pub is_index : ℕ → Option ℕ → Bool
 is_index index None = false
 is_index index (Some other) = other == index
@@ -88,7 +88,7 @@ is_index index (Some other) = other == index
 abbrev pub is_declared_below : ℕ → SubType → Bool
 is_declared_below index t = is_index index t.supertype
 
--- the concrete heap types of those that a test picks among types whose indices begin there, by index (own rule)
+-- the concrete heap types of the types that a test picks, by index; the first type has the index `start` (own rule)
 abbrev pub picked_from : (SubType → Bool) → ℕ → List SubType → List HeapType
 picked_from test start [] = []
 picked_from test start (t ∷ types) = if test t then Concrete start ∷ picked_from test (start + 1) types else picked_from test (start + 1) types
@@ -106,7 +106,7 @@ abbrev pub supertype_of : Option SubType → Option ℕ
 supertype_of None = None
 supertype_of (Some t) = t.supertype
 
--- the declared supertype of the type of an index, where it stands and has one (Structure, Recursive Types)
+-- the declared supertype of the type of an index, where that stands and has a supertype (Structure, Recursive Types)
 abbrev pub supertype_at : List SubType → ℕ → Option ℕ
 supertype_at types index = supertype_of (slice_get types index)
 
@@ -123,7 +123,7 @@ ancestors types index = ancestors_within (length types) types index
 abbrev pub AncestorsAreAll : Type 0
 AncestorsAreAll = (types : List SubType) → IsOrderly types → (index supertype : ℕ) → supertype_at types index ≡ Some supertype → ancestors types index ≡ Concrete supertype ∷ ancestors types supertype
 
--- what is offered of a type that stands, and nothing of one that does not (own rule)
+-- what is offered of a type that stands, and nothing where none stands (own rule)
 abbrev pub of_standing : (SubType → List HeapType) → Option SubType → List HeapType
 of_standing offers None = []
 of_standing offers (Some t) = offers t

@@ -1,4 +1,4 @@
--- Drawn recursive groups: new ones, and clones of those that stand.
+-- Drawn recursive groups: new groups, and clones of groups that stand.
 use Rattle.std.specs.Prelude.{ℕ, zero, suc, ◌-◌, ◌+◌, Bool, true, false, ◌&&◌, ◌||◌, nat_lt, nat_le, List, [], ◌∷◌, ◌++◌, length, take, drop, if◌then◌else◌}
 use Rattle.std.specs.declared.ops.Range.{Range}
 use Rattle.smith_types.specs.declared.composite_type.SubType.{SubType}
@@ -60,13 +60,13 @@ abbrev pub clone_wanted_at : Config → Space → List ℕ → Bool × List ℕ
 clone_wanted_at config space bytes =
     if config.gc_enabled && nat_lt 0 (length space.groups) then ratio_at 1 255 bytes else (false, bytes)
 
--- a clone; and where none is added and a group must not be empty, a new one (own rule)
+-- a clone; and where none is added and a group must not be empty, a new group (own rule)
 abbrev pub cloned_or_new_at : Config → Bool → Space → List ℕ → Space × List ℕ
 cloned_or_new_at config allow_empty space bytes =
     let clone = clone_rec_group_at config allow_empty space bytes in
     if clone.0 || allow_empty then clone.1 else new_group_at config allow_empty clone.1.0 clone.1.1
 
--- a clone where one is asked for, else a new group (own rule)
+-- a clone where it is asked for, else a new group (own rule)
 unfoldable pub rec_group_at : Config → Bool → Space → List ℕ → Space × List ℕ
 rec_group_at config allow_empty space bytes =
     let wanted = clone_wanted_at config space bytes in
@@ -89,7 +89,7 @@ more_types_at config (suc most) space bytes =
     then (if go.0 then more_types_at config most grown.0 grown.1 else (space, go.1))
     else (space, bytes)
 
--- as many types as are asked for, then more: each group but the last takes a byte (own rule)
+-- groups until the least number of types stands, then more: each group but the last takes a byte (own rule)
 unfoldable pub types_at : Config → Space → List ℕ → Space × List ℕ
 types_at config space bytes =
     let least = least_types_at config config.min_types space bytes in

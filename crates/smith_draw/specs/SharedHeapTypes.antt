@@ -10,7 +10,7 @@ abbrev pub is_type_shared : Option SubType → Bool
 is_type_shared (Some t) = shared t
 is_type_shared None = false
 
--- whether a heap type is shared: a concrete one as the type that it names (own rule)
+-- whether a heap type is shared: a concrete heap type as the type that it names (own rule)
 abbrev pub is_heap_type_shared : List SubType → HeapType → Bool
 is_heap_type_shared types (Abstract is_shared ty) = is_shared
 is_heap_type_shared types (Concrete index) = is_type_shared (slice_get types index)

@@ -75,7 +75,7 @@ SpellsBehindClass config limit _ piece = piece ≡ []
 unfoldable pub SpellsValType : Config → ℕ → ValType → List ℕ → Type 0
 SpellsValType config limit value = Joined (SpellsPlace (enabled (value_classes config)) (class_of value)) (SpellsBehindClass config limit value)
 
--- a storage type: its number, and of an unpacked one its value type
+-- a storage type: its number, and of an unpacked type its value type
 abbrev pub SpellsStorage : Config → ℕ → StorageType → List ℕ → Type 0
 SpellsStorage config limit I8 piece = SpellsNumber 0 0 2 piece
 SpellsStorage config limit I16 piece = SpellsNumber 1 0 2 piece
@@ -101,7 +101,7 @@ SpellsInner config limit (Array array) piece = Joined (SpellsNumber 0 0 2) (Spel
 SpellsInner config limit (Func function) piece = Joined (SpellsNumber 1 0 2) (SpellsFuncType config limit function) piece
 SpellsInner config limit (Struct structure) piece = Joined (SpellsNumber 2 0 2) (SpellsStructType config limit structure) piece
 
--- without it the lists of a function type
+-- without garbage collection the lists of a function type
 abbrev pub SpellsPlainFunction : Config → ℕ → CompositeInnerType → List ℕ → Type 0
 SpellsPlainFunction config limit (Func function) piece = SpellsFuncType config limit function piece
 SpellsPlainFunction config limit _ piece = ⊥
@@ -116,7 +116,7 @@ pub record SpellsCompositeType (config : Config) (limit : ℕ) (composite : Comp
   pub unshared : composite.shared ≡ false
   pub form : Joined (SpellsUnshared config) (SpellsKind config.gc_enabled config limit composite.inner) piece
 
--- a type that may be a supertype: one that is not final
+-- a type that may be a supertype: it is not final
 abbrev pub is_open : SubType → Bool
 is_open t = not t.is_final
 
@@ -142,12 +142,12 @@ unfoldable pub SpellsSubTypes : Config → List SubType → ℕ → List SubType
 SpellsSubTypes config before limit [] piece = piece ≡ []
 SpellsSubTypes config before limit (t ∷ types) piece = Joined (SpellsSubType config before limit t) (SpellsSubTypes config (before ++ t ∷ []) limit types) piece
 
--- a group behind others: with garbage collection that none is cloned, where one stands, and how many types it has
+-- a group behind others: with garbage collection that no group is cloned, where a group stands, and the number of its types
 abbrev pub SpellsSize : Bool → Config → Bool → ℕ → ℕ → List ℕ → Type 0
 SpellsSize true config stands room size piece = Joined (Where stands (SpellsRefusal 255)) (SpellsNumber size 0 room) piece
 SpellsSize false config stands room size piece = (size ≡ 1) × (piece ≡ [])
 
--- its size, then its types
+-- the size of a group, then its types
 unfoldable pub SpellsGroup : Config → List SubType → Bool → List SubType → List ℕ → Type 0
 SpellsGroup config before stands group =
     Joined (SpellsSize config.gc_enabled config stands (config.max_types - length before) (length group))

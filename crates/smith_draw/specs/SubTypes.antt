@@ -23,7 +23,7 @@ pub record HasSuperType (types : List SubType) (t : SubType) : Type 0 where
   pub below : (s : ℕ) → t.supertype ≡ Some s → (u : SubType) × (slice_get types s ≡ Some u) × IsAlike t u
   pub allowed : (s : ℕ) (u : SubType) → t.supertype ≡ Some s → slice_get types s ≡ Some u → may_have_subtypes types s u ≡ true
 
--- a type stands that may have subtypes: one that is not final, of a depth below 60 (own rule)
+-- some type that stands may have subtypes: it is not final, and its depth is below 60 (own rule)
 pub record SomeMayHaveSubtypes (types : List SubType) : Type 0 where
   pub index : ℕ
   pub ty : SubType
@@ -63,13 +63,14 @@ sub_type_below_at config types limit index (Some supertype) bytes =
     let is_final = bool_at composite.1 in
     (record { is_final = is_final.0; supertype = Some index; composite_type = composite.0 }, is_final.1)
 
--- below the type of a chosen one of these indices (own rule)
+-- below the type of an index that is chosen among these (own rule)
 unfoldable pub sub_type_of_at : Config → List SubType → ℕ → List ℕ → List ℕ → SubType × List ℕ
 sub_type_of_at config types limit indices bytes =
     let index = chosen_at 0 indices bytes in
     sub_type_below_at config types limit index.0 (slice_get types index.0) index.1
 
--- whether a supertype is asked for, by how many there are: with garbage collection, where there is one, one time of 32 (own rule)
+-- whether a supertype is asked for, by the number of types that may have subtypes: with garbage collection, where some type may,
+-- one time of 32 (own rule)
 abbrev pub supertype_wanted_at : Config → ℕ → List ℕ → Bool × List ℕ
 supertype_wanted_at config count bytes =
     if config.gc_enabled && nat_lt 0 count then ratio_at 1 32 bytes else (false, bytes)

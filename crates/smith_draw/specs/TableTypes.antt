@@ -13,7 +13,8 @@ use Rattle.smith_draw.specs.ValueTypes.{ref_type_at}
 abbrev pub least_elements : Config → ℕ
 least_elements config = if config.disallow_traps then 1 else 0
 
--- the most elements that are drawn: as many as are configured, and no more than a table may have (own rule)
+-- the most elements that are drawn: the configured number, but at least `least_elements`, and no more than a table may have (own
+-- rule)
 unfoldable pub drawn_elements : Config → Bool → ℕ
 drawn_elements config table64 = min (max (least_elements config) config.max_table_elements) (most_elements table64)
 

@@ -37,14 +37,14 @@ sharedness_at config must_share bytes =
     if must_share then (true, bytes)
     else (if config.shared_everything_threads_enabled then ratio_at 1 4 bytes else (false, bytes))
 
--- an abstract heap type: its sharedness, then which one (own rule)
+-- an abstract heap type: its sharedness, then a type among those that are enabled (own rule)
 unfoldable pub abstract_heap_type_at : Config → Bool → List ℕ → HeapType × List ℕ
 abstract_heap_type_at config must_share bytes =
     let is_shared = sharedness_at config must_share bytes in
     let ty = chosen_at heap.Func (enabled (abstract_heap_types config)) is_shared.1 in
     (Abstract is_shared.0 ty.0, ty.1)
 
--- whether a type index is asked for: with garbage collection, where one is below the limit (own rule)
+-- whether a type index is asked for: with garbage collection, where a type is below the limit (own rule)
 abbrev pub index_wanted_at : Config → ℕ → List ℕ → Bool × List ℕ
 index_wanted_at config limit bytes =
     if config.gc_enabled && nat_lt 0 limit then bool_at bytes else (false, bytes)
@@ -54,14 +54,14 @@ abbrev pub kept_index : Bool → ℕ → Option SubType → Option ℕ
 kept_index must_share index None = None
 kept_index must_share index (Some t) = if not must_share || shared t then Some index else None
 
--- a type index below the limit, where one is asked for and kept (own rule)
+-- a type index below the limit, where it is asked for and kept (own rule)
 unfoldable pub type_index_at : Config → List SubType → Bool → ℕ → List ℕ → Option ℕ × List ℕ
 type_index_at config types must_share limit bytes =
     let wanted = index_wanted_at config limit bytes in
     let index = range_at 0 (limit - 1) wanted.1 in
     if wanted.0 then (kept_index must_share index.0 (slice_get types index.0), index.1) else (None, wanted.1)
 
--- the concrete heap type of a type index, or else an abstract one (own rule)
+-- the concrete heap type of a type index, or else an abstract heap type (own rule)
 abbrev pub heap_type_of_at : Config → Bool → Option ℕ → List ℕ → HeapType × List ℕ
 heap_type_of_at config must_share (Some index) bytes = (Concrete index, bytes)
 heap_type_of_at config must_share None bytes = abstract_heap_type_at config must_share bytes
@@ -89,7 +89,7 @@ value_of_class_at config types must_share limit V128 bytes = (vals.V128, bytes)
 value_of_class_at config types must_share limit Reference bytes =
     let reference = ref_type_at config types must_share limit bytes in (vals.Ref reference.0, reference.1)
 
--- a value type: its class, then one of that class (own rule)
+-- a value type: its class, then a value type of that class (own rule)
 unfoldable pub val_type_at : Config → List SubType → Bool → ℕ → List ℕ → ValType × List ℕ
 val_type_at config types must_share limit bytes =
     let class = chosen_at I32 (enabled (value_classes config)) bytes in

@@ -4,7 +4,7 @@ ghost use Rattle.smith_draw.specs.Choices.{chosen_at};
 
 use smith_bytes::Unstructured;
 
-/// Chooses among the items of a list, each as likely as the others.
+/// Chooses an item of `items`, each about as likely as the others. `items` is not empty.
 #[tactic(auto, unfolding(crate::specs::Choices::chosen_at))]
 pub fn choose<T: Copy>(items: &[T], u: &mut Unstructured<'_>) -> T
     requires { 0 < length items.now }

@@ -70,7 +70,7 @@ fn func_type(
     Ok(FuncType { params, results })
 }
 
-/// Draws fields behind those that stand, until there are `end`.
+/// Draws fields behind those of `fields`, until there are `end` fields.
 #[tactic(auto, unfolding(crate::specs::FieldTypes::fields_until_at))]
 pub(crate) fn fields_until(
     config: &Config,
@@ -115,7 +115,7 @@ fn inner_number(config: &Config, u: &mut Unstructured<'_>) -> u8
     1
 }
 
-/// The array, function or struct of a number.
+/// Draws an array, a function or a struct type, as `number` is 0, 1 or more.
 fn inner_of_number(
     alloc: Global,
     config: &Config,
@@ -159,10 +159,11 @@ pub(crate) fn composite_type(
     Ok(CompositeType { inner, shared })
 }
 
-/// Draws a function type of at most 20 parameters and 20 results, or one result where several are not enabled. The standard's
-/// section Structure, Composite Types.
+/// Draws a function type of at most 20 parameters and at most 20 results, or at most one result where `config` has several
+/// results off. The standard's section Structure, Composite Types.
 ///
-/// `config` is sanitised, and `must_share` is set only where types may be shared. The type refers to types below `limit`.
+/// `config` is sanitised, and `must_share` is set only where `config` allows shared types. The function type refers only to types
+/// of `spaces` below `limit`, and only to shared types where `must_share` is set.
 pub fn arbitrary_func_type(
     alloc: Global,
     config: &Config,
@@ -184,7 +185,8 @@ pub fn arbitrary_func_type(
 
 /// Draws a struct type of at most 20 fields. The standard's section Structure, Composite Types.
 ///
-/// `config` is sanitised, and `must_share` is set only where types may be shared. The type refers to types below `limit`.
+/// `config` is sanitised, and `must_share` is set only where `config` allows shared types. The struct type refers only to types
+/// of `spaces` below `limit`, and only to shared types where `must_share` is set.
 pub fn arbitrary_struct_type(
     alloc: Global,
     config: &Config,
@@ -205,10 +207,11 @@ pub fn arbitrary_struct_type(
     struct_type(alloc, config, spaces.types.types(), must_share, limit, u)
 }
 
-/// Draws a composite type, shared or not: with garbage collection an array, a function or a struct, else a function. The
-/// standard's section Structure, Composite Types.
+/// Draws a composite type, which may be shared where `config` allows it: with garbage collection an array, a function or a struct
+/// type, else a function type. The standard's section Structure, Composite Types.
 ///
-/// `config` is sanitised. The type refers to types below `limit`.
+/// `config` is sanitised. The composite type refers only to types of `spaces` below `limit`. A shared composite type refers only
+/// to shared types.
 pub fn arbitrary_composite_type(
     alloc: Global,
     config: &Config,

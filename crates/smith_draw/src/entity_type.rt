@@ -62,7 +62,7 @@ fn page_size(config: &Config, u: &mut Unstructured<'_>) -> Option<u32>
     stated_page(u)
 }
 
-/// How many whole pages `bytes` bytes are.
+/// The number of whole pages in `bytes` bytes. `page_size` is the binary logarithm of a page's bytes, at most 16; none is 16.
 fn pages_in(bytes: u128, page_size: Option<u32>) -> u128
     requires { page_log2 page_size ≤ 16 }
     ensures { result ≡ bytes / 2 ^ page_log2 page_size }
@@ -70,7 +70,7 @@ fn pages_in(bytes: u128, page_size: Option<u32>) -> u128
     bytes / (1 << page_size.unwrap_or(16))
 }
 
-/// The most pages that are drawn of a memory: within its configured bytes, but at least one where nothing may trap.
+/// The greatest number of pages of a drawn memory: within the bytes that `config` allows, but at least 1 where nothing may trap.
 #[tactic(auto, unfolding(crate::specs::Memories::drawn_pages))]
 fn drawn_pages(config: &Config, memory64: bool, page_size: Option<u32>) -> u64
     requires { page_log2 page_size ≤ 16 }
@@ -91,7 +91,7 @@ fn drawn_pages(config: &Config, memory64: bool, page_size: Option<u32>) -> u64
     pages_in(bytes, page_size).max(least).min(last_address) as u64
 }
 
-/// The most pages that are likely: a gibibyte for all memories together.
+/// The greatest likely number of pages, at most `most`: all memories that `config` allows take a gibibyte together.
 #[tactic(auto, unfolding(crate::specs::Memories::likely_pages))]
 fn likely_pages(config: &Config, most: u64, page_size: Option<u32>) -> u64
     requires size { page_log2 page_size ≤ 16 }
@@ -107,7 +107,7 @@ fn likely_pages(config: &Config, most: u64, page_size: Option<u32>) -> u64
         .min(u128::from(most)) as u64
 }
 
-/// Whether a memory is drawn a maximum without being asked.
+/// Whether a memory, `shared` or not, has a maximum without a draw.
 fn needs_maximum(config: &Config, shared: bool) -> bool
     ensures { result ≡ (config.now.memory_max_size_required || shared) }
 {
@@ -137,10 +137,12 @@ fn memory_type(config: &Config, u: &mut Unstructured<'_>) -> MemoryType
     }
 }
 
-/// Draws a memory type within the configured bytes. The standard's section Structure, Memory Types.
+/// Draws a memory type. Its limits, in pages, stay within the bytes that `config` allows, but for a single page where nothing may
+/// trap. The standard's section Structure, Memory Types.
 ///
-/// Where `config` passes its check, but for the pair of `min_imports` and `max_imports`, the type is valid. Always `Ok`, since no
-/// memory is taken: the drawing calls of entities have one form.
+/// The memory type is valid where `config` passes its check, but for the pair of `min_imports` and `max_imports`.
+///
+/// The result is always `Ok`, since no memory is taken: all draws of entities give a `Result`.
 pub fn arbitrary_memtype(config: &Config, u: &mut Unstructured<'_>) -> Result<MemoryType, Error>
     ensures ok { IsOk result }
     ensures exact { IfOk result (λ drawn. memtype_at config.now u.old ≡ (drawn, u.new)) }

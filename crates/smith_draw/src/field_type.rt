@@ -50,11 +50,12 @@ pub(crate) fn field_type(
     }
 }
 
-/// Draws a storage type: packed, or a value type. The standard's section Structure, Composite Types.
+/// Draws a storage type: a packed type or a value type. The standard's section Structure, Composite Types.
 ///
-/// `config` is sanitised, and `must_share` is set only where types may be shared. The type refers to types below `limit`.
+/// `config` is sanitised, and `must_share` is set only where `config` allows shared types. The storage type refers only to types
+/// of `spaces` below `limit`, and only to shared types where `must_share` is set.
 ///
-/// Nothing is refused, since no memory is taken: the `Result` is the form of the drawing calls.
+/// The result is always `Ok`, since no memory is taken: all draws of types give a `Result`.
 pub fn arbitrary_storage_type(
     _alloc: Global,
     config: &Config,
@@ -74,11 +75,12 @@ pub fn arbitrary_storage_type(
     Ok(storage_type(config, spaces.types.types(), must_share, limit, u))
 }
 
-/// Draws a field type, mutable or not. The standard's section Structure, Composite Types.
+/// Draws a field type: a storage type, and whether the field is mutable. The standard's section Structure, Composite Types.
 ///
-/// `config` is sanitised, and `must_share` is set only where types may be shared. The type refers to types below `limit`.
+/// `config` is sanitised, and `must_share` is set only where `config` allows shared types. The field type refers only to types of
+/// `spaces` below `limit`, and only to shared types where `must_share` is set.
 ///
-/// Nothing is refused, since no memory is taken: the `Result` is the form of the drawing calls.
+/// The result is always `Ok`, since no memory is taken: all draws of types give a `Result`.
 pub fn arbitrary_field_type(
     _alloc: Global,
     config: &Config,

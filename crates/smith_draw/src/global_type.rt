@@ -18,7 +18,7 @@ use smith_config::Config;
 use smith_types::{GlobalType, SubType, ValType};
 use std::alloc::Global;
 
-/// Whether a global of a value type is shared.
+/// Whether a global of the type `val_type` is shared: a reference where its heap type is, anything else by a draw.
 fn global_sharedness(
     config: &Config,
     types: &[SubType],
@@ -48,12 +48,13 @@ fn global_type(config: &Config, types: &[SubType], u: &mut Unstructured<'_>) -> 
     }
 }
 
-/// Draws a global type: a value type over the types of `spaces`, shared as the nullable reference that it is or else by a
-/// draw, and mutable or not. The standard's section Structure, Global Types.
+/// Draws a global type: a value type over the types of `spaces`, whether the global is shared, and whether it is mutable. A
+/// global of a reference, which may be null, is shared exactly where the heap type of the reference is. The standard's section
+/// Structure, Global Types.
 ///
-/// `config` is sanitised. Over valid types the global type is valid.
+/// `config` is sanitised. The global type is valid where the types of `spaces` are.
 ///
-/// Always `Ok`, since no memory is taken: the drawing calls of entities have one form.
+/// The result is always `Ok`, since no memory is taken: all draws of entities give a `Result`.
 pub fn arbitrary_global_type(
     _alloc: Global,
     config: &Config,

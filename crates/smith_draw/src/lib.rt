@@ -1,4 +1,5 @@
-//! Drawn types, entities and constant expressions, over the type space and the index spaces that stand so far.
+//! Drawn types, entities and constant expressions, over the type space and the index spaces that stand so far. A draw takes its
+//! bytes from `u`. A call that gives a `Result` is refused only for want of memory, but for what its `# Errors` add.
 #![tactic(auto)]
 
 mod choice;

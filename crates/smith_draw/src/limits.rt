@@ -44,7 +44,7 @@ fn grow_by(min: u64, inbounds: u64, max: u64, x: u32) -> u64
     }
 }
 
-/// Draws a number of `min` to `max`, mostly a number that is not above `inb` and near to `min`. `inb` lies between them.
+/// Draws a number from `min` to `max`, mostly near `min` and not above `inb`. `inb` is at least `min` and at most `max`.
 #[tactic(auto, unfolding(crate::specs::Limits::gradually_at))]
 pub fn gradually_grow(min: u64, inb: u64, max: u64, u: &mut Unstructured<'_>) -> u64
     requires low { min ≤ inb }
@@ -60,8 +60,11 @@ pub fn gradually_grow(min: u64, inb: u64, max: u64, u: &mut Unstructured<'_>) ->
     grow_by(min, inb, max, x)
 }
 
-/// Draws limits: a minimum of `least` to `most` by [`gradually_grow`], mostly at most `inbounds`, and a maximum where it is
-/// `required` or a bool asks for it. `inbounds` lies between `least` and `most`.
+/// Draws limits: a minimum from `least` to `most` by [`gradually_grow`], mostly not above `inbounds`, and a maximum from the
+/// minimum to `most`. A maximum that is not `required` is drawn only where a bool asks for it. The standard's section Structure,
+/// Limits.
+///
+/// `inbounds` is at least `least` and at most `most`.
 #[tactic(auto, unfolding(crate::specs::Limits::limits64_at))]
 pub fn arbitrary_limits64(
     least: u64,

@@ -125,7 +125,7 @@ pub(crate) fn matching_field_type(
     })
 }
 
-/// A matching field for each field, in order.
+/// Draws a matching field for each of `fields`, in order.
 #[tactic(auto, unfolding(crate::specs::MatchingTypes::matched_fields_at))]
 pub(crate) fn matched_fields(
     alloc: Global,
@@ -143,7 +143,7 @@ pub(crate) fn matched_fields(
     Ok(matched)
 }
 
-/// A matching type for each value type, in order.
+/// Draws a matching value type for each of `values`, in order.
 fn matching_val_types(
     alloc: Global,
     config: &Config,
@@ -175,8 +175,8 @@ pub(crate) fn matching_func_type(
     Ok(FuncType { params, results })
 }
 
-/// Draws a heap type below `ty`, among those that are offered; without garbage collection `ty` itself. The standard's
-/// section Validation, Matching, Heap Types.
+/// Draws a heap type below `ty`, over the types of `spaces`; without garbage collection `ty` itself. The standard's section
+/// Validation, Matching, Heap Types, with the rules of this project as in [`TypeSpace::heap_type_is_sub_type`].
 pub fn arbitrary_matching_heap_type(
     alloc: Global,
     config: &Config,
@@ -195,7 +195,8 @@ pub fn arbitrary_matching_heap_type(
     matching_heap_type(alloc, config, spaces.types, ty, u)
 }
 
-/// Draws a reference type below `ty`, nullable as `ty` is. The standard's section Validation, Matching, Reference Types.
+/// Draws a reference type below `ty`, over the types of `spaces`, nullable exactly where `ty` is. The standard's section
+/// Validation, Matching, Reference Types, over heap types as in [`TypeSpace::heap_type_is_sub_type`].
 pub fn arbitrary_matching_ref_type(
     alloc: Global,
     config: &Config,
@@ -214,7 +215,8 @@ pub fn arbitrary_matching_ref_type(
     matching_ref_type(alloc, config, spaces.types, ty, u)
 }
 
-/// Draws a value type below `ty`; a number or a vector is `ty` itself. The standard's section Validation, Matching, Value Types.
+/// Draws a value type below `ty`, over the types of `spaces`; a number or a vector is `ty` itself. The standard's section
+/// Validation, Matching, Value Types, over heap types as in [`TypeSpace::heap_type_is_sub_type`].
 pub fn arbitrary_matching_val_type(
     alloc: Global,
     config: &Config,
@@ -232,7 +234,8 @@ pub fn arbitrary_matching_val_type(
     matching_val_type(alloc, config, spaces.types, ty, u)
 }
 
-/// Draws a storage type that matches `ty`; a packed type is `ty` itself. The standard's section Validation, Matching, Field Types.
+/// Draws a storage type that matches `ty`, over the types of `spaces`; a packed type is `ty` itself. The standard's section
+/// Validation, Matching, Field Types, over heap types as in [`TypeSpace::heap_type_is_sub_type`].
 pub fn arbitrary_matching_storage_type(
     alloc: Global,
     config: &Config,
@@ -250,7 +253,8 @@ pub fn arbitrary_matching_storage_type(
     matching_storage_type(alloc, config, spaces.types, ty, u)
 }
 
-/// Draws a field type that matches `field`; a mutable field is `field` itself. The standard's section Validation, Matching, Field Types.
+/// Draws a field type that matches `field`, over the types of `spaces`; a mutable field is `field` itself. The standard's section
+/// Validation, Matching, Field Types, over heap types as in [`TypeSpace::heap_type_is_sub_type`].
 pub fn arbitrary_matching_field_type(
     alloc: Global,
     config: &Config,
@@ -268,8 +272,9 @@ pub fn arbitrary_matching_field_type(
     matching_field_type(alloc, config, spaces.types, field, u)
 }
 
-/// Draws a function type that matches `function`: of supertypes of its parameters and subtypes of its results. The
-/// standard's section Validation, Matching, Composite Types.
+/// Draws a function type that matches `function`, over the types of `spaces`: supertypes of its parameters, and subtypes of its
+/// results. The standard's section Validation, Matching, Composite Types, over heap types as in
+/// [`TypeSpace::heap_type_is_sub_type`].
 pub fn arbitrary_matching_func_type(
     alloc: Global,
     config: &Config,

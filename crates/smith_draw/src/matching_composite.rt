@@ -39,7 +39,7 @@ fn matching_struct_type(
     Ok(StructType { fields })
 }
 
-/// An array, a function or a struct that matches one.
+/// Draws an array, a function or a struct type that matches `inner`.
 fn matching_inner(
     alloc: Global,
     config: &Config,
@@ -69,7 +69,7 @@ fn matching_inner(
     }
 }
 
-/// A composite type that matches one, and is as shared.
+/// Draws a composite type that matches `composite`, and is shared where `composite` is.
 #[tactic(auto, unfolding(crate::specs::MatchingComposites::matching_composite_type_at))]
 pub(crate) fn matching_composite_type(
     alloc: Global,
@@ -86,11 +86,14 @@ pub(crate) fn matching_composite_type(
     Ok(CompositeType { inner, shared })
 }
 
-/// Draws a struct type that matches `structure`: its matched fields, and at most 5 more behind them. The standard's section
-/// Validation, Matching, Composite Types.
+/// Draws a struct type that matches `structure`: a matching field for each of its fields, and at most 5 fields behind them. The
+/// standard's section Validation, Matching, Composite Types, over heap types as in [`TypeSpace::heap_type_is_sub_type`].
 ///
-/// `config` is sanitised, and `must_share` is set only where types may be shared. Where no type of `spaces` is past `limit`, each
-/// is shared only where that is enabled, and the fields of `structure` are valid below `limit`, those that are drawn are too.
+/// `config` is sanitised, and `must_share` is set only where `config` allows shared types. The fields behind refer only to types
+/// of `spaces` below `limit`, and only to shared types where `must_share` is set.
+///
+/// The struct type is valid below `limit` where `structure` is, `spaces` has at most `limit` types, and these are shared only
+/// where `config` allows it.
 pub fn arbitrary_matching_struct_type(
     alloc: Global,
     config: &Config,

@@ -40,7 +40,7 @@ use smith_config::Config;
 use smith_types::{AbstractHeapType, CompositeInnerType, HeapType, Items, SubType};
 use std::alloc::Global;
 
-/// The subtypes that are offered of a heap type with garbage collection, itself first.
+/// The subtypes of `ty` that are offered with garbage collection, `ty` itself first.
 pub(crate) fn gc_subtypes(
     alloc: Global,
     config: &Config,
@@ -65,7 +65,7 @@ pub(crate) fn gc_subtypes(
     }
 }
 
-/// The supertypes that are offered of a heap type with garbage collection, itself first.
+/// The supertypes of `ty` that are offered with garbage collection, `ty` itself first.
 pub(crate) fn gc_supertypes(
     alloc: Global,
     types: &[SubType],
@@ -99,7 +99,7 @@ fn itself(alloc: Global, ty: HeapType) -> Result<Items<HeapType>, Error>
     Ok(offered)
 }
 
-/// Abstract types, and the concrete types of some kinds, all of one sharedness.
+/// The abstract types `abstracts`, and the concrete types of the kinds `kinds`, all of the sharedness `shared`.
 fn abstract_offered(
     alloc: Global,
     types: &[SubType],
@@ -163,7 +163,7 @@ fn push_abstract(
     Ok(())
 }
 
-/// Adds the types of each kind, by index.
+/// Adds the concrete types of each of `kinds`, by index.
 fn push_of_kinds(
     offered: &mut Items<HeapType>,
     types: &[SubType],
@@ -198,7 +198,7 @@ fn push_of_kind(
     Ok(())
 }
 
-/// Adds the types that are declared directly below one, by index.
+/// Adds the types that are declared directly below `supertype`, by index.
 fn push_direct(
     offered: &mut Items<HeapType>,
     types: &[SubType],
@@ -233,7 +233,7 @@ fn push_exact(
     push_direct(offered, types, index)
 }
 
-/// Adds the bottom of the kind of a type that stands.
+/// Adds the bottom of the kind of the type `index`, if the type stands.
 fn push_bottom(offered: &mut Items<HeapType>, types: &[SubType], index: u32) -> Result<(), Error>
     ensures ok { OnOk result (offered.new ≡ offered.old ++ bottom_at types.now index) }
     ensures memory { IfErr result (λ e. e ≡ Error.Memory) }
@@ -247,7 +247,7 @@ fn push_bottom(offered: &mut Items<HeapType>, types: &[SubType], index: u32) -> 
     }
 }
 
-/// Adds the abstract types above the kind of a type that stands.
+/// Adds the abstract types above the type `index`, if the type stands.
 fn push_kinds(offered: &mut Items<HeapType>, types: &[SubType], index: u32) -> Result<(), Error>
     ensures ok { OnOk result (offered.new ≡ offered.old ++ kinds_at types.now index) }
     ensures memory { IfErr result (λ e. e ≡ Error.Memory) }
@@ -262,7 +262,7 @@ fn push_kinds(offered: &mut Items<HeapType>, types: &[SubType], index: u32) -> R
     }
 }
 
-/// Adds the types on the way up from one, nearest first.
+/// Adds the types on the way up from the type `index`, nearest first.
 fn push_ancestors(offered: &mut Items<HeapType>, types: &[SubType], index: u32) -> Result<(), Error>
     requires orderly { IsOrderly types.now }
     ensures ok { OnOk result (offered.new ≡ offered.old ++ ancestors types.now index) }
@@ -282,7 +282,7 @@ fn supertype_at(types: &[SubType], index: u32) -> Option<u32>
     types.get(index as usize)?.supertype
 }
 
-/// Whether a type is of a kind, and shared or not.
+/// Whether `ty` is of the kind `kind` and the sharedness `shared`.
 fn is_kind(ty: &SubType, shared: bool, kind: AbstractHeapType) -> bool
     ensures { result ≡ is_kind shared kind ty.now }
 {
@@ -317,7 +317,7 @@ fn bottom_of(inner: &CompositeInnerType) -> AbstractHeapType
     }
 }
 
-/// The abstract types that are offered above a composite type, widest first.
+/// The abstract types that are offered above `inner`, widest first.
 fn supertypes_of_inner(inner: &CompositeInnerType) -> &'static [AbstractHeapType]
     ensures { result.now ≡ supertypes_of_inner inner.now }
 {
@@ -329,7 +329,7 @@ fn supertypes_of_inner(inner: &CompositeInnerType) -> &'static [AbstractHeapType
     }
 }
 
-/// The abstract types that are offered below one, itself first.
+/// The abstract types that are offered below `ty`, `ty` itself first.
 fn abstract_subtypes(ty: AbstractHeapType) -> &'static [AbstractHeapType]
     ensures { result.now ≡ abstract_subtypes ty }
 {
@@ -352,7 +352,7 @@ fn abstract_subtypes(ty: AbstractHeapType) -> &'static [AbstractHeapType]
     }
 }
 
-/// The abstract types that are offered above one, itself first.
+/// The abstract types that are offered above `ty`, `ty` itself first.
 fn abstract_supertypes(ty: AbstractHeapType) -> &'static [AbstractHeapType]
     ensures { result.now ≡ abstract_supertypes ty }
 {
@@ -375,7 +375,7 @@ fn abstract_supertypes(ty: AbstractHeapType) -> &'static [AbstractHeapType]
     }
 }
 
-/// The kinds of the concrete types that are offered below an abstract one.
+/// The kinds of the concrete types that are offered below `ty`.
 fn kinds_below(ty: AbstractHeapType) -> &'static [AbstractHeapType]
     ensures { result.now ≡ kinds_below ty }
 {
@@ -390,7 +390,7 @@ fn kinds_below(ty: AbstractHeapType) -> &'static [AbstractHeapType]
     }
 }
 
-/// The kinds of the concrete types that are offered above an abstract one.
+/// The kinds of the concrete types that are offered above `ty`.
 fn kinds_above(ty: AbstractHeapType) -> &'static [AbstractHeapType]
     ensures { result.now ≡ kinds_above ty }
 {

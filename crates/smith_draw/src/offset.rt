@@ -5,9 +5,11 @@ ghost use Rattle.smith_draw.specs.Offsets.{offset_at};
 use crate::limits::gradually_grow;
 use smith_bytes::Unstructured;
 
-/// Draws where an active segment of the size `size` begins, in a table or a memory of at least `min` elements or bytes: a
-/// number of 0 to `max`, mostly near the start and such that the segment fits into `min`, or any if it does not fit. `min` is
-/// at most `max`.
+/// Draws the offset of an active segment of `size` elements or bytes, in a table or a memory of at least `min` elements or bytes.
+/// The offset is a number from 0 to `max`, mostly near 0 and such that the segment fits into `min`. The offset of a segment that
+/// is longer than `min` is any number from 0 to `max`.
+///
+/// `min` is at most `max`.
 #[tactic(auto, unfolding(crate::specs::Offsets::offset_at))]
 pub fn arbitrary_offset(min: u64, max: u64, size: usize, u: &mut Unstructured<'_>) -> u64
     requires { min ≤ max }

@@ -34,10 +34,10 @@ use smith_types::{SubType, TypeSpace};
 use std::alloc::Global;
 use std::ops::Range;
 
-/// Adds the type `added` at the end of `types`, and gives its index.
+/// Adds the type `added` at the end of `types`, and gives its index. The standard's section Structure, Recursive Types.
 ///
-/// The supertype of `added`, if there is one, stands and is of its kind and sharedness, and an index is left:
-/// [`TypeSpace::may_follow`] tells it.
+/// A supertype that `added` declares stands in `types`, and is of the kind and sharedness of `added`. `types` has fewer than 2^32
+/// - 1 types. [`TypeSpace::may_follow`] tells both.
 pub fn add_type(types: &mut TypeSpace, added: SubType) -> Result<u32, Error>
     requires { MayFollow types.old.types added }
     ensures ok { OnOk result (types.new ≡ record types.old { types = types.old.types ++ added ∷ [] }) }
@@ -49,7 +49,7 @@ pub fn add_type(types: &mut TypeSpace, added: SubType) -> Result<u32, Error>
     types.push_type(added)
 }
 
-/// Adds types until there are `limit`.
+/// Adds types to `types`, until there are `limit` types.
 #[tactic(auto, unfolding(crate::specs::RecGroups::types_until_at))]
 fn types_until(
     alloc: Global,
@@ -81,7 +81,7 @@ fn group_size(config: &Config, allow_empty: bool, most: usize, u: &mut Unstructu
     u.int_in_range(least..=most)
 }
 
-/// Adds a new group.
+/// Adds a new group to `types`, empty only where `allow_empty` is set.
 #[tactic(auto, unfolding(crate::specs::RecGroups::new_group_at))]
 fn new_group(
     alloc: Global,
@@ -102,7 +102,7 @@ fn new_group(
     Ok(())
 }
 
-/// Adds copies of the types of these indices.
+/// Adds copies of the types `start..end` of `types`.
 fn add_copies(alloc: Global, types: &mut TypeSpace, start: usize, end: usize) -> Result<(), Error>
     requires ordered { start ≤ end }
     requires inside { end ≤ length types.old.types }
@@ -117,7 +117,7 @@ fn add_copies(alloc: Global, types: &mut TypeSpace, start: usize, end: usize) ->
     Ok(())
 }
 
-/// A group, by its place among those that stand.
+/// The group at `place` among the groups of `types`.
 fn group_at(types: &TypeSpace, place: usize) -> Range<usize>
     requires { place < length types.now.groups }
     ensures value { result ≡ slice_index_or types.now.groups place (record { start = 0; end = 0 }) }
@@ -129,7 +129,7 @@ fn group_at(types: &TypeSpace, place: usize) -> Range<usize>
     group.start..group.end
 }
 
-/// Whether a group may be added again.
+/// Whether `group` may be added to `types` again.
 fn may_be_cloned(
     config: &Config,
     types: &TypeSpace,
@@ -143,7 +143,7 @@ fn may_be_cloned(
     (allow_empty || group.start < group.end) && group.end - group.start <= room
 }
 
-/// Adds a chosen group again, where it may be.
+/// Adds a chosen group of `types` again, where it may be, and gives whether it was added.
 #[tactic(auto, unfolding(crate::specs::RecGroups::clone_rec_group_at, crate::specs::Choices::chosen_at))]
 fn clone_group(
     alloc: Global,
@@ -170,7 +170,7 @@ fn clone_group(
     Ok(true)
 }
 
-/// Whether a clone is asked for.
+/// Whether a clone of a group of `types` is asked for.
 fn clone_wanted(config: &Config, types: &TypeSpace, u: &mut Unstructured<'_>) -> bool
     ensures draws { AlwaysDraws (clone_wanted_at config.now types.now u.old) result u.old u.new }
     ensures some { IsTrue result → 0 < length types.now.groups }
@@ -181,8 +181,8 @@ fn clone_wanted(config: &Config, types: &TypeSpace, u: &mut Unstructured<'_>) ->
     u.ratio(1u32, 255)
 }
 
-/// Adds a clone where one is asked for and may be added, else a new group; nothing where a clone may not be added and a group
-/// may be empty.
+/// Adds a clone where a draw asks for it, else a new group. In place of a clone that may not be added stands a new group, or
+/// nothing where `allow_empty` is set.
 #[tactic(auto, unfolding(crate::specs::RecGroups::rec_group_at))]
 fn rec_group(
     alloc: Global,
@@ -205,7 +205,7 @@ fn rec_group(
     new_group(alloc, config, types, allow_empty, u)
 }
 
-/// Adds groups while there are too few types.
+/// Adds groups while `types` has too few types.
 fn least_types(
     alloc: Global,
     config: &Config,
@@ -222,7 +222,7 @@ fn least_types(
     Ok(())
 }
 
-/// Adds groups while a bool asks for them.
+/// Adds groups while `types` may have more types and a bool asks for a group.
 fn more_types(
     alloc: Global,
     config: &Config,
@@ -256,10 +256,10 @@ fn all_types(
     more_types(alloc, config, types, u)
 }
 
-/// Adds a group again, chosen among those that stand, and gives whether it was added: not where it is empty and `allow_empty`
-/// is off, or has more types than there is room for.
+/// Adds a chosen group of `types` again, and gives whether it was added. A group is not added if it is empty and `allow_empty` is
+/// off, or if `types` would have more types than `config` allows. The standard's section Structure, Recursive Types.
 ///
-/// `config` passes its check, but for the pair of `min_imports` and `max_imports`, a group stands, and there are fewer types than
+/// `config` passes its check, but for the pair of `min_imports` and `max_imports`. `types` has a group, and fewer types than
 /// `config` allows. Valid types stay valid.
 pub fn clone_rec_group(
     alloc: Global,
@@ -283,11 +283,12 @@ pub fn clone_rec_group(
     clone_group(alloc, config, types, allow_empty, u)
 }
 
-/// Adds a group, of at least a type where `allow_empty` is off: without garbage collection of one type, with it a clone one
-/// time of 255. Where the clone may not be added and `allow_empty` is on, nothing is added.
+/// Adds a group to `types`: a new group, or with garbage collection in one case of 255 a clone. A new group is empty only where
+/// `allow_empty` is set, and of one type without garbage collection. Where a clone is not added, as [`clone_rec_group`] says,
+/// nothing takes its place if `allow_empty` is set, else a new group does. The standard's section Structure, Recursive Types.
 ///
-/// `config` is sanitised and passes its check, but for the pair of `min_imports` and `max_imports`, and there are fewer types
-/// than `config` allows. Valid types stay valid.
+/// `config` is sanitised and passes its check, but for the pair of `min_imports` and `max_imports`. `types` has fewer types than
+/// `config` allows. Valid types stay valid.
 pub fn arbitrary_rec_group(
     alloc: Global,
     config: &Config,
@@ -309,7 +310,8 @@ pub fn arbitrary_rec_group(
     rec_group(alloc, config, types, allow_empty, u)
 }
 
-/// Adds groups until at least `min_types` types stand, and then more, up to `max_types` types.
+/// Adds groups to `types` until there are at least `config.min_types` types, then more groups while bools ask for them, up to
+/// `config.max_types` types. The standard's section Structure, Recursive Types.
 ///
 /// `config` is sanitised and passes its check, but for the pair of `min_imports` and `max_imports`. Valid types stay valid.
 pub fn arbitrary_types(

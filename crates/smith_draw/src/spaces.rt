@@ -3,7 +3,7 @@ ghost use Rattle.smith_types.specs.Types.{IsOrderly};
 
 use smith_types::{GlobalType, MemoryType, TableType, TypeSpace};
 
-/// The index spaces that stand so far, but that of types: imported entities come first in each.
+/// The index spaces that stand so far, that of types aside. Imported entities come first in each.
 #[derive(Clone, Copy)]
 pub struct Entities<'a> {
     /// The type indices of the tags.
@@ -16,9 +16,9 @@ pub struct Entities<'a> {
     pub memories: &'a [MemoryType],
     /// The globals.
     pub globals: &'a [GlobalType],
-    /// How many of the functions are imported.
+    /// The number of imported functions.
     pub imported_funcs: usize,
-    /// How many of the globals are imported.
+    /// The number of imported globals.
     pub imported_globals: usize,
 }
 
@@ -45,15 +45,16 @@ impl<'a> Entities<'a> {
     }
 }
 
-/// The types and entities that a drawn value may refer to.
+/// The types and entities that a drawn type or expression may refer to.
 #[derive(Clone, Copy)]
 pub struct Spaces<'a> {
+    /// The types that stand.
     pub types: &'a TypeSpace,
-    /// The entities, over these types.
+    /// The entities, over the types of `types`.
     pub entities: Entities<'a>,
 }
 
-/// Tells that the types that stand are orderly, as those of every type space are.
+/// Tells that the types of `spaces` are orderly, as those of every type space are.
 pub(crate) fn orderly(spaces: &Spaces<'_>)
     ensures { IsOrderly spaces.now.types.now.types }
 {

@@ -46,7 +46,7 @@ fn is_final(config: &Config, u: &mut Unstructured<'_>) -> bool
     true
 }
 
-/// A type without a supertype.
+/// Draws a type without a supertype.
 #[tactic(auto, unfolding(crate::specs::SubTypes::root_type_at))]
 fn root_type(
     alloc: Global,
@@ -66,7 +66,7 @@ fn root_type(
     })
 }
 
-/// A type below the type of an index.
+/// Draws a type below the type `index`, or, if no type stands there, without a supertype.
 fn sub_type_below(
     alloc: Global,
     config: &Config,
@@ -92,7 +92,7 @@ fn sub_type_below(
     }
 }
 
-/// A type below one of the types of these indices.
+/// Draws a type below a chosen type of `indices`.
 #[tactic(auto, unfolding(crate::specs::SubTypes::sub_type_of_at))]
 fn sub_type_of(
     alloc: Global,
@@ -120,7 +120,7 @@ fn supertype_wanted(config: &Config, count: usize, u: &mut Unstructured<'_>) -> 
     u.ratio(1u32, 32)
 }
 
-/// A type below a supertype, or without one.
+/// Draws a type below a type that may have subtypes, or without a supertype.
 #[tactic(auto, unfolding(crate::specs::SubTypes::sub_type_at))]
 pub(crate) fn sub_type(
     alloc: Global,
@@ -138,10 +138,10 @@ pub(crate) fn sub_type(
     root_type(alloc, config, space.types(), limit, u)
 }
 
-/// Draws a subtype: below a type that may have subtypes, or without a supertype; without garbage collection a function type
-/// that is final and has none. The standard's section Structure, Recursive Types.
+/// Draws a subtype: below a type of `spaces` that may have subtypes, or without a supertype. Without garbage collection the
+/// subtype is a final function type without a supertype. The standard's section Structure, Recursive Types.
 ///
-/// `config` is sanitised. Over types that are valid so far, in a group that ends at `limit`, the subtype is valid.
+/// `config` is sanitised. The subtype is valid in a group that ends at `limit`, where the types of `spaces` are valid so far.
 pub fn arbitrary_sub_type(
     alloc: Global,
     config: &Config,
@@ -158,10 +158,11 @@ pub fn arbitrary_sub_type(
     sub_type(alloc, config, spaces.types, limit, u)
 }
 
-/// Draws a subtype below a type that may have subtypes. The standard's section Structure, Recursive Types.
+/// Draws a subtype below a type of `spaces` that may have subtypes. The standard's section Structure, Recursive Types.
 ///
-/// `config` is sanitised, with garbage collection on, and some type may have subtypes: it is not final, and its depth is
-/// below 60. Over types that are valid so far, in a group that ends at `limit`, the subtype is valid.
+/// `config` is sanitised, with garbage collection on. Some type of `spaces` may have subtypes: it is not final, and its depth is
+/// below 60. [`TypeSpace::extensible`] lists such types. The subtype is valid in a group that ends at `limit`, where the types of
+/// `spaces` are valid so far.
 pub fn arbitrary_sub_type_of_super_type(
     alloc: Global,
     config: &Config,

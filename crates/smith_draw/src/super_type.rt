@@ -65,7 +65,7 @@ fn super_val_type(
     Ok(ty)
 }
 
-/// A supertype for each value type, in order.
+/// Draws a supertype for each of `values`, in order.
 pub(crate) fn super_val_types(
     alloc: Global,
     config: &Config,
@@ -82,8 +82,8 @@ pub(crate) fn super_val_types(
     Ok(supertypes)
 }
 
-/// Draws a heap type above `ty`, among those that are offered; without garbage collection `ty` itself. The standard's section
-/// Validation, Matching, Heap Types.
+/// Draws a heap type above `ty`, over the types of `spaces`; without garbage collection `ty` itself. The standard's section
+/// Validation, Matching, Heap Types, with the rules of this project as in [`TypeSpace::heap_type_is_sub_type`].
 pub fn arbitrary_super_type_of_heap_type(
     alloc: Global,
     config: &Config,
@@ -102,7 +102,8 @@ pub fn arbitrary_super_type_of_heap_type(
     super_heap_type(alloc, config, spaces.types, ty, u)
 }
 
-/// Draws a reference type above `ty`, nullable. The standard's section Validation, Matching, Reference Types.
+/// Draws a nullable reference type above `ty`, over the types of `spaces`. The standard's section Validation, Matching, Reference
+/// Types, over heap types as in [`TypeSpace::heap_type_is_sub_type`].
 pub fn arbitrary_super_type_of_ref_type(
     alloc: Global,
     config: &Config,
@@ -121,7 +122,8 @@ pub fn arbitrary_super_type_of_ref_type(
     super_ref_type(alloc, config, spaces.types, ty, u)
 }
 
-/// Draws a value type above `ty`; a number or a vector is `ty` itself. The standard's section Validation, Matching, Value Types.
+/// Draws a value type above `ty`, over the types of `spaces`; a number or a vector is `ty` itself. The standard's section
+/// Validation, Matching, Value Types, over heap types as in [`TypeSpace::heap_type_is_sub_type`].
 pub fn arbitrary_super_type_of_val_type(
     alloc: Global,
     config: &Config,

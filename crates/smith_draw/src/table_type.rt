@@ -17,7 +17,7 @@ use smith_config::Config;
 use smith_types::{TableType, TypeSpace, most_elements_of};
 use std::alloc::Global;
 
-/// The most elements that are drawn of a table: no more than are configured, but at least one where nothing may trap.
+/// The greatest number of elements of a drawn table: at most what `config` allows, but at least 1 where nothing may trap.
 #[tactic(auto, unfolding(crate::specs::TableTypes::drawn_elements))]
 fn drawn_elements(config: &Config, table64: bool) -> u64
     ensures exact { result ≡ drawn_elements config.now table64 }
@@ -55,12 +55,13 @@ fn table_type(config: &Config, types: &TypeSpace, u: &mut Unstructured<'_>) -> T
     }
 }
 
-/// Draws a table type within the configured elements, of nullable references over the types of `spaces`, and shared as these
-/// are. The standard's section Structure, Table Types.
+/// Draws a table type of nullable references over the types of `spaces`. Its limits, in elements, stay within the number that
+/// `config` allows, but for a single element where nothing may trap. The table is shared where its references are. The standard's
+/// section Structure, Table Types.
 ///
-/// `config` is sanitised. Over valid types the table type is valid.
+/// `config` is sanitised. The table type is valid where the types of `spaces` are.
 ///
-/// Always `Ok`, since no memory is taken: the drawing calls of entities have one form.
+/// The result is always `Ok`, since no memory is taken: all draws of entities give a `Result`.
 pub fn arbitrary_table_type(
     _alloc: Global,
     config: &Config,

@@ -11,14 +11,14 @@ use smith_config::Config;
 use smith_types::{CompositeInnerType, Items, SubType};
 use std::alloc::Global;
 
-/// What a function type is to be used for.
+/// The use of a function type.
 #[derive(Clone, Copy)]
 pub enum TypeUse {
-    /// By a tag: function types without results.
+    /// For a tag: a function type without results.
     Tag,
-    /// By an imported function: all function types.
+    /// For an imported function: any function type.
     ImportedFunc,
-    /// By a function that is defined: types of functions that are not shared.
+    /// For a defined function: a function type that is not shared.
     DefinedFunc,
 }
 
@@ -61,7 +61,7 @@ fn may_be_used(for_use: TypeUse, t: &SubType) -> bool
     }
 }
 
-/// Counts the types among `types` that `for_use` may use.
+/// Counts the types of `types` that are right for `for_use`.
 pub fn count_types(for_use: TypeUse, types: &[SubType]) -> usize
     ensures { result ≡ length (types_for for_use types.now) }
 {
@@ -74,7 +74,7 @@ pub fn count_types(for_use: TypeUse, types: &[SubType]) -> usize
     count
 }
 
-/// Lists the indices of the types among `types` that `for_use` may use. There are fewer than 2^32 types.
+/// Lists the indices of the types of `types` that are right for `for_use`, in ascending order. `types` has fewer than 2^32 types.
 pub fn list_types(alloc: Global, for_use: TypeUse, types: &[SubType]) -> Result<Items<u32>, Error>
     requires few { length types.now < 2 ^ 32 }
     ensures exact { IfOk result (λ indices. indices ≡ types_for for_use types.now) }
@@ -89,7 +89,7 @@ pub fn list_types(alloc: Global, for_use: TypeUse, types: &[SubType]) -> Result<
     Ok(indices)
 }
 
-/// The index of the type at a place among those that may be used.
+/// The index of the type at `place` among those of `types` that are right for `for_use`.
 fn type_at(for_use: TypeUse, types: &[SubType], mut place: usize) -> u32
     requires { length types.now < 2 ^ 32 }
     ensures { result ≡ slice_index_or (types_for for_use types.now) place 0 }
@@ -106,8 +106,9 @@ fn type_at(for_use: TypeUse, types: &[SubType], mut place: usize) -> u32
     0
 }
 
-/// Chooses the index of a type among those of `types` that `for_use` may use. There is such a type, and there are fewer than
-/// 2^32 types.
+/// Chooses a type of `types` that is right for `for_use`, and gives its index.
+///
+/// Some type of `types` is right for `for_use`: [`count_types`] tells it. `types` has fewer than 2^32 types.
 #[tactic(auto, unfolding(crate::specs::Choices::chosen_at))]
 pub fn choose_type(for_use: TypeUse, types: &[SubType], u: &mut Unstructured<'_>) -> u32
     requires few { length types.now < 2 ^ 32 }
@@ -120,12 +121,12 @@ pub fn choose_type(for_use: TypeUse, types: &[SubType], u: &mut Unstructured<'_>
     type_at(for_use, types, place)
 }
 
-/// Draws the type of a tag: the index of a function type without results among the types of `spaces`. The standard's section
+/// Draws the type of a tag: the index of a function type without results, among the types of `spaces`. The standard's section
 /// Structure, Tag Types.
 ///
-/// There is such a type: [`count_types`] tells it.
+/// Some type of `spaces` is such a function type: [`count_types`] tells it.
 ///
-/// Always `Ok`, since no memory is taken: the drawing calls of entities have one form.
+/// The result is always `Ok`, since no memory is taken: all draws of entities give a `Result`.
 pub fn arbitrary_tag_type(
     _alloc: Global,
     _config: &Config,

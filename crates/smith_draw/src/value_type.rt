@@ -34,7 +34,7 @@ use smith_config::Config;
 use smith_types::{AbstractHeapType, HeapType, RefType, SubType, ValType};
 use std::alloc::Global;
 
-/// What is chosen first of a value type.
+/// The class of a value type, which is chosen first.
 #[derive(Clone, Copy)]
 enum ValueClass {
     I32,
@@ -58,7 +58,7 @@ pub(crate) fn sharedness(config: &Config, must_share: bool, u: &mut Unstructured
     false
 }
 
-/// The abstract heap types that are enabled.
+/// The abstract heap types that are drawn under `config`.
 fn abstract_heap_types(config: &Config) -> &'static [AbstractHeapType]
     ensures { result.now ≡ enabled (abstract_heap_types config.now) }
 {
@@ -90,7 +90,7 @@ fn abstract_heap_type(config: &Config, must_share: bool, u: &mut Unstructured<'_
     HeapType::Abstract { shared, ty }
 }
 
-/// Whether a type index is asked for.
+/// Whether the index of a type below `limit` is asked for.
 fn index_wanted(config: &Config, limit: u32, u: &mut Unstructured<'_>) -> bool
     ensures draws { AlwaysDraws (index_wanted_at config.now limit u.old) result u.old u.new }
     ensures below { IsTrue result → 0 < limit }
@@ -101,7 +101,7 @@ fn index_wanted(config: &Config, limit: u32, u: &mut Unstructured<'_>) -> bool
     u.arbitrary()
 }
 
-/// The index, if its type stands and is shared where it must be.
+/// Gives `index`, if its type stands, and is shared where `must_share` is set.
 fn kept_index(types: &[SubType], must_share: bool, index: u32) -> Option<u32>
     ensures { result ≡ kept_index must_share index (slice_get types.now index) }
 {
@@ -117,7 +117,7 @@ fn kept_index(types: &[SubType], must_share: bool, index: u32) -> Option<u32>
     }
 }
 
-/// The index of a type below the limit, where one is asked for and kept.
+/// Draws the index of a type below `limit`, if a bool asks for it and the index is kept.
 #[tactic(auto, unfolding(crate::specs::ValueTypes::type_index_at))]
 fn type_index(
     config: &Config,
@@ -175,7 +175,7 @@ pub(crate) fn ref_type(
     }
 }
 
-/// The classes of the value types that are enabled.
+/// The classes of the value types that `config` enables.
 fn value_classes(config: &Config) -> &'static [ValueClass]
     ensures { result.now ≡ enabled (value_classes config.now) }
 {
@@ -227,12 +227,12 @@ pub(crate) fn val_type(
     value_of_class(config, types, must_share, limit, class, u)
 }
 
-/// Draws a heap type: a type below `limit` that stands, or an abstract heap type that is enabled; a shared heap type where
-/// `must_share` is set. The standard's section Structure, Heap Types.
+/// Draws a heap type: a type of `spaces` below `limit`, or an abstract heap type that `config` enables. The heap type is shared
+/// where `must_share` is set. The standard's section Structure, Heap Types.
 ///
-/// `config` is sanitised, and `must_share` is set only where types may be shared.
+/// `config` is sanitised, and `must_share` is set only where `config` allows shared types.
 ///
-/// Nothing is refused, since no memory is taken: the `Result` is the form of the drawing calls.
+/// The result is always `Ok`, since no memory is taken: all draws of types give a `Result`.
 pub fn arbitrary_heap_type(
     _alloc: Global,
     config: &Config,
@@ -252,11 +252,13 @@ pub fn arbitrary_heap_type(
     Ok(heap_type(config, spaces.types.types(), must_share, limit, u))
 }
 
-/// Draws a reference type, nullable. The standard's section Structure, Reference Types.
+/// Draws a nullable reference type, which is `funcref` where `config` has reference types off. The standard's section Structure,
+/// Reference Types.
 ///
-/// `config` is sanitised, and `must_share` is set only where types may be shared. The type refers to types below `limit`.
+/// `config` is sanitised, and `must_share` is set only where `config` allows shared types. The reference type refers only to
+/// types of `spaces` below `limit`, and only to shared types where `must_share` is set.
 ///
-/// Nothing is refused, since no memory is taken: the `Result` is the form of the drawing calls.
+/// The result is always `Ok`, since no memory is taken: all draws of types give a `Result`.
 pub fn arbitrary_ref_type(
     _alloc: Global,
     config: &Config,
@@ -276,11 +278,12 @@ pub fn arbitrary_ref_type(
     Ok(ref_type(config, spaces.types.types(), must_share, limit, u))
 }
 
-/// Draws a value type among those that are enabled. The standard's section Structure, Value Types.
+/// Draws a value type that `config` enables. The standard's section Structure, Value Types.
 ///
-/// `config` is sanitised, and `must_share` is set only where types may be shared. The type refers to types below `limit`.
+/// `config` is sanitised, and `must_share` is set only where `config` allows shared types. The value type refers only to types of
+/// `spaces` below `limit`, and only to shared types where `must_share` is set.
 ///
-/// Nothing is refused, since no memory is taken: the `Result` is the form of the drawing calls.
+/// The result is always `Ok`, since no memory is taken: all draws of types give a `Result`.
 pub fn arbitrary_valtype(
     _alloc: Global,
     config: &Config,

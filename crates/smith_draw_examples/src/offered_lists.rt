@@ -34,7 +34,14 @@ fn shared_subtypes()
         ≡ Abstract true heap.Eq ∷ Abstract true heap.Struct ∷ Abstract true heap.Array ∷ Abstract true heap.I31 ∷ Abstract true heap.None ∷ Concrete 4 ∷ Concrete 3 ∷ [] }
     ensures of_struct { subtypes_offered default_config of_each_kind (Abstract true heap.Struct) ≡ Abstract true heap.Struct ∷ Abstract true heap.Struct ∷ Abstract true heap.None ∷ Concrete 3 ∷ [] }
     ensures of_array { subtypes_offered default_config of_each_kind (Abstract true heap.Array) ≡ Abstract true heap.Array ∷ Abstract true heap.Array ∷ Abstract true heap.None ∷ Concrete 4 ∷ [] }
+    ensures of_i31 { subtypes_offered default_config of_each_kind (Abstract true heap.I31) ≡ Abstract true heap.I31 ∷ Abstract true heap.None ∷ [] }
+    ensures of_none { subtypes_offered default_config of_each_kind (Abstract true heap.None) ≡ Abstract true heap.None ∷ [] }
     ensures of_func { subtypes_offered default_config of_each_kind (Abstract true heap.Func) ≡ Abstract true heap.Func ∷ Abstract true heap.NoFunc ∷ Concrete 5 ∷ [] }
+    ensures of_nofunc { subtypes_offered default_config of_each_kind (Abstract true heap.NoFunc) ≡ Abstract true heap.NoFunc ∷ [] }
+    ensures of_extern { subtypes_offered default_config of_each_kind (Abstract true heap.Extern) ≡ Abstract true heap.Extern ∷ Abstract true heap.NoExtern ∷ [] }
+    ensures of_noextern { subtypes_offered default_config of_each_kind (Abstract true heap.NoExtern) ≡ Abstract true heap.NoExtern ∷ [] }
+    ensures of_exn { subtypes_offered default_config of_each_kind (Abstract true heap.Exn) ≡ Abstract true heap.Exn ∷ [] }
+    ensures of_noexn { subtypes_offered default_config of_each_kind (Abstract true heap.NoExn) ≡ Abstract true heap.NoExn ∷ [] }
 {}
 
 #[tactic(auto, unfolding(smith_draw::specs::Offered::subtypes_offered))]
@@ -43,6 +50,7 @@ fn subtypes_of_types()
     ensures of_an_array { subtypes_offered default_config of_each_kind (Concrete 1) ≡ Concrete 1 ∷ plain heap.None ∷ [] }
     ensures of_a_function { subtypes_offered default_config of_each_kind (Concrete 2) ≡ Concrete 2 ∷ plain heap.NoFunc ∷ [] }
     ensures of_a_shared_struct { subtypes_offered default_config of_each_kind (Concrete 3) ≡ Concrete 3 ∷ Abstract true heap.None ∷ [] }
+    ensures of_a_shared_array { subtypes_offered default_config of_each_kind (Concrete 4) ≡ Concrete 4 ∷ Abstract true heap.None ∷ [] }
     ensures of_a_shared_function { subtypes_offered default_config of_each_kind (Concrete 5) ≡ Concrete 5 ∷ Abstract true heap.NoFunc ∷ [] }
     ensures direct_ones_alone { subtypes_offered default_config (chain 2) (Concrete 0) ≡ Concrete 0 ∷ Concrete 1 ∷ plain heap.None ∷ [] }
     ensures of_an_exact_type { subtypes_offered default_config struct_and_below (Exact 0) ≡ Exact 0 ∷ [] }
@@ -67,10 +75,19 @@ fn supertypes()
 
 #[tactic(auto, unfolding(smith_draw::specs::Offered::supertypes_offered))]
 fn shared_supertypes()
+    ensures of_any { supertypes_offered default_config of_each_kind (Abstract true heap.Any) ≡ Abstract true heap.Any ∷ [] }
+    ensures of_eq { supertypes_offered default_config of_each_kind (Abstract true heap.Eq) ≡ Abstract true heap.Eq ∷ Abstract true heap.Any ∷ [] }
     ensures of_struct { supertypes_offered default_config of_each_kind (Abstract true heap.Struct) ≡ Abstract true heap.Struct ∷ Abstract true heap.Any ∷ Abstract true heap.Eq ∷ [] }
     ensures of_none { supertypes_offered default_config of_each_kind (Abstract true heap.None)
         ≡ Abstract true heap.None ∷ Abstract true heap.Any ∷ Abstract true heap.Eq ∷ Abstract true heap.Struct ∷ Abstract true heap.Array ∷ Abstract true heap.I31 ∷ Concrete 4 ∷ Concrete 3 ∷ [] }
+    ensures of_array { supertypes_offered default_config of_each_kind (Abstract true heap.Array) ≡ Abstract true heap.Array ∷ Abstract true heap.Any ∷ Abstract true heap.Eq ∷ [] }
+    ensures of_i31 { supertypes_offered default_config of_each_kind (Abstract true heap.I31) ≡ Abstract true heap.I31 ∷ Abstract true heap.Any ∷ Abstract true heap.Eq ∷ [] }
+    ensures of_func { supertypes_offered default_config of_each_kind (Abstract true heap.Func) ≡ Abstract true heap.Func ∷ [] }
     ensures of_nofunc { supertypes_offered default_config of_each_kind (Abstract true heap.NoFunc) ≡ Abstract true heap.NoFunc ∷ Abstract true heap.Func ∷ Concrete 5 ∷ [] }
+    ensures of_extern { supertypes_offered default_config of_each_kind (Abstract true heap.Extern) ≡ Abstract true heap.Extern ∷ [] }
+    ensures of_noextern { supertypes_offered default_config of_each_kind (Abstract true heap.NoExtern) ≡ Abstract true heap.NoExtern ∷ Abstract true heap.Extern ∷ [] }
+    ensures of_exn { supertypes_offered default_config of_each_kind (Abstract true heap.Exn) ≡ Abstract true heap.Exn ∷ [] }
+    ensures of_noexn { supertypes_offered default_config of_each_kind (Abstract true heap.NoExn) ≡ Abstract true heap.NoExn ∷ Abstract true heap.Exn ∷ [] }
 {}
 
 #[tactic(auto, unfolding(smith_draw::specs::Offered::supertypes_offered, smith_draw::specs::Offered::ancestors))]
@@ -78,7 +95,9 @@ fn supertypes_of_types()
     ensures of_a_struct { supertypes_offered default_config of_each_kind (Concrete 0) ≡ Concrete 0 ∷ plain heap.Any ∷ plain heap.Eq ∷ plain heap.Struct ∷ [] }
     ensures of_an_array { supertypes_offered default_config of_each_kind (Concrete 1) ≡ Concrete 1 ∷ plain heap.Any ∷ plain heap.Eq ∷ plain heap.Array ∷ [] }
     ensures of_a_function { supertypes_offered default_config of_each_kind (Concrete 2) ≡ Concrete 2 ∷ plain heap.Func ∷ [] }
+    ensures of_a_shared_struct { supertypes_offered default_config of_each_kind (Concrete 3) ≡ Concrete 3 ∷ Abstract true heap.Any ∷ Abstract true heap.Eq ∷ Abstract true heap.Struct ∷ [] }
     ensures of_a_shared_array { supertypes_offered default_config of_each_kind (Concrete 4) ≡ Concrete 4 ∷ Abstract true heap.Any ∷ Abstract true heap.Eq ∷ Abstract true heap.Array ∷ [] }
+    ensures of_a_shared_function { supertypes_offered default_config of_each_kind (Concrete 5) ≡ Concrete 5 ∷ Abstract true heap.Func ∷ [] }
     ensures nearest_first { supertypes_offered default_config (chain 2) (Concrete 2)
         ≡ Concrete 2 ∷ plain heap.Any ∷ plain heap.Eq ∷ plain heap.Struct ∷ Concrete 1 ∷ Concrete 0 ∷ [] }
 {}

@@ -20,7 +20,7 @@ use smith_types::{
 use std::alloc::Global;
 use std::test::Fail;
 
-// The defaults with that much fuel, and with arrays limited by it or not.
+// The defaults with the fuel `fuel`, by which arrays are limited where `limited` is set.
 fn settled(fuel: u32, limited: bool) -> Result<Config, Error>
     ensures passes { IfOk result Passes }
     ensures sanitized { IfOk result IsSanitized }
@@ -150,12 +150,12 @@ fn external(alloc: Global, fuel: u32) -> Result<Answer, Fail> {
     )
 }
 
-// Whether with that much fuel it is of these instructions.
+// Whether with the fuel `fuel` such a reference is made by the instructions `want`.
 fn is_external(alloc: Global, fuel: u32, want: &[ConstInstr]) -> Result<bool, Fail> {
     Ok(told(external(alloc, fuel)?, |made| is_of(made, want)))
 }
 
-// Why there is none with that much fuel, if there is none.
+// Why no such reference is made with the fuel `fuel`, if none is.
 fn external_refusal(alloc: Global, fuel: u32) -> Result<Option<Error>, Fail> {
     Ok(external(alloc, fuel)?.err())
 }
@@ -238,6 +238,35 @@ fn of_limited_array(alloc: Global, fuel: u32, input: &[u8]) -> Result<Answer, Fa
     )
 }
 
+// Whether such an array is made by these instructions.
+fn is_limited_array(alloc: Global, input: &[u8], want: &[ConstInstr]) -> Result<bool, Fail> {
+    Ok(told(
+        of_limited_array(alloc, 50, input)?,
+        |made| is_of(made, want),
+    ))
+}
+
+#[test]
+fn arrays_of_given_bytes(rt: HostRuntime) -> Result<(), Fail> {
+    let one_byte_often = [
+        ConstInstr::I32Const(9),
+        ConstInstr::I32Const(5),
+        ConstInstr::ArrayNew(0),
+    ];
+    assert!(rt; is_limited_array(rt.alloc(), &[1, 0, 9, 0, 0, 0, 5], &one_byte_often)?);
+    let two_bytes = [
+        ConstInstr::I32Const(9),
+        ConstInstr::I32Const(8),
+        ConstInstr::ArrayNewFixed {
+            array_type_index: 0,
+            array_size: 2,
+        },
+    ];
+    let input = [2, 2, 0, 9, 0, 0, 0, 0, 8, 0, 0, 0];
+    assert!(rt; is_limited_array(rt.alloc(), &input, &two_bytes)?);
+    Ok(())
+}
+
 // Whether an array of this length is made of bytes.
 fn is_of_length(alloc: Global, fuel: u32, input: &[u8], length: i32) -> Result<bool, Fail> {
     let want = [ConstInstr::I32Const(length), ConstInstr::ArrayNewDefault(0)];
@@ -262,7 +291,7 @@ fn limited_arrays(rt: HostRuntime) -> Result<(), Fail> {
 // The initialiser of a table, and how many bytes it leaves.
 type Initial = (Option<Items<ConstInstr>>, usize);
 
-// That of a table of functions or null, drawn twice.
+// The initialiser of a table of functions or null, drawn twice.
 fn of_functions_under(alloc: Global, config: &Config, input: &[u8]) -> Result<Initial, Fail>
     requires passes { Passes config.now }
     requires sanitized { IsSanitized config.now }
@@ -304,7 +333,7 @@ fn initialisers_of_tables(rt: HostRuntime) -> Result<(), Fail> {
     Ok(())
 }
 
-// That of a table of i31 that holds no null, drawn twice.
+// The initialiser of a table of i31 that holds no null, drawn twice.
 fn of_numbers_under(alloc: Global, config: &Config, input: &[u8]) -> Result<Initial, Fail>
     requires passes { Passes config.now }
     requires sanitized { IsSanitized config.now }

@@ -160,7 +160,7 @@ fn func_type(alloc: Global, fewer: bool, input: &[u8]) -> Result<(FuncType, usiz
     )
 }
 
-// Whether a drawn function type takes and gives these, and how many bytes it leaves.
+// Whether a drawn function type takes `params` and gives `results`, and how many bytes it leaves.
 fn is_func_type(
     alloc: Global,
     fewer: bool,
@@ -201,7 +201,7 @@ fn locals(rt: HostRuntime) -> Result<(), Fail> {
     Ok(())
 }
 
-// Whether these are a type of functions that give an i64, and one of functions that give nothing, in groups of one.
+// Whether `types` are a function type that gives an i64 and a function type that gives nothing, each in a group of its own.
 fn are_two_groups(types: &TypeSpace) -> bool {
     let are_functions = match types.types() {
         [first, second] => is_function(first, &[], &[ValType::I64])

@@ -31,7 +31,7 @@ const fn plain(ty: AbstractHeapType) -> HeapType {
     HeapType::Abstract { shared: false, ty }
 }
 
-// A heap type below one that is drawn twice, and how many bytes are left.
+// A heap type below `ty`, drawn twice, and how many bytes are left.
 fn below(
     alloc: Global,
     config: &Config,
@@ -47,7 +47,7 @@ fn below(
     same((first, u.len()), (second, again.len()))
 }
 
-// A heap type above one, drawn twice.
+// A heap type above `ty`, drawn twice.
 fn above_under(
     alloc: Global,
     config: &Config,
@@ -71,7 +71,7 @@ fn above(alloc: Global, ty: HeapType, input: &[u8]) -> Result<HeapType, Fail> {
     )
 }
 
-// A heap type below one by the defaults, with exact references, and without garbage collection.
+// A heap type below `ty` by the defaults, with exact references, and without garbage collection.
 fn below_by_default(alloc: Global, ty: HeapType, input: &[u8]) -> Result<(HeapType, usize), Fail> {
     told(Config::default(), |config| below(alloc, config, ty, input))
 }
@@ -161,7 +161,7 @@ const fn reference(index: u32) -> RefType {
     }
 }
 
-// From an i32 and the second struct to the first.
+// A function type from an i32 and the second struct to the first.
 fn from_second_to_first(alloc: Global) -> Result<FuncType, Error> {
     let mut params = Items::new(alloc);
     params.push(ValType::I32)?;
@@ -171,7 +171,7 @@ fn from_second_to_first(alloc: Global) -> Result<FuncType, Error> {
     Ok(FuncType { params, results })
 }
 
-// A function type that matches it, drawn twice.
+// A function type that matches that type, drawn twice.
 fn function_below_under(alloc: Global, config: &Config) -> Result<FuncType, Fail> {
     let types = two_structs(alloc)?;
     let spaces = spaces_of(&types);
@@ -203,7 +203,7 @@ fn function_types(rt: HostRuntime) -> Result<(), Fail> {
     Ok(())
 }
 
-// A field of a reference to the first struct.
+// A field of a reference to the struct `index`.
 const fn field(mutable: bool, index: u32) -> FieldType {
     FieldType {
         element_type: StorageType::Val(ValType::Ref(reference(index))),
@@ -211,7 +211,7 @@ const fn field(mutable: bool, index: u32) -> FieldType {
     }
 }
 
-// A field that matches one, drawn twice.
+// A field that matches `field`, drawn twice.
 fn field_below_under(alloc: Global, config: &Config, field: FieldType) -> Result<FieldType, Fail> {
     let types = two_structs(alloc)?;
     let spaces = spaces_of(&types);

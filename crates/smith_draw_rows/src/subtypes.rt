@@ -32,7 +32,7 @@ fn settled(gc: bool) -> Result<Config, Error>
     Ok(config)
 }
 
-// One more type behind these, in a group that ends with them.
+// A further type behind `types`, in a group that ends with these.
 fn one_more(
     alloc: Global,
     config: &Config,
@@ -68,7 +68,7 @@ fn a_subtype_without_gc(rt: HostRuntime) -> Result<(), Fail> {
     Ok(())
 }
 
-// One more type below some of these, where the first may have subtypes.
+// A further type below one of `types`, where the first of these may have subtypes.
 fn one_below(
     alloc: Global,
     config: &Config,
@@ -88,7 +88,7 @@ fn one_below(
     Ok(Some(drawn))
 }
 
-// Whether a type is final and directly below the one of an index.
+// Whether `ty` is final and directly below the type `index`.
 fn is_last_below(ty: &SubType, index: u32) -> bool {
     ty.is_final && ty.supertype == Some(index)
 }
@@ -169,14 +169,25 @@ fn a_group_is_added_again(rt: HostRuntime) -> Result<(), Fail> {
     Ok(())
 }
 
-// A struct type that matches one without fields.
+// A constant byte, and a mutable one.
+const BYTE: FieldType = FieldType {
+    element_type: StorageType::I8,
+    mutable: false,
+};
+
+const MUTABLE_BYTE: FieldType = FieldType {
+    element_type: StorageType::I8,
+    mutable: true,
+};
+
+// A struct type that matches one of a constant byte.
 fn extended(alloc: Global, config: &Config, input: &[u8]) -> Result<StructType, Error>
     requires sanitized { IsSanitized config.now }
     requires gc { IsTrue config.now.gc_enabled }
 {
     let types = TypeSpace::new(alloc);
     let structure = StructType {
-        fields: Items::new(alloc),
+        fields: Items::from_slice(alloc, &[BYTE])?,
     };
     let mut u = Unstructured::new(input);
     arbitrary_matching_struct_type(
@@ -190,7 +201,7 @@ fn extended(alloc: Global, config: &Config, input: &[u8]) -> Result<StructType, 
     )
 }
 
-// Whether the one field that these bytes draw for it, twice, is a mutable byte.
+// Whether the field that these bytes draw behind it, twice, is a mutable byte.
 fn has_a_byte_under(alloc: Global, config: &Config) -> Result<bool, Fail>
     requires sanitized { IsSanitized config.now }
     requires gc { IsTrue config.now.gc_enabled }
@@ -198,11 +209,7 @@ fn has_a_byte_under(alloc: Global, config: &Config) -> Result<bool, Fail>
     let first = extended(alloc, config, &[1, 0, 1])?;
     let second = extended(alloc, config, &[1, 0, 1])?;
     let StructType { fields } = same(first, second)?;
-    let expected = [FieldType {
-        element_type: StorageType::I8,
-        mutable: true,
-    }];
-    Ok(fields.as_slice() == expected.as_slice())
+    Ok(fields.as_slice() == [BYTE, MUTABLE_BYTE].as_slice())
 }
 
 fn has_a_byte(alloc: Global) -> Result<bool, Fail> {

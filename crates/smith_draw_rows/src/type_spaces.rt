@@ -13,7 +13,7 @@ use smith_draw::{Entities, Spaces, add_type, arbitrary_types};
 use smith_types::{SubType, TypeSpace, ValType};
 use std::alloc::Global;
 
-/// These types, without entities.
+/// The types `types`, without entities.
 pub(crate) fn spaces_of<'a>(types: &'a TypeSpace) -> Spaces<'a>
     ensures types { result.types.now ≡ types.now }
     ensures functions { result.entities.funcs.now ≡ [] }
@@ -26,7 +26,7 @@ pub(crate) fn spaces_of<'a>(types: &'a TypeSpace) -> Spaces<'a>
     }
 }
 
-/// The types that bytes give.
+/// Draws types from the bytes `input`. `config` passes its check and is sanitised.
 #[tactic(auto, using(smith_types::proofs::ValidityLemmas::no_types, smith_draw::proofs::CallerLemmas::passes_but_imports))]
 pub(crate) fn types_from(alloc: Global, config: &Config, input: &[u8]) -> Result<TypeSpace, Error>
     requires passes { Passes config.now }
@@ -51,7 +51,7 @@ fn add(types: &mut TypeSpace, added: SubType) -> Result<(), Error> {
     Ok(())
 }
 
-/// A struct type, and three of functions, of which the second alone gives something.
+/// Makes a struct type and three function types, of which the second alone has a result.
 pub(crate) fn three_functions(alloc: Global) -> Result<TypeSpace, Error> {
     let mut types = TypeSpace::new(alloc);
     add(&mut types, empty_struct(alloc, true, None))?;

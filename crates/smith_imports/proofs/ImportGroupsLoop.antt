@@ -9,7 +9,7 @@ use Rattle.smith_types.specs.Imports.{flattened}
 use Rattle.smith_config.specs.declared.config.Config.{Config}
 use Rattle.smith_imports.specs.Importing.{group_at, groups_at}
 
--- that many turns suffice, and the groups that are added from here on complete the whole
+-- `turns` turns suffice, and the groups that are added from here on complete the whole
 pub record IsGrouping (config : Config) (types : List SubType) (distinct : Bool) (made : List Imports) (count : ℕ) (start bytes : List ℕ) (total : List Imports × List ℕ) : Type 0 where
   pub turns : ℕ
   pub count_is : count ≡ length (flattened made)

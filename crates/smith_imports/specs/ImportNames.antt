@@ -22,7 +22,7 @@ abbrev pub longest_name : List Import → ℕ
 longest_name [] = 0
 longest_name (one ∷ imports) = max (length one.name) (longest_name imports)
 
--- a name with these digits behind it as often as it takes until the name is not taken, but at most that often
+-- a name with these digits behind it as often as it takes until the name is not taken, but at most `most` times
 unfoldable pub new_name : (List ℕ → Bool) → List ℕ → ℕ → List ℕ → List ℕ
 new_name taken digits zero name = name
 new_name taken digits (suc most) name = if taken name then new_name taken digits most (name ++ digits) else name

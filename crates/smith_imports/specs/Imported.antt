@@ -139,7 +139,7 @@ IsOffered config types spaces of_kind = (may_import config types of_kind && has_
 abbrev pub MayEndAt : Config → IndexSpaces → ℕ → Type 0
 MayEndAt config spaces size = (config.max_type_size < size + 42) ⊎ ((of_kind : ExportKind) × (has_room config spaces of_kind ≡ false))
 
--- imports may end where there are as many as this: one more may be too large beside them, or they may fill some kind
+-- imports may end where there are `count`: another may be too large beside them, or they may fill some kind
 abbrev pub MayEnd : Config → ℕ → Type 0
 MayEnd config count =
     (config.max_type_size < 42 * (count + 1))

@@ -37,7 +37,7 @@ abbrev pub next_entity_at : Config → List SubType → IndexSpaces → ℕ → 
 next_entity_at config types spaces size (Compact2 from entity_type names) bytes = (again config types spaces size entity_type, bytes)
 next_entity_at config types spaces size _ bytes = entity_at config types spaces size bytes
 
--- a compact group behind other imports, with at most that many imports more: whether imports go on, the group, and the bytes
+-- a compact group behind other imports, with at most `most` imports more: whether imports go on, the group, and the bytes
 unfoldable pub fill_at : Config → List SubType → Bool → List Import → ℕ → Imports → List ℕ → Bool × (Imports × List ℕ)
 fill_at config types distinct before zero group bytes = (true, (group, bytes))
 fill_at config types distinct before (suc most) group bytes =
@@ -49,7 +49,7 @@ fill_at config types distinct before (suc most) group bytes =
     then option_map_or (λ added. fill_at config types distinct before most (with_import group name.0 added) name.1) next.0 (false, (group, next.1))
     else (true, (group, go.1))
 
--- groups with one more behind them, unless this has no import
+-- groups with another behind them, unless that has no import
 abbrev pub with_filled : List Imports → Imports → List Imports
 with_filled made group = if length (imports_of group) == 0 then made else made ++ group ∷ []
 
@@ -79,7 +79,7 @@ group_at config types distinct made bytes =
     let from = text_at 1000 drawn.1 in
     group_of_kind_at config types distinct made from.0 drawn.0 from.1
 
--- at most that many groups more, while there is room and imports go on
+-- at most `turns` groups more, while there is room and imports go on
 unfoldable pub groups_at : Config → List SubType → Bool → ℕ → List Imports → List ℕ → List Imports × List ℕ
 groups_at config types distinct zero made bytes = (made, bytes)
 groups_at config types distinct (suc turns) made bytes =

@@ -17,7 +17,10 @@ use smith_config::{Config, Shape};
 use smith_types::TypeSpace;
 use std::alloc::Global;
 
-/// The types of a shape, and of its imports those that the bytes pick and that fit, in groups of drawn kinds.
+/// Takes the types of `shape`, and of its imports those that drawn bools pick and that fit, in groups of drawn kinds.
+///
+/// An import fits where it stays within the maximums and the type size of `config`; a tag needs exceptions too.
+/// `shape` passes [`Shape::check`] as available imports for `config`.
 #[tactic(auto, unfolding(crate::specs::AvailableImports::available_at))]
 pub fn available_imports(
     alloc: Global,

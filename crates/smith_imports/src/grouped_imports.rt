@@ -12,7 +12,7 @@ use smith_config::Config;
 use smith_types::{Import, ImportItem, Imports, Items};
 use std::alloc::Global;
 
-/// Whether an import may stand in a group behind others.
+/// Whether the import `next` may stand in `group` behind its imports.
 fn may_join(group: &Imports, next: &Import) -> bool
     ensures { result ≡ may_join group.now next.now }
 {
@@ -27,7 +27,7 @@ fn may_join(group: &Imports, next: &Import) -> bool
     }
 }
 
-/// A group of one import, in fresh memory.
+/// Makes a group of the import `first`, in fresh memory.
 fn begun(alloc: Global, kind: GroupKind, first: &Import) -> Result<Imports, Error>
     ensures group { IfOk result (λ group. group ≡ begun kind first.now) }
     ensures memory { IfErr result (λ e. e ≡ Error.Memory) }
@@ -60,7 +60,7 @@ fn begun(alloc: Global, kind: GroupKind, first: &Import) -> Result<Imports, Erro
     }
 }
 
-/// Begins a group of a drawn kind.
+/// Begins a group of a drawn kind with the import `first`.
 #[tactic(auto, unfolding(crate::specs::AvailableImports::begun_at))]
 fn begin(
     alloc: Global,
@@ -76,7 +76,7 @@ fn begin(
     begun(alloc, kind, first)
 }
 
-/// Draws whether an import joins a group, where it may.
+/// Draws whether the import `next` joins `group`, where it may.
 #[tactic(auto, unfolding(crate::specs::AvailableImports::joins_at))]
 fn joins(group: &Imports, next: &Import, u: &mut Unstructured<'_>) -> bool
     ensures draws { AlwaysDraws (joins_at group.now next.now u.old) result u.old u.new }
@@ -85,7 +85,7 @@ fn joins(group: &Imports, next: &Import, u: &mut Unstructured<'_>) -> bool
     may_join(group, next) && u.arbitrary::<bool>()
 }
 
-/// The last group once an import is added: the import joins it, or begins another behind it.
+/// Adds the import `next` to `group`, or adds `group` to `made` and begins another group. Gives the last group.
 fn joined(
     alloc: Global,
     config: &Config,
@@ -108,7 +108,7 @@ fn joined(
     begin(alloc, config, next, u)
 }
 
-/// The imports in groups of drawn kinds, where there are some.
+/// Puts the imports `first` and `more` into groups of drawn kinds.
 fn grouped(
     alloc: Global,
     config: &Config,
@@ -128,7 +128,7 @@ fn grouped(
     Ok(made)
 }
 
-/// The imports in groups of drawn kinds, in fresh memory.
+/// Puts `imports` into groups of drawn kinds, in fresh memory.
 #[tactic(auto, unfolding(crate::specs::AvailableImports::grouped_at))]
 pub(crate) fn grouped_imports(
     alloc: Global,

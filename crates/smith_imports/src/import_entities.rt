@@ -15,6 +15,7 @@ use smith_draw::{
 use smith_types::{EntityType, ExportKind, TypeSpace};
 use std::alloc::Global;
 
+/// The kind of the entity `added`.
 pub(crate) fn kind_of(added: &EntityType) -> ExportKind
     ensures { result ≡ kind_of added.now }
 {
@@ -27,7 +28,7 @@ pub(crate) fn kind_of(added: &EntityType) -> ExportKind
     }
 }
 
-/// Draws an entity of a kind that may be imported.
+/// Draws an entity of the kind `kind`, which may be imported over `types`.
 #[tactic(auto, unfolding(crate::specs::ImportedEntities::entity_of_kind_at))]
 fn entity_of_kind(
     alloc: Global,
@@ -63,7 +64,7 @@ fn entity_of_kind(
     }
 }
 
-/// Whether an import of an entity fits beside a type size.
+/// Whether an import of the entity `added` fits beside the type size `size`.
 fn fits(config: &Config, types: &TypeSpace, size: u32, added: &EntityType) -> bool
     requires fit { IsEntityFit config.now types.now.types added.now }
     ensures exact { result ≡ fits config.now types.now.types size added.now }
@@ -73,7 +74,7 @@ fn fits(config: &Config, types: &TypeSpace, size: u32, added: &EntityType) -> bo
     u64::from(size) + u64::from(types.size_of(added)) + 1 <= u64::from(most)
 }
 
-/// The entity, if an import of it fits.
+/// Gives the entity `added`, if an import of it fits beside `imported`.
 fn if_fits(
     config: &Config,
     types: &TypeSpace,
@@ -93,7 +94,7 @@ fn if_fits(
     }
 }
 
-/// Draws an entity of a kind that has room, if there is such a kind and an import of the entity fits.
+/// Draws the entity to import behind `imported`, of a kind with room: none where no kind has room, or the entity is too large.
 #[tactic(auto, unfolding(crate::specs::ImportedEntities::entity_at))]
 pub(crate) fn entity(
     alloc: Global,
@@ -114,7 +115,7 @@ pub(crate) fn entity(
     Ok(if_fits(config, types, imported, added))
 }
 
-/// The same entity once more, if its kind has room and an import of it fits.
+/// Gives the entity `added` once more, if its kind has room and an import of it fits beside `imported`.
 pub(crate) fn again(
     config: &Config,
     types: &TypeSpace,

@@ -8,7 +8,7 @@ use smith_bytes::{Error, Unstructured};
 use smith_config::Config;
 use smith_types::{EntityType, ImportItem, Imports, Name};
 
-/// How a group of imports is written.
+/// The way in which a group of imports is written.
 #[derive(Clone, Copy)]
 pub(crate) enum GroupKind {
     /// One import by itself.
@@ -19,7 +19,7 @@ pub(crate) enum GroupKind {
     OfOneType,
 }
 
-/// Draws the kind of a group.
+/// Draws the kind of a group: a single import, without a draw, where `config` has no compact imports.
 #[tactic(auto, unfolding(crate::specs::ImportGroups::group_kind_at))]
 pub(crate) fn group_kind(config: &Config, u: &mut Unstructured<'_>) -> GroupKind
     ensures draws { AlwaysDraws (group_kind_at config.now u.old) result u.old u.new }
@@ -40,7 +40,7 @@ pub(crate) fn group_kind(config: &Config, u: &mut Unstructured<'_>) -> GroupKind
     GroupKind::OfOneType
 }
 
-/// The name of the module that a group imports from.
+/// The name of the module that `group` imports from.
 pub(crate) fn module_name(group: &Imports) -> &Name
     ensures { result.now ≡ module_name group.now }
 {
@@ -51,6 +51,7 @@ pub(crate) fn module_name(group: &Imports) -> &Name
     }
 }
 
+/// Whether `group` has an import.
 pub(crate) fn has_imports(group: &Imports) -> bool
     ensures { IsTrue result ↔ (0 < length (imports_of group.now)) }
 {
@@ -61,7 +62,7 @@ pub(crate) fn has_imports(group: &Imports) -> bool
     }
 }
 
-/// Adds an import to a compact group.
+/// Adds an import to `group`, where that is compact.
 pub(crate) fn push_import(
     group: &mut Imports,
     name: Name,

@@ -11,7 +11,7 @@ use std::alloc::Global;
 use std::collections::HashSet;
 use std::fmt::Write;
 
-/// The pair of names, and behind its own name the number of pairs as often as it takes until the pair is new.
+/// Makes a pair of `from` and `text` that is new among `pairs`: behind `text` stands the number of `pairs` as often as it takes.
 fn new_pair(
     pairs: &HashSet<(String, String)>,
     from: String,
@@ -29,7 +29,7 @@ fn new_pair(
     Ok(pair)
 }
 
-/// The text made a name that is new beside that of the module, and added to the pairs.
+/// Makes a name of `text` whose pair with `from` is new among `pairs`, and adds the pair.
 fn distinct_name(
     alloc: Global,
     from: &str,
@@ -46,7 +46,7 @@ fn distinct_name(
     Ok(name)
 }
 
-/// Draws the name of an import from a module. Where pairs of names must be distinct, its pair is new, and added to the pairs.
+/// Draws the name of an import from the module `from`. Where `distinct` is set, the pair of both is new among `pairs`, and added.
 #[tactic(auto, unfolding(crate::specs::ImportNames::import_name_at))]
 pub(crate) fn import_name(
     alloc: Global,

@@ -7,23 +7,23 @@ use smith_types::{EntityType, Imports, IndexSpaces, Items, TypeSpace};
 use std::alloc::Global;
 use std::collections::HashSet;
 
-/// The imports that are drawn so far, and what is counted of them.
+/// The imports of a module so far, and what is counted of them.
 #[derive(Drop)]
 pub struct Imported {
     /// The imports, in groups.
     pub groups: Items<Imports>,
     /// The index spaces that the imports begin.
     pub spaces: IndexSpaces,
-    /// How many imports there are.
+    /// The number of imports in all groups.
     pub count: usize,
     /// What the imports add to the type size of the module.
     pub type_size: u32,
-    /// The pairs of names of the imports, where these must be distinct.
+    /// The module name and the own name of each import, kept where no two imports may have the same pair.
     pub pairs: HashSet<(String, String)>,
 }
 
 impl Imported {
-    /// No imports, which take no memory.
+    /// Begins without imports. Takes no memory.
     pub fn new(alloc: Global) -> Self
         ensures { HasNoImports result }
     {
@@ -36,7 +36,7 @@ impl Imported {
         }
     }
 
-    /// Counts an import of an entity, whose group and pair of names are added apart.
+    /// Counts an import of the entity `added`, whose group and pair of names are added apart.
     pub(crate) fn count_entity(&mut self, types: &TypeSpace, added: EntityType) -> Result<(), Error>
         requires typed { IsTyped types.now.types added }
         requires count { self.old.count + 1 < 2 ^ 64 }

@@ -30,7 +30,7 @@ use smith_config::Config;
 use smith_types::{EntityType, Import, Imports, Items, Name, TypeSpace};
 use std::alloc::Global;
 
-/// Draws the entity that a compact group imports next, if there is one.
+/// Draws the entity that the compact group `group` imports next, or none where no entity fits beside `imported`.
 fn next_entity(
     alloc: Global,
     config: &Config,
@@ -52,7 +52,7 @@ fn next_entity(
     }
 }
 
-/// Adds imports to a compact group, and gives whether imports go on behind it.
+/// Adds imports to the compact group `group`, and gives whether imports go on behind the group.
 fn fill(
     alloc: Global,
     config: &Config,
@@ -90,7 +90,7 @@ fn fill(
     Ok(true)
 }
 
-/// Fills a compact group and adds it, unless it stays empty. Gives whether imports go on.
+/// Fills the compact group `group`, adds it unless it stays empty, and gives whether imports go on.
 #[tactic(auto, unfolding(crate::specs::Importing::filled_at))]
 fn filled(
     alloc: Global,
@@ -119,7 +119,7 @@ fn filled(
     Ok(goes_on)
 }
 
-/// Adds an import by itself, and gives whether imports go on.
+/// Adds an import from `module` by itself, and gives whether imports go on.
 #[tactic(auto, unfolding(crate::specs::Importing::group_of_kind_at))]
 fn single(
     alloc: Global,
@@ -153,7 +153,7 @@ fn single(
     Ok(true)
 }
 
-/// Adds a group of imports of a module that have one type, and gives whether imports go on.
+/// Adds a group of imports from `module` that have one type, and gives whether imports go on.
 #[tactic(auto, unfolding(crate::specs::Importing::group_of_kind_at))]
 fn of_one_type(
     alloc: Global,
@@ -185,7 +185,7 @@ fn of_one_type(
     filled(alloc, config, distinct, types, imported, group, u)
 }
 
-/// Adds a group, and gives whether imports go on.
+/// Adds a group of imports to `imported`, and gives whether imports go on.
 #[tactic(auto, unfolding(crate::specs::Importing::group_at, crate::specs::Importing::group_of_kind_at))]
 fn group(
     alloc: Global,
@@ -218,7 +218,7 @@ fn group(
     }
 }
 
-/// Adds groups, while there is room and imports go on.
+/// Adds groups of imports to `imported`, while there is room and imports go on.
 fn groups(
     alloc: Global,
     config: &Config,
@@ -246,7 +246,7 @@ fn groups(
     Ok(())
 }
 
-/// Draws imports behind none, and refuses where they end before there are as many as are asked for.
+/// Draws imports into `imported`, which has none, and refuses fewer than `config` asks for.
 #[tactic(auto, unfolding(crate::specs::Importing::imports_at))]
 fn drawn_imports(
     alloc: Global,
@@ -271,7 +271,15 @@ fn drawn_imports(
     Ok(())
 }
 
-/// Adds as many imports to none as are asked for, and no more than may be. Where `distinct` is set, no two have the same pair of names.
+/// Draws the imports of a module into `imported`, which has none: at least `min_imports` of `config`, and at most `max_imports`.
+/// Where `distinct` is set, no two imports have the same pair of names.
+///
+/// `config` is sanitised, passes its check, and has no shape that fixes the imports. `types` are valid and fewer than 2^32, and a
+/// function type among them has at most 20 parameters and at most 20 results.
+///
+/// # Errors
+///
+/// `Unmet(Imports)` where imports end below the minimum, since a kind is full or an import would pass the type size.
 pub fn arbitrary_imports(
     alloc: Global,
     config: &Config,

@@ -1,4 +1,4 @@
-//! The imports of a module: those that are drawn, those that are taken of a shape, and those that a module shape brings.
+//! The imports of a module: drawn freely, taken from available imports, or brought by a module shape.
 #![tactic(auto)]
 
 mod available;

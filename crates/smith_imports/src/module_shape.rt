@@ -54,7 +54,7 @@ fn push_names(
     Ok(())
 }
 
-/// Adds the imports of a group one by one.
+/// Adds the imports of `group` to `groups` one by one.
 fn push_singles(alloc: Global, group: &Imports, groups: &mut Items<Imports>) -> Result<(), Error>
     ensures ok { OnOk result (groups.new ≡ groups.old ++ map Single (imports_of group.now)) }
     ensures memory { IfErr result (λ e. e ≡ Error.Memory) }
@@ -70,7 +70,7 @@ fn push_singles(alloc: Global, group: &Imports, groups: &mut Items<Imports>) -> 
     }
 }
 
-/// Adds a group as a module has it: as it is, unless it is empty, or where imports are not compact, one by one.
+/// Adds `group` to `groups` as a module has it: whole, unless it is empty, or one by one where `config` has no compact imports.
 fn push_kept(
     alloc: Global,
     config: &Config,
@@ -89,7 +89,7 @@ fn push_kept(
     groups.push(group.clone(alloc)?)
 }
 
-/// The groups of the imports of a shape, as a module has them.
+/// Lists the groups of the imports of `shape`, as a module has them.
 fn kept_groups_of(alloc: Global, config: &Config, shape: &Shape) -> Result<Items<Imports>, Error>
     ensures kept { IfOk result (λ groups. groups ≡ kept_groups config.now shape.now) }
     ensures memory { IfErr result (λ e. e ≡ Error.Memory) }
@@ -111,7 +111,7 @@ fn group_size(group: &Imports) -> usize
     }
 }
 
-/// How many imports there are in groups.
+/// Counts the imports of all `groups`.
 fn count_imports(groups: &[Imports]) -> usize
     requires few { length (flattened groups.now) < 2 ^ 64 }
     ensures { result ≡ length (flattened groups.now) }
@@ -123,7 +123,10 @@ fn count_imports(groups: &[Imports]) -> usize
     count
 }
 
-/// The imports of the shape of a module, which add nothing to its type size.
+/// Copies the imports of the module shape `shape`: in its groups but the empty ones, or one by one where `config` has no compact
+/// imports. They add nothing to the type size.
+///
+/// `shape` passes [`Shape::check`] as a module shape for `config`.
 pub fn imports_of_shape(alloc: Global, config: &Config, shape: &Shape) -> Result<Imported, Error>
     requires valid { IsShapeValid ModuleShape config.now shape.now }
     ensures kept { IfOk result (AreKept config.now shape.now) }

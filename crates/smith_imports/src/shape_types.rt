@@ -7,7 +7,10 @@ use smith_config::Shape;
 use smith_types::{TypeSpace, type_space_of};
 use std::alloc::Global;
 
-/// The types of a shape in their groups, in fresh memory.
+/// Copies the types of `shape`, in their groups.
+///
+/// Each list of `shape` has at most 2^29 items, as have the types of all groups together, and the imports. Each declared
+/// supertype stands before its subtype, alike in kind and sharedness.
 pub fn types_of_shape(alloc: Global, shape: &Shape) -> Result<TypeSpace, Error>
     requires short { IsShort shape.now }
     requires following { AreFollowing (shape_types shape.now) }

@@ -21,7 +21,7 @@ fn is_allowed(config: &Config, added: &EntityType) -> bool
     }
 }
 
-/// Whether one more import of an entity fits beside what is taken.
+/// Whether an import of the entity `added` fits beside `imported`.
 fn fits(config: &Config, types: &TypeSpace, imported: &Imported, added: &EntityType) -> bool
     requires typed { IsTyped types.now.types added.now }
     requires few { size_in types.now.types added.now < 2 ^ 32 }
@@ -37,7 +37,7 @@ fn fits(config: &Config, types: &TypeSpace, imported: &Imported, added: &EntityT
         && u64::from(imported.type_size) + u64::from(size) <= u64::from(most)
 }
 
-/// Takes an import behind others, if it fits.
+/// Takes the import `one` behind `taken`, if it fits.
 fn take(
     alloc: Global,
     config: &Config,
@@ -62,7 +62,7 @@ fn take(
     Ok(())
 }
 
-/// Takes those of the imports that a bool picks, one for each, and that fit.
+/// Takes those imports of `offered` that fit and that a bool picks, which is drawn for each import.
 pub(crate) fn taken_imports(
     alloc: Global,
     config: &Config,

@@ -49,7 +49,8 @@ fn copied_of(module: &Module) -> Copied {
     }
 }
 
-// Without bulk memory: this many memories at least, a data segment, and at most this many; where there is a memory nothing may trap.
+// Without bulk memory: at least `min_memories` memories, and from 1 to `max_data_segments` data segments. With a memory nothing
+// may trap.
 fn one_segment(min_memories: u32, max_data_segments: usize) -> Config {
     let mut config = Config::default();
     config.disallow_traps = min_memories > 0;

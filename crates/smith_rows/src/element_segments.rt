@@ -76,7 +76,7 @@ fn made_once(alloc: Global, config: Config, input: &[u8]) -> Result<Segments, Er
     Ok(told(module, segments_of))
 }
 
-// One passive segment of this many references that are null.
+// One passive segment of `nulls` references that are null.
 fn one(nulls: usize) -> Segments {
     Segments {
         count: 1,

@@ -2,8 +2,8 @@ use smith_config_rows::repeated::{same, told};
 use std::alloc::Global;
 use std::test::Fail;
 use wasm_smith::{
-    Config, Count, DuplicateImportsBehavior, EntityType, Error, GlobalType, Imports, Module,
-    Unstructured, ValType, Why,
+    Config, Count, DuplicateImportsBehavior, EntityType, Error, GlobalType, ImportItem, Imports,
+    Module, Unstructured, ValType, Why,
 };
 
 /// What the tests compare of a module. They hold no module themselves: that is dear to prove.
@@ -39,10 +39,16 @@ const NUMBER: EntityType = EntityType::Global(GlobalType {
     shared: false,
 });
 
+fn is_number(item: &ImportItem) -> bool {
+    item.entity_type == NUMBER
+}
+
 fn holds_numbers(group: &Imports) -> bool {
     match group {
         Imports::Single(import) => import.module.is_empty() && import.entity_type == NUMBER,
-        Imports::Compact1 { .. } => false,
+        Imports::Compact1 { module, items } => {
+            module.is_empty() && items.as_slice().iter().all(is_number)
+        }
         Imports::Compact2 {
             module,
             entity_type,
@@ -68,6 +74,9 @@ fn name_of(text: &str) -> Named {
 fn name_at(group: &Imports, place: usize) -> Option<&str> {
     match group {
         Imports::Single(import) if place == 0 => Some(import.name.as_str()),
+        Imports::Compact1 { items, .. } => {
+            items.as_slice().get(place).map(|item| item.name.as_str())
+        }
         Imports::Compact2 { names, .. } => names.as_slice().get(place).map(|name| name.as_str()),
         _ => None,
     }
@@ -228,25 +237,44 @@ fn imports_that_are_too_large_together(rt: HostRuntime) -> Result<(), Fail> {
 }
 
 #[test]
+fn one_import_in_a_group_of_one_module(rt: HostRuntime) -> Result<(), Fail> {
+    let input = [0, 1, 0, 0, 0, 128, 1, 0, 0, 0, 0, 0, 0, 0];
+    let found = made(
+        rt.alloc(),
+        AT_MOST_TWO,
+        DuplicateImportsBehavior::Allowed,
+        &input,
+    )?;
+    let one = Facts {
+        all_single: false,
+        ..ONE_NUMBER
+    };
+    assert_eq!(rt; found, Ok(one));
+    Ok(())
+}
+
+// One imported number, by itself.
+const ONE_NUMBER: Facts = Facts {
+    groups: 1,
+    imports: 1,
+    globals: 1,
+    defined_globals: 0,
+    type_size: 2,
+    encodes_imports: true,
+    holds_numbers: true,
+    all_single: true,
+    first_name: Named::Empty,
+    second_name: Named::Other,
+};
+
+#[test]
 fn one_import_is_asked_for(rt: HostRuntime) -> Result<(), Fail> {
     let asked = Asked {
         min_imports: 1,
         max_imports: 100,
         ..AT_MOST_TWO
     };
-    let one = Facts {
-        groups: 1,
-        imports: 1,
-        globals: 1,
-        defined_globals: 0,
-        type_size: 2,
-        encodes_imports: true,
-        holds_numbers: true,
-        all_single: true,
-        first_name: Named::Empty,
-        second_name: Named::Other,
-    };
     let found = made(rt.alloc(), asked, DuplicateImportsBehavior::Allowed, &[])?;
-    assert_eq!(rt; found, Ok(one));
+    assert_eq!(rt; found, Ok(ONE_NUMBER));
     Ok(())
 }

@@ -98,7 +98,7 @@ fn made(alloc: Global, input: &[u8]) -> Result<Result<Segments, Error>, Fail> {
     same(made_once(alloc, input), made_once(alloc, input))
 }
 
-// A module of this many functions with one segment of references to functions.
+// A module of `funcs` functions with one segment of references to functions.
 fn one(funcs: usize, target: Target, listed: Listed) -> Segments {
     Segments {
         funcs,

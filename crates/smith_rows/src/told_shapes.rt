@@ -40,11 +40,14 @@ fn told_name(name: &Name) -> Named {
     }
 }
 
-/// A group of imports, with the number of its imports where it is of one module or of one type.
+/// A group of imports, with the number of its imports where it is compact.
 #[derive(Clone, Copy, Debug, PartialEq)]
 pub(crate) enum Group {
+    /// An import by itself.
     Single,
+    /// Imports of one module.
     OfModule(usize),
+    /// Imports of one module and one type.
     OfType(usize),
 }
 
@@ -110,13 +113,17 @@ fn import_at(groups: &[Imports], place: usize) -> Option<OneImport> {
 /// What the tests compare of the imports of a module.
 #[derive(Clone, Copy, Debug, PartialEq)]
 pub(crate) struct Imported {
+    /// The first five groups.
     pub(crate) groups: [Option<Group>; 5],
+    /// The first five imports of all groups.
     pub(crate) imports: [Option<OneImport>; 5],
-    /// How many groups and imports there are.
+    /// The number of groups, and that of imports.
     pub(crate) lengths: [usize; 2],
+    /// The type size of the module.
     pub(crate) type_size: u32,
 }
 
+/// Tells the imports of `module`.
 pub(crate) fn imported_of(module: &Module) -> Imported {
     let groups = module.imports();
     Imported {
@@ -142,10 +149,12 @@ pub(crate) fn imported_of(module: &Module) -> Imported {
 /// An export: its name, and the kind and the index of its item.
 pub(crate) type OneExport = (Named, ExportKind, u32);
 
-/// What the tests compare of the exports of a module: the first five, and how many there are.
+/// What the tests compare of the exports of a module.
 #[derive(Clone, Copy, Debug, PartialEq)]
 pub(crate) struct Exported {
+    /// The first five exports.
     pub(crate) exports: [Option<OneExport>; 5],
+    /// The number of exports.
     pub(crate) count: usize,
 }
 
@@ -153,6 +162,7 @@ fn export_of(export: &(Name, ExportKind, u32)) -> OneExport {
     (told_name(&export.0), export.1, export.2)
 }
 
+/// Tells the exports of `module`.
 pub(crate) fn exported_of(module: &Module) -> Exported {
     let exports = module.exports();
     Exported {
@@ -167,13 +177,14 @@ pub(crate) fn exported_of(module: &Module) -> Exported {
     }
 }
 
-/// How many types there are, and the first three groups of them, each as where it begins and ends.
+/// The number of types, and the first three recursive groups, each by the indices where it begins and ends.
 pub(crate) type Groups = (usize, [Option<(usize, usize)>; 3]);
 
 fn bounds(group: &Range<usize>) -> (usize, usize) {
     (group.start, group.end)
 }
 
+/// Tells the recursive groups of `module`.
 pub(crate) fn groups_of(module: &Module) -> Groups {
     let groups = module.rec_groups();
     (

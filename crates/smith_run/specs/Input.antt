@@ -9,7 +9,7 @@ is_read_fault (Ok _) = false
 is_read_fault (Err Read) = true
 is_read_fault (Err Memory) = false
 
--- these bytes are the known ones, where some are known
+-- these bytes are the known bytes, where some are known
 abbrev pub AreKnown : Option (List ℕ) → List ℕ → Type 0
 AreKnown None bytes = ⊤
 AreKnown (Some known) bytes = known ≡ bytes

@@ -6,10 +6,10 @@ ghost use Rattle.smith_run.specs.Line.{line_of, counts_line, index_or_none};
 use arrayvec::ArrayString;
 use wasm_smith::{Error, Module};
 
-/// A line that takes no memory. None is longer than 400 bytes.
+/// A line of text, which takes no memory. Lines of this program have at most 400 bytes.
 pub type Line = ArrayString<512>;
 
-/// The line that tells a module or a refusal.
+/// Tells `answer`, a module or a refusal, in a line.
 pub fn line(answer: &Result<Module, Error>) -> Line
     ensures { result.bytes ≡ line_of answer.now }
 {

@@ -35,7 +35,7 @@ fn main(rt: HostRuntime) -> ExitCode {
     ExitCode::from(status(&ended))
 }
 
-/// The words after the program's name. One that isn't UTF-8 is a failure.
+/// Reads the words after the program's name. A word that isn't UTF-8 is a failure.
 fn read_words(rt: &HostRuntime) -> io::Result<Vec<String>> {
     let words = env::args(rt)?.skip(1).collect(rt.alloc())?;
     Ok(words)

@@ -9,16 +9,16 @@ use crate::source::{Failed, InputFault, Source, read_whole};
 use std::alloc::Global;
 use wasm_smith::{Config, Error, Module, Unstructured};
 
-/// What the written line tells.
+/// The outcome that the written line tells.
 #[derive(Clone, Copy, Debug, PartialEq, Eq)]
 pub enum Outcome {
     /// A module was made.
     Made,
-    /// No module was made.
+    /// No module was made, for this reason.
     Refused(Error),
 }
 
-/// Why no whole line was written.
+/// The fault for which no whole line was written.
 #[derive(Clone, Copy, Debug, PartialEq, Eq, thiserror::Error)]
 pub enum RunFault {
     /// The input wasn't read to its end. Nothing was written.
@@ -29,10 +29,14 @@ pub enum RunFault {
     Write,
 }
 
-/// Reads the input to its end, makes a module of it, and writes one line that tells the module or
-/// the refusal. With `drawn` the configuration comes from the input too, else it is the default.
+/// Reads `r` to its end, draws a module from the bytes, and writes a line to `w` that tells the module or the refusal, without
+/// memory for the line. Where `drawn` is set the configuration is drawn from the bytes first, else it is the default.
 ///
-/// Neither `r` nor `w` has failed before. Nothing was written where the answer is `RunFault::Read`. Neither line takes memory.
+/// Neither `r` nor `w` has failed before.
+///
+/// # Errors
+///
+/// `Read` where a read fails, and then nothing is written; `Write` where a write fails.
 pub fn run<R: Source, W: Sink>(
     alloc: Global,
     drawn: bool,

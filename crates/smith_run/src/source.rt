@@ -7,11 +7,11 @@ ghost use Rattle.smith_run.specs.declared.source.InputFault.TheVariants.{Read, M
 use std::alloc::{AllocError, Global};
 use std::io::Read;
 
-/// A read or a write went wrong. Why isn't kept.
+/// The failure of a read or a write, whose reason isn't kept.
 #[derive(Clone, Copy, Debug)]
 pub struct Failed;
 
-/// Where the program's input comes from.
+/// A source of the program's input.
 pub trait Source {
     // The bytes that reads will give from here on, where the source tells them.
     ghost left: { Self → Option (List ℕ) } = { λ _. None };
@@ -19,19 +19,19 @@ pub trait Source {
     // Whether a read has failed.
     ghost failed: { Self → Bool };
 
-    /// Puts bytes into the front of the buffer and says how many. None for a buffer that isn't
-    /// empty is the end of the input.
+    /// Puts bytes into the front of `buffer`, and gives their number. The input is at its end where that is 0, unless `buffer`
+    /// is empty.
     fn read(&mut self, buffer: &mut [u8]) -> Result<usize, Failed>
         ensures bound { ReadsAtMost result buffer.new }
         ensures bytes { ReadConsumes (left self.old) (left self.new) result buffer.new }
         ensures fault { failed self.new ≡ (failed self.old || is_err result) };
 
-    /// Whether a read has failed. It stays so.
+    /// Tells whether a read has failed. A failure stays.
     fn has_failed(&self) -> bool
         ensures { result ≡ failed self.now };
 }
 
-/// A source that reads from any reader. Every error is a failure, an interruption too.
+/// A source that reads from a reader. Every error is a failure, an interruption too.
 #[derive(Drop)]
 pub struct FromRead<R> {
     reader: R,
@@ -39,7 +39,7 @@ pub struct FromRead<R> {
 }
 
 impl<R: Read> FromRead<R> {
-    /// A source of what the reader has left. Takes no memory.
+    /// Makes a source of what `reader` has left. Takes no memory.
     pub fn new(reader: R) -> Self
         ensures left { ⟦<FromRead<R> as Source>⟧.left result ≡ R.remaining reader }
         ensures fresh { ⟦<FromRead<R> as Source>⟧.failed result ≡ false }
@@ -71,7 +71,7 @@ impl<R: Read> Source for FromRead<R> {
     }
 }
 
-/// Why an input wasn't read whole.
+/// The fault for which an input wasn't read whole.
 #[derive(Clone, Copy, Debug)]
 pub enum InputFault {
     /// A read failed.
@@ -96,7 +96,7 @@ impl From<AllocError> for InputFault {
     }
 }
 
-/// Reads a source to its end.
+/// Reads `source` to its end.
 pub fn read_whole<R: Source>(alloc: Global, source: &mut R) -> Result<Vec<u8>, InputFault>
     ensures whole { IfOk result (λ input. AreKnown (R.left source.old) input.items) }
     ensures end { OnOk result (IsAtEnd (R.left source.new)) }

@@ -107,7 +107,7 @@ impl ByteWriter {
     }
 }
 
-// Each twice.
+// With the default configuration and with a drawn one, twice each.
 #[test]
 fn empty_input_makes_the_empty_module(rt: HostRuntime) -> Result<(), Fail> {
     for drawn in [false, true, false, true] {
@@ -130,7 +130,7 @@ fn is_told_once(alloc: Global, drawn: bool, input: &[u8], counts: &str) -> bool 
     ended == Ok(Outcome::Made) && out.as_slice().starts_with(counts.as_bytes())
 }
 
-// The same of two runs.
+// Whether two runs tell the input so.
 fn is_told(alloc: Global, drawn: bool, input: &[u8], counts: &str) -> bool {
     is_told_once(alloc, drawn, input, counts) && is_told_once(alloc, drawn, input, counts)
 }

@@ -5,8 +5,8 @@ ghost use Rattle.smith_run.specs.Words.{drawn_by};
 
 use crate::run::{Outcome, RunFault};
 
-/// Whether the configuration is to be drawn from the input, by the words after the program's name.
-/// `None` where the program has no use for them.
+/// Tells from `words`, which stand after the program's name, whether the configuration is to be drawn from the input. `None`
+/// where the program has no use for `words`.
 pub fn words(words: &[String]) -> Option<bool>
     ensures { result ≡ drawn_by (map string_bytes words.now) }
 {
@@ -23,7 +23,7 @@ fn is_arbitrary(word: &String) -> bool
     word.as_str() == "arbitrary"
 }
 
-/// The status that the program ends with.
+/// The status that the program ends with: 0 where a module was made, else 1.
 pub fn status(ended: &Result<Outcome, RunFault>) -> u8
     ensures { result ≡ status_of ended.now }
 {

@@ -24,10 +24,11 @@ bytes_array = Array (record { 0 = record { element_type = I8; mutable = false } 
 abbrev pub plain_function : CompositeInnerType
 plain_function = Func (record { params = []; results = [] })
 
--- a function type from a number to another, and one from a float to nothing
+-- a function type from a number to another
 abbrev pub foo_type : SubType
 foo_type = a_type (Func (record { params = I32 ∷ []; results = I64 ∷ [] })) true None
 
+-- a function type from a float to nothing
 abbrev pub quux_type : SubType
 quux_type = a_type (Func (record { params = F32 ∷ []; results = [] })) true None
 
@@ -71,14 +72,15 @@ struct_of_bytes count = Struct (record { fields = replicate count (constant I8) 
 abbrev pub one_of_each_without_gc : Config
 one_of_each_without_gc = record default_config { gc_enabled = false; max_types = 1; max_funcs = 1 }
 
--- a function type of a number of parameters, and one of a number of results
+-- a function type of a number of parameters
 abbrev pub taking_numbers : ℕ → CompositeInnerType
 taking_numbers count = Func (record { params = replicate count I32; results = [] })
 
+-- a function type of a number of results
 abbrev pub giving_numbers : ℕ → CompositeInnerType
 giving_numbers count = Func (record { params = []; results = replicate count I32 })
 
--- a function type that gives this, and one that takes it
+-- a function type that gives this
 abbrev pub giving : ValType → CompositeInnerType
 giving result = Func (record { params = []; results = result ∷ [] })
 
@@ -94,16 +96,19 @@ array_and_struct_together = (final bytes_array ∷ final (struct_of 0) ∷ []) �
 abbrev pub no_types_and_imports : Config
 no_types_and_imports = record default_config { max_types = 0; max_imports = 0 }
 
--- no garbage collection, no floats, types that may be shared, exact types
+-- no garbage collection
 abbrev pub without_gc : Config
 without_gc = record default_config { gc_enabled = false }
 
+-- no floats
 abbrev pub without_floats : Config
 without_floats = record default_config { allow_floats = false }
 
+-- types that may be shared
 abbrev pub with_shared_types : Config
 with_shared_types = record default_config { shared_everything_threads_enabled = true }
 
+-- exact types
 abbrev pub with_exact_types : Config
 with_exact_types = record default_config { custom_descriptors_enabled = true }
 
@@ -139,14 +144,15 @@ full_bytes = 1 ∷ 1 ∷ 0 ∷ 0 ∷ 0 ∷ 0 ∷ 0 ∷ 0 ∷ 1 ∷ []
 abbrev pub array_and_struct_bytes : List ℕ
 array_and_struct_bytes = 1 ∷ 1 ∷ 1 ∷ 0 ∷ 0 ∷ 0 ∷ 1 ∷ 1 ∷ 1 ∷ 1 ∷ 2 ∷ 1 ∷ 2 ∷ 5 ∷ 1 ∷ 0 ∷ 1 ∷ 0 ∷ 0 ∷ 0 ∷ []
 
--- behind no types: a global of the number 7, and bytes
+-- behind no types: a global of the number 7
 abbrev pub number_bytes : List ℕ
 number_bytes = 0 ∷ 0 ∷ 1 ∷ 0 ∷ 1 ∷ 0 ∷ 7 ∷ 0 ∷ 0 ∷ 0 ∷ 0 ∷ 0 ∷ 0 ∷ 0 ∷ 0 ∷ []
 
+-- behind no types: passive data of one byte
 abbrev pub data_bytes : List ℕ
 data_bytes = 0 ∷ 0 ∷ 0 ∷ 0 ∷ 0 ∷ 0 ∷ 1 ∷ 1 ∷ 42 ∷ 0 ∷ 0 ∷ []
 
--- bytes with another one at this place
+-- bytes with another byte at this place
 abbrev pub with_byte : ℕ → ℕ → List ℕ → List ℕ
 with_byte place other [] = []
 with_byte zero other (byte ∷ bytes) = other ∷ bytes

@@ -20,13 +20,13 @@ use Rattle.smith_draw.specs.Choices.{enabled}
 use Rattle.smith_draw.specs.ValueTypes.{abstract_heap_types}
 use Rattle.smith_draw.specs.CompositeTypes.{most_results}
 
--- a heap type that the type of this index may name: an unshared abstract one that is offered, or a type of smaller index
+-- a heap type that the type of this index may name: an unshared abstract heap type that is offered, or a type of smaller index
 abbrev pub IsMemberHeapType : Config → ℕ → HeapType → Type 0
 IsMemberHeapType config index (Abstract shared ty) = (shared ≡ false) × Contains (enabled (abstract_heap_types config)) ty
 IsMemberHeapType config index (Concrete other) = IsTrue config.gc_enabled × (other < index)
 IsMemberHeapType config index (Exact other) = ⊥
 
--- a value type that it may name: one that is enabled, or a nullable reference
+-- a value type that the type of this index may name: a number or a vector that is enabled, or a nullable reference
 abbrev pub IsMemberValType : Config → ℕ → ValType → Type 0
 IsMemberValType config index I32 = Unit {0}
 IsMemberValType config index I64 = Unit {0}
@@ -36,12 +36,13 @@ IsMemberValType config index V128 = IsTrue config.simd_enabled
 IsMemberValType config index (Ref reference) =
     IsTrue config.reference_types_enabled × IsTrue reference.nullable × IsMemberHeapType config index reference.heap_type
 
--- what a field of it may store
+-- a storage type that the type of this index may name
 abbrev pub IsMemberStorage : Config → ℕ → StorageType → Type 0
 IsMemberStorage config index I8 = Unit {0}
 IsMemberStorage config index I16 = Unit {0}
 IsMemberStorage config index (Val value) = IsMemberValType config index value
 
+-- the same of a field
 abbrev pub IsMemberField : Config → ℕ → FieldType → Type 0
 IsMemberField config index field = IsMemberStorage config index field.element_type
 

@@ -4,6 +4,6 @@ use Rattle.smith_types.specs.declared.composite_type.SubType.{SubType}
 use Rattle.smith_draw.specs.TypeUses.{types_for}
 use Rattle.smith_draw.specs.declared.type_use.TypeUse.TheVariants.{DefinedFunc}
 
--- the indices of the types that a function may be defined with; an imported one may be shared
+-- the indices of the types that a function may be defined with; the type of an imported function may be shared
 abbrev pub func_types : List SubType → List ℕ
 func_types types = types_for DefinedFunc types

@@ -14,11 +14,11 @@ use Rattle.smith_draw.specs.SpelledGlobals.{SpellsMutableI32}
 use Rattle.smith_draw.specs.TypeUses.{is_tag_type}
 use Rattle.smith_spell.specs.FuncTypes.{func_types}
 
--- that there is no tag, where one might be
+-- that there is no tag, where tags might be
 abbrev pub SpellsNoTag : Config → List SubType → List ℕ → Type 0
 SpellsNoTag config types = Where (config.exceptions_enabled && nat_lt 0 config.max_tags && list_any is_tag_type types) (SpellsBool false)
 
--- functions by the places of their types among those that functions may have; none, without a byte, where there is no such type
+-- functions by the places of their types among those that functions may have; without such a type no function and no byte
 abbrev pub SpellsFuncs : Config → List SubType → List ℕ → List ℕ → Type 0
 SpellsFuncs config types funcs =
     Listed (SpellsPlace (func_types types)) (if nat_lt 0 (length (func_types types)) then config.max_funcs else 0) funcs
@@ -44,15 +44,15 @@ abbrev pub takes_and_gives_nothing : CompositeInnerType → Bool
 takes_and_gives_nothing (Func function) = (length function.params == 0) && (length function.results == 0)
 takes_and_gives_nothing _ = false
 
--- whether the type of this index does
+-- whether the type of this index takes and gives nothing
 abbrev pub is_start_type : List SubType → ℕ → Bool
 is_start_type types index = list_any (λ (t : SubType). takes_and_gives_nothing t.composite_type.inner) (option_to_list (slice_get types index))
 
--- that no function starts the module, where one might
+-- that no function starts the module, where a function might
 abbrev pub SpellsNoStart : Config → List SubType → List ℕ → List ℕ → Type 0
 SpellsNoStart config types funcs = Where (config.allow_start_export && list_any (is_start_type types) funcs) (SpellsBool false)
 
--- no element segment, then passive data; none, without a byte, where there is no bulk memory
+-- no element segment, then passive data; no segment and no byte where there is no bulk memory
 abbrev pub SpellsSegments : Config → List (List ℕ) → List ℕ → Type 0
 SpellsSegments config passive =
     let most = λ (count : ℕ). if config.bulk_memory_enabled then count else 0 in

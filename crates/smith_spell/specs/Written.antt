@@ -15,12 +15,12 @@ pub record Writes (Spells : List ℕ → Type 0) (old new : List ℕ) : Type 0 w
   pub spelled : Spells piece
   pub whole : new ≡ old ++ piece
 
--- a number in as many base-256 digits as the greatest one has, the highest first
+-- a number in as many base-256 digits as the greatest number has, the highest first
 pub record SpellsDigits (number most : ℕ) (piece : List ℕ) : Type 0 where
   pub digits : length piece ≡ digit_count most
   pub read : big_endian piece ≡ number
 
--- these many types, of which one may have subtypes or none
+-- the number of these types, and whether some of them may have subtypes
 pub record IsSummary (types : List SubType) (before : Before) : Type 0 where
   pub counted : before.count ≡ length types
   pub open_told : before.has_open ≡ list_any is_open types

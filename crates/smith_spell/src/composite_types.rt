@@ -19,7 +19,7 @@ use smith_bytes::Error;
 use smith_config::Config;
 use smith_types::{CompositeInnerType, FieldType, FuncType, Items, StorageType, StructType};
 
-/// Writes what a field stores.
+/// Writes `storage`, what a field stores.
 fn write_storage(
     config: &Config,
     limit: usize,
@@ -40,7 +40,7 @@ fn write_storage(
     }
 }
 
-/// Writes a field.
+/// Writes `field`.
 fn write_field(
     config: &Config,
     limit: usize,
@@ -55,7 +55,7 @@ fn write_field(
     write_bool(field.mutable, bytes)
 }
 
-/// Writes fields one behind another.
+/// Writes `fields` one behind another.
 fn write_fields(
     config: &Config,
     limit: usize,
@@ -72,7 +72,7 @@ fn write_fields(
     Ok(())
 }
 
-/// Writes the number of fields, then the fields.
+/// Writes the number of fields of `structure`, then the fields.
 fn write_struct_type(
     config: &Config,
     limit: usize,
@@ -95,7 +95,7 @@ fn most_results(config: &Config) -> usize
     if config.multi_value_enabled { 20 } else { 1 }
 }
 
-/// Writes parameters, then results.
+/// Writes the parameters of `function`, then the results.
 fn write_func_type(
     config: &Config,
     limit: usize,
@@ -111,7 +111,7 @@ fn write_func_type(
     write_val_types(config, limit, most, function.results.as_slice(), bytes)
 }
 
-/// Writes the kind of a composite type and what is of it.
+/// Writes the kind of `inner`, then what it is made of.
 pub(crate) fn write_inner(
     config: &Config,
     limit: usize,
@@ -138,7 +138,7 @@ pub(crate) fn write_inner(
     }
 }
 
-/// Writes a function type where there is no other kind.
+/// Writes `inner`, a function type, where there is no other kind.
 pub(crate) fn write_plain_function(
     config: &Config,
     limit: usize,

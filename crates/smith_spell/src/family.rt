@@ -11,8 +11,8 @@ use smith_config::Config;
 use smith_types::{Items, SubType, TypeSpace, are_funcs_valid, type_space_of};
 use std::alloc::Global;
 
-/// The type space of `groups`, where they and `funcs` are in the family of `config`; else None. Memory is taken only where the
-/// groups may be those of a member and the functions are few enough.
+/// The type space of `groups`, where `groups` and `funcs` are in the family of `config`; else none. Memory is taken only where
+/// `groups` may be those of a member and `funcs` are few enough.
 pub(crate) fn member_space(
     alloc: Global,
     config: &Config,
@@ -38,7 +38,7 @@ pub(crate) fn member_space(
     Ok(Some(space))
 }
 
-/// Whether lists of the family may have these groups. Takes no memory.
+/// Whether a member of the family may have the groups `groups`. Takes no memory.
 fn are_groups_in_family(config: &Config, groups: &[Items<SubType>]) -> bool
     ensures { IsTrue result ↔ AreGroupsInFamily config.now groups.now }
 {
@@ -54,7 +54,7 @@ fn are_filled(groups: &[Items<SubType>]) -> bool
     groups.iter().all(|group| !group.is_empty())
 }
 
-// Whether groups are of one type each where they have to be.
+// Whether each of `groups` is of one type, where that has to be.
 fn are_sizes_enabled(config: &Config, groups: &[Items<SubType>]) -> bool
     ensures { IsTrue result ↔ (config.now.gc_enabled ≡ false → All (λ (group : List Sub). length group ≡ 1) groups.now) }
 {
@@ -94,7 +94,7 @@ fn are_members(config: &Config, groups: &[Items<SubType>]) -> bool
     true
 }
 
-// Whether types may stand one behind another, the first at an index.
+// Whether `types` may stand one behind another, the first at `index`.
 fn are_members_from(config: &Config, mut index: usize, types: &[SubType]) -> bool
     requires { index + length types.now < 2 ^ 64 }
     ensures { IsTrue result ↔ AreMembersFrom config.now index types.now }

@@ -12,7 +12,8 @@ use smith_bytes::Error;
 use smith_config::Config;
 use smith_types::{Items, SubType};
 
-/// Writes how many types a group has: with garbage collection at most `room`, and that no group is cloned where one stands.
+/// Writes the size `size` of a group, at most `room`, and before it that no group is cloned, where `stands` says that a group
+/// stands. Writes nothing without garbage collection.
 fn write_size(
     config: &Config,
     stands: bool,
@@ -32,7 +33,7 @@ fn write_size(
     write_number(size, room, bytes)
 }
 
-/// Writes a group behind types, whatever these are, and adds its types to those.
+/// Writes `group` behind the types of which `before` is the summary, and gives the summary with `group` behind these.
 fn write_group(
     config: &Config,
     before: Before,
@@ -52,7 +53,7 @@ fn write_group(
     write_sub_types(config, before, before.count + group.len(), group, bytes)
 }
 
-/// Writes the groups of a member of the family.
+/// Writes `groups`, those of a member of the family.
 pub(crate) fn write_groups(
     config: &Config,
     groups: &[Items<SubType>],

@@ -8,6 +8,7 @@ mod examples;
 mod family;
 mod funcs;
 mod groups;
+/// Laws: functions that do nothing, whose clauses say what holds.
 pub mod laws;
 mod member;
 mod member_type;

@@ -120,7 +120,7 @@ fn is_member_heap_type(config: &Config, index: usize, heap_type: HeapType) -> bo
     }
 }
 
-// Whether an abstract heap type is among those that are drawn.
+// Whether the abstract heap type `ty` is among those that are drawn.
 fn is_listed(config: &Config, ty: AbstractHeapType) -> bool
     ensures { IsTrue result ↔ Contains (enabled (abstract_heap_types config.now)) ty }
 {

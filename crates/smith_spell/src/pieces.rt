@@ -6,7 +6,7 @@ ghost use Rattle.smith_spell.specs.Written.{Writes, SpellsDigits};
 use smith_bytes::Error;
 use smith_types::Items;
 
-/// Writes a bool.
+/// Writes the bool `value`.
 pub(crate) fn write_bool(value: bool, bytes: &mut Items<u8>) -> Result<(), Error>
     ensures writes { OnOk result (Writes (SpellsBool value) bytes.old bytes.new) }
     ensures memory { IfErr result (λ e. e ≡ Memory) }
@@ -33,7 +33,7 @@ pub(crate) fn write_flag(bytes: &mut Items<u8>) -> Result<(), Error>
     bytes.push(0)
 }
 
-/// Writes a number in as many base-256 digits as `most` has, the highest first.
+/// Writes `number` in as many base-256 digits as `most` has, the highest first.
 fn write_digits(number: usize, most: usize, bytes: &mut Items<u8>) -> Result<(), Error>
     requires { number ≤ most }
     ensures writes { OnOk result (Writes (SpellsDigits number most) bytes.old bytes.new) }
@@ -46,7 +46,7 @@ fn write_digits(number: usize, most: usize, bytes: &mut Items<u8>) -> Result<(),
     bytes.push((number % 256) as u8)
 }
 
-/// Writes a number of 0 to `most`.
+/// Writes `number`, from 0 to `most`.
 pub(crate) fn write_number(number: usize, most: usize, bytes: &mut Items<u8>) -> Result<(), Error>
     requires { number ≤ most }
     ensures writes { OnOk result (Writes (SpellsNumber number 0 most) bytes.old bytes.new) }
@@ -55,7 +55,7 @@ pub(crate) fn write_number(number: usize, most: usize, bytes: &mut Items<u8>) ->
     write_digits(number, most, bytes)
 }
 
-/// Writes that one of some chances is not taken, where this is asked.
+/// Writes that the first of `chances` chances is not taken, where `is_asked` is set.
 pub(crate) fn write_refusal(
     is_asked: bool,
     chances: usize,

@@ -14,7 +14,7 @@ use smith_config::Config;
 use smith_types::{Items, SubType};
 use std::alloc::Global;
 
-/// The sanitised configuration, where it passes its check.
+/// The sanitised `config`, where that passes its check, else none.
 fn passing(alloc: Global, config: &Config) -> Result<Option<Config>, Error>
     ensures found { IfOk result (λ found. MatchOption found (¬ Passes (sanitized config.now)) (λ own. (own ≡ sanitized config.now) × Passes (sanitized config.now))) }
     ensures memory { IfErr result (λ e. e ≡ Memory) }
@@ -27,7 +27,7 @@ fn passing(alloc: Global, config: &Config) -> Result<Option<Config>, Error>
     Ok(Some(own))
 }
 
-/// Bytes that spell lists, where these are in the family of a configuration.
+/// Gives bytes that spell `groups` and `funcs`, where these are in the family of `config`, else none.
 fn spell_in_family(
     alloc: Global,
     config: &Config,
@@ -44,15 +44,17 @@ fn spell_in_family(
     Ok(Some(spell_member(alloc, config, groups, space.types(), funcs)?))
 }
 
-/// Spells types and functions: bytes from which a module is drawn that has the types of `groups`, grouped so, and a function of
-/// the type of each index in `funcs`, whatever follows the bytes.
+/// Spells `groups` and `funcs`: gives bytes from which a module is drawn under `config` whose types stand in the groups `groups`
+/// and whose functions have the type indices `funcs`, whatever follows the bytes.
 ///
-/// None where no bytes are sure to give them. `config` is read as [`Config::sanitize`] leaves it: it must pass its check, and ask
-/// for nothing beside them. The lists must be in the family, of which the module's drawing misses no member. None is answered
-/// before memory is taken, unless a function's type has to be looked for.
+/// None is given where no bytes are sure to do so: `config`, as [`Config::sanitize`] leaves it, fails its check, sets a minimum,
+/// holds a shape or has everything exported, or `groups` and `funcs` are outside the family of lists that draws reach. Types of
+/// the family are unshared, have no supertype, and refer only to types before them, by nullable references.
 ///
-/// Go on is spelled by 1 and stop by 0, which stands only where more might follow. What is left to chance is not taken; no
-/// import and no tag is asked for.
+/// Memory is taken only where `config` and `groups` allow an answer and `funcs` are no more than `config` allows.
+///
+/// A list that goes on is spelled by 1, and its end by 0 where the list might go on. No group is cloned, no supertype is chosen,
+/// and no import and no tag is asked for.
 pub fn spell(
     alloc: Global,
     config: &Config,

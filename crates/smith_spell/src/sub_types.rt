@@ -12,16 +12,16 @@ use smith_bytes::Error;
 use smith_config::Config;
 use smith_types::{Items, SubType};
 
-/// The types that stand before others, as far as what follows them depends on them.
+/// A summary of the types that stand before others: all that the bytes of the others depend on.
 #[derive(Clone, Copy)]
 pub(crate) struct Before {
-    /// How many they are.
+    /// The number of these types.
     pub(crate) count: usize,
-    /// Whether one of them may have subtypes.
+    /// Whether some of these types may have subtypes.
     pub(crate) has_open: bool,
 }
 
-/// The same with one type more.
+/// The summary `before` with the type `t` added.
 fn with_type(before: Before, t: &SubType) -> Before
     requires { before.count + 1 < 2 ^ 64 }
     ensures counted { result.count ≡ before.count + 1 }
@@ -33,7 +33,7 @@ fn with_type(before: Before, t: &SubType) -> Before
     }
 }
 
-/// Writes a type behind others, whatever these are.
+/// Writes `t` behind the types of which `before` is the summary.
 fn write_sub_type(
     config: &Config,
     before: Before,
@@ -55,7 +55,7 @@ fn write_sub_type(
     write_inner(config, limit, inner, bytes)
 }
 
-/// Writes types one behind another and behind others, whatever these are, and adds them to those.
+/// Writes `types` behind the types of which `before` is the summary, and gives the summary with `types` behind these.
 pub(crate) fn write_sub_types(
     config: &Config,
     mut before: Before,

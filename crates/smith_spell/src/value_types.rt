@@ -13,7 +13,7 @@ use smith_bytes::Error;
 use smith_config::Config;
 use smith_types::{AbstractHeapType, HeapType, Items, ValType};
 
-/// How many classes of value types are enabled.
+/// The number of classes of value types that `config` enables.
 fn count_classes(config: &Config) -> usize
     ensures { result ≡ length (enabled (value_classes config.now)) }
 {
@@ -21,7 +21,7 @@ fn count_classes(config: &Config) -> usize
     2 + floats + usize::from(config.simd_enabled) + usize::from(config.reference_types_enabled)
 }
 
-/// The place of the class of a value type among those that are enabled.
+/// The place of the class of `value` among those that `config` enables.
 fn class_place(config: &Config, value: ValType) -> usize
     ensures { (limit : ℕ) → IsMemberValType config.now limit value → slice_get (enabled (value_classes config.now)) result ≡ Some (class_of value) }
 {
@@ -35,7 +35,7 @@ fn class_place(config: &Config, value: ValType) -> usize
     }
 }
 
-/// How many abstract heap types are enabled.
+/// The number of abstract heap types that are drawn under `config`.
 fn count_abstract(config: &Config) -> usize
     ensures { result ≡ length (enabled (abstract_heap_types config.now)) }
 {
@@ -43,7 +43,7 @@ fn count_abstract(config: &Config) -> usize
     2 + usize::from(config.exceptions_enabled) + collected
 }
 
-/// The place of an abstract heap type among those that are enabled.
+/// The place of `ty` among the abstract heap types that are drawn under `config`.
 fn abstract_place(config: &Config, ty: AbstractHeapType) -> usize
     ensures { Contains (enabled (abstract_heap_types config.now)) ty → slice_get (enabled (abstract_heap_types config.now)) result ≡ Some ty }
 {
@@ -88,7 +88,7 @@ fn write_concrete(
     Ok(())
 }
 
-/// Writes the place of an abstract heap type.
+/// Writes the place of the abstract heap type `ty`.
 fn write_abstract(config: &Config, ty: AbstractHeapType, bytes: &mut Items<u8>) -> Result<(), Error>
     requires { Contains (enabled (abstract_heap_types config.now)) ty }
     ensures writes { OnOk result (Writes (SpellsPlace (enabled (abstract_heap_types config.now)) ty) bytes.old bytes.new) }
@@ -101,7 +101,7 @@ fn write_abstract(config: &Config, ty: AbstractHeapType, bytes: &mut Items<u8>) 
     )
 }
 
-/// Writes a heap type that a type of the family may name.
+/// Writes `ty`, a heap type that a type of the family may name.
 fn write_heap_type(
     config: &Config,
     limit: usize,
@@ -126,7 +126,7 @@ fn write_heap_type(
     }
 }
 
-/// Writes the place of the class of a value type.
+/// Writes the place of the class of `value`.
 fn write_class(
     config: &Config,
     limit: usize,
@@ -140,7 +140,7 @@ fn write_class(
     write_number(class_place(config, value), count_classes(config) - 1, bytes)
 }
 
-/// Writes a value type that a type of the family may name.
+/// Writes `value`, a value type that a type of the family may name.
 pub(crate) fn write_val_type(
     config: &Config,
     limit: usize,
@@ -158,7 +158,7 @@ pub(crate) fn write_val_type(
     }
 }
 
-/// Writes a list of at most `most` value types.
+/// Writes `values`, a list of at most `most` value types.
 pub(crate) fn write_val_types(
     config: &Config,
     limit: usize,

@@ -1,5 +1,5 @@
 -- Constant expressions: the section Validation, Instructions, Constant Expressions, of the WebAssembly Core Specification
--- 3.0. Shared references and exact types are rules of this project.
+-- 3.0. Shared references and exact types are rules of this project. Values are below others with the own rules of `Subtyping`.
 use Rattle.std.specs.Prelude.{◌≡◌, ℕ, ◌<◌, Bool, true, false, nat_le, IsTrue, List, [], ◌∷◌, ◌++◌, map, replicate, length, slice_get, Some, All, if◌then◌else◌}
 use Rattle.std.specs.List.{AllZip}
 use Rattle.smith_types.specs.Features.{Features}

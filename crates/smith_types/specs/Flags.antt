@@ -35,7 +35,7 @@ IsInnerEnabled features (Array array) = IsTrue features.gc
 IsInnerEnabled features (Func function) = 1 < length function.results → IsTrue features.multi_value
 IsInnerEnabled features (Struct structure) = IsTrue features.gc
 
--- a subtype: one that is not final, has a supertype, or is shared (own rule)
+-- a subtype: not final, with a supertype, or shared (own rule)
 pub record IsSubTypeEnabled (features : Features) (t : SubType) : Type 0 where
   pub inner : IsInnerEnabled features t.composite_type.inner
   pub not_final : t.is_final ≡ false → IsTrue features.gc

@@ -1,4 +1,5 @@
--- Matching of storage, field and composite types. Sections are those of the WebAssembly Core Specification 3.0.
+-- Matching of storage, field and composite types. Sections are those of the WebAssembly Core Specification 3.0; value types are
+-- below others with the own rules of `Subtyping`.
 use Rattle.std.specs.Prelude.{◌≡◌, IsTrue, List, [], ◌∷◌, All}
 use Rattle.smith_types.specs.declared.value_type.ValType.{ValType}
 use Rattle.smith_types.specs.declared.composite_type.StorageType.{StorageType}

@@ -6,7 +6,7 @@ use Rattle.smith_types.specs.declared.value_type.HeapType.TheVariants.{Concrete}
 use Rattle.smith_types.specs.Space.{HasDepth}
 use Rattle.smith_types.specs.Subtyping.{IsBelow}
 
--- the depth of a type, and a type on the way up from it, which is another one where there is a supertype
+-- the depth of a type, and a type on the way up from it: another type where the type has a supertype
 pub record IsPlace (types : List SubType) (i : ℕ) (place : Place) : Type 0 where
   pub depth : HasDepth types i place.depth
   pub above : IsBelow types (Concrete i) (Concrete place.jump)

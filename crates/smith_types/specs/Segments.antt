@@ -1,4 +1,5 @@
--- Element and data segments: the section Validation, Modules, of the WebAssembly Core Specification 3.0.
+-- Element and data segments: the section Validation, Modules, of the WebAssembly Core Specification 3.0. References are below
+-- others with the own rules of `Subtyping`.
 use Rattle.std.specs.Prelude.{◌≡◌, ℕ, ◌+◌, ◌*◌, ◌^◌, ◌≤◌, Bool, true, false, IsTrue, List, Option, Some, None, length, slice_get, unwrap_or, All}
 use Rattle.std.specs.Int.{cast_unsigned, w32, w64}
 use Rattle.smith_types.specs.Flags.{IsElementEnabled}

@@ -40,17 +40,19 @@ IsStep types (Exact i) (Abstract r b) = ⊥
 IsStep types (Exact i) (Concrete j) = i ≡ j
 IsStep types (Exact i) (Exact j) = ⊥
 
--- one heap type is below another: the reflexive transitive closure of the direct steps (Validation, Matching, Heap Types)
+-- one heap type is below another: the reflexive transitive closure of the direct steps (Validation, Matching, Heap Types; own
+-- rules as in `IsStep`, and equal groups apart)
 pub data IsBelow (types : List SubType) : HeapType → HeapType → Type 0 where
   itself : {a : HeapType} → IsBelow types a a
   by_step : {a b c : HeapType} → IsStep types a b → IsBelow types b c → IsBelow types a c
 
--- one reference type is below another (Validation, Matching, Reference Types)
+-- one reference type is below another (Validation, Matching, Reference Types; heap types as in `IsBelow`)
 pub record IsRefBelow (types : List SubType) (a b : RefType) : Type 0 where
   pub heap : IsBelow types a.heap_type b.heap_type
   pub nullable : IsTrue a.nullable → IsTrue b.nullable
 
--- one value type is below another: numbers and vectors below themselves alone (Validation, Matching, Value Types)
+-- one value type is below another: numbers and vectors below themselves alone (Validation, Matching, Value Types; references as
+-- in `IsRefBelow`)
 abbrev pub IsValBelow : List SubType → ValType → ValType → Type 0
 IsValBelow types I32 I32 = Unit {0}
 IsValBelow types I64 I64 = Unit {0}

@@ -1,5 +1,5 @@
 -- Valid types. Type validation, in the section Validation, Types, of the WebAssembly Core Specification 3.0; which
--- feature a construct needs, and what sharedness asks, are rules of this project.
+-- feature a construct needs, and what sharedness asks, are rules of this project. Types match with the own rules of `Subtyping`.
 use Rattle.std.specs.Prelude.{◌≡◌, ℕ, ◌+◌, ◌<◌, ◌≤◌, false, IsTrue, List, [], ◌∷◌, ◌++◌, slice_get, Some, All}
 use Rattle.std.specs.List.{flat_map}
 use Rattle.std.specs.declared.ops.Range.{Range}

@@ -7,15 +7,17 @@ use crate::list::{Items, Name};
 use smith_bytes::Error;
 use std::alloc::Global;
 
-/// Copies into fresh memory. `clone` of each type calls it; generic code has it as a bound.
+/// A type whose values can be copied into fresh memory. Generic code has the trait as a bound; the method `clone` of each type
+/// calls [`CloneIn::clone_in`].
 pub trait CloneIn: Sized + Drop {
+    /// Copies the value into fresh memory of `alloc`.
     fn clone_in(&self, alloc: Global) -> Result<Self, Error>
         ensures ok { IfOk result (λ copy. copy ≡ self.now) }
         ensures memory { IfErr result (λ e. e ≡ Error.Memory) };
 }
 
 impl<T: Copy> Items<T> {
-    /// Copies a list of plain values into fresh memory.
+    /// Copies the list, whose elements are plain values, into fresh memory of `alloc`.
     pub fn copy_in(&self, alloc: Global) -> Result<Items<T>, Error>
         ensures ok { IfOk result (λ copy. copy ≡ self.now) }
         ensures memory { IfErr result (λ e. e ≡ Error.Memory) }
@@ -135,7 +137,7 @@ impl CloneIn for Imports {
 }
 
 impl<T: CloneIn> Items<T> {
-    /// Copies into fresh memory.
+    /// Copies the list into fresh memory of `alloc`.
     pub fn clone(&self, alloc: Global) -> Result<Self, Error>
         ensures ok { IfOk result (λ copy. copy ≡ self.now) }
         ensures memory { IfErr result (λ e. e ≡ Error.Memory) }
@@ -145,7 +147,7 @@ impl<T: CloneIn> Items<T> {
 }
 
 impl Name {
-    /// Copies into fresh memory.
+    /// Copies the name into fresh memory of `alloc`.
     pub fn clone(&self, alloc: Global) -> Result<Self, Error>
         ensures ok { IfOk result (λ copy. copy ≡ self.now) }
         ensures memory { IfErr result (λ e. e ≡ Error.Memory) }
@@ -155,7 +157,7 @@ impl Name {
 }
 
 impl StructType {
-    /// Copies into fresh memory.
+    /// Copies the struct type into fresh memory of `alloc`.
     pub fn clone(&self, alloc: Global) -> Result<Self, Error>
         ensures ok { IfOk result (λ copy. copy ≡ self.now) }
         ensures memory { IfErr result (λ e. e ≡ Error.Memory) }
@@ -165,7 +167,7 @@ impl StructType {
 }
 
 impl FuncType {
-    /// Copies into fresh memory.
+    /// Copies the function type into fresh memory of `alloc`.
     pub fn clone(&self, alloc: Global) -> Result<Self, Error>
         ensures ok { IfOk result (λ copy. copy ≡ self.now) }
         ensures memory { IfErr result (λ e. e ≡ Error.Memory) }
@@ -175,7 +177,7 @@ impl FuncType {
 }
 
 impl CompositeInnerType {
-    /// Copies into fresh memory.
+    /// Copies the composite type into fresh memory of `alloc`.
     pub fn clone(&self, alloc: Global) -> Result<Self, Error>
         ensures ok { IfOk result (λ copy. copy ≡ self.now) }
         ensures memory { IfErr result (λ e. e ≡ Error.Memory) }
@@ -185,7 +187,7 @@ impl CompositeInnerType {
 }
 
 impl CompositeType {
-    /// Copies into fresh memory.
+    /// Copies the composite type into fresh memory of `alloc`.
     pub fn clone(&self, alloc: Global) -> Result<Self, Error>
         ensures ok { IfOk result (λ copy. copy ≡ self.now) }
         ensures memory { IfErr result (λ e. e ≡ Error.Memory) }
@@ -195,7 +197,7 @@ impl CompositeType {
 }
 
 impl SubType {
-    /// Copies into fresh memory.
+    /// Copies the subtype into fresh memory of `alloc`.
     pub fn clone(&self, alloc: Global) -> Result<Self, Error>
         ensures ok { IfOk result (λ copy. copy ≡ self.now) }
         ensures memory { IfErr result (λ e. e ≡ Error.Memory) }
@@ -205,7 +207,7 @@ impl SubType {
 }
 
 impl Import {
-    /// Copies into fresh memory.
+    /// Copies the import into fresh memory of `alloc`.
     pub fn clone(&self, alloc: Global) -> Result<Self, Error>
         ensures ok { IfOk result (λ copy. copy ≡ self.now) }
         ensures memory { IfErr result (λ e. e ≡ Error.Memory) }
@@ -215,7 +217,7 @@ impl Import {
 }
 
 impl ImportItem {
-    /// Copies into fresh memory.
+    /// Copies the import into fresh memory of `alloc`.
     pub fn clone(&self, alloc: Global) -> Result<Self, Error>
         ensures ok { IfOk result (λ copy. copy ≡ self.now) }
         ensures memory { IfErr result (λ e. e ≡ Error.Memory) }
@@ -225,7 +227,7 @@ impl ImportItem {
 }
 
 impl Imports {
-    /// Copies into fresh memory.
+    /// Copies the group of imports into fresh memory of `alloc`.
     pub fn clone(&self, alloc: Global) -> Result<Self, Error>
         ensures ok { IfOk result (λ copy. copy ≡ self.now) }
         ensures memory { IfErr result (λ e. e ≡ Error.Memory) }

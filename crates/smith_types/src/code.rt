@@ -10,10 +10,10 @@ pub struct Code {
     pub instructions: Instructions,
 }
 
-/// What a body does.
+/// The instructions of a body.
 #[derive(Debug, Drop)]
 pub enum Instructions {
-    /// The body traps at once.
+    /// `unreachable` alone: the body traps at once.
     Unreachable,
     /// Raw bytes, which need not be valid.
     Arbitrary(Items<u8>),

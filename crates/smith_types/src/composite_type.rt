@@ -7,8 +7,11 @@ use crate::value_type::{AbstractHeapType, ValType};
 /// What a field stores: a packed integer or a value. The standard's section Structure, Composite Types.
 #[derive(Clone, Copy, Debug, PartialEq)]
 pub enum StorageType {
+    /// A packed integer of 8 bits.
     I8,
+    /// A packed integer of 16 bits.
     I16,
+    /// A value of a value type.
     Val(ValType),
 }
 
@@ -21,7 +24,7 @@ pub struct FieldType {
     pub mutable: bool,
 }
 
-/// An array type. The standard's section Structure, Composite Types.
+/// An array type, by the type of each element. The standard's section Structure, Composite Types.
 #[derive(Clone, Copy, Debug, PartialEq)]
 pub struct ArrayType(pub FieldType);
 
@@ -44,13 +47,17 @@ pub struct FuncType {
 /// A composite type without its sharedness. The standard's section Structure, Composite Types.
 #[derive(Debug, Drop, PartialEq)]
 pub enum CompositeInnerType {
+    /// An array type.
     Array(ArrayType),
+    /// A function type.
     Func(FuncType),
+    /// A struct type.
     Struct(StructType),
 }
 
 impl CompositeInnerType {
-    /// The abstract heap type above every type of this kind: Validation, Matching, Heap Types.
+    /// The abstract heap type above every composite type of the same kind: Validation, Matching, Heap Types. That types compare
+    /// only where they are alike in sharedness is a rule of this project.
     pub fn kind(&self) -> AbstractHeapType
         ensures { result ≡ kind_of self.now }
     {
@@ -61,7 +68,8 @@ impl CompositeInnerType {
         }
     }
 
-    /// The abstract heap type below every type of this kind: Validation, Matching, Heap Types.
+    /// The abstract heap type below every composite type of the same kind: Validation, Matching, Heap Types, over types alike in
+    /// sharedness as in [`CompositeInnerType::kind`].
     pub fn bottom(&self) -> AbstractHeapType
         ensures { result ≡ bottom_of self.now }
     {
@@ -87,7 +95,7 @@ pub struct CompositeType {
 pub struct SubType {
     /// Whether the type has no subtypes.
     pub is_final: bool,
-    /// The index of the declared supertype.
+    /// The index of the declared supertype, or None where the type declares no supertype.
     pub supertype: Option<u32>,
     /// The structure of the type.
     pub composite_type: CompositeType,

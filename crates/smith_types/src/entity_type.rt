@@ -7,7 +7,7 @@ pub struct TableType {
     pub element_type: RefType,
     /// The least number of elements.
     pub minimum: u64,
-    /// The greatest number of elements, where there is one.
+    /// The greatest number of elements, or None where the type states no maximum.
     pub maximum: Option<u64>,
     /// Whether indices are 64 bits wide.
     pub table64: bool,
@@ -20,13 +20,13 @@ pub struct TableType {
 pub struct MemoryType {
     /// The least number of pages.
     pub minimum: u64,
-    /// The greatest number of pages, where there is one.
+    /// The greatest number of pages, or None where the type states no maximum.
     pub maximum: Option<u64>,
     /// Whether addresses are 64 bits wide.
     pub memory64: bool,
     /// Whether the memory may be shared among threads.
     pub shared: bool,
-    /// The binary logarithm of the bytes of a page; 16 where it is not stated.
+    /// The binary logarithm of the bytes of a page, or None where the type states no page size: a page has 64 KiB then.
     pub page_size_log2: Option<u32>,
 }
 
@@ -41,24 +41,32 @@ pub struct GlobalType {
     pub shared: bool,
 }
 
-/// What an import or an export is of: the standard's section Structure, External Types.
+/// The type of an entity that is imported or exported: the standard's section Structure, External Types.
 #[derive(Clone, Copy, Debug, PartialEq)]
 pub enum EntityType {
+    /// A global of a global type.
     Global(GlobalType),
+    /// A table of a table type.
     Table(TableType),
+    /// A memory of a memory type.
     Memory(MemoryType),
-    /// A tag of the function type of this index.
+    /// A tag of the function type of an index.
     Tag(u32),
-    /// A function of the type of this index.
+    /// A function of the function type of an index.
     Func(u32),
 }
 
 /// The index space that an export names an entity of: the standard's section Structure, Exports.
 #[derive(Clone, Copy, Debug, PartialEq)]
 pub enum ExportKind {
+    /// The index space of functions.
     Func,
+    /// The index space of tables.
     Table,
+    /// The index space of memories.
     Memory,
+    /// The index space of globals.
     Global,
+    /// The index space of tags.
     Tag,
 }

@@ -9,8 +9,10 @@ use crate::type_space::TypeSpace;
 use smith_bytes::Error;
 use std::alloc::Global;
 
-/// The type space of `groups`, or None where a declared supertype doesn't stand before its subtype or isn't like it: Validation,
-/// Recursive Types. The groups have fewer than 2^32 - 1 types together.
+/// Makes the type space of `groups`, or gives None where a declared supertype doesn't stand before its subtype, or is of another
+/// kind or sharedness: Validation, Recursive Types. That sharedness agrees is a rule of this project.
+///
+/// All `groups` together have fewer than 2^32 - 1 types.
 pub fn type_space_of(alloc: Global, groups: &[Items<SubType>]) -> Result<Option<TypeSpace>, Error>
     requires few { length (space_of groups.now).types + 1 < 2 ^ 32 }
     ensures found { IfOk result (λ found. MatchOption found (¬ AreFollowing (space_of groups.now).types) (λ space. space ≡ space_of groups.now)) }
@@ -27,7 +29,7 @@ pub fn type_space_of(alloc: Global, groups: &[Items<SubType>]) -> Result<Option<
     Ok(Some(space))
 }
 
-// Adds types, as long as each may follow those before it, and says whether all may.
+// Adds `members` to `space`, as long as each may follow the types before it, and says whether all may.
 fn push_members(alloc: Global, space: &mut TypeSpace, members: &[SubType]) -> Result<bool, Error>
     requires few { length space.old.types + length members.now + 1 < 2 ^ 32 }
     ensures added { IfOk result (λ all. MatchBool all (space.new ≡ record space.old { types = space.old.types ++ members.now }) (¬ AreFollowing (space.old.types ++ members.now))) }

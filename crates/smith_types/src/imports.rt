@@ -12,10 +12,10 @@ pub struct Import {
     pub entity_type: EntityType,
 }
 
-/// An import of a group, which has the group's module name.
+/// An import of a compact group, whose module name is that of the group.
 #[derive(Debug, Drop, PartialEq)]
 pub struct ImportItem {
-    /// The name of the import in the group's module.
+    /// The name of the import in the module of the group.
     pub name: Name,
     /// The entity that is imported, by its type.
     pub entity_type: EntityType,
@@ -26,12 +26,12 @@ pub struct ImportItem {
 pub enum Imports {
     /// An import by itself.
     Single(Import),
-    /// Imports of one module.
+    /// The imports `items` of the module `module`.
     Compact1 {
         module: Name,
         items: Items<ImportItem>,
     },
-    /// Imports of one module that have one type.
+    /// The imports `names` of the module `module`, each of the type `entity_type`.
     Compact2 {
         module: Name,
         entity_type: EntityType,

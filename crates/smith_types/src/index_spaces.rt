@@ -10,7 +10,8 @@ use crate::list::{Items, Name};
 use smith_bytes::Error;
 use std::alloc::Global;
 
-/// The index spaces but that of types: Structure, Indices. Tags and functions are given by the indices of their types.
+/// The index spaces of a module but that of types: Structure, Indices. Tags and functions are given by the indices of their
+/// types.
 #[derive(Drop)]
 pub struct IndexSpaces {
     /// The index of the type of each tag.
@@ -26,7 +27,7 @@ pub struct IndexSpaces {
 }
 
 impl IndexSpaces {
-    /// Index spaces without entities, which take no memory.
+    /// Makes index spaces without entities, which take no memory of `alloc` until an entity is added.
     pub fn new(alloc: Global) -> IndexSpaces
         ensures { spaces_in result ≡ record { tags = []; funcs = []; tables = []; memories = []; globals = [] } }
     {
@@ -54,7 +55,7 @@ impl IndexSpaces {
     }
 }
 
-// Adds the imports of a group; an empty one adds none.
+// Adds the entities of `group`: an empty group adds none.
 fn push_group(spaces: &mut IndexSpaces, group: &Imports) -> Result<(), Error>
     ensures ok { OnOk result (spaces_in spaces.new ≡ with_entities (spaces_in spaces.old) (entities_of group.now)) }
     ensures memory { IfErr result (λ e. e ≡ Error.Memory) }
@@ -94,7 +95,7 @@ fn push_names(
     Ok(())
 }
 
-/// The index spaces that imports begin, one by one and in order: Validation, Modules.
+/// Makes the index spaces that `imports` begin: each import in turn stands last in the space of its kind. Validation, Modules.
 #[tactic(auto, using(crate::proofs::ImportedSpaceLemmas::imported_is_grown))]
 pub fn imported_spaces_of(alloc: Global, imports: &[Imports]) -> Result<IndexSpaces, Error>
     ensures ok { IfOk result (λ spaces. spaces_in spaces ≡ imported_spaces (flattened imports.now)) }

@@ -19,36 +19,52 @@ use std::str::FromStr;
 use thiserror::Error;
 
 /// A kind of instructions, as the WebAssembly Core Specification groups them. Three kinds stand
-/// twice, the second time without what concerns floats.
+/// twice: without what concerns floats, and whole.
+///
+/// As text a kind has a name such as `numeric_non_float`, in letters of either case.
 #[derive(Clone, Copy, Debug, PartialEq, Eq)]
 pub enum InstructionKind {
+    /// Numeric instructions that concern no floats.
     NumericInt,
+    /// Numeric instructions.
     Numeric,
+    /// Vector instructions that concern no floats.
     VectorInt,
+    /// Vector instructions.
     Vector,
+    /// Reference instructions.
     Reference,
+    /// Parametric instructions.
     Parametric,
+    /// Variable instructions.
     Variable,
+    /// Table instructions.
     Table,
+    /// Memory instructions that concern no floats.
     MemoryInt,
+    /// Memory instructions.
     Memory,
+    /// Control instructions.
     Control,
+    /// Aggregate instructions.
     Aggregate,
 }
 
-/// A name among those that were read is no kind's. `part` is its place, from 0.
+/// Why a text is no kind of instructions, or no set of kinds: a part of the text between commas names no kind.
 #[derive(Clone, Copy, Debug, PartialEq, Eq, Error)]
 #[error("part {part} names no kind of instructions")]
 pub struct UnknownKind {
-    /// The place of the name among those that were read, from 0.
+    /// The place of the first such part, from 0.
     pub part: usize,
 }
 
 /// A set of kinds of instructions. A kind with floats holds the kind without.
+///
+/// As text the names of the kinds stand in a row, with commas between them.
 #[derive(Clone, Copy, Debug, PartialEq, Eq)]
 pub struct InstructionKinds(u16);
 
-// What a kind with floats has and the kind without doesn't.
+// What the kinds with floats have, and the same kinds without floats don't.
 const FLOATS: InstructionKinds = InstructionKinds(2 + 8 + 512);
 
 const KINDS: [InstructionKind; 12] = [
@@ -67,7 +83,7 @@ const KINDS: [InstructionKind; 12] = [
 ];
 
 impl InstructionKind {
-    // The set of this kind alone.
+    // The set of the kind alone.
     fn set(self) -> InstructionKinds
         ensures { kinds_bits result ≡ kind_bits self }
     {
@@ -124,17 +140,29 @@ impl FromStr for InstructionKind {
 
 bitflag_items! {
     impl InstructionKinds: u16 {
+        /// The set of [`InstructionKind::NumericInt`].
         const NUMERIC_INT = 1;
+        /// The set of [`InstructionKind::Numeric`].
         const NUMERIC = 3;
+        /// The set of [`InstructionKind::VectorInt`].
         const VECTOR_INT = 4;
+        /// The set of [`InstructionKind::Vector`].
         const VECTOR = 12;
+        /// The set of [`InstructionKind::Reference`].
         const REFERENCE = 16;
+        /// The set of [`InstructionKind::Parametric`].
         const PARAMETRIC = 32;
+        /// The set of [`InstructionKind::Variable`].
         const VARIABLE = 64;
+        /// The set of [`InstructionKind::Table`].
         const TABLE = 128;
+        /// The set of [`InstructionKind::MemoryInt`].
         const MEMORY_INT = 256;
+        /// The set of [`InstructionKind::Memory`].
         const MEMORY = 768;
+        /// The set of [`InstructionKind::Control`].
         const CONTROL = 1024;
+        /// The set of [`InstructionKind::Aggregate`].
         const AGGREGATE = 2048;
     }
 }
@@ -162,7 +190,7 @@ impl Flags for InstructionKinds {
 }
 
 impl InstructionKinds {
-    /// The set of the kinds `kinds`.
+    /// Makes the set of the kinds `kinds`.
     #[tactic(auto, unfolding(crate::specs::Instructions::with_kind))]
     pub fn new(kinds: &[InstructionKind]) -> InstructionKinds
         ensures { kinds_bits result ≡ union_of kinds.now }
@@ -203,7 +231,7 @@ impl InstructionKinds {
         self.difference(FLOATS)
     }
 
-    /// The set, with `kind` where it is `wanted`.
+    /// The set, with `kind` added where `wanted` is true.
     #[tactic(auto, unfolding(crate::specs::Instructions::with_kind))]
     pub fn with(self, wanted: bool, kind: InstructionKind) -> InstructionKinds
         ensures { result ≡ with_kind self wanted kind }

@@ -12,57 +12,58 @@ ghost use Rattle.smith_types.specs.Laws.{
   ValidExportsSurviveGrowth,
 };
 
-/// Each type is below itself.
+/// States that each type is below itself.
 pub fn subtyping_is_reflexive()
     ensures { SubtypingIsReflexive }
 {}
 
-/// What is below a type is below whatever that type is below.
+/// States that a type below a second type is below each type that the second is below.
 pub fn subtyping_is_transitive()
     ensures { SubtypingIsTransitive }
 {}
 
-/// A concrete type is never below an exact one, not even below its own.
+/// States that no concrete type is below an exact type, not even below the exact type of the same index.
 pub fn concrete_is_never_below_exact()
     ensures { ConcreteIsNeverBelowExact }
 {}
 
-/// What is below a type stays below it when more types are added.
+/// States that a type below another stays so when more types are added.
 pub fn subtyping_survives_growth()
     ensures { SubtypingSurvivesGrowth }
 {}
 
-/// Each composite type matches itself.
+/// States that each composite type matches itself.
 pub fn matching_is_reflexive()
     ensures { MatchingIsReflexive }
 {}
 
-/// What matches goes on matching when more types are added.
+/// States that a composite type that matches another goes on doing so when more types are added.
 pub fn matching_survives_growth()
     ensures { MatchingSurvivesGrowth }
 {}
 
-/// Valid types stay valid when whole groups of valid types are added.
+/// States that valid types stay valid when whole groups of valid types are added.
 pub fn valid_types_survive_growth()
     ensures { ValidTypesSurviveGrowth }
 {}
 
-/// Valid entities stay valid when more types are added.
+/// States that valid entities stay valid when more types are added.
 pub fn valid_entities_survive_growth()
     ensures { ValidEntitiesSurviveGrowth }
 {}
 
-/// A valid constant expression stays valid when types, functions and globals are added, and when more globals are visible.
+/// States that a valid constant expression stays valid when types, functions and globals are added, and when more globals are
+/// visible.
 pub fn valid_expressions_survive_growth()
     ensures { ValidExpressionsSurviveGrowth }
 {}
 
-/// A valid segment stays valid when types, functions, globals, tables and memories are added.
+/// States that a valid segment stays valid when types, functions, globals, tables and memories are added.
 pub fn valid_segments_survive_growth()
     ensures { ValidSegmentsSurviveGrowth }
 {}
 
-/// What an export or the start function names stands when index spaces grow.
+/// States that valid exports and a valid start function stay valid when index spaces grow.
 pub fn valid_exports_survive_growth()
     ensures { ValidExportsSurviveGrowth }
 {}

@@ -35,7 +35,7 @@ impl<T> Model for Items<T> {
 }
 
 impl<T> Items<T> {
-    /// An empty list, which takes no memory until something is pushed.
+    /// Makes an empty list, which takes no memory of `alloc` until an element is added.
     pub fn new(alloc: Global) -> Self
         ensures { result ≡ [] }
     {
@@ -44,7 +44,7 @@ impl<T> Items<T> {
         }
     }
 
-    /// An empty list with room for `capacity` elements.
+    /// Makes an empty list with room for `capacity` elements, in memory of `alloc`.
     pub fn with_capacity(alloc: Global, capacity: usize) -> Result<Self, Error>
         ensures ok { IfOk result (λ items. items ≡ []) }
         ensures memory { IfErr result (λ e. e ≡ Error.Memory) }
@@ -54,7 +54,7 @@ impl<T> Items<T> {
         })
     }
 
-    /// The list of the elements of `items`. Takes no memory.
+    /// Makes the list of the elements of `items`. Takes no memory.
     pub fn from_vec(items: Vec<T>) -> Self
         ensures { result ≡ items.items }
     {
@@ -92,7 +92,7 @@ impl<T> Items<T> {
 }
 
 impl<T: Copy> Items<T> {
-    /// The list of the elements of `items`, in fresh memory.
+    /// Makes the list of the elements of `items`, in fresh memory of `alloc`.
     pub fn from_slice(alloc: Global, items: &[T]) -> Result<Self, Error>
         ensures ok { IfOk result (λ made. made ≡ items.now) }
         ensures memory { IfErr result (λ e. e ≡ Error.Memory) }
@@ -114,6 +114,7 @@ impl<T> DerefSlice for Items<T> {
     }
 }
 
+/// Lends the element at an index, which is below the number of elements.
 impl<T> Index<usize> for Items<T> {
     ghost use Rattle.std.specs.Prelude.{◌<◌, slice_index_or};
 
@@ -148,7 +149,7 @@ impl<'a, T> IntoIterator for &'a Items<T> {
 }
 
 impl<T: Drop> Items<T> {
-    /// Adds `item` at the end.
+    /// Adds `item` at the end of the list.
     pub fn push(&mut self, item: T) -> Result<(), Error>
         ensures ok { OnOk result (self.new ≡ self.old ++ item ∷ []) }
         ensures err { OnErr result (self.new ≡ self.old) }
@@ -171,14 +172,14 @@ impl Model for Name {
 }
 
 impl Name {
-    /// The name that is `text`. Takes no memory.
+    /// Makes the name that is `text`. Takes no memory.
     pub fn from_string(text: String) -> Self
         ensures { result ≡ string_bytes text }
     {
         Name { text }
     }
 
-    /// The name that is `text`, in fresh memory.
+    /// Makes the name that is `text`, in fresh memory of `alloc`.
     pub fn from_text(alloc: Global, text: &str) -> Result<Self, Error>
         ensures ok { IfOk result (λ name. name ≡ text.now) }
         ensures memory { IfErr result (λ e. e ≡ Error.Memory) }
@@ -186,7 +187,7 @@ impl Name {
         Ok(Name::from_string(String::from_str(alloc, text)?))
     }
 
-    /// Gives the text back. Takes no memory.
+    /// Gives the text of the name back. Takes no memory.
     pub fn into_string(self) -> String
         ensures { string_bytes result ≡ self }
     {
@@ -194,14 +195,14 @@ impl Name {
         text
     }
 
-    /// Lends the text.
+    /// Lends the text of the name.
     pub fn as_str(&self) -> &str
         ensures { result.now ≡ self.now }
     {
         self.text.as_str()
     }
 
-    /// The number of bytes.
+    /// The number of bytes of the name.
     pub fn len(&self) -> usize
         ensures { result ≡ length self.now }
     {

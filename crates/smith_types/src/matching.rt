@@ -19,7 +19,7 @@ use crate::subtyping::val_type_is_below;
 use crate::type_space::TypeSpace;
 use crate::value_type::ValType;
 
-// Whether one composite type matches another.
+// Whether the composite type `a` matches `b`, over heap types as in `TypeSpace::heap_type_is_sub_type`.
 pub(crate) fn composite_type_is_match(
     space: &TypeSpace,
     a: &CompositeType,
@@ -66,7 +66,7 @@ fn func_type_is_match(space: &TypeSpace, a: &FuncType, b: &FuncType) -> bool
         && are_below(space, a.results.as_slice(), b.results.as_slice())
 }
 
-// Whether value types are below as many others, in order.
+// Whether `a` has as many value types as `b`, each below that of `b` at the same place.
 fn are_below(space: &TypeSpace, a: &[ValType], b: &[ValType]) -> bool
     requires lower { All (IsValInRange space.now.types) a.now }
     requires upper { All (IsValInRange space.now.types) b.now }
@@ -83,7 +83,7 @@ fn are_below(space: &TypeSpace, a: &[ValType], b: &[ValType]) -> bool
     true
 }
 
-// Whether fields match those of a struct that is as long or shorter, in order.
+// Whether `a` has as many fields as `b` or more, and each field of `b` is matched by that of `a` at the same place.
 fn fields_are_matched(space: &TypeSpace, a: &[FieldType], b: &[FieldType]) -> bool
     requires lower { All (IsFieldInRange space.now.types) a.now }
     requires upper { All (IsFieldInRange space.now.types) b.now }

@@ -8,13 +8,14 @@ use crate::composite_type::SubType;
 // Where a type stands among its declared supertypes.
 #[derive(Clone, Copy)]
 pub(crate) struct Place {
-    // The number of types on the way up, itself included.
+    // The number of types on the way up, the type itself included.
     pub(crate) depth: u32,
     // A type on the way up, far or near, so that a way up is gone in few steps. Without a supertype the type itself.
     pub(crate) jump: u32,
 }
 
-// The place of a type that is to be added. Two jumps of one length make a longer one, as in a skew binary number.
+// The place of the type `added`, which is to be added behind `types`. Two jumps of equal length make a longer jump, as in a skew
+// binary number.
 pub(crate) fn place_after(types: &[SubType], places: &[Place], added: &SubType) -> Place
     requires orderly { IsOrderly types.now }
     requires places { ArePlaces types.now places.now }

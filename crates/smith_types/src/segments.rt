@@ -18,9 +18,9 @@ pub struct ElementSegment {
 pub enum ElementKind {
     /// The segment is kept for instructions that name it.
     Passive,
-    /// The segment only declares the functions that it names.
+    /// The segment only declares functions, which its items name.
     Declared,
-    /// The segment is copied into the table `table`, or the first one where none is named, from `offset` on.
+    /// The items are copied into the table `table`, or the first table where `table` is None, from the element `offset` on.
     Active { table: Option<u32>, offset: Offset },
 }
 
@@ -47,17 +47,17 @@ pub struct DataSegment {
 pub enum DataSegmentKind {
     /// The segment is kept for instructions that name it.
     Passive,
-    /// The segment is copied into the memory `memory_index`, from `offset` on.
+    /// The bytes are copied into the memory `memory_index`, from the byte `offset` on.
     Active { memory_index: u32, offset: Offset },
 }
 
-/// Where an active segment begins, in elements or bytes. Constants are read without sign.
+/// The place where an active segment begins, in elements of a table or bytes of a memory. Constants are read without sign.
 #[derive(Clone, Copy, Debug)]
 pub enum Offset {
     /// A constant of 32 bits.
     Const32(i32),
     /// A constant of 64 bits.
     Const64(i64),
-    /// The value of the global of this index.
+    /// The value of the global of an index.
     Global(u32),
 }

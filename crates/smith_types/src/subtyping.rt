@@ -17,7 +17,7 @@ use crate::place::Place;
 use crate::type_space::TypeSpace;
 use crate::value_type::{AbstractHeapType, HeapType, RefType, ValType};
 
-// Whether one value type is below another.
+// Whether the value type `a` is below `b`, over heap types as in `TypeSpace::heap_type_is_sub_type`.
 pub(crate) fn val_type_is_below(space: &TypeSpace, a: ValType, b: ValType) -> bool
     requires lower { IsValInRange space.now.types a }
     requires upper { IsValInRange space.now.types b }
@@ -36,7 +36,7 @@ pub(crate) fn val_type_is_below(space: &TypeSpace, a: ValType, b: ValType) -> bo
     }
 }
 
-// Whether one reference type is below another.
+// Whether the reference type `a` is below `b`, over heap types as in `TypeSpace::heap_type_is_sub_type`.
 pub(crate) fn ref_type_is_below(space: &TypeSpace, a: RefType, b: RefType) -> bool
     requires lower { IsInRange space.now.types a.heap_type }
     requires upper { IsInRange space.now.types b.heap_type }
@@ -45,7 +45,7 @@ pub(crate) fn ref_type_is_below(space: &TypeSpace, a: RefType, b: RefType) -> bo
     (!a.nullable || b.nullable) && heap_type_is_below(space, a.heap_type, b.heap_type)
 }
 
-// Whether one heap type is below another.
+// Whether the heap type `a` is below `b`.
 pub(crate) fn heap_type_is_below(space: &TypeSpace, a: HeapType, b: HeapType) -> bool
     requires lower { IsInRange space.now.types a }
     requires upper { IsInRange space.now.types b }
@@ -74,8 +74,8 @@ pub(crate) fn heap_type_is_below(space: &TypeSpace, a: HeapType, b: HeapType) ->
     }
 }
 
-// Whether a type is another one, or some declared supertype of it is. A supertype has a smaller index, so no jump that ends
-// at the other or behind it passes it.
+// Whether the type `from` is the type `to`, or some declared supertype of `from` is. A supertype has a smaller index, so no jump
+// that ends at `to` or behind `to` passes `to`.
 fn reaches(types: &[SubType], places: &[Place], from: u32, to: u32) -> bool
     requires orderly { IsOrderly types.now }
     requires places { ArePlaces types.now places.now }
@@ -95,7 +95,7 @@ fn reaches(types: &[SubType], places: &[Place], from: u32, to: u32) -> bool
     at == to
 }
 
-// Whether a type is below an abstract type of this sharedness.
+// Whether the type `ty` is below the abstract type `upper`, which is shared or not as `is_shared` says.
 fn is_under(ty: &SubType, is_shared: bool, upper: AbstractHeapType) -> bool
     ensures { IsTrue result ↔ ((shared ty.now ≡ is_shared) × IsTrue (is_abstract_below (kind ty.now) upper)) }
 {
@@ -103,14 +103,14 @@ fn is_under(ty: &SubType, is_shared: bool, upper: AbstractHeapType) -> bool
         && abstract_type_is_below(ty.composite_type.inner.kind(), upper)
 }
 
-// Whether an abstract type of this sharedness is the bottom of a type's kind.
+// Whether the abstract type `lower`, shared or not as `is_shared` says, is the bottom of the kind of `ty`.
 fn is_bottom_of(ty: &SubType, is_shared: bool, lower: AbstractHeapType) -> bool
     ensures { IsTrue result ↔ ((is_shared ≡ shared ty.now) × (lower ≡ bottom ty.now)) }
 {
     is_shared == ty.composite_type.shared && lower == ty.composite_type.inner.bottom()
 }
 
-// Whether one abstract type is below another of the same sharedness.
+// Whether the abstract type `a` is below `b`, where both are shared or neither.
 fn abstract_type_is_below(a: AbstractHeapType, b: AbstractHeapType) -> bool
     ensures { result ≡ is_abstract_below a b }
 {

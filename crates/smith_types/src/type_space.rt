@@ -41,11 +41,11 @@ use std::fmt;
 use std::marker::Model;
 use std::ops::Range;
 
-// A type of this depth or more has no subtypes.
+// The depth from which on a type is left out of those that may have subtypes.
 const DEPTH_LIMIT: u32 = 60;
 
-/// The types of a module in the order of their indices, and the groups that they were added in.
-/// Types only grow: what stands at an index stays there.
+/// The types of a module in the order of their indices, and the recursive groups that they were added in.
+/// Types are only added: the type of an index stays the same.
 #[derive(Drop)]
 pub struct TypeSpace {
     types: Vec<SubType>,
@@ -84,7 +84,7 @@ impl TypeSpace {
     ghost use Rattle.smith_types.specs.Types.{next_group, AreCovered};
     ghost use Rattle.smith_types.specs.Sizes.{size_in, IsTyped};
 
-    /// A space without types and groups, which takes no memory. It grows by `alloc`.
+    /// Makes a space without types and groups, which takes no memory of `alloc` until a type or a group is added.
     pub fn new(alloc: Global) -> TypeSpace
         ensures { result ≡ record { types = []; groups = [] } }
     {
@@ -96,7 +96,7 @@ impl TypeSpace {
         }
     }
 
-    /// A space without types and groups, with room for `types` types, each in a group of its own.
+    /// Makes a space without types and groups, with room in memory of `alloc` for `types` types, each in a group of its own.
     pub fn with_capacity(alloc: Global, types: usize) -> Result<TypeSpace, Error>
         ensures ok { IfOk result (λ space. space ≡ record { types = []; groups = [] }) }
         ensures memory { IfErr result (λ e. e ≡ Error.Memory) }
@@ -125,15 +125,16 @@ impl TypeSpace {
         self.places.as_slice()
     }
 
-    /// The groups so far, each as the indices of its types. Types behind them await `push_group`.
+    /// The groups so far, each as the range of the indices of its types. Types behind the last group belong to no group until
+    /// [`TypeSpace::push_group`].
     pub fn rec_groups(&self) -> &[Range<usize>]
         ensures { result.now ≡ self.now.groups }
     {
         self.groups.as_slice()
     }
 
-    /// The depth of the type `index`, which stands: the number of types on the way up from it by declared supertypes, itself
-    /// included.
+    /// The depth of the type of the index `index`, which stands: the number of types on the way up by declared supertypes, the
+    /// type itself included.
     pub fn depth(&self, index: u32) -> u32
         requires { index < length self.now.types }
         ensures { HasDepth self.now.types index result }
@@ -141,7 +142,8 @@ impl TypeSpace {
         self.places[index as usize].depth
     }
 
-    /// The indices of the types that may have subtypes, in order: those that are not final, and of a depth below 60.
+    /// The indices of the types that may have drawn subtypes, in order: of the types that are not final, and of a depth below 60.
+    /// The depth is a rule of this project: [`TypeSpace::push_type`] takes deeper types too.
     pub fn extensible(&self) -> &[u32]
         ensures value { AreExtensible self.now.types result.now }
         ensures sound { IsSound self.now }
@@ -149,8 +151,8 @@ impl TypeSpace {
         self.extensible.as_slice()
     }
 
-    /// Whether [`TypeSpace::push_type`] may add the type `added`: its supertype stands and is of its kind and sharedness, and an
-    /// index is left.
+    /// Whether [`TypeSpace::push_type`] may add the type `added`: a supertype that `added` declares stands and is of the kind and
+    /// sharedness of `added`, and an index is left.
     pub fn may_follow(&self, added: &SubType) -> bool
         ensures { IsTrue result ↔ MayFollow self.now.types added.now }
     {
@@ -159,8 +161,8 @@ impl TypeSpace {
 
     /// Adds the type `added` last and gives its index. The type belongs to no group until [`TypeSpace::push_group`].
     ///
-    /// The supertype of `added`, if there is one, stands and is of its kind and sharedness, and an index is left:
-    /// [`TypeSpace::may_follow`] tells it. After want of memory the space is unchanged, and `added` is gone.
+    /// A supertype that `added` declares stands and is of the kind and sharedness of `added`, and an index is left, as
+    /// [`TypeSpace::may_follow`] tells. After want of memory the space is unchanged, and `added` is gone.
     pub fn push_type(&mut self, added: SubType) -> Result<u32, Error>
         requires { MayFollow self.old.types added }
         ensures ok { OnOk result (self.new ≡ record self.old { types = self.old.types ++ added ∷ [] }) }
@@ -188,7 +190,7 @@ impl TypeSpace {
         }
     }
 
-    /// Makes room for `additional` more types, so that adding them moves nothing. No type is added.
+    /// Makes room for `additional` more types, so that adding that number moves no type. No type is added.
     pub fn reserve(&mut self, additional: usize) -> Result<(), Error>
         ensures value { self.new ≡ self.old }
         ensures memory { IfErr result (λ e. e ≡ Error.Memory) }
@@ -198,7 +200,7 @@ impl TypeSpace {
         Ok(self.types.reserve(additional)?)
     }
 
-    /// Makes a group, maybe empty, of the types behind the last group.
+    /// Adds a group, maybe empty, of the types behind the last group.
     pub fn push_group(&mut self) -> Result<(), Error>
         ensures ok { OnOk result (self.new ≡ record self.old {
           groups = self.old.groups ++ next_group self.old.types self.old.groups ∷ [];
@@ -212,8 +214,10 @@ impl TypeSpace {
         Ok(self.groups.push(start..end)?)
     }
 
-    /// Whether the heap type `a` is below `b`: Validation, Matching, Heap Types. That equal groups are different types, and what
-    /// holds of shared and exact types, are rules of this project. The types that `a` and `b` name stand.
+    /// Whether the heap type `a` is below `b`: Validation, Matching, Heap Types. The types that `a` and `b` name stand.
+    ///
+    /// Rules of this project: equal groups are different types; abstract types compare only where they are alike in sharedness,
+    /// as do a concrete and an abstract type; an exact type stands below its own type.
     pub fn heap_type_is_sub_type(&self, a: HeapType, b: HeapType) -> bool
         requires lower { IsInRange self.now.types a }
         requires upper { IsInRange self.now.types b }
@@ -252,8 +256,8 @@ impl TypeSpace {
         composite_type_is_match(self, a, b)
     }
 
-    /// The size of `entity`, which counts towards the type size of a module. The type of a function stands and is a function
-    /// type, and the size fits 32 bits.
+    /// The size of `entity`, which counts towards the type size of a module: 1, and for a function the number of its parameters
+    /// and results more. The type of a function stands, and the size is below 2^32.
     pub fn size_of(&self, entity: &EntityType) -> u32
         requires typed { IsTyped self.now.types entity.now }
         requires fits { size_in self.now.types entity.now < 2 ^ 32 }
@@ -266,14 +270,14 @@ impl TypeSpace {
     }
 }
 
-// Whether a type of this depth may have subtypes.
+// Whether the type `ty`, of depth `depth`, may have subtypes.
 fn may_have_subtypes(ty: &SubType, depth: u32) -> bool
     ensures { result ≡ (not ty.now.is_final && nat_lt depth 60) }
 {
     !ty.is_final && depth < DEPTH_LIMIT
 }
 
-// Adds an index where it is wanted.
+// Adds `index` to `indices` where `wanted` is true.
 fn push_where(wanted: bool, indices: &mut Vec<u32>, index: u32) -> Result<(), Error>
     ensures ok { OnOk result (indices.new.items ≡ indices.old.items ++ (if wanted then index ∷ [] else [])) }
     ensures err { OnErr result (indices.new.items ≡ indices.old.items) }
@@ -284,7 +288,7 @@ fn push_where(wanted: bool, indices: &mut Vec<u32>, index: u32) -> Result<(), Er
     Ok(())
 }
 
-// The size of a function of this type.
+// The size of a function of the type `ty`, below 2^32.
 fn size_of_function(ty: &SubType) -> u32
     requires { 1 + value_count ty.now.composite_type.inner < 2 ^ 32 }
     ensures { result ≡ 1 + value_count ty.now.composite_type.inner }
@@ -295,7 +299,7 @@ fn size_of_function(ty: &SubType) -> u32
     }
 }
 
-// Where the group behind these begins.
+// The index at which the group behind `groups` begins.
 pub(crate) fn start_after(groups: &[Range<usize>]) -> usize
     ensures { result ≡ next_start groups.now }
 {
@@ -305,7 +309,7 @@ pub(crate) fn start_after(groups: &[Range<usize>]) -> usize
     }
 }
 
-// Whether the supertype that this type declares, if it does, stands and is like it.
+// Whether a supertype that `added` declares stands and is like `added`.
 fn is_supertype_at(types: &[SubType], added: &SubType) -> bool
     ensures { IsTrue result ↔ ((s : ℕ) → added.now.supertype ≡ Some s →
         (u : SubType) × (slice_get types.now s ≡ Some u) × IsAlike added.now u) }
@@ -319,7 +323,7 @@ fn is_supertype_at(types: &[SubType], added: &SubType) -> bool
     }
 }
 
-// Whether both are of one kind, and both shared or neither.
+// Whether `a` and `b` are of the same kind, and both shared or neither.
 fn is_alike(a: &SubType, b: &SubType) -> bool
     ensures { IsTrue result ↔ IsAlike a.now b.now }
 {

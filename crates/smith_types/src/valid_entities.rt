@@ -26,7 +26,8 @@ use crate::predicate::{Predicate, all_hold};
 use crate::valid_values::{ShareableValue, is_ref_type_valid, is_val_type_valid};
 use crate::value_type::{AbstractHeapType, HeapType, RefType, ValType};
 
-/// Whether every entity of the index spaces is valid, over the types of the module: Validation, External Types.
+/// Whether every entity of `spaces` is valid over `types` with `features`: Validation, External Types. Features, sharedness,
+/// stated page sizes and tags without results are rules of this project.
 pub fn are_entities_valid(features: WasmFeatures, types: &[SubType], spaces: &IndexSpaces) -> bool
     ensures { IsTrue result ↔ AreEntitiesValid (features_in features) types.now (spaces_in spaces.now) }
 {
@@ -43,7 +44,8 @@ fn are_lists_valid(features: WasmFeatures, types: &[SubType], spaces: &IndexSpac
         && are_globals_valid(features, types, spaces.globals.as_slice())
 }
 
-/// Whether tags, a second table and a second memory, where there are such, have their features.
+/// Whether `features` are enough for the numbers of `spaces`, a rule of this project: a tag needs exceptions, a second table
+/// reference types, a second memory multi-memory.
 pub fn are_counts_enabled(features: WasmFeatures, spaces: &IndexSpaces) -> bool
     ensures { IsTrue result ↔ AreCountsEnabled (features_in features) (spaces_in spaces.now) }
 {
@@ -52,21 +54,23 @@ pub fn are_counts_enabled(features: WasmFeatures, spaces: &IndexSpaces) -> bool
         && (spaces.memories.len() <= 1 || features.contains(WasmFeatures::MULTI_MEMORY))
 }
 
-/// Whether each tag is valid, given by the index of its type: Validation, Tag Types.
+/// Whether each of `tags`, given by the index of its type among `types`, is valid: Validation, Tag Types. That tags have no
+/// results is a rule of this project.
 pub fn are_tags_valid(types: &[SubType], tags: &[u32]) -> bool
     ensures { IsTrue result ↔ AreTagsValid types.now tags.now }
 {
     all_hold(&ValidTag { types }, tags)
 }
 
-/// Whether each function is valid, given by the index of its type: Validation, Functions.
+/// Whether each of `funcs`, given by the index of its type among `types`, is valid: Validation, Functions.
 pub fn are_funcs_valid(types: &[SubType], funcs: &[u32]) -> bool
     ensures { IsTrue result ↔ AreFuncsValid types.now funcs.now }
 {
     all_hold(&ValidFunc { types }, funcs)
 }
 
-/// Whether each table type is valid.
+/// Whether each of `tables` is valid over `types` with `features`: Validation, Table Types. Features and sharedness are rules of
+/// this project.
 pub fn are_tables_valid(features: WasmFeatures, types: &[SubType], tables: &[TableType]) -> bool
     ensures { IsTrue result ↔ All (IsTableValid (features_in features) types.now) tables.now }
 {
@@ -75,7 +79,8 @@ pub fn are_tables_valid(features: WasmFeatures, types: &[SubType], tables: &[Tab
         .all(|table| is_table_valid(features, types, *table))
 }
 
-/// Whether each memory type is valid.
+/// Whether each of `memories` is valid with `features`: Validation, Memory Types. Features, sharedness and stated page sizes are
+/// rules of this project.
 pub fn are_memories_valid(features: WasmFeatures, memories: &[MemoryType]) -> bool
     ensures { IsTrue result ↔ All (IsMemoryValid (features_in features)) memories.now }
 {
@@ -84,7 +89,8 @@ pub fn are_memories_valid(features: WasmFeatures, memories: &[MemoryType]) -> bo
         .all(|memory| is_memory_valid(features, *memory))
 }
 
-/// Whether each global type is valid.
+/// Whether each of `globals` is valid over `types` with `features`: Validation, Global Types. Features and sharedness are rules
+/// of this project.
 pub fn are_globals_valid(features: WasmFeatures, types: &[SubType], globals: &[GlobalType]) -> bool
     ensures { IsTrue result ↔ All (IsGlobalValid (features_in features) types.now) globals.now }
 {
@@ -93,7 +99,7 @@ pub fn are_globals_valid(features: WasmFeatures, types: &[SubType], globals: &[G
         .all(|global| is_global_valid(features, types, *global))
 }
 
-/// Whether a minimum is at most the maximum, if there is one, and neither is above `most`: Validation, Limits.
+/// Whether `minimum` is at most a stated `maximum`, and neither is above `most`: Validation, Limits.
 pub fn are_limits_valid(most: u64, minimum: u64, maximum: Option<u64>) -> bool
     ensures { IsTrue result ↔ AreLimitsValid most minimum maximum }
 {
@@ -104,7 +110,7 @@ pub fn are_limits_valid(most: u64, minimum: u64, maximum: Option<u64>) -> bool
         }
 }
 
-/// The most elements of a table: Validation, Table Types.
+/// The greatest number of elements of a table, whose indices are 64 bits wide where `table64` is true: Validation, Table Types.
 pub fn most_elements_of(table64: bool) -> u64
     ensures { result ≡ most_elements table64 }
 {
@@ -147,7 +153,7 @@ fn is_global_valid(features: WasmFeatures, types: &[SubType], global: GlobalType
         && (!global.shared || may_be_shared(features, types, global.val_type))
 }
 
-// Whether a shared table or global may hold this value type.
+// Whether a shared table or global may hold the value type `value`.
 fn may_be_shared(features: WasmFeatures, types: &[SubType], value: ValType) -> bool
     ensures { IsTrue result ↔ (IsTrue (features_in features).shared_everything_threads × IsShareable types.now value) }
 {

@@ -16,7 +16,8 @@ use crate::features::WasmFeatures;
 use crate::predicate::Predicate;
 use crate::value_type::{AbstractHeapType, HeapType, RefType, ValType};
 
-/// A value type that is valid where the types below the index `end` may be named: Validation, Value Types.
+/// The test whether a value type is valid with `features` where the types below the index `end` may be named: Validation, Value
+/// Types. Features are rules of this project.
 #[derive(Clone, Copy)]
 pub struct ValidValue {
     /// The features that are on.
@@ -33,9 +34,10 @@ impl Predicate<ValType> for ValidValue {
     }
 }
 
-/// A value type that may stand in a shared type.
+/// The test whether a value type may stand in a shared type, a rule of this project: numbers, vectors and shared references may.
 #[derive(Clone, Copy)]
 pub struct ShareableValue<'a> {
+    /// The types of the module.
     pub types: &'a [SubType],
 }
 
@@ -50,9 +52,10 @@ impl<'a> Predicate<ValType> for ShareableValue<'a> {
     }
 }
 
-/// A value type that refers to no type, or to one that stands.
+/// The test whether a value type refers to no type, or to a type that stands.
 #[derive(Clone, Copy)]
 pub struct StandingValue<'a> {
+    /// The types of the module.
     pub types: &'a [SubType],
 }
 
@@ -71,7 +74,8 @@ impl<'a> Predicate<ValType> for StandingValue<'a> {
     }
 }
 
-/// Whether a value type is valid where the types below the index `end` may be named: Validation, Value Types.
+/// Whether the value type `value` is valid with `features` where the types below the index `end` may be named: Validation, Value
+/// Types. Features are rules of this project.
 pub fn is_val_type_valid(features: WasmFeatures, end: usize, value: ValType) -> bool
     ensures { IsTrue result ↔ IsValTypeValid (features_in features) end value }
 {
@@ -85,7 +89,8 @@ pub fn is_val_type_valid(features: WasmFeatures, end: usize, value: ValType) -> 
     }
 }
 
-/// Whether a reference type is valid where the types below the index `end` may be named: Validation, Reference Types.
+/// Whether the reference type `reference` is valid with `features` where the types below the index `end` may be named:
+/// Validation, Reference Types. Features are rules of this project.
 pub fn is_ref_type_valid(features: WasmFeatures, end: usize, reference: RefType) -> bool
     ensures { IsTrue result ↔ IsRefTypeValid (features_in features) end reference }
 {

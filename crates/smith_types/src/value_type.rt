@@ -1,17 +1,29 @@
-/// The abstract heap types, without sharedness: the standard's section Structure, Heap Types.
+/// An abstract heap type, without sharedness: the standard's section Structure, Heap Types.
 #[derive(Clone, Copy, Debug, PartialEq)]
 pub enum AbstractHeapType {
+    /// `func`, above every function type.
     Func,
+    /// `extern`, the external references.
     Extern,
+    /// `any`, above `eq`.
     Any,
+    /// `none`, below `i31` and every struct and array type.
     None,
+    /// `noextern`, below `extern`.
     NoExtern,
+    /// `nofunc`, below every function type.
     NoFunc,
+    /// `eq`, above `i31`, `struct` and `array`.
     Eq,
+    /// `struct`, above every struct type.
     Struct,
+    /// `array`, above every array type.
     Array,
+    /// `i31`, the unboxed integers of 31 bits.
     I31,
+    /// `exn`, the exceptions.
     Exn,
+    /// `noexn`, below `exn`.
     NoExn,
 }
 
@@ -21,7 +33,7 @@ pub enum AbstractHeapType {
 pub enum HeapType {
     /// The abstract type `ty`, shared among threads or not.
     Abstract { shared: bool, ty: AbstractHeapType },
-    /// The type of an index, and those below it.
+    /// The type of an index, and the types below.
     Concrete(u32),
     /// The type of an index alone.
     Exact(u32),
@@ -39,10 +51,16 @@ pub struct RefType {
 /// A value type: the standard's section Structure, Value Types.
 #[derive(Clone, Copy, Debug, PartialEq)]
 pub enum ValType {
+    /// Integers of 32 bits.
     I32,
+    /// Integers of 64 bits.
     I64,
+    /// Floats of 32 bits.
     F32,
+    /// Floats of 64 bits.
     F64,
+    /// Vectors of 128 bits.
     V128,
+    /// References of a reference type.
     Ref(RefType),
 }

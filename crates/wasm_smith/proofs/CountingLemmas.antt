@@ -72,7 +72,7 @@ module _ (fuel : ℕ) (old : Parts) (valid : IsValid old) where
         initialised = IsConstExpr-grown (global_context old index) (global_context new index) (context_grown seen seen (omega arith)) h.global.val_type initial h.initialised;
       }
 
-  -- so many globals stand as are imported and defined
+  -- as many globals stand as are imported and defined
   all_globals : length old.globals ≡ length (module_imports old).globals + length old.defined_globals
   all_globals =
       let spaces = valid.spaces.globals in

@@ -19,7 +19,7 @@ use Rattle.smith_contents.specs.DrawnElements.{MayLackItem}
 use Rattle.smith_contents.specs.Exported.{IsIndexed, IsSized}
 use Rattle.smith_definitions.specs.Refusals.{MayRefuse}
 
--- contents may be drawn over these index spaces, where the imports add this much to the type size: all is valid, sizes and indices
+-- contents may be drawn over these index spaces, where the imports add a number to the type size: all is valid, sizes and indices
 -- have 32 bits, and there are as many tables, memories and globals as are asked for; without shapes function types are small, and
 -- an import adds at most 42
 pub record MayHoldContents (config : Config) (space : Space) (spaces : IndexSpaces) (imports_size : ℕ) : Type 0 where

@@ -1,7 +1,8 @@
-//! Modules of WebAssembly from bytes: whatever the bytes are, the module is valid.
+//! Modules of WebAssembly from bytes: whatever the bytes are, the module is valid, raw bodies aside.
 #![tactic(auto)]
 
 mod build;
+/// Laws: functions that do nothing, whose clauses say what holds.
 pub mod laws;
 mod module;
 mod termination;

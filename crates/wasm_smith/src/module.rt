@@ -17,8 +17,11 @@ use std::ops::Range;
 /// Structure, Modules. In each index space imported items come first.
 #[derive(Drop)]
 pub struct Module {
+    /// The configuration, sanitised, without available imports.
     pub(crate) config: Box<Config>,
+    /// The parts that were drawn, and the counters of fuel among the globals.
     pub(crate) drawn: Box<Drawn>,
+    /// The indices of the globals that count fuel.
     pub(crate) fuel_globals: Items<u32>,
 }
 
@@ -57,12 +60,12 @@ impl Model for Module {
     } };
 }
 
-/// What a drawn module does with imports that have the same pair of names as another.
+/// The rule for imports of a module that have the same module name and the same own name.
 #[derive(Clone, Copy, Debug, PartialEq, Eq)]
 pub enum DuplicateImportsBehavior {
-    /// They stand as they are drawn.
+    /// Imports keep the names that are drawn.
     Allowed,
-    /// No two have the same pair: a name that would repeat one gets the number of pairs so far behind it, until it is new.
+    /// Imports have distinct pairs of names: the number of imports so far is put behind a name until its pair is new.
     Disallowed,
 }
 
@@ -82,7 +85,7 @@ impl Module {
     ghost use Rattle.smith_config.specs.Config.{default_config};
     ghost use Rattle.wasm_smith.specs.Generated.{IsGenerated, is_distinct};
 
-    /// Draws a module from the bytes, for the default configuration: [`Module::new`] says how. Only want of memory refuses it.
+    /// Draws a module as [`Module::new`] does, for the default configuration. Only want of memory refuses it.
     pub fn arbitrary(alloc: Global, u: &mut Unstructured<'_>) -> Result<Module, Error>
         ensures generated { IsGenerated false default_config u.old result u.new }
         ensures memory { IfErr result (λ e. e ≡ Error.Memory) }
@@ -91,24 +94,26 @@ impl Module {
         Module::new(alloc, config, u)
     }
 
-    /// Draws a module from the bytes. The configuration is sanitised and checked first, then each shape that is used.
+    /// Draws a module from the bytes of `u`. First `config` is sanitised and checked, then each shape that it uses.
     ///
-    /// A module shape is used alone: the module has its types first, and its imports and exports. Else available imports give
-    /// their types first, and the imports that the bytes pick, and a shape for exports gives the exports.
+    /// A module shape is used alone, and gives the first types, all imports and all exports. Without a module shape, available
+    /// imports give the first types, and the imports that the bytes pick; a shape for exports gives all exports.
     ///
-    /// A configuration that fails its check is refused by its first fault, then a shape by the first of its own: the module shape,
-    /// else the available imports and then the exports. Where these pass, a minimum may be refused that isn't met, exports of
-    /// everything that pass the type size, a second memory or table that a shape brings where only one may be, and a choice from
-    /// nothing where a shape holds a reference that may not be null. Want of memory may refuse too, but not in place of a fault of
-    /// the configuration.
+    /// # Errors
+    ///
+    /// `Config` for the first fault of the sanitised `config`, whatever memory there is; `Shape` for the first fault of the
+    /// module shape, else of the available imports, then of the exports.
+    ///
+    /// `IncorrectFormat` where a minimum stays unmet, where the exports of everything would pass the type size, or where a shape
+    /// brings a second memory or table that `config` does not enable; `EmptyChoose` where a shape holds a reference that may not
+    /// be null, and nothing gives a value for it; `Memory` for want of memory.
     pub fn new(alloc: Global, config: Config, u: &mut Unstructured<'_>) -> Result<Module, Error>
         ensures { IsGenerated false config u.old result u.new }
     {
         Module::new_internal(alloc, config, u, DuplicateImportsBehavior::Allowed)
     }
 
-    /// Draws a module from the bytes as [`Module::new`] does. Where `behavior` asks for it, imports have distinct pairs of names,
-    /// unless a shape fixes them.
+    /// Draws a module from the bytes of `u` as [`Module::new`] does. Imports that no shape fixes keep the rule `behavior`.
     pub fn new_internal(
         alloc: Global,
         mut config: Config,
@@ -125,7 +130,7 @@ impl Module {
         build(alloc, config, behavior.is_distinct(), u)
     }
 
-    /// The configuration that the module was drawn for, sanitised. Its available imports were used up and show as none; a module
+    /// The sanitised configuration that the module was drawn for. Its available imports were used up and show as none; a module
     /// shape and a shape for exports show as they were.
     pub fn config(&self) -> &Config
         ensures { result.now ≡ self.now.config }
@@ -140,21 +145,21 @@ impl Module {
         self.drawn.types.types()
     }
 
-    /// The recursive groups, each as the indices of its types.
+    /// The recursive groups, each as the range of the indices of its types.
     pub fn rec_groups(&self) -> &[Range<usize>]
         ensures { result.now ≡ self.now.groups }
     {
         self.drawn.types.rec_groups()
     }
 
-    /// The imports in their groups.
+    /// The imports, in their groups.
     pub fn imports(&self) -> &[Imports]
         ensures { result.now ≡ self.now.imports }
     {
         self.drawn.imported.groups.as_slice()
     }
 
-    /// How many imports the groups hold together.
+    /// The number of imports of all groups together.
     pub fn num_imports(&self) -> usize
         ensures { result ≡ self.now.num_imports }
     {
@@ -182,7 +187,7 @@ impl Module {
         self.drawn.imported.spaces.tables.as_slice()
     }
 
-    /// The initialiser of each defined table, where it has one.
+    /// The initialiser of each defined table, or none.
     pub fn defined_tables(&self) -> &[Option<Items<ConstInstr>>]
         ensures { result.now ≡ self.now.defined_tables }
     {
@@ -210,35 +215,35 @@ impl Module {
         self.drawn.definitions.globals.as_slice()
     }
 
-    /// How many tags are defined, behind the imported ones.
+    /// The number of defined tags, which come behind the imported tags.
     pub fn num_defined_tags(&self) -> usize
         ensures { result ≡ self.now.num_defined_tags }
     {
         self.drawn.definitions.num_tags
     }
 
-    /// How many functions are defined, behind the imported ones.
+    /// The number of defined functions, which come behind the imported functions.
     pub fn num_defined_funcs(&self) -> usize
         ensures { result ≡ self.now.num_defined_funcs }
     {
         self.drawn.definitions.num_funcs
     }
 
-    /// How many memories are defined, behind the imported ones.
+    /// The number of defined memories, which come behind the imported memories.
     pub fn num_defined_memories(&self) -> usize
         ensures { result ≡ self.now.num_defined_memories }
     {
         self.drawn.definitions.num_memories
     }
 
-    /// The name, the kind and the index of each export.
+    /// The name of each export, and the kind and the index of its item.
     pub fn exports(&self) -> &[(Name, ExportKind, u32)]
         ensures { result.now ≡ self.now.exports }
     {
         self.drawn.contents.exports.as_slice()
     }
 
-    /// The index of the function that is called first.
+    /// The index of the start function, or none.
     pub fn start(&self) -> Option<u32>
         ensures { result ≡ self.now.start }
     {
@@ -266,42 +271,43 @@ impl Module {
         self.drawn.contents.code.as_slice()
     }
 
-    /// The globals that count fuel down, in the order in which they were added.
+    /// The indices of the globals that count fuel down, in the order in which they were added.
     pub fn fuel_globals(&self) -> &[u32]
         ensures { result.now ≡ self.now.fuel_globals }
     {
         self.fuel_globals.as_slice()
     }
 
-    /// Whether an encoder writes a types section, even an empty one.
+    /// Tells whether an encoder writes a type section, even without types.
     pub fn should_encode_types(&self) -> bool
         ensures { result ≡ self.now.encodes_types }
     {
         self.drawn.contents.encodes_types
     }
 
-    /// Whether an encoder writes an imports section, even an empty one.
+    /// Tells whether an encoder writes an import section, even without imports.
     pub fn should_encode_imports(&self) -> bool
         ensures { result ≡ self.now.encodes_imports }
     {
         self.drawn.encodes_imports
     }
 
-    /// What imports and exports cost together. Those that a shape fixes cost nothing, but available imports cost their sizes.
+    /// The type size: the sizes of all imports and exports, plus 1 for each name. Imports and exports that a shape fixes add
+    /// nothing, but available imports add their sizes.
     pub fn type_size(&self) -> u32
         ensures { result ≡ self.now.type_size }
     {
         self.drawn.contents.type_size
     }
 
-    /// Numbers of 32 bits that tests of this module should try, in ascending order.
+    /// The numbers of 32 bits that tests of the module should try, in ascending order.
     pub fn interesting_values32(&self) -> &[u32]
         ensures { result.now ≡ self.now.interesting_values32 }
     {
         self.drawn.interesting_values32.as_slice()
     }
 
-    /// Numbers of 64 bits that tests of this module should try, in ascending order.
+    /// The numbers of 64 bits that tests of the module should try, in ascending order.
     pub fn interesting_values64(&self) -> &[u64]
         ensures { result.now ≡ self.now.interesting_values64 }
     {

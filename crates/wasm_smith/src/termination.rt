@@ -46,7 +46,7 @@ fn initial(alloc: Global, index: u32, fuel: u32) -> Result<(u32, Items<ConstInst
     Ok((index, expression))
 }
 
-// Adds to each of the lists, or to none.
+// Adds a counter to each of the three lists, or to none.
 fn push_counter(
     alloc: Global,
     fuel: u32,
@@ -84,13 +84,17 @@ fn push_counter(
 }
 
 impl Module {
-    /// Adds a global that counts calls down from `default_fuel`, and gives its index: each call of a function that the module
-    /// defines takes one off, and traps where none is left.
+    /// Adds a global that counts calls down from `default_fuel`, and gives its index. An encoder makes each call of a defined
+    /// function take 1 off the counter, or trap at 0.
     ///
-    /// It comes behind all other globals, also where as many stand as may be drawn, and is not exported. A further call adds one
-    /// more, which bodies check before the earlier ones. `alloc` is where its definition is kept.
+    /// The counter comes behind all other globals, past the maximum of the configuration too, and is not exported. A further
+    /// call adds another counter, which bodies check before the earlier counters. `alloc` keeps the definition.
     ///
-    /// A module with a body of raw bytes is refused, since no check can stand before them.
+    /// The module has fewer than 2^32 - 1 globals.
+    ///
+    /// # Errors
+    ///
+    /// `IncorrectFormat(RawBody)` where a body is raw bytes, before which no check can stand. The module is then as it was.
     pub fn ensure_termination(&mut self, alloc: Global, default_fuel: u32) -> Result<u32, Error>
         requires room { length self.old.globals < 2 ^ 32 - 1 }
         ensures answer { AnswersFuel default_fuel self.old self.new result }

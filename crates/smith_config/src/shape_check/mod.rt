@@ -31,9 +31,12 @@ use std::alloc::Global;
 use types::are_types_sound;
 
 impl Shape {
-    /// Looks for what keeps the shape from being handed in for the use `which`, with the configuration `config`: the first fault in the
-    /// order of [`ShapeFault`]. Takes time linear in the shape, but for names, which go through a set, and for supertypes: each is
-    /// looked for in steps that grow with the logarithm of a type's depth.
+    /// Looks for what keeps the shape from being handed in for the use `which`, with the configuration `config`, and gives the
+    /// first fault in the order of [`ShapeFault`], as an error that names `which`.
+    ///
+    /// The call takes memory of `alloc`, unless a list of the shape is too long. The time is linear in the shape, but for names,
+    /// which go through a set, and for supertypes: each is looked for in steps that grow with the logarithm of the depth of a
+    /// type.
     pub fn check(&self, alloc: Global, which: Which, config: &Config) -> Result<(), Error>
         ensures passes { OnOk result (IsShapeValid which config.now self.now) }
         ensures refused { IfErr result (IsRefused which config.now self.now) }
@@ -70,7 +73,7 @@ fn first_fault(
     }
 }
 
-// The first fault of a shape that is not too long, over its types and index spaces.
+// The first fault of `shape`, which is not too long, over its types `space` and its index spaces `spaces`.
 fn later_fault(
     alloc: Global,
     shape: &Shape,

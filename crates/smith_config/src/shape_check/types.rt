@@ -13,7 +13,7 @@ use smith_types::{
     ValidValue, WasmFeatures, all_named_values_hold, are_types_valid,
 };
 
-/// Whether types, and what refers to them, are right where every feature is on.
+/// Whether the types of `space`, and what refers to types in `spaces`, are valid where every feature is on.
 pub(crate) fn are_types_sound(space: &TypeSpace, spaces: &IndexSpaces) -> bool
     ensures { IsTrue result ↔ AreTypesSound space.now (spaces_in spaces.now) }
 {
@@ -53,7 +53,7 @@ fn may_globals_be_shared(types: &[SubType], globals: &[GlobalType]) -> bool
         .all(|global| may_hold(types, global.shared, global.val_type))
 }
 
-// Whether what is shared, or isn't, may hold this value type.
+// Whether an entity that is shared as `is_shared` says may hold the value type `value`.
 fn may_hold(types: &[SubType], is_shared: bool, value: ValType) -> bool
     ensures { IsTrue result ↔ (IsTrue is_shared → IsShareable types.now value) }
 {

@@ -293,14 +293,14 @@ static NARROW: [u32; 135] = [
     0xfffffff8, 0xfffffffb, 0xfffffffc, 0xfffffffd, 0xfffffffe, 0xffffffff,
 ];
 
-/// Those of 64 bits, in ascending order.
+/// The values of 64 bits, in ascending order.
 pub(super) fn wide_constants() -> &'static [u64]
     ensures { AreExactly (Wide IsConstant) result.now }
 {
     &WIDE
 }
 
-/// The low halves of those of 64 bits, in ascending order, each once.
+/// The low halves of the values of 64 bits, in ascending order, each once.
 pub(super) fn narrow_constants() -> &'static [u32]
     ensures { AreExactly (Narrow IsConstant) result.now }
 {

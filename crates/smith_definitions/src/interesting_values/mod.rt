@@ -35,7 +35,7 @@ fn in_order32(mut narrow: Vec<u32>) -> Result<Items<u32>, Error>
     Ok(Items::from_vec(narrow))
 }
 
-// The values of 64 bits, of a module with these numbers near its limits.
+// The values of 64 bits of a module that has the numbers `near` near its limits.
 fn wide_values(alloc: Global, near: &[u64]) -> Result<Items<u64>, Error>
     ensures those { (tables : List Table) (memories : List Memory) → AreExactly (Wide (IsNearLimit tables memories)) near.now
         → IfOk result (AreAll (IsInteresting64 tables memories)) }
@@ -46,7 +46,7 @@ fn wide_values(alloc: Global, near: &[u64]) -> Result<Items<u64>, Error>
     in_order64(numbers)
 }
 
-// Those of 32 bits, which are the low halves.
+// The values of 32 bits of such a module: the low halves of those of 64 bits.
 fn narrow_values(alloc: Global, near: &[u64]) -> Result<Items<u32>, Error>
     ensures those { (tables : List Table) (memories : List Memory) → AreExactly (Wide (IsNearLimit tables memories)) near.now
         → IfOk result (AreAll (IsInteresting32 tables memories)) }
@@ -59,8 +59,8 @@ fn narrow_values(alloc: Global, near: &[u64]) -> Result<Items<u32>, Error>
     in_order32(numbers)
 }
 
-/// Collects the interesting values of a module with `tables` and `memories`, each once and in ascending order: those of 32 bits, and
-/// those of 64 bits. A page of a memory has at most 2^16 bytes.
+/// Collects the interesting values of a module with `tables` and `memories`: first the values of 32 bits, then the values of 64
+/// bits, each list in ascending order. A page of a memory has at most 2^16 bytes.
 pub fn collect_interesting_values(
     alloc: Global,
     tables: &[TableType],

@@ -1,11 +1,11 @@
 ghost use Rattle.std.specs.Prelude.{◌≡◌};
 ghost use Rattle.smith_draw.specs.ConstNodes.{is_extended};
 
-/// What may be chosen where a value is drawn.
+/// A choice where a value is drawn.
 #[derive(Clone, Copy)]
 pub(super) enum Choice {
     Global(u32),
-    /// A constant of the type, of a reference null.
+    /// A constant of the wanted type, or null.
     Constant,
     /// Constants of an integer type, and operators on them.
     Extended,
@@ -13,7 +13,7 @@ pub(super) enum Choice {
     /// A struct, by its fields.
     Struct(u32),
     StructDefault(u32),
-    /// An array, by one element and a length.
+    /// An array that repeats an element, by the element and a length.
     Array(u32),
     /// An array of a few elements, each by itself.
     FixedArray(u32),

@@ -4,7 +4,7 @@ ghost use Rattle.smith_draw.specs.Constants.{constant_at};
 use smith_bytes::Unstructured;
 use smith_types::{ConstInstr, ValType};
 
-/// A constant of a type: its value or bits drawn, of a reference null.
+/// Draws a constant of the type `wanted`: a number or a vector by its bits, or null.
 #[tactic(auto, unfolding(crate::specs::Constants::constant_at))]
 pub(super) fn constant(wanted: ValType, u: &mut Unstructured<'_>) -> ConstInstr
     ensures { AlwaysDraws (constant_at wanted u.old) result u.old u.new }

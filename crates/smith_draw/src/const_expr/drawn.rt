@@ -18,7 +18,7 @@ use smith_bytes::{Error, Unstructured};
 use smith_types::{ConstInstr, Items, ValType};
 use std::alloc::Global;
 
-/// Draws a value behind the instructions that stand.
+/// Draws a value of the type `wanted` behind the instructions of `out`.
 #[cycle(expression)]
 fn expression(
     alloc: Global,
@@ -45,7 +45,7 @@ fn expression(
     out.push(node.instruction)
 }
 
-/// Draws the operands in order.
+/// Draws `operands` in order.
 #[cycle(expression)]
 fn operands(
     alloc: Global,
@@ -68,7 +68,7 @@ fn operands(
     Ok(())
 }
 
-/// Draws an operand: a value, or a length.
+/// Draws `operand`: a value, or a length.
 #[cycle(expression)]
 fn operand(
     alloc: Global,
@@ -96,7 +96,7 @@ fn operand(
     }
 }
 
-/// Draws a length of at most the fuel, which takes as much of it.
+/// Draws a length of at most `fuel`, and takes the length from `fuel`.
 fn limited_length(
     fuel: &mut u32,
     out: &mut Items<ConstInstr>,
@@ -112,7 +112,7 @@ fn limited_length(
     out.push(ConstInstr::I32Const(length.cast_signed()))
 }
 
-/// Draws an expression of its own, with all of the configured fuel.
+/// Draws an expression of the type `wanted`, with all of the configured fuel.
 pub(super) fn whole_expression(
     alloc: Global,
     scope: &Scope<'_>,

@@ -20,7 +20,7 @@ pub(super) enum Operator {
     Mul,
 }
 
-/// The instruction of an operator, on the wider or the narrower integers.
+/// The instruction of `operator`: of i64 where `wide` is set, else of i32.
 fn operation(wide: bool, operator: Operator) -> ConstInstr
     ensures { result ≡ operation wide operator }
 {
@@ -57,7 +57,7 @@ fn drawn_operator(count: usize, u: &mut Unstructured<'_>) -> Option<Operator>
     operator_of(u.int_in_range(0..=3))
 }
 
-/// Draws the instructions of an extended constant, the last one first.
+/// Draws the instructions of an extended constant of the type `wanted`, the last instruction first.
 #[tactic(auto, unfolding(crate::specs::Constants::extended_at))]
 fn extended(
     alloc: Global,
@@ -90,7 +90,7 @@ fn extended(
     Ok(drawn)
 }
 
-/// Draws an extended constant behind the instructions that stand.
+/// Draws an extended constant of the type `wanted` behind the instructions of `out`.
 pub(super) fn extended_constant(
     alloc: Global,
     wanted: ValType,

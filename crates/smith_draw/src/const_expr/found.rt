@@ -13,7 +13,7 @@ use super::scope::Scope;
 use smith_bytes::{Error, Unstructured};
 use smith_types::ValType;
 
-/// Counts what is offered where a value of a type is drawn.
+/// Counts what is offered where a value of the type `wanted` is drawn.
 fn count_offers(scope: &Scope<'_>, wanted: ValType, fuel: u32) -> usize
     requires scope { IsScope (context_of scope.now) }
     requires upper { IsValInRange (context_of scope.now).types wanted }
@@ -25,7 +25,7 @@ fn count_offers(scope: &Scope<'_>, wanted: ValType, fuel: u32) -> usize
     }
 }
 
-/// Chooses among what is offered where a value of a type is drawn.
+/// Chooses among what is offered where a value of the type `wanted` is drawn.
 pub(super) fn chosen(
     scope: &Scope<'_>,
     wanted: ValType,

@@ -36,18 +36,19 @@ use smith_config::Config;
 use smith_types::{ConstInstr, Items, RefType, ValType};
 use std::alloc::Global;
 
-/// Draws an expression that gives a value below `wanted`. It may read imported immutable globals, and where
-/// `allow_defined` is set and garbage collection is on also defined ones. The standard's section Validation, Constant
-/// Expressions.
+/// Draws a constant expression that gives a value below `wanted`. The expression may read imported immutable globals, and where
+/// `allow_defined` is set and garbage collection is on, defined immutable globals too. The standard's section Validation,
+/// Constant Expressions, with subtypes as in [`smith_types::TypeSpace::val_type_is_sub_type`].
 ///
-/// The types of `spaces` are valid so far, its functions and globals are valid over them, each fewer than 2^32, and
-/// imported ones are among them. `wanted` is valid over these types. Where it is no float and none of these types holds one,
-/// no constant that is drawn is a float's.
+/// Under the features of `config`, the types of `spaces` are valid, and its functions, its globals and `wanted` are valid over
+/// these types. `spaces` has fewer than 2^32 functions, fewer than 2^32 globals, and no more imported globals than globals.
+///
+/// Where `wanted` is no float and no type of `spaces` holds a float, no constant of the expression is a float.
 ///
 /// # Errors
 ///
-/// `EmptyChoose` where nothing gives a value that is needed; that comes only where `wanted`, or a field or element type
-/// that stands, is a reference that may not be null.
+/// `EmptyChoose` where nothing gives a value that is needed. That comes only where `wanted`, or a field or element type of
+/// `spaces`, is a reference that may not be null.
 pub fn arbitrary_const_expr(
     alloc: Global,
     config: &Config,
@@ -77,12 +78,13 @@ pub fn arbitrary_const_expr(
     whole_expression(alloc, &scope, wanted, u)
 }
 
-/// Draws the initialiser of a table whose elements are of the type `element`, or none where null will do. It may read
-/// imported globals alone. The standard's section Validation, Tables.
+/// Draws the initialiser of a table whose elements are of the type `element`, or none where null will do. The initialiser may
+/// read imported immutable globals alone. The standard's section Validation, Tables.
 ///
-/// `spaces` is as [`arbitrary_const_expr`] asks, and `element` is valid over its types. Where `element` may not be null,
-/// garbage collection is on, and where that is on, reference types are. Where none of these types holds a float, no constant
-/// that is drawn is a float's.
+/// `config` and `spaces` are as [`arbitrary_const_expr`] asks, and `element` is valid over the types of `spaces`. `config` has
+/// garbage collection on where `element` may not be null, and reference types on where garbage collection is on.
+///
+/// Where no type of `spaces` holds a float, no constant of the initialiser is a float.
 ///
 /// # Errors
 ///
@@ -119,10 +121,11 @@ pub fn arbitrary_table_init(
     Ok(Some(drawn))
 }
 
-/// Lists the indices of the immutable globals that an expression may read and whose type is below `wanted`, in ascending
-/// order: imported ones, and where `allow_defined` is set and garbage collection is on also defined ones.
+/// Lists the indices of the immutable globals that a constant expression may read and whose type is below `wanted`, in ascending
+/// order: imported globals, and where `allow_defined` is set and garbage collection is on, defined globals too. The standard's
+/// section Validation, Constant Expressions, with subtypes as in [`smith_types::TypeSpace::val_type_is_sub_type`].
 ///
-/// `spaces` and `wanted` are as [`arbitrary_const_expr`] asks.
+/// `config`, `spaces` and `wanted` are as [`arbitrary_const_expr`] asks.
 pub fn globals_for_const_expr(
     alloc: Global,
     config: &Config,

@@ -15,7 +15,7 @@ use smith_types::{
 };
 use std::alloc::Global;
 
-/// What is drawn before an instruction that takes it.
+/// An operand, which is drawn before the instruction that takes it.
 #[derive(Clone, Copy)]
 pub(super) enum Operand {
     Value(ValType),
@@ -23,14 +23,16 @@ pub(super) enum Operand {
     Length,
 }
 
-/// An instruction, and what is drawn before it.
+/// An instruction, and the operands that are drawn before it.
 #[derive(Drop)]
 pub(super) struct Node {
+    /// The operands, in the order in which they are drawn.
     pub operands: Items<Operand>,
+    /// The instruction, which takes the operands.
     pub instruction: ConstInstr,
 }
 
-/// Makes a choice into a node: draws the value of a constant, and of a fixed array its size.
+/// Makes `choice` into a node: draws the value of a constant, and the size of a fixed array.
 #[tactic(auto, unfolding(crate::specs::ConstNodes::node_at))]
 pub(super) fn drawn_node(
     alloc: Global,
@@ -93,7 +95,7 @@ fn of_value(alloc: Global, value: ValType, instruction: ConstInstr) -> Result<No
     of_one(alloc, Operand::Value(value), instruction)
 }
 
-/// An array of one element and a length, which stands behind the element.
+/// The node of an array that repeats an element. The length stands behind the element.
 fn array(alloc: Global, types: &[SubType], index: u32) -> Result<Node, Error>
     ensures exact { IfOk result (λ node. node ≡ node_of (field_operands types.now index ++ Operand.Length ∷ []) (ConstInstr.ArrayNew index)) }
     ensures memory { IfErr result (λ e. e ≡ Error.Memory) }
@@ -103,7 +105,7 @@ fn array(alloc: Global, types: &[SubType], index: u32) -> Result<Node, Error>
     Ok(node)
 }
 
-/// An instruction that takes the fields of a struct, or the element of an array.
+/// The node of `instruction`, which takes the fields of the struct type `index`, or the element of the array type.
 fn of_fields(
     alloc: Global,
     types: &[SubType],
@@ -121,7 +123,7 @@ fn of_fields(
     })
 }
 
-/// An array of a drawn size, with each element by itself.
+/// The node of an array of a drawn size, with each element by itself.
 #[tactic(auto, unfolding(crate::specs::ConstNodes::node_at))]
 fn fixed_array(
     alloc: Global,
@@ -143,7 +145,7 @@ fn fixed_array(
     })
 }
 
-/// Pushes the operands of a type `times` times.
+/// Pushes the operands of the type `index`, `times` times.
 fn push_repeated(
     operands: &mut Items<Operand>,
     types: &[SubType],
@@ -159,7 +161,7 @@ fn push_repeated(
     Ok(())
 }
 
-/// Pushes an operand for each field of a struct, or for the element of an array.
+/// Pushes an operand for each field of the struct type `index`, or for the element of the array type.
 fn push_fields(operands: &mut Items<Operand>, types: &[SubType], index: u32) -> Result<(), Error>
     ensures ok { OnOk result (operands.new ≡ operands.old ++ field_operands types.now index) }
     ensures memory { IfErr result (λ e. e ≡ Error.Memory) }
@@ -188,7 +190,7 @@ fn push_fields_of(operands: &mut Items<Operand>, inner: &CompositeInnerType) -> 
     }
 }
 
-/// The reference that is converted to the wanted reference: of the type `ty`, and as nullable and as shared as the wanted one.
+/// The reference type that is converted to `wanted`: of the heap type `ty`, and as nullable and as shared as `wanted`.
 fn converted(wanted: ValType, ty: AbstractHeapType) -> ValType
     ensures { result ≡ converted wanted ty }
 {

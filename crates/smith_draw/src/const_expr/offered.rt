@@ -24,8 +24,8 @@ ghost use Rattle.smith_draw.specs.ConstOffers.{
   offers,
 };
 
-// Each function goes past what is offered of one kind, to a place that is counted from its first choice: it answers the choice at
-// that place as an `Err`, with which a `?` leaves, or how far the place lies behind its last choice.
+// Each function goes past the choices of one kind, and counts `place` from the first of these. The choice at `place` is answered
+// as an `Err`, with which a `?` leaves. Where `place` lies behind the last of these choices, how far is answered.
 
 use super::choice::Choice;
 use super::defaults::{are_defaultable, is_defaultable, unpacked};
@@ -33,7 +33,7 @@ use super::references::{function_reference, gives, i31, is_below};
 use super::scope::Scope;
 use smith_types::{AbstractHeapType, CompositeInnerType, FieldType, HeapType, RefType, ValType};
 
-/// Goes past all that is offered where a value of a type is drawn.
+/// Goes past all that is offered where a value of the type `wanted` is drawn.
 #[tactic(auto, unfolding(crate::specs::ConstOffers::past))]
 pub(super) fn past_offers(
     scope: &Scope<'_>,
@@ -132,7 +132,7 @@ fn past_created(
     past_others(scope, wanted, fuel, place)
 }
 
-/// Goes past the ways of creating a value of each type: those of structs, or of arrays.
+/// Goes past the ways of creating a value of each struct type, or where `arrays` is set of each array type.
 #[tactic(auto, using(crate::proofs::ConstFoundLemmas::past_append, crate::proofs::ConstFoundLemmas::past_front), unfolding(crate::specs::ConstOffers::past))]
 fn past_types(
     scope: &Scope<'_>,
@@ -242,7 +242,7 @@ fn past_conversions(heap_type: HeapType, place: usize) -> Result<usize, Choice>
     }
 }
 
-/// Goes past one choice, if it is offered.
+/// Goes past `choice`, if it is offered.
 #[tactic(auto, unfolding(crate::specs::ConstOffers::past))]
 fn past_if(is_offered: bool, choice: Choice, place: usize) -> Result<usize, Choice>
     ensures { result ≡ past (offered_if is_offered choice) place }

@@ -30,7 +30,7 @@ pub(super) fn i31(shared: bool) -> ValType
     })
 }
 
-/// The reference that creation of a type gives: with custom descriptors an exact one.
+/// The type of a reference to a created value of the type `index`: with custom descriptors an exact reference.
 fn created(scope: &Scope<'_>, index: u32) -> ValType
     ensures { result ≡ created (context_of scope.now) index }
 {
@@ -45,7 +45,7 @@ fn created(scope: &Scope<'_>, index: u32) -> ValType
     })
 }
 
-/// The reference that names a function whose type has this index.
+/// The type of a reference to the function `function`, whose type is `index`.
 pub(super) fn function_reference(scope: &Scope<'_>, function: usize, index: u32) -> ValType
     ensures { result ≡ function_reference (context_of scope.now) function index }
 {
@@ -59,7 +59,7 @@ pub(super) fn function_reference(scope: &Scope<'_>, function: usize, index: u32)
     created(scope, index)
 }
 
-/// Whether the reference that creation of a type gives is below the wanted type.
+/// Whether a reference to a created value of the type `index` is below `wanted`.
 pub(super) fn gives(scope: &Scope<'_>, index: u32, wanted: ValType) -> bool
     requires there { index < length (context_of scope.now).types }
     requires upper { IsValInRange (context_of scope.now).types wanted }

@@ -7,12 +7,15 @@ use smith_config::Config;
 /// What an expression may refer to: of the globals those below `visible`.
 #[derive(Clone, Copy)]
 pub(super) struct Scope<'a> {
+    /// The configuration.
     pub config: &'a Config,
+    /// The types and entities that stand.
     pub spaces: &'a Spaces<'a>,
+    /// The number of globals that may be read, from the first on.
     pub visible: usize,
 }
 
-/// Where the globals end that an expression may read.
+/// The number of globals that an expression may read, from the first on.
 pub(super) fn visible_end(config: &Config, spaces: &Spaces<'_>, allow_defined: bool) -> usize
     ensures { result ≡ visible_end config.now spaces.now allow_defined }
 {

@@ -1,4 +1,4 @@
-//! What a module begins with, of the shapes that its configuration uses.
+//! The beginning of a module, of the shapes that its configuration uses.
 
 ghost use Rattle.std.specs.Prelude.{◌≡◌, IfErr, OnOk};
 ghost use Rattle.smith_bytes.specs.Source.{KeepsPieces};
@@ -18,7 +18,8 @@ use smith_imports::{available_imports, imports_of_shape, types_of_shape};
 use smith_types::TypeSpace;
 use std::alloc::Global;
 
-/// Begins a module with the types and the imports of a module shape, and with its exports, each of an entity that is defined for it.
+/// Begins a module with the types, the imports and the exports of the module shape `shape`, each export of an entity that is
+/// defined for it.
 #[tactic(auto, unfolding(crate::specs::Begun::begun_by_module_at))]
 pub(crate) fn begin_with_module(
     alloc: Global,
@@ -49,7 +50,7 @@ pub(crate) fn begin_with_module(
     Ok(())
 }
 
-/// Begins a module with the types of a shape, and with those of its imports that the bytes pick and that fit.
+/// Begins a module with the types of the available imports `shape`, and its imports that the bytes pick and that fit.
 #[tactic(auto, unfolding(crate::specs::Begun::begun_by_imports_at))]
 pub(crate) fn begin_with_imports(
     alloc: Global,

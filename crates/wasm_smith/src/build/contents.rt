@@ -1,4 +1,4 @@
-//! What is drawn behind all definitions.
+//! The contents of a module behind all definitions.
 
 ghost use Rattle.std.specs.Prelude.{◌≡◌, [], None, false, IfOk, IfErr, All};
 ghost use Rattle.smith_bytes.specs.Source.{KeepsPieces};
@@ -25,21 +25,25 @@ use smith_imports::Imported;
 use smith_types::{Code, ExportKind, Items, Name, TypeSpace};
 use std::alloc::Global;
 
-/// What a module has beside its types, imports and definitions.
+/// The exports, start function, segments and bodies of a module.
 #[derive(Drop)]
 pub(crate) struct Contents {
     /// The name of each export, and the kind and the index of its item.
     pub(crate) exports: Items<(Name, ExportKind, u32)>,
     /// What the imports and the exports add to the type size of the module.
     pub(crate) type_size: u32,
+    /// Whether a type section is written.
     pub(crate) encodes_types: bool,
+    /// The index of the start function, or none.
     pub(crate) start: Option<u32>,
+    /// The element and data segments.
     pub(crate) segments: Segments,
+    /// The body of each defined function.
     pub(crate) code: Items<Code>,
 }
 
 impl Contents {
-    /// Nothing, which takes no memory.
+    /// Begins without contents. Takes no memory.
     pub(crate) fn none(alloc: Global) -> Self
         ensures { result ≡ record {
           exports = [];
@@ -61,8 +65,8 @@ impl Contents {
     }
 }
 
-/// Draws, behind exports that were made, whether a section of types is written, a start function, segments and bodies, in this
-/// order, over all that is imported and defined.
+/// Draws, behind the exports `made`, whether a type section is written, a start function, segments and bodies, in this order,
+/// over all that is imported and defined.
 #[tactic(auto, unfolding(crate::specs::DrawnContents::behind_exports_at))]
 pub(crate) fn behind_exports(
     alloc: Global,
@@ -97,7 +101,7 @@ pub(crate) fn behind_exports(
     })
 }
 
-/// Draws the same over all that stands once exports are made.
+/// Draws the contents behind the exports `made`, as [`behind_exports`] does, over all that stands in `drawn`.
 pub(crate) fn draw_contents(
     alloc: Global,
     config: &Config,

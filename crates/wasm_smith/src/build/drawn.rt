@@ -25,21 +25,27 @@ use smith_imports::Imported;
 use smith_types::{Items, TypeSpace};
 use std::alloc::Global;
 
-/// The parts of a module.
+/// The parts of a module, as they are drawn.
 #[derive(Drop)]
 pub(crate) struct Drawn {
+    /// The types, in their recursive groups.
     pub(crate) types: TypeSpace,
     /// The imports, and the index spaces that they begin, to their ends.
     pub(crate) imported: Imported,
+    /// The definitions behind the imports.
     pub(crate) definitions: Definitions,
+    /// The contents behind the definitions.
     pub(crate) contents: Contents,
+    /// Whether an import section is written.
     pub(crate) encodes_imports: bool,
+    /// The interesting values of 32 bits.
     pub(crate) interesting_values32: Items<u32>,
+    /// The interesting values of 64 bits.
     pub(crate) interesting_values64: Items<u64>,
 }
 
 impl Drawn {
-    /// Nothing, which takes no memory.
+    /// Begins with nothing drawn. Takes no memory.
     pub(crate) fn none(alloc: Global) -> Self
         ensures { HasNothing result }
     {
@@ -55,7 +61,7 @@ impl Drawn {
     }
 }
 
-/// Draws the parts into `drawn`, which has nothing yet, in the order of the steps, and collects the interesting values.
+/// Draws the parts of a module into `drawn`, which has none yet, in the order of the steps, and collects the interesting values.
 #[tactic(auto, unfolding(crate::specs::Build::module_at))]
 fn parts(
     alloc: Global,
@@ -91,7 +97,8 @@ fn parts(
     Ok(())
 }
 
-/// Draws the parts of a module. Where `distinct` is set and no shape fixes the imports, no two have the same pair of names.
+/// Draws the parts of a module. Where `distinct` is set and no shape fixes the imports, no two imports have the same pair of
+/// names.
 pub(crate) fn draw(
     alloc: Global,
     config: &Config,

@@ -1,4 +1,4 @@
-//! The imports that are drawn.
+//! The imports of a module that no shape fixes.
 
 ghost use Rattle.std.specs.Prelude.{◌≡◌, ◌≤◌, IfErr, OnOk};
 ghost use Rattle.smith_bytes.specs.Source.{KeepsPieces};
@@ -14,7 +14,7 @@ use smith_imports::{Imported, arbitrary_imports};
 use smith_types::TypeSpace;
 use std::alloc::Global;
 
-/// Adds as many imports to none as are asked for, and no more than may be. Where `distinct` is set, no two have the same pair of names.
+/// Draws imports into `imported`, which has none, as [`arbitrary_imports`] does, and is refused only where a module may be.
 pub(crate) fn imports(
     alloc: Global,
     config: &Config,

@@ -6,7 +6,7 @@ ghost use Rattle.smith_imports.specs.Steps.{section_flag_at};
 
 use smith_bytes::Unstructured;
 
-/// Whether a section of `count` types or groups of imports is written: where there are some, else where a bool says so.
+/// Draws whether a section of `count` types or groups of imports is written: always where `count` is above 0.
 #[tactic(auto, unfolding(smith_imports::specs::Steps::section_flag_at))]
 pub(crate) fn section_flag(count: usize, u: &mut Unstructured<'_>) -> bool
     ensures draws { AlwaysDraws (section_flag_at count u.old) result u.old u.new }

@@ -18,12 +18,14 @@ use std::alloc::Global;
 /// The segments of a module.
 #[derive(Drop)]
 pub(crate) struct Segments {
+    /// The element segments.
     pub(crate) elements: Items<ElementSegment>,
+    /// The data segments.
     pub(crate) data_segments: Items<DataSegment>,
 }
 
 impl Segments {
-    /// No segments, which take no memory.
+    /// Begins without segments. Takes no memory.
     pub(crate) fn none(alloc: Global) -> Self
         ensures { result ≡ record { elements = []; data_segments = [] } }
     {

@@ -10,7 +10,7 @@ use smith_bytes::{Error, Which};
 use smith_config::{Config, Shape};
 use std::alloc::Global;
 
-/// Checks a shape for the use `which`, where one is given.
+/// Checks the shape `given` for the use `which`, unless it is none.
 fn check_given(
     alloc: Global,
     config: &Config,

@@ -19,7 +19,7 @@ use smith_config::Config;
 use smith_definitions::define;
 use std::alloc::Global;
 
-/// Begins a module with the module shape or the available imports of `config`, and draws types behind theirs.
+/// Begins a module with the module shape or the available imports of `config`, and draws types behind the types of the shape.
 #[tactic(auto, unfolding(crate::specs::Build::begun_typed_at))]
 pub(crate) fn begin_with_types(
     alloc: Global,
@@ -41,7 +41,7 @@ pub(crate) fn begin_with_types(
     more_types(alloc, config, &mut drawn.types, u)
 }
 
-/// Draws imports, where no shape fixes them. Where `distinct` is set, no two have the same pair of names.
+/// Draws imports, where no shape fixes them. Where `distinct` is set, no two imports have the same pair of names.
 #[tactic(auto, unfolding(crate::specs::Build::imported_at))]
 pub(crate) fn add_imports(
     alloc: Global,
@@ -67,7 +67,7 @@ pub(crate) fn add_imports(
     imports(alloc, config, distinct, &drawn.types, imported, u)
 }
 
-/// Defines entities behind those that stand.
+/// Defines entities behind those of `drawn`.
 #[tactic(auto, unfolding(crate::specs::Build::defined_at))]
 pub(crate) fn add_definitions(
     alloc: Global,

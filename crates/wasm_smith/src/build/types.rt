@@ -16,7 +16,7 @@ use smith_draw::{Entities, arbitrary_types};
 use smith_types::TypeSpace;
 use std::alloc::Global;
 
-/// Draws types behind those that stand, which stay.
+/// Draws types behind those of `types`, which stay.
 #[tactic(auto, using(smith_draw::proofs::CallerLemmas::passes_but_imports))]
 pub(crate) fn more_types(
     alloc: Global,
