@@ -1,18 +1,12 @@
-//! Worked cases of whole modules, each with the result that it must have.
+//! Worked cases of whole modules without shapes, each with the result that it must have.
 #![tactic(auto)]
 
-#[cfg(test)]
-mod available_imports;
-#[cfg(test)]
-mod configured_shapes;
 #[cfg(test)]
 mod data_segments;
 #[cfg(test)]
 mod element_segments;
 #[cfg(test)]
 mod exported_modules;
-#[cfg(test)]
-mod fixed_exports;
 #[cfg(test)]
 mod gc_modules;
 #[cfg(test)]
@@ -24,15 +18,11 @@ mod library_example;
 #[cfg(test)]
 mod listed_functions;
 #[cfg(test)]
-mod module_shapes;
-#[cfg(test)]
 mod modules;
 #[cfg(test)]
 mod raw_bodies;
 #[cfg(test)]
 mod reach;
-#[cfg(test)]
-mod refused_shapes;
 #[cfg(test)]
 mod repeated_modules;
 #[cfg(test)]
@@ -43,7 +33,5 @@ mod spelled_lists;
 mod tagged_modules;
 #[cfg(test)]
 mod termination;
-#[cfg(test)]
-mod told_shapes;
 #[cfg(test)]
 mod unmet_minimums;
