@@ -15,7 +15,7 @@ use Rattle.smith_draw.specs.ConstOffers.{offers}
 use Rattle.smith_draw.specs.ConstNodes.{is_extended, node_at}
 use Rattle.smith_draw.specs.ConstExprs.{State, state_of, behind, operand_at, operands_at, chosen_at, expression_at, expression_alone_at}
 use Rattle.smith_draw.specs.ConstSteps.{Reads, ReadsValue, ReadsOperand, ReadsOperands}
-use Rattle.smith_draw.specs.declared.const_expr.choice.Choice.{Choice}
+use Rattle.smith_draw.specs.declared.const_expr.node_choice.Choice.{Choice}
 use Rattle.smith_draw.specs.declared.const_expr.node.Operand.{Operand}
 use Rattle.smith_draw.specs.declared.const_expr.node.Node.{Node}
 

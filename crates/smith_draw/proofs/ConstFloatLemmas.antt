@@ -30,8 +30,8 @@ use Rattle.smith_draw.specs.ConstNodes.{fields_there, field_operands, repeated, 
 use Rattle.smith_draw.specs.ConstExprs.{State, state_of, behind, length_at, operand_at, operands_at, chosen_at, expression_at, expression_alone_at}
 use Rattle.smith_draw.specs.ConstSteps.{operand_type}
 use Rattle.smith_draw.specs.ConstFloats.{GivesNoFloat}
-use Rattle.smith_draw.specs.declared.const_expr.choice.Choice.{Choice}
-use Rattle.smith_draw.specs.declared.const_expr.choice.Choice.TheVariants as choice
+use Rattle.smith_draw.specs.declared.const_expr.node_choice.Choice.{Choice}
+use Rattle.smith_draw.specs.declared.const_expr.node_choice.Choice.TheVariants as choice
 use Rattle.smith_draw.specs.declared.const_expr.extended.Operator.{Operator}
 use Rattle.smith_draw.specs.declared.const_expr.extended.Operator.TheVariants.{Add, Sub, Mul}
 use Rattle.smith_draw.specs.declared.const_expr.node.Node.{Node}

@@ -16,8 +16,8 @@ use Rattle.smith_types.specs.declared.composite_type.CompositeInnerType.{Composi
 use Rattle.smith_types.specs.declared.composite_type.SubType.{SubType}
 use Rattle.smith_draw.specs.ConstScopes.{IsScope}
 use Rattle.smith_draw.specs.ConstOffers.{past, each_from, offered_if, is_defaultable, is_integer, global_offers, function_offers, type_offers, types_offers, conversions, other_offers, created_offers, reference_offers, offers}
-use Rattle.smith_draw.specs.declared.const_expr.choice.Choice.{Choice}
-use Rattle.smith_draw.specs.declared.const_expr.choice.Choice.TheVariants as choice
+use Rattle.smith_draw.specs.declared.const_expr.node_choice.Choice.{Choice}
+use Rattle.smith_draw.specs.declared.const_expr.node_choice.Choice.TheVariants as choice
 
 -- through one list and then another
 pub past_append : {B : Type 0} (xs ys : List B) (place rest : ℕ) → past xs place ≡ Ok rest → past (xs ++ ys) place ≡ past ys rest

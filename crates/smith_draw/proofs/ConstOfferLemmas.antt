@@ -33,8 +33,8 @@ use Rattle.smith_draw.specs.ConstOffers.{each_from, offered_if, is_defaultable, 
 use Rattle.smith_draw.specs.ConstNodes.{field_operands, repeated, is_shared_heap, node_of, node_at}
 use Rattle.smith_draw.specs.ConstBounds.{widest, field_count, IsNonNullable, MayLack}
 use Rattle.smith_draw.specs.ConstSteps.{operand_type, MayRefuseValues, IsNode, IsFit}
-use Rattle.smith_draw.specs.declared.const_expr.choice.Choice.{Choice}
-use Rattle.smith_draw.specs.declared.const_expr.choice.Choice.TheVariants as choice
+use Rattle.smith_draw.specs.declared.const_expr.node_choice.Choice.{Choice}
+use Rattle.smith_draw.specs.declared.const_expr.node_choice.Choice.TheVariants as choice
 use Rattle.smith_draw.specs.declared.const_expr.node.Operand.{Operand}
 use Rattle.smith_draw.specs.declared.const_expr.node.Operand.TheVariants.{Value, Length}
 use Rattle.smith_draw.proofs.PuttingLemmas.{below_itself}

@@ -14,7 +14,7 @@ use Rattle.smith_draw.specs.Putting.{Puts}
 use Rattle.smith_draw.specs.ConstBounds.{widest, MayLack}
 use Rattle.smith_draw.specs.ConstSteps.{operand_type, SomeMayLack, MayRefuseValues, IsDrawn, IsNode, IsFit}
 use Rattle.smith_draw.specs.ConstNodes.{node_at}
-use Rattle.smith_draw.specs.declared.const_expr.choice.Choice.{Choice}
+use Rattle.smith_draw.specs.declared.const_expr.node_choice.Choice.{Choice}
 use Rattle.smith_draw.specs.declared.const_expr.node.Operand.{Operand}
 use Rattle.smith_draw.specs.declared.const_expr.node.Node.{Node}
 use Rattle.smith_draw.proofs.PuttingLemmas.{puts_none, puts_more, puts_by, below_itself}

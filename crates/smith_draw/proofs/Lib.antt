@@ -33,6 +33,7 @@ pub mod SharedHeapTypeLemmas
 pub mod GlobalTypeLemmas
 pub mod LocalLemmas
 pub mod TableTypeLemmas
+pub mod PlaceLemmas
 pub mod TypeUseLemmas
 pub mod MemoryLemmas
 pub mod BelowLemmas

@@ -21,9 +21,9 @@ use Rattle.std.specs.Prelude.{◌&&◌, not}
 use Rattle.std.specs.List.{AllByRecursion as Each}
 use Rattle.std.proofs.lemmas.List.Elements.{recursion_from_All}
 use Rattle.smith_draw.specs.ExampleConstExprs.{MutableGlobalsAreNotRead}
-use Rattle.smith_draw.specs.declared.const_expr.choice.Choice.{Choice}
+use Rattle.smith_draw.specs.declared.const_expr.node_choice.Choice.{Choice}
 use Rattle.smith_types.specs.declared.value_type.ValType.{ValType}
-use Rattle.smith_draw.specs.declared.const_expr.choice.Choice.TheVariants as choice
+use Rattle.smith_draw.specs.declared.const_expr.node_choice.Choice.TheVariants as choice
 
 -- where no global may be read, none is offered
 none_offered : (b : Bool) (index : ℕ) (rest : List ℕ) (choices : List Choice) → offered_if b index ++ rest ≡ [] → (rest ≡ [] → choices ≡ []) → offered_if b (choice.Global index) ++ choices ≡ []

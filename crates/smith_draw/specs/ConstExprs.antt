@@ -13,7 +13,7 @@ use Rattle.smith_config.specs.declared.config.Config.{Config}
 use Rattle.smith_draw.specs.Constants.{extended_at}
 use Rattle.smith_draw.specs.ConstOffers.{offers}
 use Rattle.smith_draw.specs.ConstNodes.{is_extended, node_at}
-use Rattle.smith_draw.specs.declared.const_expr.choice.Choice.{Choice}
+use Rattle.smith_draw.specs.declared.const_expr.node_choice.Choice.{Choice}
 use Rattle.smith_draw.specs.declared.const_expr.node.Operand.{Operand}
 use Rattle.smith_draw.specs.declared.const_expr.node.Operand.TheVariants.{Value, Length}
 

@@ -14,8 +14,8 @@ use Rattle.smith_types.specs.declared.const_instr.ConstInstr.{ConstInstr}
 use Rattle.smith_types.specs.declared.const_instr.ConstInstr.TheVariants as instr
 use Rattle.smith_draw.specs.Constants.{constant_at}
 use Rattle.smith_draw.specs.ConstScopes.{fields_of}
-use Rattle.smith_draw.specs.declared.const_expr.choice.Choice.{Choice}
-use Rattle.smith_draw.specs.declared.const_expr.choice.Choice.TheVariants as choice
+use Rattle.smith_draw.specs.declared.const_expr.node_choice.Choice.{Choice}
+use Rattle.smith_draw.specs.declared.const_expr.node_choice.Choice.TheVariants as choice
 use Rattle.smith_draw.specs.declared.const_expr.node.Operand.{Operand}
 use Rattle.smith_draw.specs.declared.const_expr.node.Operand.TheVariants.{Value, Length}
 use Rattle.smith_draw.specs.declared.const_expr.node.Node.{Node}

@@ -14,8 +14,8 @@ use Rattle.smith_types.specs.declared.composite_type.SubType.{SubType}
 use Rattle.smith_types.specs.declared.entity_type.GlobalType.{GlobalType}
 use Rattle.smith_types.specs.Expressions.{Context, reference_to, created, function_reference, unpacked}
 use Rattle.smith_draw.specs.Below.{is_val_below}
-use Rattle.smith_draw.specs.declared.const_expr.choice.Choice.{Choice}
-use Rattle.smith_draw.specs.declared.const_expr.choice.Choice.TheVariants as choice
+use Rattle.smith_draw.specs.declared.const_expr.node_choice.Choice.{Choice}
+use Rattle.smith_draw.specs.declared.const_expr.node_choice.Choice.TheVariants as choice
 
 -- what each item of a list offers, by its index, one behind the other
 abbrev pub each_from : {A B : Type 0} → (ℕ → A → List B) → ℕ → List A → List B

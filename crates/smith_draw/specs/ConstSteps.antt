@@ -14,7 +14,7 @@ use Rattle.smith_draw.specs.Putting.{Puts}
 use Rattle.smith_draw.specs.ConstBounds.{widest, MayLack}
 use Rattle.smith_draw.specs.ConstNodes.{is_extended, node_at}
 use Rattle.smith_draw.specs.ConstExprs.{State, operand_at, operands_at, expression_at}
-use Rattle.smith_draw.specs.declared.const_expr.choice.Choice.{Choice}
+use Rattle.smith_draw.specs.declared.const_expr.node_choice.Choice.{Choice}
 use Rattle.smith_draw.specs.declared.const_expr.node.Operand.{Operand}
 use Rattle.smith_draw.specs.declared.const_expr.node.Operand.TheVariants.{Value, Length}
 use Rattle.smith_draw.specs.declared.const_expr.node.Node.{Node}

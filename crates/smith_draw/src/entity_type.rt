@@ -1,9 +1,8 @@
 ghost use Rattle.std.specs.Prelude.{◌≡◌, ◌≤◌, ◌/◌, ◌^◌, ◌⊎◌, ◌||◌, Bool, IsTrue, IfSome, IsOk, IfOk};
-ghost use Rattle.smith_bytes.specs.Source.{KeepsPieces};
 ghost use Rattle.smith_types.specs.Entities.{IsMemoryValid, page_log2};
 ghost use Rattle.smith_config.specs.Features.{features_of};
 ghost use Rattle.smith_draw.specs.Callers.{PassesButImports};
-ghost use Rattle.smith_draw.specs.Drawing.{AlwaysDraws};
+ghost use Rattle.smith_draw.specs.Drawing.{AlwaysDraws, Draws};
 ghost use Rattle.smith_draw.specs.Bounds.{IsMemoryWithin};
 ghost use Rattle.smith_draw.specs.Memories.{shared_memory_at, memory64_at, stated_page_at, page_size_at, least_pages, drawn_pages, likely_pages, memtype_at};
 
@@ -145,10 +144,9 @@ fn memory_type(config: &Config, u: &mut Unstructured<'_>) -> MemoryType
 /// The result is always `Ok`, since no memory is taken: all draws of entities give a `Result`.
 pub fn arbitrary_memtype(config: &Config, u: &mut Unstructured<'_>) -> Result<MemoryType, Error>
     ensures ok { IsOk result }
-    ensures exact { IfOk result (λ drawn. memtype_at config.now u.old ≡ (drawn, u.new)) }
+    ensures draws { Draws (memtype_at config.now u.old) result u.old u.new }
     ensures valid { PassesButImports config.now → IfOk result (IsMemoryValid (features_of config.now)) }
     ensures within { IfOk result (IsMemoryWithin config.now) }
-    ensures left { KeepsPieces u.old u.new }
 {
     Ok(memory_type(config, u))
 }

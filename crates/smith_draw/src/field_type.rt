@@ -1,4 +1,4 @@
-ghost use Rattle.std.specs.Prelude.{◌≡◌, false, IsTrue, IfOk, All};
+ghost use Rattle.std.specs.Prelude.{◌≡◌, false, IsTrue, IsOk, IfOk, All};
 ghost use Rattle.smith_bytes.specs.Takes.{Takes, SpellsSuch};
 ghost use Rattle.smith_types.specs.Matching.{IsStorageInRange, IsFieldInRange};
 ghost use Rattle.smith_types.specs.ValidTypes.{values_of_storage, IsValTypeValid, IsShareable};
@@ -66,6 +66,7 @@ pub fn arbitrary_storage_type(
 ) -> Result<StorageType, Error>
     requires sanitized { IsSanitized config.now }
     requires may_share { IsTrue must_share → IsTrue config.now.shared_everything_threads_enabled }
+    ensures ok { IsOk result }
     ensures draws { Draws (storage_type_at config.now spaces.now.types.now.types must_share limit u.old) result u.old u.new }
     ensures valid { IfOk result (λ drawn. All (IsValTypeValid (features_of config.now) limit) (values_of_storage drawn)) }
     ensures stands { IfOk result (IsStorageInRange spaces.now.types.now.types) }
@@ -91,6 +92,7 @@ pub fn arbitrary_field_type(
 ) -> Result<FieldType, Error>
     requires sanitized { IsSanitized config.now }
     requires may_share { IsTrue must_share → IsTrue config.now.shared_everything_threads_enabled }
+    ensures ok { IsOk result }
     ensures draws { Draws (field_type_at config.now spaces.now.types.now.types must_share limit u.old) result u.old u.new }
     ensures valid { IfOk result (λ drawn. All (IsValTypeValid (features_of config.now) limit) (values_of_storage drawn.element_type)) }
     ensures stands { IfOk result (IsFieldInRange spaces.now.types.now.types) }

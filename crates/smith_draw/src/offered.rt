@@ -13,14 +13,12 @@ ghost use Rattle.std.specs.Prelude.{
 };
 ghost use Rattle.smith_types.specs.declared.value_type.HeapType.TheVariants.{Abstract, Concrete, Exact};
 ghost use Rattle.smith_types.specs.Types.{IsOrderly};
-ghost use Rattle.smith_types.specs.Kinds.{bottom_of};
 ghost use Rattle.smith_draw.specs.Offered.{
   abstract_subtypes,
   abstract_supertypes,
   supertypes_of_inner,
   kinds_below,
   kinds_above,
-  is_of_kind,
   is_kind,
   is_declared_below,
   picked_from,
@@ -241,7 +239,7 @@ fn push_bottom(offered: &mut Items<HeapType>, types: &[SubType], index: u32) -> 
     match types.get(index as usize) {
         Some(ty) => offered.push(HeapType::Abstract {
             shared: ty.composite_type.shared,
-            ty: bottom_of(&ty.composite_type.inner),
+            ty: ty.composite_type.inner.bottom(),
         }),
         None => Ok(()),
     }
@@ -286,17 +284,7 @@ fn supertype_at(types: &[SubType], index: u32) -> Option<u32>
 fn is_kind(ty: &SubType, shared: bool, kind: AbstractHeapType) -> bool
     ensures { result ≡ is_kind shared kind ty.now }
 {
-    ty.composite_type.shared == shared && is_of_kind(kind, &ty.composite_type.inner)
-}
-
-fn is_of_kind(kind: AbstractHeapType, inner: &CompositeInnerType) -> bool
-    ensures { result ≡ is_of_kind kind inner.now }
-{
-    match inner {
-        CompositeInnerType::Array(_) => matches!(kind, AbstractHeapType::Array),
-        CompositeInnerType::Func(_) => matches!(kind, AbstractHeapType::Func),
-        CompositeInnerType::Struct(_) => matches!(kind, AbstractHeapType::Struct),
-    }
+    ty.composite_type.shared == shared && ty.composite_type.inner.kind() == kind
 }
 
 fn is_declared_below(ty: &SubType, index: u32) -> bool
@@ -305,15 +293,6 @@ fn is_declared_below(ty: &SubType, index: u32) -> bool
     match ty.supertype {
         Some(supertype) => supertype == index,
         None => false,
-    }
-}
-
-fn bottom_of(inner: &CompositeInnerType) -> AbstractHeapType
-    ensures { result ≡ bottom_of inner.now }
-{
-    match inner {
-        CompositeInnerType::Func(_) => AbstractHeapType::NoFunc,
-        _ => AbstractHeapType::None,
     }
 }
 

@@ -65,13 +65,7 @@ fn may_be_used(for_use: TypeUse, t: &SubType) -> bool
 pub fn count_types(for_use: TypeUse, types: &[SubType]) -> usize
     ensures { result ≡ length (types_for for_use types.now) }
 {
-    let mut count = 0;
-    for t in types {
-        if may_be_used(for_use, t) {
-            count += 1;
-        }
-    }
-    count
+    types.iter().filter(|t| may_be_used(for_use, t)).count()
 }
 
 /// Lists the indices of the types of `types` that are right for `for_use`, in ascending order. `types` has fewer than 2^32 types.

@@ -1,4 +1,4 @@
-ghost use Rattle.std.specs.Prelude.{◌≡◌, false, ◌<◌, IsTrue, IfOk, slice_get};
+ghost use Rattle.std.specs.Prelude.{◌≡◌, false, ◌<◌, IsTrue, IsOk, IfOk, slice_get};
 ghost use Rattle.smith_bytes.specs.Takes.{Takes, SpellsSuch};
 ghost use Rattle.smith_types.specs.Subtyping.{IsInRange, IsValInRange};
 ghost use Rattle.smith_types.specs.ValidTypes.{
@@ -243,6 +243,7 @@ pub fn arbitrary_heap_type(
 ) -> Result<HeapType, Error>
     requires sanitized { IsSanitized config.now }
     requires may_share { IsTrue must_share → IsTrue config.now.shared_everything_threads_enabled }
+    ensures ok { IsOk result }
     ensures draws { Draws (heap_type_at config.now spaces.now.types.now.types must_share limit u.old) result u.old u.new }
     ensures valid { IfOk result (IsHeapTypeValid (features_of config.now) limit) }
     ensures stands { IfOk result (IsInRange spaces.now.types.now.types) }
@@ -269,6 +270,7 @@ pub fn arbitrary_ref_type(
 ) -> Result<RefType, Error>
     requires sanitized { IsSanitized config.now }
     requires may_share { IsTrue must_share → IsTrue config.now.shared_everything_threads_enabled }
+    ensures ok { IsOk result }
     ensures draws { Draws (ref_type_at config.now spaces.now.types.now.types must_share limit u.old) result u.old u.new }
     ensures valid { IfOk result (IsRefTypeValid (features_of config.now) limit) }
     ensures stands { IfOk result (λ drawn. IsInRange spaces.now.types.now.types drawn.heap_type) }
@@ -294,6 +296,7 @@ pub fn arbitrary_valtype(
 ) -> Result<ValType, Error>
     requires sanitized { IsSanitized config.now }
     requires may_share { IsTrue must_share → IsTrue config.now.shared_everything_threads_enabled }
+    ensures ok { IsOk result }
     ensures draws { Draws (val_type_at config.now spaces.now.types.now.types must_share limit u.old) result u.old u.new }
     ensures valid { IfOk result (IsValTypeValid (features_of config.now) limit) }
     ensures stands { IfOk result (IsValInRange spaces.now.types.now.types) }

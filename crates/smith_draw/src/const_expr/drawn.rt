@@ -9,10 +9,10 @@ ghost use Rattle.smith_draw.specs.ConstExprs.{state_of, length_at, expression_al
 ghost use Rattle.smith_draw.specs.ConstBounds.{most_instructions, MayRefuseConstExpr};
 ghost use Rattle.smith_draw.specs.ConstSteps.{operand_type, MayRefuseValues, IsDrawn, ReadsValue, ReadsOperand, ReadsOperands};
 
-use super::choice::{Choice, is_extended};
 use super::extended::extended_constant;
 use super::found::chosen;
 use super::node::{Operand, drawn_node};
+use super::node_choice::{Choice, is_extended};
 use super::scope::Scope;
 use smith_bytes::{Error, Unstructured};
 use smith_types::{ConstInstr, Items, ValType};

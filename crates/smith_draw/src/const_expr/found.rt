@@ -7,8 +7,8 @@ ghost use Rattle.smith_draw.specs.ConstScopes.{context_of, IsScope};
 ghost use Rattle.smith_draw.specs.ConstOffers.{offers};
 ghost use Rattle.smith_draw.specs.ConstSteps.{MayRefuseValues, IsFit};
 
-use super::choice::Choice;
-use super::offered::past_offers;
+use super::node_choice::Choice;
+use super::offers::past_offers;
 use super::scope::Scope;
 use smith_bytes::{Error, Unstructured};
 use smith_types::ValType;

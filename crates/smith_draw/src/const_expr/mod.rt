@@ -16,14 +16,14 @@ ghost use Rattle.smith_draw.specs.ConstScopes.{seen_by, IsReadable, AreSpacesVal
 ghost use Rattle.smith_draw.specs.ConstBounds.{most_instructions, MayRefuseConstExpr};
 ghost use Rattle.smith_draw.specs.ConstFloats.{GivesNoFloat};
 
-mod choice;
 mod constant;
 mod defaults;
 mod drawn;
 mod extended;
 mod found;
 mod node;
-mod offered;
+mod node_choice;
+mod offers;
 mod references;
 mod scope;
 

@@ -6,9 +6,9 @@ ghost use Rattle.smith_types.specs.Expressions.{field_values};
 ghost use Rattle.smith_types.specs.declared.value_type.ValType.TheVariants.{I32};
 ghost use Rattle.smith_draw.specs.declared.const_expr.node.Operand.TheVariants.{Value};
 
-use super::choice::Choice;
 use super::constant::constant;
 use super::defaults::unpacked;
+use super::node_choice::Choice;
 use smith_bytes::{Error, Unstructured};
 use smith_types::{
     AbstractHeapType, CompositeInnerType, ConstInstr, HeapType, Items, RefType, SubType, ValType,
@@ -80,7 +80,7 @@ fn of_one(alloc: Global, operand: Operand, instruction: ConstInstr) -> Result<No
     ensures exact { IfOk result (λ node. node ≡ node_of (operand ∷ []) instruction) }
     ensures memory { IfErr result (λ e. e ≡ Error.Memory) }
 {
-    let mut operands = Items::new(alloc);
+    let mut operands = Items::with_capacity(alloc, 1)?;
     operands.push(operand)?;
     Ok(Node {
         operands,
@@ -134,7 +134,7 @@ fn fixed_array(
     ensures { Draws (node_at types.now I32 (Choice.FixedArray index) u.old) result u.old u.new }
 {
     let array_size = u.int_in_range(0..=3u32);
-    let mut operands = Items::new(alloc);
+    let mut operands = Items::with_capacity(alloc, array_size as usize)?;
     push_repeated(&mut operands, types, index, array_size)?;
     Ok(Node {
         operands,

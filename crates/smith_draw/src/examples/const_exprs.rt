@@ -16,7 +16,7 @@ ghost use Rattle.smith_types.specs.ExampleFeatures.{usual_features, without_gc};
 ghost use Rattle.smith_types.specs.ExampleTypes.{final_type, struct, array, taking, constant, plain, nullable, not_null, anyref, shared_anyref};
 ghost use Rattle.smith_types.specs.ExampleContexts.{context_types, context_with};
 ghost use Rattle.smith_config.specs.Config.{default_config};
-ghost use Rattle.smith_draw.specs.declared.const_expr.choice.Choice.TheVariants as choice;
+ghost use Rattle.smith_draw.specs.declared.const_expr.node_choice.Choice.TheVariants as choice;
 ghost use Rattle.smith_draw.specs.ConstOffers.{offers, readable_globals};
 ghost use Rattle.smith_draw.specs.ConstScopes.{IsReadable};
 ghost use Rattle.smith_draw.specs.ConstBounds.{widest, most_instructions, IsNonNullable, MayLack, MayRefuseConstExpr};

@@ -1,3 +1,4 @@
+use Rattle.std.proofs.Common.{refl}
 use Rattle.smith_types.specs.ValidTypes.{values_of_storage}
 use Rattle.smith_types.specs.declared.composite_type.FieldType.{FieldType}
 use Rattle.smith_draw.proofs.ValueTypeLemmas.{drawn_is, values_valid, values_shared}
@@ -13,6 +14,7 @@ returns c =
     let drawn = drawn_is (λ (ty : FieldType). IsFieldDrawn config types c.args.must_share c.args.limit ty) _ (field_type_drawn _ _ _ _ _ c.requires.sanitized c.requires.may_share) exact in
     let values = values_of_storage c.field_type.result.element_type in
     record {
+      ok = refl;
       draws = record { exact = exact; memory = tt; left = c.field_type.ensures.left };
       valid = values_valid config types c.args.must_share c.args.limit values drawn.values;
       stands = drawn.stands;

@@ -1,3 +1,4 @@
+use Rattle.std.proofs.Common.{refl}
 use Rattle.smith_types.specs.ValidTypes.{values_of_storage}
 use Rattle.smith_types.specs.declared.composite_type.StorageType.{StorageType}
 use Rattle.smith_draw.proofs.ValueTypeLemmas.{drawn_is, values_valid, values_shared}
@@ -13,6 +14,7 @@ returns c =
     let drawn = drawn_is (λ (ty : StorageType). IsStorageDrawn config types c.args.must_share c.args.limit ty) _ (storage_type_drawn _ _ _ _ _ c.requires.sanitized c.requires.may_share) exact in
     let values = values_of_storage c.storage_type.result in
     record {
+      ok = refl;
       draws = record { exact = exact; memory = tt; left = c.storage_type.ensures.left };
       valid = values_valid config types c.args.must_share c.args.limit values drawn.values;
       stands = drawn.stands;

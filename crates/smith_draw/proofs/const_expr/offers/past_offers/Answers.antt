@@ -1,6 +1,6 @@
 use Rattle.smith_draw.specs.ConstOffers.{offers}
 use Rattle.smith_draw.proofs.ConstFoundLemmas.{found_first, found_next}
-use Rattle.smith_draw.proofs.const_expr.offered.past_offers.Goals as goal
+use Rattle.smith_draw.proofs.const_expr.offers.past_offers.Goals as goal
 
 pub returns-in_err-place : goal.returns-in_err-place
 unfolding offers

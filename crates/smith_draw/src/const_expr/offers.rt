@@ -27,8 +27,8 @@ ghost use Rattle.smith_draw.specs.ConstOffers.{
 // Each function goes past the choices of one kind, and counts `place` from the first of these. The choice at `place` is answered
 // as an `Err`, with which a `?` leaves. Where `place` lies behind the last of these choices, how far is answered.
 
-use super::choice::Choice;
 use super::defaults::{are_defaultable, is_defaultable, unpacked};
+use super::node_choice::Choice;
 use super::references::{function_reference, gives, i31, is_below};
 use super::scope::Scope;
 use smith_types::{AbstractHeapType, CompositeInnerType, FieldType, HeapType, RefType, ValType};
