@@ -71,10 +71,11 @@ fn push_exports(
     ensures refusal { IfErr result MayRefuseAll }
     ensures left { KeepsPieces u.old u.new }
 {
-    let mut exports = Items::new(alloc);
+    let count = count_items(spaces);
+    let mut exports = Items::with_capacity(alloc, count)?;
     let mut names = HashSet::new(alloc);
     let mut type_size = imports_size;
-    for place in 0..count_items(spaces) {
+    for place in 0..count {
         let (kind, index) = item_at(spaces, place);
         let left = config.max_type_size - type_size;
         let name = export_name(alloc, &mut names, u)?;

@@ -34,13 +34,10 @@ fn is_start_type(types: &[SubType], index: u32) -> bool
 fn count_start_funcs(types: &[SubType], funcs: &[u32]) -> usize
     ensures { result ≡ length (start_funcs types.now funcs.now) }
 {
-    let mut count = 0;
-    for ty in funcs {
-        if is_start_type(types, *ty) {
-            count += 1;
-        }
-    }
-    count
+    funcs
+        .iter()
+        .filter(|ty| is_start_type(types, **ty))
+        .count()
 }
 
 /// Finds the index of the function at `place` among those of `funcs` that may start the module.

@@ -9,7 +9,7 @@ use Rattle.smith_contents.proofs.all_exports.push_exports.Goals as goal
 pub loop-place-init : goal.loop-place-init
 loop-place-init c =
     let spaces = spaces_in c.args.spaces.now in
-    rw c.new-exports.ensures (none_exporting c.args.config.now c.args.types.now.types spaces c.args.imports_size (every_item spaces) c.args.u.now c.requires.within c.new-names.ensures.empty)
+    rw c.in_ok-exports.ensures.ok (none_exporting c.args.config.now c.args.types.now.types spaces c.args.imports_size (every_item spaces) c.args.u.now c.requires.within c.new-names.ensures.empty)
 
 pub overflow_add-type_size : goal.overflow_add-type_size
 overflow_add-type_size c = omega (arith, c.loop-place.invariant.fit.within, c.if-size-left.false)
@@ -29,7 +29,7 @@ loop-place-preserved c =
 
 pub returns-clause-exact : goal.returns-clause-exact
 unfolding everything_at
-returns-clause-exact c = exporting_full c.loop-place.invariant (omega (arith, c.loop-place-test.false, c.count_items-place-end.ensures))
+returns-clause-exact c = exporting_full c.loop-place.invariant (omega (arith, c.loop-place-test.false, c.count_items-count.ensures))
 
 pub returns-clause-everything : goal.returns-clause-everything
-returns-clause-everything c = exported_all c.loop-place.invariant (omega (arith, c.loop-place-test.false, c.count_items-place-end.ensures))
+returns-clause-everything c = exported_all c.loop-place.invariant (omega (arith, c.loop-place-test.false, c.count_items-count.ensures))
