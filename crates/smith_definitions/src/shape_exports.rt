@@ -82,7 +82,7 @@ fn push_exports(
     ensures left { KeepsPieces u.old u.new }
 {
     let imported = imported_spaces_of(alloc, shape.imports.as_slice())?;
-    let mut exports = Items::new(alloc);
+    let mut exports = Items::with_capacity(alloc, shape.exports.len())?;
     for one in shape.exports.as_slice() {
         let made = export(
             alloc,

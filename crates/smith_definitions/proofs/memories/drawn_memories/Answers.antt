@@ -32,7 +32,7 @@ loop-made-preserved c =
     let count = c.len-before.ensures in
     let pushed = c.in_ok-push.ensures.ok in
     record {
-      behind = behind_go c.loop-made.invariant.behind (rw (c.saturating_sub-made-end.ensures, count) at c.loop-made-test.true) (rw (c.saturating_sub-needed.ensures, count) at c.goes_on.ensures.exact) c.if-not-goes_on.false c.in_ok-memory.ensures.exact pushed c.goes_on.ensures.left c.in_ok-memory.ensures.left;
+      behind = behind_go c.loop-made.invariant.behind (rw (c.saturating_sub-made-end.ensures, count) at c.loop-made-test.true) (rw (c.saturating_sub-needed.ensures, count) at c.goes_on.ensures.exact) c.if-not-goes_on.false c.in_ok-memory.ensures.draws.exact pushed c.goes_on.ensures.left c.in_ok-memory.ensures.draws.left;
       valid = λ before. rw pushed (All-push (IsMemoryValid (features_of c.args.config.now)) _ _ (c.loop-made.invariant.valid before) (c.in_ok-memory.ensures.valid (passes_but_imports c.args.config.now c.requires.passes)));
       within = one_added (IsMemoryWithin c.args.config.now) c.in_ok-memory.memory c.loop-made.invariant.within pushed c.in_ok-memory.ensures.within;
     }

@@ -7,7 +7,7 @@ use Rattle.smith_definitions.proofs.RequiredExportsLoop.{none_required, one_stan
 use Rattle.smith_definitions.proofs.shape_exports.push_exports.Goals as goal
 
 pub loop-one-init : goal.loop-one-init
-loop-one-init c = rw c.new-exports.ensures (none_required c.args.own_types c.args.config.now c.args.shape.now c.args.types.now (spaces_in c.args.spaces.now) c.args.definitions.now c.args.u.now c.requires.shape c.requires.may)
+loop-one-init c = rw c.in_ok-exports.ensures.ok (none_required c.args.own_types c.args.config.now c.args.shape.now c.args.types.now (spaces_in c.args.spaces.now) c.args.definitions.now c.args.u.now c.requires.shape c.requires.may)
 
 pub export-requires-clause-stands : goal.export-requires-clause-stands
 export-requires-clause-stands c = one_stands c.loop-one.invariant c.one-item.result (rw c.as_slice-one-items.ensures at c.loop-one-test.true) (rw c.as_slice-one-items.ensures at c.one-item.is)
