@@ -34,10 +34,7 @@ fn is_start_type(types: &[SubType], index: u32) -> bool
 fn count_start_funcs(types: &[SubType], funcs: &[u32]) -> usize
     ensures { result ≡ length (start_funcs types.now funcs.now) }
 {
-    funcs
-        .iter()
-        .filter(|ty| is_start_type(types, **ty))
-        .count()
+    funcs.iter().filter(|ty| is_start_type(types, **ty)).count()
 }
 
 /// Finds the index of the function at `place` among those of `funcs` that may start the module.
