@@ -8,7 +8,7 @@ use std::alloc::Global;
 
 /// Draws a kebab name of at most `max_size` characters, with a letter more where the name could not end.
 #[tactic(auto, unfolding(crate::specs::Kebab::kebab_at))]
-pub(crate) fn kebab_string(
+pub(crate) fn draw_kebab_string(
     alloc: Global,
     max_size: usize,
     u: &mut Unstructured<'_>,
@@ -18,7 +18,7 @@ pub(crate) fn kebab_string(
     ensures left { KeepsPieces u.old u.new }
 {
     let size = u.arbitrary_len().min(max_size);
-    let mut name = characters(alloc, size, u)?;
+    let mut name = draw_characters(alloc, size, u)?;
     if is_open_name(&name) {
         name.push('a')?;
     }
@@ -26,14 +26,14 @@ pub(crate) fn kebab_string(
 }
 
 /// Draws the first `size` characters of a kebab name.
-fn characters(alloc: Global, size: usize, u: &mut Unstructured<'_>) -> Result<String, Error>
+fn draw_characters(alloc: Global, size: usize, u: &mut Unstructured<'_>) -> Result<String, Error>
     ensures exact { IfOk result (λ name. characters_at size [] u.old ≡ (string_bytes name, u.new)) }
     ensures memory { IfErr result (λ e. e ≡ Error.Memory) }
     ensures left { KeepsPieces u.old u.new }
 {
     let mut name = String::new(alloc);
     for _ in 0..size {
-        let next = next_character(&name, u);
+        let next = draw_character(&name, u);
         name.push(char::from(next))?;
     }
     Ok(name)
@@ -41,7 +41,7 @@ fn characters(alloc: Global, size: usize, u: &mut Unstructured<'_>) -> Result<St
 
 /// Draws the character that follows `name`.
 #[tactic(auto, unfolding(crate::specs::Kebab::character_at))]
-fn next_character(name: &str, u: &mut Unstructured<'_>) -> u8
+fn draw_character(name: &str, u: &mut Unstructured<'_>) -> u8
     ensures exact { character_at name.now u.old ≡ (result, u.new) }
     ensures ascii { result < 128 }
     ensures left { KeepsPieces u.old u.new }

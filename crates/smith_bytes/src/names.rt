@@ -5,7 +5,7 @@ ghost use Rattle.smith_bytes.specs.Kebab.{kebab_at, IsKebab};
 ghost use Rattle.smith_bytes.specs.Names.{text_at, url_front, url_path, IsMadeNew, AddsName};
 
 use crate::error::Error;
-use crate::kebab::kebab_string;
+use crate::kebab::draw_kebab_string;
 use crate::text::limited_string;
 use crate::unstructured::Unstructured;
 use std::alloc::Global;
@@ -46,7 +46,7 @@ pub fn unique_kebab_string(
     ensures rest { OnOk result (u.new ≡ (kebab_at max_size u.old).1) }
     ensures left { KeepsPieces u.old u.new }
 {
-    unique(names, kebab_string(alloc, max_size, u)?)
+    unique(names, draw_kebab_string(alloc, max_size, u)?)
 }
 
 /// Draws the address of a page of `https://example.com/`. The path is a kebab name of at most `max_size` drawn characters, as in
@@ -66,7 +66,7 @@ pub fn unique_url(
     ensures rest { OnOk result (u.new ≡ (kebab_at max_size u.old).1) }
     ensures left { KeepsPieces u.old u.new }
 {
-    let path = made_new(names, kebab_string(alloc, max_size, u)?)?;
+    let path = made_new(names, draw_kebab_string(alloc, max_size, u)?)?;
     let url = url_of(alloc, &path)?;
     names.insert(path)?;
     Ok(url)

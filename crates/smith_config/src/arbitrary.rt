@@ -21,21 +21,21 @@ impl Config {
         ensures kept { IfOk result (λ config. sanitized config ≡ config) }
         ensures left { KeepsPieces u.old u.new }
     {
-        Ok(Config::drawn(u))
+        Ok(Config::draw(u))
     }
 
     #[tactic(auto, unfolding(crate::specs::Arbitrary::config_at))]
-    fn drawn(u: &mut Unstructured<'_>) -> Config
+    fn draw(u: &mut Unstructured<'_>) -> Config
         ensures exact { config_at u.old ≡ (result, u.new) }
         ensures sound { IsSanitized result }
         ensures kept { sanitized result ≡ result }
         ensures left { KeepsPieces u.old u.new }
     {
-        let config = Config::with_counts(Config::undrawn(), u);
-        let config = Config::with_sizes(config, u);
-        let config = Config::with_proposals(config, u);
-        let config = Config::with_kinds(config, u);
-        let mut config = Config::with_rules(config, u);
+        let config = Config::draw_counts(Config::undrawn(), u);
+        let config = Config::draw_sizes(config, u);
+        let config = Config::draw_proposals(config, u);
+        let config = Config::draw_kinds(config, u);
+        let mut config = Config::draw_rules(config, u);
         config.sanitize();
         config
     }
@@ -55,7 +55,7 @@ impl Config {
     }
 
     #[tactic(auto, unfolding(crate::specs::Arbitrary::counts_at))]
-    fn with_counts(mut config: Config, u: &mut Unstructured<'_>) -> Config
+    fn draw_counts(mut config: Config, u: &mut Unstructured<'_>) -> Config
         ensures exact { counts_at config u.old ≡ (result, u.new) }
         ensures left { KeepsPieces u.old u.new }
     {
@@ -73,7 +73,7 @@ impl Config {
     }
 
     #[tactic(auto, unfolding(crate::specs::Arbitrary::sizes_at))]
-    fn with_sizes(mut config: Config, u: &mut Unstructured<'_>) -> Config
+    fn draw_sizes(mut config: Config, u: &mut Unstructured<'_>) -> Config
         ensures exact { sizes_at config u.old ≡ (result, u.new) }
         ensures left { KeepsPieces u.old u.new }
     {
@@ -86,7 +86,7 @@ impl Config {
     }
 
     #[tactic(auto, unfolding(crate::specs::Arbitrary::proposals_at))]
-    fn with_proposals(mut config: Config, u: &mut Unstructured<'_>) -> Config
+    fn draw_proposals(mut config: Config, u: &mut Unstructured<'_>) -> Config
         ensures exact { proposals_at config u.old ≡ (result, u.new) }
         ensures left { KeepsPieces u.old u.new }
     {
@@ -109,7 +109,7 @@ impl Config {
     }
 
     #[tactic(auto, unfolding(crate::specs::Arbitrary::kinds_at))]
-    fn with_kinds(mut config: Config, u: &mut Unstructured<'_>) -> Config
+    fn draw_kinds(mut config: Config, u: &mut Unstructured<'_>) -> Config
         ensures exact { kinds_at config u.old ≡ (result, u.new) }
         ensures left { KeepsPieces u.old u.new }
     {
@@ -131,7 +131,7 @@ impl Config {
     }
 
     #[tactic(auto, unfolding(crate::specs::Arbitrary::rules_at))]
-    fn with_rules(mut config: Config, u: &mut Unstructured<'_>) -> Config
+    fn draw_rules(mut config: Config, u: &mut Unstructured<'_>) -> Config
         ensures exact { rules_at config u.old ≡ (result, u.new) }
         ensures left { KeepsPieces u.old u.new }
     {

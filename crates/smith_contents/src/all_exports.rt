@@ -8,7 +8,7 @@ ghost use Rattle.smith_contents.specs.Exported.{IsIndexed, MayExport, AreExports
 ghost use Rattle.smith_contents.specs.ExportedItems.{every_item, AreAllExported};
 ghost use Rattle.smith_contents.specs.AllExports.{everything_at};
 
-use crate::export_names::export_name;
+use crate::export_names::draw_export_name;
 use crate::exported::{Exports, item_size};
 use smith_bytes::{Error, Unstructured, Why};
 use smith_config::Config;
@@ -78,7 +78,7 @@ fn push_exports(
     for place in 0..count {
         let (kind, index) = item_at(spaces, place);
         let left = config.max_type_size - type_size;
-        let name = export_name(alloc, &mut names, u)?;
+        let name = draw_export_name(alloc, &mut names, u)?;
         let size = item_size(types, spaces, kind, index) + 1;
         if size > left {
             return Err(Error::IncorrectFormat(Why::TypeSize));

@@ -16,7 +16,7 @@ use std::alloc::Global;
 
 /// Draws a length, and takes that number of bytes.
 #[tactic(auto, unfolding(crate::specs::DrawnBodies::raw_bytes_at))]
-fn raw_bytes(alloc: Global, u: &mut Unstructured<'_>) -> Result<Instructions, Error>
+fn draw_raw_bytes(alloc: Global, u: &mut Unstructured<'_>) -> Result<Instructions, Error>
     ensures { Draws (raw_bytes_at u.old) result u.old u.new }
 {
     let length = u.arbitrary_len();
@@ -36,7 +36,7 @@ fn is_raw(config: &Config, u: &mut Unstructured<'_>) -> bool
 }
 
 #[tactic(auto, unfolding(crate::specs::DrawnBodies::instructions_at))]
-fn instructions(
+fn draw_instructions(
     alloc: Global,
     config: &Config,
     u: &mut Unstructured<'_>,
@@ -44,13 +44,13 @@ fn instructions(
     ensures { Draws (instructions_at config.now u.old) result u.old u.new }
 {
     if is_raw(config, u) {
-        return raw_bytes(alloc, u);
+        return draw_raw_bytes(alloc, u);
     }
     Ok(Instructions::Unreachable)
 }
 
 #[tactic(auto, unfolding(crate::specs::DrawnBodies::body_at))]
-fn body(
+fn draw_body(
     alloc: Global,
     config: &Config,
     spaces: &Spaces<'_>,
@@ -60,7 +60,7 @@ fn body(
     ensures { Draws (body_at config.now spaces.now.types.now.types u.old) result u.old u.new }
 {
     let locals = arbitrary_locals(alloc, config, spaces, u)?;
-    let instructions = instructions(alloc, config, u)?;
+    let instructions = draw_instructions(alloc, config, u)?;
     Ok(Code {
         locals,
         instructions,
@@ -68,7 +68,7 @@ fn body(
 }
 
 #[tactic(auto, unfolding(crate::specs::DrawnBodies::bodies_at))]
-fn drawn_bodies(
+fn draw_bodies(
     alloc: Global,
     config: &Config,
     types: &TypeSpace,
@@ -82,7 +82,7 @@ fn drawn_bodies(
     let spaces = Spaces { types, entities };
     let mut bodies = Items::with_capacity(alloc, count)?;
     for made in 0..count {
-        bodies.push(body(alloc, config, &spaces, u)?)?;
+        bodies.push(draw_body(alloc, config, &spaces, u)?)?;
     }
     Ok(bodies)
 }
@@ -104,5 +104,5 @@ pub fn arbitrary_bodies(
     ensures floats { config.now.allow_floats ≡ false → IfOk result (λ bodies. All IsNoFloat (flat_map (λ body. body.locals) bodies)) }
     ensures no_raw { config.now.allow_invalid_funcs ≡ false → IfOk result (λ bodies. ¬ Any (λ body. IsRaw body.instructions) bodies) }
 {
-    drawn_bodies(alloc, config, types, count, u)
+    draw_bodies(alloc, config, types, count, u)
 }

@@ -33,7 +33,7 @@ pub(crate) struct Targets {
 }
 
 #[tactic(auto, unfolding(smith_bytes::specs::ByteLists::byte_list_at))]
-fn byte_list(alloc: Global, u: &mut Unstructured<'_>) -> Result<Items<u8>, Error>
+fn draw_byte_list(alloc: Global, u: &mut Unstructured<'_>) -> Result<Items<u8>, Error>
     ensures { Draws (byte_list_at u.old) result u.old u.new }
 {
     let mut bytes = Items::new(alloc);
@@ -48,7 +48,7 @@ fn byte_list(alloc: Global, u: &mut Unstructured<'_>) -> Result<Items<u8>, Error
 
 /// Draws whether segments may be copied into `memory`: always where its minimum is above 0, else in one of eleven cases.
 #[tactic(auto, unfolding(crate::specs::DataSegments::counts_at))]
-fn counts(memory: MemoryType, u: &mut Unstructured<'_>) -> bool
+fn is_target(memory: MemoryType, u: &mut Unstructured<'_>) -> bool
     ensures { AlwaysDraws (counts_at memory u.old) result u.old u.new }
 {
     if memory.minimum > 0 {
@@ -58,7 +58,7 @@ fn counts(memory: MemoryType, u: &mut Unstructured<'_>) -> bool
 }
 
 /// Lists those of `memories` that segments may be copied into, each with its index.
-fn counting(
+fn list_targets(
     alloc: Global,
     memories: &[MemoryType],
     u: &mut Unstructured<'_>,
@@ -70,7 +70,7 @@ fn counting(
     let mut counting = Items::new(alloc);
     for index in 0..memories.len() {
         let memory = memories[index];
-        if !counts(memory, u) {
+        if !is_target(memory, u) {
             continue;
         }
         counting.push((index as u32, memory))?;
@@ -125,7 +125,7 @@ fn constant_offset(wide: bool, address: u64) -> Offset
 
 /// Draws the address at which `size` bytes begin.
 #[tactic(auto, unfolding(crate::specs::DataSegments::address_at))]
-fn address(no_traps: bool, memory: MemoryType, size: usize, u: &mut Unstructured<'_>) -> u64
+fn draw_address(no_traps: bool, memory: MemoryType, size: usize, u: &mut Unstructured<'_>) -> u64
     requires { page_log2 memory.page_size_log2 ≤ 16 }
     ensures draws { AlwaysDraws (address_at no_traps memory size u.old) result u.old u.new }
     ensures within { result ≤ last_address memory.memory64 }
@@ -148,7 +148,7 @@ fn cut(init: Items<u8>, most: u128) -> Items<u8>
 
 /// Draws a constant offset for `init`, of which what fits is kept where nothing may trap.
 #[tactic(auto, unfolding(crate::specs::DataSegments::constant_at))]
-fn constant(
+fn draw_constant(
     no_traps: bool,
     memory: MemoryType,
     init: Items<u8>,
@@ -159,7 +159,7 @@ fn constant(
     ensures valid { (context : Context) → IsOffsetValid context memory.memory64 result.0 }
     ensures inside { IsTrue no_traps → IsOffsetInside result.0 (length result.1) (least_bytes memory) }
 {
-    let address = address(no_traps, memory, init.len(), u);
+    let address = draw_address(no_traps, memory, init.len(), u);
     if !no_traps {
         return (constant_offset(memory.memory64, address), init);
     }
@@ -171,7 +171,7 @@ fn constant(
 
 /// Draws an offset for `init`: a constant, or one of `globals`.
 #[tactic(auto, unfolding(crate::specs::DataSegments::placed_at))]
-fn placed(
+fn draw_offset(
     no_traps: bool,
     globals: &[u32],
     memory: MemoryType,
@@ -185,7 +185,7 @@ fn placed(
 {
     let place = u.int_in_range(0..=globals.len());
     if place == 0 {
-        return constant(no_traps, memory, init, u);
+        return draw_constant(no_traps, memory, init, u);
     }
     (Offset::Global(globals[place - 1]), init)
 }
@@ -202,7 +202,7 @@ fn globals_for<'a>(targets: &'a Targets, wide: bool) -> &'a [u32]
 
 /// Draws a segment that copies `init` into one of the memories of `targets`.
 #[tactic(auto, unfolding(crate::specs::DataSegments::active_at))]
-fn active(
+fn draw_active(
     config: &Config,
     targets: &Targets,
     init: Items<u8>,
@@ -215,7 +215,7 @@ fn active(
 {
     let (memory_index, memory) = choose(targets.memories.as_slice(), u);
     let globals = globals_for(targets, memory.memory64);
-    let (offset, init) = placed(config.disallow_traps, globals, memory, init, u);
+    let (offset, init) = draw_offset(config.disallow_traps, globals, memory, init, u);
     DataSegment {
         kind: DataSegmentKind::Active {
             memory_index,
@@ -227,7 +227,7 @@ fn active(
 
 /// Draws whether a segment is passive, which needs bulk memory.
 #[tactic(auto, unfolding(crate::specs::DataSegments::passive_at))]
-fn passive(config: &Config, targets: &Targets, u: &mut Unstructured<'_>) -> bool
+fn is_passive(config: &Config, targets: &Targets, u: &mut Unstructured<'_>) -> bool
     ensures draws { AlwaysDraws (passive_at config.now targets.now u.old) result u.old u.new }
     ensures bulk { result ≡ true → IsTrue config.now.bulk_memory_enabled }
     ensures some { result ≡ false → IsTrue config.now.bulk_memory_enabled → 0 < length targets.now.memories }
@@ -239,7 +239,7 @@ fn passive(config: &Config, targets: &Targets, u: &mut Unstructured<'_>) -> bool
 }
 
 #[tactic(auto, unfolding(crate::specs::DataSegments::segment_at))]
-fn segment(
+fn draw_segment(
     alloc: Global,
     config: &Config,
     targets: &Targets,
@@ -250,18 +250,18 @@ fn segment(
     ensures draws { Draws (segment_at config.now targets.now u.old) result u.old u.new }
     ensures fit { (context : Context) (memories : List MemoryType) → AreTargets config.now context memories targets.now → IfOk result (IsDataFit config.now context memories) }
 {
-    let init = byte_list(alloc, u)?;
-    if passive(config, targets, u) {
+    let init = draw_byte_list(alloc, u)?;
+    if is_passive(config, targets, u) {
         return Ok(DataSegment {
             kind: DataSegmentKind::Passive,
             init,
         });
     }
-    Ok(active(config, targets, init, u))
+    Ok(draw_active(config, targets, init, u))
 }
 
 #[tactic(auto, unfolding(crate::specs::DataSegments::segments_at))]
-fn segments(
+fn draw_segments(
     alloc: Global,
     config: &Config,
     targets: &Targets,
@@ -277,13 +277,13 @@ fn segments(
         if !goes_on(u, made, config.min_data_segments) {
             return Ok(segments);
         }
-        segments.push(segment(alloc, config, targets, u)?)?;
+        segments.push(draw_segment(alloc, config, targets, u)?)?;
     }
     Ok(segments)
 }
 
 #[tactic(auto, unfolding(crate::specs::DataSegments::data_at))]
-fn drawn_data(
+fn draw_data(
     alloc: Global,
     config: &Config,
     spaces: &Spaces<'_>,
@@ -299,7 +299,7 @@ fn drawn_data(
     ensures refusal { IfErr result (MayRefuseData config.now) }
     ensures left { KeepsPieces u.old u.new }
 {
-    let memories = counting(alloc, spaces.entities.memories, u)?;
+    let memories = list_targets(alloc, spaces.entities.memories, u)?;
     if !config.bulk_memory_enabled && memories.is_empty() {
         if config.min_data_segments > 0 {
             return Err(Error::IncorrectFormat(Why::Unmet(Count::DataSegments)));
@@ -311,7 +311,7 @@ fn drawn_data(
         globals32: offset_globals(alloc, config, spaces, false)?,
         globals64: offset_globals(alloc, config, spaces, true)?,
     };
-    segments(alloc, config, &targets, u)
+    draw_segments(alloc, config, &targets, u)
 }
 
 /// Draws the data segments: at least `min_data_segments` and at most `max_data_segments` of `config`. Active segments are copied
@@ -343,5 +343,5 @@ pub fn arbitrary_data(
     ensures refusal { IfErr result (MayRefuseData config.now) }
     ensures left { KeepsPieces u.old u.new }
 {
-    drawn_data(alloc, config, spaces, u)
+    draw_data(alloc, config, spaces, u)
 }

@@ -37,7 +37,7 @@ use smith_types::{ConstInstr, Elements, Items, RefType, SubType, ValType};
 use std::alloc::Global;
 
 #[tactic(auto, unfolding(crate::specs::ElementSegments::item_type_at))]
-fn drawn_item_type(
+fn draw_type_for(
     alloc: Global,
     config: &Config,
     spaces: &Spaces<'_>,
@@ -57,7 +57,7 @@ fn drawn_item_type(
 }
 
 /// Draws the type of the items of a segment of the kind `choice`.
-pub(crate) fn item_type(
+pub(crate) fn draw_item_type(
     alloc: Global,
     config: &Config,
     spaces: &Spaces<'_>,
@@ -71,7 +71,7 @@ pub(crate) fn item_type(
     ensures fits { IfOk result (FitsTable spaces.now.types.now.types choice) }
     ensures needed { IfOk result (λ ty. ty.nullable ≡ false → HasNonNullableElements spaces.now.entities.tables.now) }
 {
-    drawn_item_type(alloc, config, spaces, choice, u)
+    draw_type_for(alloc, config, spaces, choice, u)
 }
 
 /// Whether the type at `index` is not shared.
@@ -127,7 +127,7 @@ fn ask_enough(config: &Config, most: usize) -> Result<(), Error>
 
 /// Chooses at most `most` items among the functions of `funcs`.
 #[tactic(auto, unfolding(crate::specs::ElementSegments::chosen_functions_at))]
-fn chosen_functions(
+fn choose_functions(
     alloc: Global,
     config: &Config,
     funcs: &[u32],
@@ -148,7 +148,7 @@ fn chosen_functions(
 }
 
 #[tactic(auto, unfolding(crate::specs::ElementSegments::functions_at))]
-fn drawn_functions(
+fn draw_unshared(
     alloc: Global,
     config: &Config,
     spaces: &Spaces<'_>,
@@ -166,11 +166,11 @@ fn drawn_functions(
         return Ok(funcs);
     }
     ask_enough(config, most)?;
-    chosen_functions(alloc, config, funcs.as_slice(), most, u)
+    choose_functions(alloc, config, funcs.as_slice(), most, u)
 }
 
 /// Draws at most `most` items that are functions.
-fn functions(
+fn draw_functions(
     alloc: Global,
     config: &Config,
     spaces: &Spaces<'_>,
@@ -184,12 +184,12 @@ fn functions(
     ensures refusal { IfErr result (MayRefuseFunctions config.now) }
     ensures left { KeepsPieces u.old u.new }
 {
-    drawn_functions(alloc, config, spaces, most, u)
+    draw_unshared(alloc, config, spaces, most, u)
 }
 
 /// Draws an item of the type `ty` as an expression.
 #[tactic(auto, unfolding(crate::specs::ElementSegments::expression_item_at))]
-fn expression_item(
+fn draw_expression_item(
     alloc: Global,
     config: &Config,
     spaces: &Spaces<'_>,
@@ -208,7 +208,7 @@ fn expression_item(
 }
 
 #[tactic(auto, unfolding(crate::specs::ElementSegments::drawn_expressions_at))]
-fn drawn_expressions(
+fn draw_each_expression(
     alloc: Global,
     config: &Config,
     spaces: &Spaces<'_>,
@@ -229,13 +229,13 @@ fn drawn_expressions(
         if !goes_on(u, made, config.min_elements) {
             return Ok(items);
         }
-        items.push(expression_item(alloc, config, spaces, ty, u)?)?;
+        items.push(draw_expression_item(alloc, config, spaces, ty, u)?)?;
     }
     Ok(items)
 }
 
 #[tactic(auto, unfolding(crate::specs::ElementSegments::expressions_at))]
-fn expressions(
+fn draw_expressions(
     alloc: Global,
     config: &Config,
     spaces: &Spaces<'_>,
@@ -252,12 +252,12 @@ fn expressions(
     ensures left { KeepsPieces u.old u.new }
 {
     ask_enough(config, most)?;
-    drawn_expressions(alloc, config, spaces, ty, most, u)
+    draw_each_expression(alloc, config, spaces, ty, most, u)
 }
 
 /// Draws at most `most` items of a segment of the type `ty`.
 #[tactic(auto, unfolding(crate::specs::ElementSegments::items_at))]
-pub(crate) fn items(
+pub(crate) fn draw_items(
     alloc: Global,
     config: &Config,
     spaces: &Spaces<'_>,
@@ -273,7 +273,7 @@ pub(crate) fn items(
     ensures left { KeepsPieces u.old u.new }
 {
     if are_functions(config, ty, u) {
-        return Ok(Elements::Functions(functions(alloc, config, spaces, most, u)?));
+        return Ok(Elements::Functions(draw_functions(alloc, config, spaces, most, u)?));
     }
-    Ok(Elements::Expressions(expressions(alloc, config, spaces, ty, most, u)?))
+    Ok(Elements::Expressions(draw_expressions(alloc, config, spaces, ty, most, u)?))
 }

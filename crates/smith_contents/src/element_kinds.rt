@@ -93,7 +93,7 @@ fn kept_kinds(alloc: Global, config: &Config) -> Result<Items<KindChoice>, Error
 }
 
 #[tactic(auto, unfolding(crate::specs::ElementSegments::kinds_at, crate::specs::ElementSegments::table_kinds_at))]
-fn drawn_kinds(
+fn draw_kinds(
     alloc: Global,
     config: &Config,
     tables: &[TableType],
@@ -114,7 +114,7 @@ fn drawn_kinds(
 }
 
 /// Lists the kinds of element segments that are offered beside the tables of `spaces`.
-pub(crate) fn kinds(
+pub(crate) fn list_kinds(
     alloc: Global,
     config: &Config,
     spaces: &Spaces<'_>,
@@ -125,5 +125,5 @@ pub(crate) fn kinds(
     ensures offered { IfOk result (All (IsOffered config.now spaces.now.types.now.types spaces.now.entities.tables.now)) }
     ensures bulk { IfOk result (λ kinds. length kinds ≡ 0 → config.now.bulk_memory_enabled ≡ false) }
 {
-    drawn_kinds(alloc, config, spaces.entities.tables, u)
+    draw_kinds(alloc, config, spaces.entities.tables, u)
 }

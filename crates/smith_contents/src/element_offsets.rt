@@ -77,7 +77,12 @@ fn constant_offset(table: &TableType, offset: u64) -> Offset
 
 /// Draws how many elements are to fit between `offset` and the minimum of `table`, or no limit.
 #[tactic(auto, unfolding(crate::specs::ElementSegments::hint_at))]
-fn hint(config: &Config, table: &TableType, offset: u64, u: &mut Unstructured<'_>) -> Option<u64>
+fn draw_hint(
+    config: &Config,
+    table: &TableType,
+    offset: u64,
+    u: &mut Unstructured<'_>,
+) -> Option<u64>
     requires { offset ≤ most_offset config.now table.now }
     ensures draws { AlwaysDraws (hint_at config.now table.now offset u.old) result u.old u.new }
     ensures inside { IsTrue config.now.disallow_traps → result ≡ Some (table.now.minimum - offset) }
@@ -97,7 +102,7 @@ fn hint(config: &Config, table: &TableType, offset: u64, u: &mut Unstructured<'_
 }
 
 #[tactic(auto, unfolding(crate::specs::ElementSegments::constant_offset_at))]
-fn drawn_constant(
+fn draw_constant(
     config: &Config,
     table: &TableType,
     u: &mut Unstructured<'_>,
@@ -108,7 +113,7 @@ fn drawn_constant(
 {
     let most = most_offset(config, table);
     let offset = arbitrary_offset(table.minimum, most, 0, u);
-    let hint = hint(config, table, offset, u);
+    let hint = draw_hint(config, table, offset, u);
     (constant_offset(table, offset), hint)
 }
 
@@ -125,7 +130,7 @@ fn is_global_wanted(count: usize, u: &mut Unstructured<'_>) -> bool
 }
 
 #[tactic(auto, unfolding(crate::specs::ElementSegments::table_offset_at))]
-fn table_offset(
+fn draw_table_offset(
     alloc: Global,
     config: &Config,
     spaces: &Spaces<'_>,
@@ -139,7 +144,7 @@ fn table_offset(
 {
     let globals = offset_globals(alloc, config, spaces, table)?;
     if !is_global_wanted(globals.len(), u) {
-        return Ok(drawn_constant(config, table, u));
+        return Ok(draw_constant(config, table, u));
     }
     let global = choose(globals.as_slice(), u);
     Ok((Offset::Global(global), None))
@@ -147,7 +152,7 @@ fn table_offset(
 
 /// Draws the mode of a segment of the kind `choice`, and how many elements are to fit, or no limit.
 #[tactic(auto, unfolding(crate::specs::ElementSegments::kind_at))]
-pub(crate) fn kind(
+pub(crate) fn draw_kind(
     alloc: Global,
     config: &Config,
     spaces: &Spaces<'_>,
@@ -163,7 +168,7 @@ pub(crate) fn kind(
         KindChoice::Passive => Ok((ElementKind::Passive, None)),
         KindChoice::Declared => Ok((ElementKind::Declared, None)),
         KindChoice::Active(index, table) => {
-            let (offset, hint) = table_offset(alloc, config, spaces, &table, u)?;
+            let (offset, hint) = draw_table_offset(alloc, config, spaces, &table, u)?;
             Ok((
                 ElementKind::Active {
                     table: index,

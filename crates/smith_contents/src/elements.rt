@@ -15,9 +15,9 @@ ghost use Rattle.smith_contents.specs.ElementSegments.{most_items, items_in, ele
 ghost use Rattle.smith_contents.specs.Held.{expressions_of};
 ghost use Rattle.smith_bytes.specs.Spelling.{SpellsNone};
 
-use crate::element_items::{item_type, items};
-use crate::element_kinds::{KindChoice, kinds};
-use crate::element_offsets::kind;
+use crate::element_items::{draw_item_type, draw_items};
+use crate::element_kinds::{KindChoice, list_kinds};
+use crate::element_offsets::draw_kind;
 use smith_bytes::{Count, Error, Unstructured, Why, goes_on};
 use smith_config::Config;
 use smith_draw::{Spaces, choose};
@@ -39,7 +39,7 @@ fn most_items(config: &Config, hint: Option<u64>, total: usize) -> usize
 
 /// Draws a segment of one of `kinds`, behind `total` items in all segments before.
 #[tactic(auto, unfolding(crate::specs::ElementSegments::element_segment_at), using(crate::proofs::ElementItemLemmas::segment_refused))]
-fn segment(
+fn draw_segment(
     alloc: Global,
     config: &Config,
     spaces: &Spaces<'_>,
@@ -58,10 +58,10 @@ fn segment(
     ensures left { KeepsPieces u.old u.new }
 {
     let choice = choose(kinds, u);
-    let (kind, hint) = kind(alloc, config, spaces, choice, u)?;
-    let ty = item_type(alloc, config, spaces, choice, u)?;
+    let (kind, hint) = draw_kind(alloc, config, spaces, choice, u)?;
+    let ty = draw_item_type(alloc, config, spaces, choice, u)?;
     let most = most_items(config, hint, total);
-    let items = items(alloc, config, spaces, ty, most, u)?;
+    let items = draw_items(alloc, config, spaces, ty, most, u)?;
     Ok(ElementSegment { kind, ty, items })
 }
 
@@ -76,7 +76,7 @@ fn item_count(items: &Elements) -> usize
 }
 
 /// Draws segments of `kinds`.
-fn segments(
+fn draw_segments(
     alloc: Global,
     config: &Config,
     spaces: &Spaces<'_>,
@@ -98,7 +98,7 @@ fn segments(
         if !goes_on(u, made, config.min_element_segments) {
             return Ok(segments);
         }
-        let segment = segment(alloc, config, spaces, kinds, total, u)?;
+        let segment = draw_segment(alloc, config, spaces, kinds, total, u)?;
         total += item_count(&segment.items);
         segments.push(segment)?;
     }
@@ -117,7 +117,7 @@ fn none(alloc: Global, config: &Config) -> Result<Items<ElementSegment>, Error>
 }
 
 #[tactic(auto, unfolding(crate::specs::ElementSegments::elements_at))]
-fn drawn_elements(
+fn draw_elements(
     alloc: Global,
     config: &Config,
     spaces: &Spaces<'_>,
@@ -130,11 +130,11 @@ fn drawn_elements(
     ensures refusal { IfErr result (MayRefuseElements config.now spaces.now.types.now.types spaces.now.entities.tables.now) }
     ensures left { KeepsPieces u.old u.new }
 {
-    let kinds = kinds(alloc, config, spaces, u)?;
+    let kinds = list_kinds(alloc, config, spaces, u)?;
     if kinds.is_empty() {
         return none(alloc, config);
     }
-    segments(alloc, config, spaces, kinds.as_slice(), u)
+    draw_segments(alloc, config, spaces, kinds.as_slice(), u)
 }
 
 /// Draws the element segments: at least `min_element_segments` and at most `max_element_segments` of `config`, each of at least
@@ -168,5 +168,5 @@ pub fn arbitrary_elements(
     ensures refusal { IfErr result (MayRefuseElements config.now spaces.now.types.now.types spaces.now.entities.tables.now) }
     ensures left { KeepsPieces u.old u.new }
 {
-    drawn_elements(alloc, config, spaces, u)
+    draw_elements(alloc, config, spaces, u)
 }

@@ -219,7 +219,7 @@ pub(crate) fn has_candidates(types: &TypeSpace, spaces: &IndexSpaces, most: u32,
 }
 
 /// Chooses a kind among those of which an item may be exported.
-pub(crate) fn export_kind(
+pub(crate) fn choose_export_kind(
     types: &TypeSpace,
     spaces: &IndexSpaces,
     most: u32,

@@ -8,7 +8,7 @@ use std::alloc::Global;
 use std::collections::HashSet;
 
 /// Draws the name of an export, which is new among `names`, and added.
-pub(crate) fn export_name(
+pub(crate) fn draw_export_name(
     alloc: Global,
     names: &mut HashSet<String>,
     u: &mut Unstructured<'_>,

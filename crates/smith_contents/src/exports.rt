@@ -12,8 +12,8 @@ ghost use Rattle.smith_contents.specs.ExportedItems.{AreAllExported};
 ghost use Rattle.smith_contents.specs.AllExports.{exports_at};
 
 use crate::all_exports::export_everything;
-use crate::export_kinds::{choose_candidate, export_kind, has_candidates, most_of_funcs};
-use crate::export_names::export_name;
+use crate::export_kinds::{choose_candidate, choose_export_kind, has_candidates, most_of_funcs};
+use crate::export_names::draw_export_name;
 use crate::exported::{Exports, item_size};
 use smith_bytes::{Count, Error, Unstructured, Why, goes_on};
 use smith_config::Config;
@@ -24,7 +24,7 @@ use std::collections::HashSet;
 /// Draws an export of an item of `spaces` that may be exported where `left` of the type size is left. The size of each function,
 /// plus 1, is at most `most`.
 #[tactic(auto, unfolding(crate::specs::Exporting::export_at))]
-fn export(
+fn draw_export(
     alloc: Global,
     types: &TypeSpace,
     spaces: &IndexSpaces,
@@ -43,8 +43,8 @@ fn export(
     ensures memory { IfErr result (λ e. e ≡ Error.Memory) }
     ensures left { KeepsPieces u.old u.new }
 {
-    let name = export_name(alloc, names, u)?;
-    let kind = export_kind(types, spaces, most, left, u);
+    let name = draw_export_name(alloc, names, u)?;
+    let kind = choose_export_kind(types, spaces, most, left, u);
     let index = choose_candidate(types, spaces, most, left, kind, u);
     Ok((name, kind, index))
 }
@@ -78,7 +78,7 @@ fn push_exports(
         if !has_candidates(types, spaces, most, left) {
             return Ok(Exports { exports, type_size });
         }
-        let one = export(alloc, types, spaces, most, left, &mut names, u)?;
+        let one = draw_export(alloc, types, spaces, most, left, &mut names, u)?;
         type_size += item_size(types, spaces, one.1, one.2) + 1;
         exports.push(one)?;
     }
@@ -86,7 +86,7 @@ fn push_exports(
 }
 
 #[tactic(auto, unfolding(crate::specs::Exporting::free_exports_at))]
-fn drawn_exports(
+fn draw_exports(
     alloc: Global,
     config: &Config,
     types: &TypeSpace,
@@ -110,7 +110,7 @@ fn drawn_exports(
 
 /// Draws exports of items of `spaces`: at least `min_exports` and at most `max_exports` of `config`. The imports add
 /// `imports_size` to the type size.
-fn free_exports(
+fn draw_free_exports(
     alloc: Global,
     config: &Config,
     types: &TypeSpace,
@@ -129,7 +129,7 @@ fn free_exports(
     ensures none { config.now.min_exports ≡ 0 → IfOk result (λ made. Takes (SpellsEmpty (SpellsNone config.now.max_exports)) u.old made.exports u.new) }
     ensures left { KeepsPieces u.old u.new }
 {
-    drawn_exports(alloc, config, types, spaces, imports_size, u)
+    draw_exports(alloc, config, types, spaces, imports_size, u)
 }
 
 /// Draws the exports of a module: an export of every item of `spaces` where `config` exports everything, else at least
@@ -170,5 +170,5 @@ pub fn arbitrary_exports(
     if config.export_everything {
         return export_everything(alloc, config, types, spaces, imports_size, u);
     }
-    free_exports(alloc, config, types, spaces, imports_size, u)
+    draw_free_exports(alloc, config, types, spaces, imports_size, u)
 }

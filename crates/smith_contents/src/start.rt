@@ -67,7 +67,7 @@ fn is_start_wanted(config: &Config, count: usize, u: &mut Unstructured<'_>) -> b
 }
 
 #[tactic(auto, unfolding(crate::specs::Start::start_at, smith_draw::specs::Choices::chosen_at))]
-fn drawn_start(
+fn draw_start(
     config: &Config,
     types: &[SubType],
     funcs: &[u32],
@@ -100,5 +100,5 @@ pub fn arbitrary_start(
     ensures off { config.now.allow_start_export ≡ false → result ≡ None }
     ensures none { Takes (SpellsSuch (λ start. start ≡ None) (λ _. SpellsNoStart config.now types.now funcs.now)) u.old result u.new }
 {
-    drawn_start(config, types, funcs, u)
+    draw_start(config, types, funcs, u)
 }

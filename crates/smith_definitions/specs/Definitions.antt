@@ -1,5 +1,5 @@
 -- Which items of each kind are defined behind those that stand, and which bytes they take. Rules of this project.
-use Rattle.std.specs.Prelude.{ℕ, ◌+◌, ◌-◌, ◌&&◌, ◌==◌, nat_lt, nat_le, Option, Some, None, List, [], ◌++◌, map, take, length, Result, Ok, Err, if◌then◌else◌, unwrap_or}
+use Rattle.std.specs.Prelude.{ℕ, ◌+◌, ◌-◌, ◌&&◌, ◌==◌, nat_lt, nat_le, Option, Some, List, [], ◌++◌, map, take, length, Result, Ok, Err, if◌then◌else◌, unwrap_or}
 use Rattle.smith_bytes.specs.declared.error.Count.{Count}
 use Rattle.smith_bytes.specs.declared.error.Count.TheVariants as counts
 use Rattle.smith_bytes.specs.declared.error.Why.{Why}

@@ -6,12 +6,12 @@ ghost use Rattle.smith_definitions.specs.Definitions.{definitions_at};
 ghost use Rattle.smith_imports.specs.Steps.{Gives};
 ghost use Rattle.smith_definitions.specs.Defined.{nothing_defined, MayDefine, MayRefuseDefined, AreDefinedMore, HaveNoFloats};
 
-use crate::funcs::funcs;
-use crate::globals::globals;
-use crate::memories::memories;
+use crate::funcs::define_funcs;
+use crate::globals::define_globals;
+use crate::memories::define_memories;
 use crate::standing::standing_imported;
-use crate::tables::tables;
-use crate::tags::tags;
+use crate::tables::define_tables;
+use crate::tags::define_tags;
 use smith_bytes::{Error, Unstructured};
 use smith_config::Config;
 use smith_types::{ConstInstr, IndexSpaces, Items, TypeSpace};
@@ -82,8 +82,8 @@ pub fn define(
     let globals_defined = definitions.globals.len();
     let imported_funcs = funcs_before - definitions.num_funcs;
     let imported_globals = globals_before - globals_defined;
-    tags(alloc, config, types, &mut spaces.tags, u)?;
-    funcs(alloc, config, types, &mut spaces.funcs, u)?;
+    define_tags(alloc, config, types, &mut spaces.tags, u)?;
+    define_funcs(alloc, config, types, &mut spaces.funcs, u)?;
     let func_types = spaces.funcs.as_slice();
     let all_globals = spaces.globals.as_slice();
     let standing = standing_imported(
@@ -94,9 +94,9 @@ pub fn define(
         imported_globals,
     );
     let initials = &mut definitions.tables;
-    tables(alloc, config, &standing, &mut spaces.tables, initials, u)?;
-    memories(config, &mut spaces.memories, u)?;
-    globals(
+    define_tables(alloc, config, &standing, &mut spaces.tables, initials, u)?;
+    define_memories(config, &mut spaces.memories, u)?;
+    define_globals(
         alloc,
         config,
         types,

@@ -22,7 +22,7 @@ use std::alloc::Global;
 
 /// Adds functions to `funcs`, behind those that stand.
 #[tactic(auto, unfolding(crate::specs::Definitions::funcs_at))]
-fn drawn_funcs(
+fn push_funcs(
     alloc: Global,
     config: &Config,
     types: &TypeSpace,
@@ -47,7 +47,7 @@ fn drawn_funcs(
 }
 
 /// Adds functions to `funcs`, behind those that stand, until there are at least `min_funcs` and at most `max_funcs` of `config`.
-pub(crate) fn funcs(
+pub(crate) fn define_funcs(
     alloc: Global,
     config: &Config,
     types: &TypeSpace,
@@ -66,5 +66,5 @@ pub(crate) fn funcs(
     ensures reach { config.now.min_funcs ≡ 0 → funcs.old ≡ [] → OnOk result (Takes (SpellsFuncs config.now types.now.types) u.old funcs.new u.new) }
     ensures left { KeepsPieces u.old u.new }
 {
-    drawn_funcs(alloc, config, types, funcs, u)
+    push_funcs(alloc, config, types, funcs, u)
 }

@@ -23,7 +23,7 @@ use std::alloc::Global;
 
 /// Draws a global behind those of `spaces`, with its index and its initialiser.
 #[tactic(auto, unfolding(crate::specs::Definitions::initialised_at))]
-fn initialised_global(
+fn draw_initialised_global(
     alloc: Global,
     config: &Config,
     spaces: &Spaces<'_>,
@@ -84,7 +84,12 @@ fn push_globals<'a>(
             imported_globals,
             ..Entities::none()
         };
-        let (global, initial) = initialised_global(alloc, config, &Spaces { types, entities }, u)?;
+        let (global, initial) = draw_initialised_global(
+            alloc,
+            config,
+            &Spaces { types, entities },
+            u,
+        )?;
         globals.push(global)?;
         initials.push(initial)?;
     }
@@ -94,7 +99,7 @@ fn push_globals<'a>(
 
 /// Adds globals to `globals`, behind those that stand, until there are at least `min_globals` and at most `max_globals`. The
 /// index and the initialiser of each are added to `initials`.
-pub(crate) fn globals<'a>(
+pub(crate) fn define_globals<'a>(
     alloc: Global,
     config: &Config,
     types: &'a TypeSpace,

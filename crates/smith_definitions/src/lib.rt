@@ -18,4 +18,4 @@ mod typed;
 
 pub use definitions::{Definitions, define};
 pub use interesting_values::collect_interesting_values;
-pub use shape_exports::{exports_of_shape, required_exports};
+pub use shape_exports::{make_required_exports, make_shape_exports};

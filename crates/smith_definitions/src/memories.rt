@@ -18,7 +18,7 @@ use smith_types::{Items, MemoryType};
 
 /// Adds memories to `memories`, behind those that stand, each drawn as a memory type.
 #[tactic(auto, unfolding(crate::specs::Definitions::memories_at))]
-fn drawn_memories(
+fn push_memories(
     config: &Config,
     memories: &mut Items<MemoryType>,
     u: &mut Unstructured<'_>,
@@ -42,7 +42,7 @@ fn drawn_memories(
 }
 
 /// Adds memories to `memories`, behind those that stand, until there are at least `min_memories` and at most `max_memories`.
-pub(crate) fn memories(
+pub(crate) fn define_memories(
     config: &Config,
     memories: &mut Items<MemoryType>,
     u: &mut Unstructured<'_>,
@@ -55,5 +55,5 @@ pub(crate) fn memories(
     ensures several { (1 < length memories.old → IsTrue (features_of config.now).multi_memory) → OnOk result (1 < length memories.new → IsTrue (features_of config.now).multi_memory) }
     ensures none { config.now.min_memories ≡ 0 → memories.old ≡ [] → OnOk result (Takes (SpellsEmpty (SpellsNone config.now.max_memories)) u.old memories.new u.new) }
 {
-    drawn_memories(config, memories, u)
+    push_memories(config, memories, u)
 }

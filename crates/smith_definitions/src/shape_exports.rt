@@ -30,7 +30,7 @@ use smith_types::{ExportKind, IndexSpaces, Items, Name, TypeSpace, imported_spac
 use std::alloc::Global;
 
 /// Makes the export `one` of `shape`, whose index spaces begin with `imported`, of an entity that is defined for the export.
-fn export(
+fn make_export(
     alloc: Global,
     config: &Config,
     own_types: bool,
@@ -84,7 +84,7 @@ fn push_exports(
     let imported = imported_spaces_of(alloc, shape.imports.as_slice())?;
     let mut exports = Items::with_capacity(alloc, shape.exports.len())?;
     for one in shape.exports.as_slice() {
-        let made = export(
+        let made = make_export(
             alloc,
             config,
             own_types,
@@ -112,7 +112,7 @@ fn push_exports(
 ///
 /// `SeveralTables` where `shape` brings a second table and reference types are off; `SeveralMemories` where `shape` brings a
 /// second memory and `config` allows at most one; `EmptyChoose` where nothing gives a reference that may not be null.
-pub fn required_exports(
+pub fn make_required_exports(
     alloc: Global,
     config: &Config,
     shape: &Shape,
@@ -147,8 +147,8 @@ pub fn required_exports(
 /// Makes the exports of the module shape `shape`, each of an entity of the same type that is defined for the export.
 ///
 /// `shape` passes [`Shape::check`] as a module shape for `config`, and `types` begin with the types of `shape`. All else is as
-/// [`required_exports`] asks, and so are errors.
-pub fn exports_of_shape(
+/// [`make_required_exports`] asks, and so are errors.
+pub fn make_shape_exports(
     alloc: Global,
     config: &Config,
     shape: &Shape,

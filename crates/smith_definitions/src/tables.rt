@@ -23,7 +23,7 @@ use smith_types::{ConstInstr, Items, TableType};
 use std::alloc::Global;
 
 /// Draws a table and its initialiser, or none.
-fn initialised_table(
+fn draw_initialised_table(
     alloc: Global,
     config: &Config,
     spaces: &Spaces<'_>,
@@ -42,7 +42,7 @@ fn initialised_table(
 }
 
 /// Adds tables to `tables`, behind those that stand, and the initialiser of each, or none, to `initials`.
-fn drawn_tables(
+fn push_tables(
     alloc: Global,
     config: &Config,
     spaces: &Spaces<'_>,
@@ -64,7 +64,7 @@ fn drawn_tables(
         if !goes_on(u, made, least) {
             return Ok(());
         }
-        let (table, initial) = initialised_table(alloc, config, spaces, u)?;
+        let (table, initial) = draw_initialised_table(alloc, config, spaces, u)?;
         tables.push(table)?;
         initials.push(initial)?;
     }
@@ -74,7 +74,7 @@ fn drawn_tables(
 
 /// Adds tables to `tables`, behind those that stand, until there are at least `min_tables` and at most `max_tables`. The
 /// initialiser of each, or none, is added to `initials`.
-pub(crate) fn tables(
+pub(crate) fn define_tables(
     alloc: Global,
     config: &Config,
     spaces: &Spaces<'_>,
@@ -96,5 +96,5 @@ pub(crate) fn tables(
     ensures refusal { IfErr result (MayRefuseDrawn spaces.now.types.now.types) }
     ensures left { KeepsPieces u.old u.new }
 {
-    drawn_tables(alloc, config, spaces, tables, initials, u)
+    push_tables(alloc, config, spaces, tables, initials, u)
 }

@@ -31,7 +31,7 @@ fn tag_types(alloc: Global, config: &Config, types: &[SubType]) -> Result<Items<
 
 /// Adds tags to `tags`, behind those that stand.
 #[tactic(auto, unfolding(crate::specs::Definitions::tags_at))]
-fn drawn_tags(
+fn push_tags(
     alloc: Global,
     config: &Config,
     types: &TypeSpace,
@@ -55,7 +55,7 @@ fn drawn_tags(
 }
 
 /// Adds tags to `tags`, behind those that stand, until there are at least `min_tags` and at most `max_tags` of `config`.
-pub(crate) fn tags(
+pub(crate) fn define_tags(
     alloc: Global,
     config: &Config,
     types: &TypeSpace,
@@ -72,5 +72,5 @@ pub(crate) fn tags(
     ensures none { config.now.min_tags ≡ 0 → tags.old ≡ [] → OnOk result (Takes (SpellsEmpty (SpellsNoTag config.now types.now.types)) u.old tags.new u.new) }
     ensures left { KeepsPieces u.old u.new }
 {
-    drawn_tags(alloc, config, types, tags, u)
+    push_tags(alloc, config, types, tags, u)
 }

@@ -19,9 +19,9 @@ ghost use Rattle.smith_draw.specs.CompositeTypes.{
 };
 ghost use Rattle.smith_draw.specs.Spelling.{SpellsFuncType, SpellsStructType, SpellsCompositeType};
 
-use crate::field_type::field_type;
+use crate::field_type::draw_field_type;
 use crate::spaces::Spaces;
-use crate::value_type::{sharedness, val_type};
+use crate::value_type::{draw_sharedness, draw_val_type};
 use smith_bytes::{Error, Unstructured, goes_on};
 use smith_config::Config;
 use smith_types::{
@@ -32,7 +32,7 @@ use std::alloc::Global;
 
 /// Draws at most `most` value types.
 #[tactic(auto, unfolding(crate::specs::CompositeTypes::val_types_at))]
-pub(crate) fn val_types(
+pub(crate) fn draw_val_types(
     alloc: Global,
     config: &Config,
     types: &[SubType],
@@ -48,13 +48,13 @@ pub(crate) fn val_types(
         if !goes_on(u, made, 0) {
             return Ok(drawn);
         }
-        drawn.push(val_type(config, types, must_share, limit, u))?;
+        drawn.push(draw_val_type(config, types, must_share, limit, u))?;
     }
     Ok(drawn)
 }
 
 #[tactic(auto, unfolding(crate::specs::CompositeTypes::func_type_at))]
-fn func_type(
+fn draw_func_type(
     alloc: Global,
     config: &Config,
     types: &[SubType],
@@ -65,14 +65,14 @@ fn func_type(
     ensures { Draws (func_type_at config.now types.now must_share limit u.old) result u.old u.new }
 {
     let most_results = if config.multi_value_enabled { 20 } else { 1 };
-    let params = val_types(alloc, config, types, must_share, limit, 20, u)?;
-    let results = val_types(alloc, config, types, must_share, limit, most_results, u)?;
+    let params = draw_val_types(alloc, config, types, must_share, limit, 20, u)?;
+    let results = draw_val_types(alloc, config, types, must_share, limit, most_results, u)?;
     Ok(FuncType { params, results })
 }
 
 /// Draws fields behind those of `fields`, until there are `end` fields.
 #[tactic(auto, unfolding(crate::specs::FieldTypes::fields_until_at))]
-pub(crate) fn fields_until(
+pub(crate) fn draw_fields(
     config: &Config,
     types: &[SubType],
     must_share: bool,
@@ -84,13 +84,13 @@ pub(crate) fn fields_until(
     ensures { Draws (fields_until_at config.now types.now must_share limit end fields u.old) result u.old u.new }
 {
     for made in fields.len()..end {
-        fields.push(field_type(config, types, must_share, limit, u))?;
+        fields.push(draw_field_type(config, types, must_share, limit, u))?;
     }
     Ok(fields)
 }
 
 #[tactic(auto, unfolding(crate::specs::CompositeTypes::struct_type_at))]
-fn struct_type(
+fn draw_struct_type(
     alloc: Global,
     config: &Config,
     types: &[SubType],
@@ -102,11 +102,11 @@ fn struct_type(
 {
     let count = u.int_in_range(0..=20usize);
     let none = Items::with_capacity(alloc, count)?;
-    let fields = fields_until(config, types, must_share, limit, count, none, u)?;
+    let fields = draw_fields(config, types, must_share, limit, count, none, u)?;
     Ok(StructType { fields })
 }
 
-fn inner_number(config: &Config, u: &mut Unstructured<'_>) -> u8
+fn draw_inner_number(config: &Config, u: &mut Unstructured<'_>) -> u8
     ensures { AlwaysDraws (inner_number_at config.now u.old) result u.old u.new }
 {
     if config.gc_enabled {
@@ -116,7 +116,7 @@ fn inner_number(config: &Config, u: &mut Unstructured<'_>) -> u8
 }
 
 /// Draws an array, a function or a struct type, as `number` is 0, 1 or more.
-fn inner_of_number(
+fn draw_inner_of_number(
     alloc: Global,
     config: &Config,
     types: &[SubType],
@@ -129,22 +129,22 @@ fn inner_of_number(
 {
     match number {
         0 => {
-            let field = field_type(config, types, must_share, limit, u);
+            let field = draw_field_type(config, types, must_share, limit, u);
             Ok(CompositeInnerType::Array(ArrayType(field)))
         }
         1 => {
-            let function = func_type(alloc, config, types, must_share, limit, u)?;
+            let function = draw_func_type(alloc, config, types, must_share, limit, u)?;
             Ok(CompositeInnerType::Func(function))
         }
         _ => {
-            let structure = struct_type(alloc, config, types, must_share, limit, u)?;
+            let structure = draw_struct_type(alloc, config, types, must_share, limit, u)?;
             Ok(CompositeInnerType::Struct(structure))
         }
     }
 }
 
 #[tactic(auto, unfolding(crate::specs::CompositeTypes::composite_type_at))]
-pub(crate) fn composite_type(
+pub(crate) fn draw_composite_type(
     alloc: Global,
     config: &Config,
     types: &[SubType],
@@ -153,9 +153,9 @@ pub(crate) fn composite_type(
 ) -> Result<CompositeType, Error>
     ensures { Draws (composite_type_at config.now types.now limit u.old) result u.old u.new }
 {
-    let shared = sharedness(config, false, u);
-    let number = inner_number(config, u);
-    let inner = inner_of_number(alloc, config, types, shared, limit, number, u)?;
+    let shared = draw_sharedness(config, false, u);
+    let number = draw_inner_number(config, u);
+    let inner = draw_inner_of_number(alloc, config, types, shared, limit, number, u)?;
     Ok(CompositeType { inner, shared })
 }
 
@@ -180,7 +180,7 @@ pub fn arbitrary_func_type(
     ensures shared { IsTrue must_share → IfOk result (λ drawn. All (IsShareable spaces.now.types.now.types) (values_of (Func drawn))) }
     ensures reach { must_share ≡ false → IfOk result (λ drawn. Takes (SpellsSuch (IsFuncInRange spaces.now.types.now.types) (SpellsFuncType config.now limit)) u.old drawn u.new) }
 {
-    func_type(alloc, config, spaces.types.types(), must_share, limit, u)
+    draw_func_type(alloc, config, spaces.types.types(), must_share, limit, u)
 }
 
 /// Draws a struct type of at most 20 fields. The standard's section Structure, Composite Types.
@@ -204,7 +204,7 @@ pub fn arbitrary_struct_type(
     ensures shared { IsTrue must_share → IfOk result (λ drawn. All (IsShareable spaces.now.types.now.types) (values_of (Struct drawn))) }
     ensures reach { must_share ≡ false → IfOk result (λ drawn. Takes (SpellsSuch (λ structure. All (IsFieldInRange spaces.now.types.now.types) structure.fields) (SpellsStructType config.now limit)) u.old drawn u.new) }
 {
-    struct_type(alloc, config, spaces.types.types(), must_share, limit, u)
+    draw_struct_type(alloc, config, spaces.types.types(), must_share, limit, u)
 }
 
 /// Draws a composite type, which may be shared where `config` allows it: with garbage collection an array, a function or a struct
@@ -228,5 +228,5 @@ pub fn arbitrary_composite_type(
     ensures shared { IfOk result (λ drawn. IsTrue drawn.shared → All (IsShareable spaces.now.types.now.types) (values_of drawn.inner)) }
     ensures reach { IfOk result (λ drawn. Takes (SpellsSuch (λ composite. IsInnerInRange spaces.now.types.now.types composite.inner) (SpellsCompositeType config.now limit)) u.old drawn u.new) }
 {
-    composite_type(alloc, config, spaces.types.types(), limit, u)
+    draw_composite_type(alloc, config, spaces.types.types(), limit, u)
 }

@@ -14,7 +14,7 @@ use smith_types::MemoryType;
 const GIBIBYTE: u64 = 1 << 30;
 
 #[tactic(auto, unfolding(crate::specs::Memories::shared_memory_at))]
-fn shared_memory(config: &Config, u: &mut Unstructured<'_>) -> bool
+fn is_memory_shared(config: &Config, u: &mut Unstructured<'_>) -> bool
     ensures draws { AlwaysDraws (shared_memory_at config.now u.old) result u.old u.new }
     ensures enabled { IsTrue result → IsTrue config.now.threads_enabled }
 {
@@ -25,7 +25,7 @@ fn shared_memory(config: &Config, u: &mut Unstructured<'_>) -> bool
 }
 
 #[tactic(auto, unfolding(crate::specs::Memories::memory64_at))]
-pub(crate) fn memory64(config: &Config, u: &mut Unstructured<'_>) -> bool
+pub(crate) fn draw_memory64(config: &Config, u: &mut Unstructured<'_>) -> bool
     ensures draws { AlwaysDraws (memory64_at config.now u.old) result u.old u.new }
     ensures enabled { IsTrue result → IsTrue config.now.memory64_enabled }
 {
@@ -36,7 +36,7 @@ pub(crate) fn memory64(config: &Config, u: &mut Unstructured<'_>) -> bool
 }
 
 #[tactic(auto, unfolding(crate::specs::Memories::stated_page_at))]
-fn stated_page(u: &mut Unstructured<'_>) -> Option<u32>
+fn draw_stated_page(u: &mut Unstructured<'_>) -> Option<u32>
     ensures draws { AlwaysDraws (stated_page_at u.old) result u.old u.new }
     ensures sizes { IfSome result (λ log2. (log2 ≡ 0) ⊎ (log2 ≡ 16)) }
 {
@@ -47,7 +47,7 @@ fn stated_page(u: &mut Unstructured<'_>) -> Option<u32>
 }
 
 #[tactic(auto, unfolding(crate::specs::Memories::page_size_at))]
-fn page_size(config: &Config, u: &mut Unstructured<'_>) -> Option<u32>
+fn draw_page_size(config: &Config, u: &mut Unstructured<'_>) -> Option<u32>
     ensures draws { AlwaysDraws (page_size_at config.now u.old) result u.old u.new }
     ensures small { page_log2 result ≤ 16 }
     ensures sizes { IfSome result (λ log2. ((log2 ≡ 0) ⊎ (log2 ≡ 16)) × IsTrue config.now.custom_page_sizes_enabled) }
@@ -58,7 +58,7 @@ fn page_size(config: &Config, u: &mut Unstructured<'_>) -> Option<u32>
     if !u.arbitrary::<bool>() {
         return None;
     }
-    stated_page(u)
+    draw_stated_page(u)
 }
 
 /// The number of whole pages in `bytes` bytes. `page_size` is the binary logarithm of a page's bytes, at most 16; none is 16.
@@ -114,14 +114,14 @@ fn needs_maximum(config: &Config, shared: bool) -> bool
 }
 
 #[tactic(auto, unfolding(crate::specs::Memories::memtype_at))]
-fn memory_type(config: &Config, u: &mut Unstructured<'_>) -> MemoryType
+fn draw_memory_type(config: &Config, u: &mut Unstructured<'_>) -> MemoryType
     ensures draws { AlwaysDraws (memtype_at config.now u.old) result u.old u.new }
     ensures valid { PassesButImports config.now → IsMemoryValid (features_of config.now) result }
     ensures within { IsMemoryWithin config.now result }
 {
-    let shared = shared_memory(config, u);
-    let memory64 = memory64(config, u);
-    let page_size_log2 = page_size(config, u);
+    let shared = is_memory_shared(config, u);
+    let memory64 = draw_memory64(config, u);
+    let page_size_log2 = draw_page_size(config, u);
     let most = drawn_pages(config, memory64, page_size_log2);
     let inbounds = likely_pages(config, most, page_size_log2);
     let least = u64::from(config.disallow_traps);
@@ -148,5 +148,5 @@ pub fn arbitrary_memtype(config: &Config, u: &mut Unstructured<'_>) -> Result<Me
     ensures valid { PassesButImports config.now → IfOk result (IsMemoryValid (features_of config.now)) }
     ensures within { IfOk result (IsMemoryWithin config.now) }
 {
-    Ok(memory_type(config, u))
+    Ok(draw_memory_type(config, u))
 }

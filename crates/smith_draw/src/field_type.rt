@@ -9,14 +9,14 @@ ghost use Rattle.smith_draw.specs.FieldTypes.{storage_of_number_at, storage_type
 ghost use Rattle.smith_draw.specs.Spelling.{SpellsStorage, SpellsField};
 
 use crate::spaces::Spaces;
-use crate::value_type::val_type;
+use crate::value_type::draw_val_type;
 use smith_bytes::{Error, Unstructured};
 use smith_config::Config;
 use smith_types::{FieldType, StorageType, SubType};
 use std::alloc::Global;
 
 #[tactic(auto, unfolding(crate::specs::FieldTypes::storage_type_at))]
-fn storage_type(
+fn draw_storage_type(
     config: &Config,
     types: &[SubType],
     must_share: bool,
@@ -28,12 +28,12 @@ fn storage_type(
     match u.int_in_range(0..=2u8) {
         0 => StorageType::I8,
         1 => StorageType::I16,
-        _ => StorageType::Val(val_type(config, types, must_share, limit, u)),
+        _ => StorageType::Val(draw_val_type(config, types, must_share, limit, u)),
     }
 }
 
 #[tactic(auto, unfolding(crate::specs::FieldTypes::field_type_at))]
-pub(crate) fn field_type(
+pub(crate) fn draw_field_type(
     config: &Config,
     types: &[SubType],
     must_share: bool,
@@ -42,7 +42,7 @@ pub(crate) fn field_type(
 ) -> FieldType
     ensures { AlwaysDraws (field_type_at config.now types.now must_share limit u.old) result u.old u.new }
 {
-    let element_type = storage_type(config, types, must_share, limit, u);
+    let element_type = draw_storage_type(config, types, must_share, limit, u);
     let mutable = u.arbitrary();
     FieldType {
         element_type,
@@ -73,7 +73,7 @@ pub fn arbitrary_storage_type(
     ensures shared { IsTrue must_share → IfOk result (λ drawn. All (IsShareable spaces.now.types.now.types) (values_of_storage drawn)) }
     ensures reach { must_share ≡ false → IfOk result (λ drawn. Takes (SpellsSuch (IsStorageInRange spaces.now.types.now.types) (SpellsStorage config.now limit)) u.old drawn u.new) }
 {
-    Ok(storage_type(config, spaces.types.types(), must_share, limit, u))
+    Ok(draw_storage_type(config, spaces.types.types(), must_share, limit, u))
 }
 
 /// Draws a field type: a storage type, and whether the field is mutable. The standard's section Structure, Composite Types.
@@ -99,5 +99,5 @@ pub fn arbitrary_field_type(
     ensures shared { IsTrue must_share → IfOk result (λ drawn. All (IsShareable spaces.now.types.now.types) (values_of_storage drawn.element_type)) }
     ensures reach { must_share ≡ false → IfOk result (λ drawn. Takes (SpellsSuch (IsFieldInRange spaces.now.types.now.types) (SpellsField config.now limit)) u.old drawn u.new) }
 {
-    Ok(field_type(config, spaces.types.types(), must_share, limit, u))
+    Ok(draw_field_type(config, spaces.types.types(), must_share, limit, u))
 }

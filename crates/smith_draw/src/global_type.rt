@@ -12,14 +12,14 @@ ghost use Rattle.smith_draw.specs.SpelledGlobals.{mutable_i32, SpellsMutableI32}
 
 use crate::shared_reference::is_reference_shared;
 use crate::spaces::Spaces;
-use crate::value_type::{sharedness, val_type};
+use crate::value_type::{draw_sharedness, draw_val_type};
 use smith_bytes::{Error, Unstructured};
 use smith_config::Config;
 use smith_types::{GlobalType, SubType, ValType};
 use std::alloc::Global;
 
 /// Whether a global of the type `val_type` is shared: a reference where its heap type is, anything else by a draw.
-fn global_sharedness(
+fn is_global_shared(
     config: &Config,
     types: &[SubType],
     val_type: ValType,
@@ -29,17 +29,17 @@ fn global_sharedness(
 {
     match val_type {
         ValType::Ref(reference) => is_reference_shared(types, reference),
-        _ => sharedness(config, false, u),
+        _ => draw_sharedness(config, false, u),
     }
 }
 
 #[tactic(auto, unfolding(crate::specs::GlobalTypes::global_type_at))]
-fn global_type(config: &Config, types: &[SubType], u: &mut Unstructured<'_>) -> GlobalType
+fn draw_global_type(config: &Config, types: &[SubType], u: &mut Unstructured<'_>) -> GlobalType
     requires { length types.now < 2 ^ 32 }
     ensures { AlwaysDraws (global_type_at config.now types.now u.old) result u.old u.new }
 {
-    let val_type = val_type(config, types, false, types.len() as u32, u);
-    let shared = global_sharedness(config, types, val_type, u);
+    let val_type = draw_val_type(config, types, false, types.len() as u32, u);
+    let shared = is_global_shared(config, types, val_type, u);
     let mutable = u.arbitrary();
     GlobalType {
         val_type,
@@ -69,5 +69,5 @@ pub fn arbitrary_global_type(
     ensures nullable { IfOk result (λ drawn. ¬ IsNonNullable drawn.val_type) }
     ensures reach { IfOk result (λ drawn. Takes (SpellsSuch (λ global. global ≡ mutable_i32) (λ _. SpellsMutableI32 config.now)) u.old drawn u.new) }
 {
-    Ok(global_type(config, spaces.types.types(), u))
+    Ok(draw_global_type(config, spaces.types.types(), u))
 }

@@ -7,7 +7,7 @@ ghost use Rattle.smith_draw.specs.ConstBounds.{IsNonNullable};
 ghost use Rattle.smith_draw.specs.Drawing.{Draws};
 ghost use Rattle.smith_draw.specs.Locals.{locals_at};
 
-use crate::composite_type::val_types;
+use crate::composite_type::draw_val_types;
 use crate::spaces::Spaces;
 use smith_bytes::{Error, Unstructured};
 use smith_config::Config;
@@ -33,5 +33,5 @@ pub fn arbitrary_locals(
     ensures nullable { IfOk result (All (λ ty. ¬ IsNonNullable ty)) }
 {
     let types = spaces.types.types();
-    val_types(alloc, config, types, false, types.len() as u32, 100, u)
+    draw_val_types(alloc, config, types, false, types.len() as u32, 100, u)
 }

@@ -34,13 +34,13 @@ ghost use Rattle.smith_draw.specs.MatchingTypes.{
 use crate::choice::choose;
 use crate::offered::gc_subtypes;
 use crate::spaces::{Spaces, orderly};
-use crate::super_type::super_val_types;
+use crate::super_type::draw_super_val_types;
 use smith_bytes::{Error, Unstructured};
 use smith_config::Config;
 use smith_types::{FieldType, FuncType, HeapType, Items, RefType, StorageType, TypeSpace, ValType};
 use std::alloc::Global;
 
-fn matching_heap_type(
+fn draw_matching_heap_type(
     alloc: Global,
     config: &Config,
     space: &TypeSpace,
@@ -57,7 +57,7 @@ fn matching_heap_type(
 }
 
 #[tactic(auto, unfolding(crate::specs::MatchingTypes::matching_ref_type_at))]
-fn matching_ref_type(
+fn draw_matching_ref_type(
     alloc: Global,
     config: &Config,
     space: &TypeSpace,
@@ -66,14 +66,14 @@ fn matching_ref_type(
 ) -> Result<RefType, Error>
     ensures { Draws (matching_ref_type_at config.now space.now.types ty u.old) result u.old u.new }
 {
-    let heap_type = matching_heap_type(alloc, config, space, ty.heap_type, u)?;
+    let heap_type = draw_matching_heap_type(alloc, config, space, ty.heap_type, u)?;
     Ok(RefType {
         nullable: ty.nullable,
         heap_type,
     })
 }
 
-fn matching_val_type(
+fn draw_matching_val_type(
     alloc: Global,
     config: &Config,
     space: &TypeSpace,
@@ -83,13 +83,13 @@ fn matching_val_type(
     ensures { Draws (matching_val_type_at config.now space.now.types ty u.old) result u.old u.new }
 {
     if let ValType::Ref(reference) = ty {
-        let drawn = matching_ref_type(alloc, config, space, reference, u)?;
+        let drawn = draw_matching_ref_type(alloc, config, space, reference, u)?;
         return Ok(ValType::Ref(drawn));
     }
     Ok(ty)
 }
 
-fn matching_storage_type(
+fn draw_matching_storage_type(
     alloc: Global,
     config: &Config,
     space: &TypeSpace,
@@ -99,14 +99,14 @@ fn matching_storage_type(
     ensures { Draws (matching_storage_type_at config.now space.now.types ty u.old) result u.old u.new }
 {
     if let StorageType::Val(value) = ty {
-        let drawn = matching_val_type(alloc, config, space, value, u)?;
+        let drawn = draw_matching_val_type(alloc, config, space, value, u)?;
         return Ok(StorageType::Val(drawn));
     }
     Ok(ty)
 }
 
 #[tactic(auto, unfolding(crate::specs::MatchingTypes::matching_field_type_at))]
-pub(crate) fn matching_field_type(
+pub(crate) fn draw_matching_field_type(
     alloc: Global,
     config: &Config,
     space: &TypeSpace,
@@ -118,7 +118,7 @@ pub(crate) fn matching_field_type(
     if field.mutable {
         return Ok(field);
     }
-    let element_type = matching_storage_type(alloc, config, space, field.element_type, u)?;
+    let element_type = draw_matching_storage_type(alloc, config, space, field.element_type, u)?;
     Ok(FieldType {
         element_type,
         mutable: false,
@@ -127,7 +127,7 @@ pub(crate) fn matching_field_type(
 
 /// Draws a matching field for each of `fields`, in order.
 #[tactic(auto, unfolding(crate::specs::MatchingTypes::matched_fields_at))]
-pub(crate) fn matched_fields(
+pub(crate) fn draw_matching_fields(
     alloc: Global,
     config: &Config,
     space: &TypeSpace,
@@ -138,13 +138,13 @@ pub(crate) fn matched_fields(
 {
     let mut matched = Items::with_capacity(alloc, fields.len())?;
     for field in fields {
-        matched.push(matching_field_type(alloc, config, space, *field, u)?)?;
+        matched.push(draw_matching_field_type(alloc, config, space, *field, u)?)?;
     }
     Ok(matched)
 }
 
 /// Draws a matching value type for each of `values`, in order.
-fn matching_val_types(
+fn draw_matching_val_types(
     alloc: Global,
     config: &Config,
     space: &TypeSpace,
@@ -155,13 +155,13 @@ fn matching_val_types(
 {
     let mut matching = Items::with_capacity(alloc, values.len())?;
     for ty in values {
-        matching.push(matching_val_type(alloc, config, space, *ty, u)?)?;
+        matching.push(draw_matching_val_type(alloc, config, space, *ty, u)?)?;
     }
     Ok(matching)
 }
 
 #[tactic(auto, unfolding(crate::specs::MatchingTypes::matching_func_type_at))]
-pub(crate) fn matching_func_type(
+pub(crate) fn draw_matching_func_type(
     alloc: Global,
     config: &Config,
     space: &TypeSpace,
@@ -170,8 +170,8 @@ pub(crate) fn matching_func_type(
 ) -> Result<FuncType, Error>
     ensures { Draws (matching_func_type_at config.now space.now.types function.now u.old) result u.old u.new }
 {
-    let params = super_val_types(alloc, config, space, function.params.as_slice(), u)?;
-    let results = matching_val_types(alloc, config, space, function.results.as_slice(), u)?;
+    let params = draw_super_val_types(alloc, config, space, function.params.as_slice(), u)?;
+    let results = draw_matching_val_types(alloc, config, space, function.results.as_slice(), u)?;
     Ok(FuncType { params, results })
 }
 
@@ -192,7 +192,7 @@ pub fn arbitrary_matching_heap_type(
     ensures stands { IfOk result (λ drawn. IsInRange spaces.now.types.now.types ty → IsInRange spaces.now.types.now.types drawn) }
 {
     orderly(spaces);
-    matching_heap_type(alloc, config, spaces.types, ty, u)
+    draw_matching_heap_type(alloc, config, spaces.types, ty, u)
 }
 
 /// Draws a reference type below `ty`, over the types of `spaces`, nullable exactly where `ty` is. The standard's section
@@ -212,7 +212,7 @@ pub fn arbitrary_matching_ref_type(
     ensures stands { IfOk result (λ drawn. IsInRange spaces.now.types.now.types ty.heap_type → IsInRange spaces.now.types.now.types drawn.heap_type) }
 {
     orderly(spaces);
-    matching_ref_type(alloc, config, spaces.types, ty, u)
+    draw_matching_ref_type(alloc, config, spaces.types, ty, u)
 }
 
 /// Draws a value type below `ty`, over the types of `spaces`; a number or a vector is `ty` itself. The standard's section
@@ -231,7 +231,7 @@ pub fn arbitrary_matching_val_type(
     ensures stands { IfOk result (λ drawn. IsValInRange spaces.now.types.now.types ty → IsValInRange spaces.now.types.now.types drawn) }
 {
     orderly(spaces);
-    matching_val_type(alloc, config, spaces.types, ty, u)
+    draw_matching_val_type(alloc, config, spaces.types, ty, u)
 }
 
 /// Draws a storage type that matches `ty`, over the types of `spaces`; a packed type is `ty` itself. The standard's section
@@ -250,7 +250,7 @@ pub fn arbitrary_matching_storage_type(
     ensures stands { IfOk result (λ drawn. IsStorageInRange spaces.now.types.now.types ty → IsStorageInRange spaces.now.types.now.types drawn) }
 {
     orderly(spaces);
-    matching_storage_type(alloc, config, spaces.types, ty, u)
+    draw_matching_storage_type(alloc, config, spaces.types, ty, u)
 }
 
 /// Draws a field type that matches `field`, over the types of `spaces`; a mutable field is `field` itself. The standard's section
@@ -269,7 +269,7 @@ pub fn arbitrary_matching_field_type(
     ensures stands { IfOk result (λ drawn. IsFieldInRange spaces.now.types.now.types field → IsFieldInRange spaces.now.types.now.types drawn) }
 {
     orderly(spaces);
-    matching_field_type(alloc, config, spaces.types, field, u)
+    draw_matching_field_type(alloc, config, spaces.types, field, u)
 }
 
 /// Draws a function type that matches `function`, over the types of `spaces`: supertypes of its parameters, and subtypes of its
@@ -289,5 +289,5 @@ pub fn arbitrary_matching_func_type(
     ensures stands { IfOk result (λ drawn. IsFuncInRange spaces.now.types.now.types function.now → IsFuncInRange spaces.now.types.now.types drawn) }
 {
     orderly(spaces);
-    matching_func_type(alloc, config, spaces.types, function, u)
+    draw_matching_func_type(alloc, config, spaces.types, function, u)
 }

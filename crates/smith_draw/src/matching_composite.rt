@@ -12,8 +12,8 @@ ghost use Rattle.smith_draw.specs.MatchingComposites.{
   matching_composite_type_at,
 };
 
-use crate::composite_type::fields_until;
-use crate::matching::{matched_fields, matching_field_type, matching_func_type};
+use crate::composite_type::draw_fields;
+use crate::matching::{draw_matching_field_type, draw_matching_fields, draw_matching_func_type};
 use crate::spaces::{Spaces, orderly};
 use smith_bytes::{Error, Unstructured};
 use smith_config::Config;
@@ -21,7 +21,7 @@ use smith_types::{ArrayType, CompositeInnerType, CompositeType, StructType, Type
 use std::alloc::Global;
 
 #[tactic(auto, unfolding(crate::specs::MatchingComposites::matching_struct_type_at))]
-fn matching_struct_type(
+fn draw_matching_struct_type(
     alloc: Global,
     config: &Config,
     space: &TypeSpace,
@@ -33,14 +33,14 @@ fn matching_struct_type(
     ensures { Draws (matching_struct_type_at config.now space.now.types must_share limit structure.now u.old) result u.old u.new }
 {
     let extra = u.int_in_range(0..=5usize);
-    let matched = matched_fields(alloc, config, space, structure.fields.as_slice(), u)?;
+    let matched = draw_matching_fields(alloc, config, space, structure.fields.as_slice(), u)?;
     let end = matched.as_slice().len() + extra;
-    let fields = fields_until(config, space.types(), must_share, limit, end, matched, u)?;
+    let fields = draw_fields(config, space.types(), must_share, limit, end, matched, u)?;
     Ok(StructType { fields })
 }
 
 /// Draws an array, a function or a struct type that matches `inner`.
-fn matching_inner(
+fn draw_matching_inner(
     alloc: Global,
     config: &Config,
     space: &TypeSpace,
@@ -53,15 +53,15 @@ fn matching_inner(
 {
     match inner {
         CompositeInnerType::Array(array) => {
-            let field = matching_field_type(alloc, config, space, array.0, u)?;
+            let field = draw_matching_field_type(alloc, config, space, array.0, u)?;
             Ok(CompositeInnerType::Array(ArrayType(field)))
         }
         CompositeInnerType::Func(function) => {
-            let drawn = matching_func_type(alloc, config, space, function, u)?;
+            let drawn = draw_matching_func_type(alloc, config, space, function, u)?;
             Ok(CompositeInnerType::Func(drawn))
         }
         CompositeInnerType::Struct(structure) => {
-            let drawn = matching_struct_type(
+            let drawn = draw_matching_struct_type(
                 alloc, config, space, structure, must_share, limit, u,
             )?;
             Ok(CompositeInnerType::Struct(drawn))
@@ -71,7 +71,7 @@ fn matching_inner(
 
 /// Draws a composite type that matches `composite`, and is shared where `composite` is.
 #[tactic(auto, unfolding(crate::specs::MatchingComposites::matching_composite_type_at))]
-pub(crate) fn matching_composite_type(
+pub(crate) fn draw_matching_composite_type(
     alloc: Global,
     config: &Config,
     space: &TypeSpace,
@@ -82,7 +82,7 @@ pub(crate) fn matching_composite_type(
     ensures { Draws (matching_composite_type_at config.now space.now.types limit composite.now u.old) result u.old u.new }
 {
     let shared = composite.shared;
-    let inner = matching_inner(alloc, config, space, shared, limit, &composite.inner, u)?;
+    let inner = draw_matching_inner(alloc, config, space, shared, limit, &composite.inner, u)?;
     Ok(CompositeType { inner, shared })
 }
 
@@ -114,5 +114,5 @@ pub fn arbitrary_matching_struct_type(
         → IfOk result (λ drawn. All (IsShareable spaces.now.types.now.types) (values_of (Struct drawn))) }
 {
     orderly(spaces);
-    matching_struct_type(alloc, config, spaces.types, structure, must_share, limit, u)
+    draw_matching_struct_type(alloc, config, spaces.types, structure, must_share, limit, u)
 }

@@ -27,7 +27,7 @@ ghost use Rattle.smith_draw.specs.RecGroups.{
 ghost use Rattle.smith_draw.specs.Spelling.{IsRoot, SpellsAdded, SpellsSpace};
 
 use crate::spaces::Entities;
-use crate::sub_type::sub_type;
+use crate::sub_type::draw_sub_type;
 use smith_bytes::{Error, Unstructured};
 use smith_config::Config;
 use smith_types::{SubType, TypeSpace};
@@ -51,7 +51,7 @@ pub fn add_type(types: &mut TypeSpace, added: SubType) -> Result<u32, Error>
 
 /// Adds types to `types`, until there are `limit` types.
 #[tactic(auto, unfolding(crate::specs::RecGroups::types_until_at))]
-fn types_until(
+fn add_types(
     alloc: Global,
     config: &Config,
     types: &mut TypeSpace,
@@ -63,13 +63,18 @@ fn types_until(
     ensures groups { OnOk result (types.new.groups ≡ types.old.groups) }
 {
     for made in types.types().len()..limit as usize {
-        let added = sub_type(alloc, config, types, limit, u)?;
+        let added = draw_sub_type(alloc, config, types, limit, u)?;
         add_type(types, added)?;
     }
     Ok(())
 }
 
-fn group_size(config: &Config, allow_empty: bool, most: usize, u: &mut Unstructured<'_>) -> usize
+fn draw_group_size(
+    config: &Config,
+    allow_empty: bool,
+    most: usize,
+    u: &mut Unstructured<'_>,
+) -> usize
     requires { 0 < most }
     ensures draws { AlwaysDraws (group_size_at config.now allow_empty most u.old) result u.old u.new }
     ensures within { result ≤ most }
@@ -83,7 +88,7 @@ fn group_size(config: &Config, allow_empty: bool, most: usize, u: &mut Unstructu
 
 /// Adds a new group to `types`, empty only where `allow_empty` is set.
 #[tactic(auto, unfolding(crate::specs::RecGroups::new_group_at))]
-fn new_group(
+fn add_new_group(
     alloc: Global,
     config: &Config,
     types: &mut TypeSpace,
@@ -95,9 +100,9 @@ fn new_group(
     ensures { DrawsInto (new_group_at config.now allow_empty types.old u.old) types.new result u.old u.new }
 {
     let start = types.types().len();
-    let size = group_size(config, allow_empty, config.max_types - start, u);
+    let size = draw_group_size(config, allow_empty, config.max_types - start, u);
     types.reserve(size)?;
-    types_until(alloc, config, types, (start + size) as u32, u)?;
+    add_types(alloc, config, types, (start + size) as u32, u)?;
     types.push_group()?;
     Ok(())
 }
@@ -171,7 +176,7 @@ fn clone_group(
 }
 
 /// Whether a clone of a group of `types` is asked for.
-fn clone_wanted(config: &Config, types: &TypeSpace, u: &mut Unstructured<'_>) -> bool
+fn is_clone_wanted(config: &Config, types: &TypeSpace, u: &mut Unstructured<'_>) -> bool
     ensures draws { AlwaysDraws (clone_wanted_at config.now types.now u.old) result u.old u.new }
     ensures some { IsTrue result → 0 < length types.now.groups }
 {
@@ -184,7 +189,7 @@ fn clone_wanted(config: &Config, types: &TypeSpace, u: &mut Unstructured<'_>) ->
 /// Adds a clone where a draw asks for it, else a new group. In place of a clone that may not be added stands a new group, or
 /// nothing where `allow_empty` is set.
 #[tactic(auto, unfolding(crate::specs::RecGroups::rec_group_at))]
-fn rec_group(
+fn add_rec_group(
     alloc: Global,
     config: &Config,
     types: &mut TypeSpace,
@@ -195,18 +200,18 @@ fn rec_group(
     requires few { config.now.max_types ≤ 2 ^ 31 }
     ensures { DrawsInto (rec_group_at config.now allow_empty types.old u.old) types.new result u.old u.new }
 {
-    if !clone_wanted(config, types, u) {
-        return new_group(alloc, config, types, allow_empty, u);
+    if !is_clone_wanted(config, types, u) {
+        return add_new_group(alloc, config, types, allow_empty, u);
     }
     let added = clone_group(alloc, config, types, allow_empty, u)?;
     if added || allow_empty {
         return Ok(());
     }
-    new_group(alloc, config, types, allow_empty, u)
+    add_new_group(alloc, config, types, allow_empty, u)
 }
 
 /// Adds groups while `types` has too few types.
-fn least_types(
+fn add_least_types(
     alloc: Global,
     config: &Config,
     types: &mut TypeSpace,
@@ -217,13 +222,13 @@ fn least_types(
     ensures { DrawsInto (least_types_at config.now config.now.min_types types.old u.old) types.new result u.old u.new }
 {
     while types.types().len() < config.min_types {
-        rec_group(alloc, config, types, false, u)?;
+        add_rec_group(alloc, config, types, false, u)?;
     }
     Ok(())
 }
 
 /// Adds groups while `types` may have more types and a bool asks for a group.
-fn more_types(
+fn add_more_types(
     alloc: Global,
     config: &Config,
     types: &mut TypeSpace,
@@ -236,13 +241,13 @@ fn more_types(
         if !u.arbitrary::<bool>() {
             return Ok(());
         }
-        rec_group(alloc, config, types, true, u)?;
+        add_rec_group(alloc, config, types, true, u)?;
     }
     Ok(())
 }
 
 #[tactic(auto, unfolding(crate::specs::RecGroups::types_at))]
-fn all_types(
+fn add_all_types(
     alloc: Global,
     config: &Config,
     types: &mut TypeSpace,
@@ -252,8 +257,8 @@ fn all_types(
     requires few { config.now.max_types ≤ 2 ^ 31 }
     ensures { DrawsInto (types_at config.now types.old u.old) types.new result u.old u.new }
 {
-    least_types(alloc, config, types, u)?;
-    more_types(alloc, config, types, u)
+    add_least_types(alloc, config, types, u)?;
+    add_more_types(alloc, config, types, u)
 }
 
 /// Adds a chosen group of `types` again, and gives whether it was added. A group is not added if it is empty and `allow_empty` is
@@ -307,7 +312,7 @@ pub fn arbitrary_rec_group(
     ensures reach { allow_empty ≡ true → All IsRoot types.old.types → OnOk result (Takes (SpellsAdded config.now types.old) u.old types.new u.new) }
 {
     let _groups = types.types();
-    rec_group(alloc, config, types, allow_empty, u)
+    add_rec_group(alloc, config, types, allow_empty, u)
 }
 
 /// Adds groups to `types` until there are at least `config.min_types` types, then more groups while bools ask for them, up to
@@ -332,5 +337,5 @@ pub fn arbitrary_types(
     ensures nullable { ¬ HoldsNonNullableField types.old.types → OnOk result (¬ HoldsNonNullableField types.new.types) }
     ensures reach { config.now.min_types ≡ 0 → types.old ≡ space_of [] → OnOk result (Takes (SpellsSpace config.now) u.old types.new u.new) }
 {
-    all_types(alloc, config, types, u)
+    add_all_types(alloc, config, types, u)
 }

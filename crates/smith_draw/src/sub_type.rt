@@ -21,8 +21,8 @@ ghost use Rattle.smith_draw.specs.SubTypes.{
 ghost use Rattle.smith_draw.specs.Spelling.{IsRoot, SpellsSubType};
 
 use crate::choice::choose;
-use crate::composite_type::composite_type;
-use crate::matching_composite::matching_composite_type;
+use crate::composite_type::draw_composite_type;
+use crate::matching_composite::draw_matching_composite_type;
 use crate::spaces::{Spaces, orderly};
 use smith_bytes::{Error, Unstructured};
 use smith_config::Config;
@@ -48,7 +48,7 @@ fn is_final(config: &Config, u: &mut Unstructured<'_>) -> bool
 
 /// Draws a type without a supertype.
 #[tactic(auto, unfolding(crate::specs::SubTypes::root_type_at))]
-fn root_type(
+fn draw_root_type(
     alloc: Global,
     config: &Config,
     types: &[SubType],
@@ -58,7 +58,7 @@ fn root_type(
     ensures { Draws (root_type_at config.now types.now limit u.old) result u.old u.new }
 {
     let is_final = is_final(config, u);
-    let composite_type = composite_type(alloc, config, types, limit, u)?;
+    let composite_type = draw_composite_type(alloc, config, types, limit, u)?;
     Ok(SubType {
         is_final,
         supertype: None,
@@ -67,7 +67,7 @@ fn root_type(
 }
 
 /// Draws a type below the type `index`, or, if no type stands there, without a supertype.
-fn sub_type_below(
+fn draw_sub_type_below(
     alloc: Global,
     config: &Config,
     space: &TypeSpace,
@@ -80,7 +80,9 @@ fn sub_type_below(
     match space.types().get(index as usize) {
         Some(supertype) => {
             let upper = &supertype.composite_type;
-            let composite_type = matching_composite_type(alloc, config, space, limit, upper, u)?;
+            let composite_type = draw_matching_composite_type(
+                alloc, config, space, limit, upper, u,
+            )?;
             let is_final = u.arbitrary();
             Ok(SubType {
                 is_final,
@@ -88,13 +90,13 @@ fn sub_type_below(
                 composite_type,
             })
         }
-        None => root_type(alloc, config, space.types(), limit, u),
+        None => draw_root_type(alloc, config, space.types(), limit, u),
     }
 }
 
 /// Draws a type below a chosen type of `indices`.
 #[tactic(auto, unfolding(crate::specs::SubTypes::sub_type_of_at))]
-fn sub_type_of(
+fn draw_sub_type_of(
     alloc: Global,
     config: &Config,
     space: &TypeSpace,
@@ -106,11 +108,11 @@ fn sub_type_of(
     ensures { Draws (sub_type_of_at config.now space.now.types limit indices.now u.old) result u.old u.new }
 {
     let index = choose(indices, u);
-    sub_type_below(alloc, config, space, limit, index, u)
+    draw_sub_type_below(alloc, config, space, limit, index, u)
 }
 
 /// Whether a supertype is asked for, where `count` types may have subtypes.
-fn supertype_wanted(config: &Config, count: usize, u: &mut Unstructured<'_>) -> bool
+fn is_supertype_wanted(config: &Config, count: usize, u: &mut Unstructured<'_>) -> bool
     ensures draws { AlwaysDraws (supertype_wanted_at config.now count u.old) result u.old u.new }
     ensures some { IsTrue result → 0 < count }
 {
@@ -122,7 +124,7 @@ fn supertype_wanted(config: &Config, count: usize, u: &mut Unstructured<'_>) -> 
 
 /// Draws a type below a type that may have subtypes, or without a supertype.
 #[tactic(auto, unfolding(crate::specs::SubTypes::sub_type_at))]
-pub(crate) fn sub_type(
+pub(crate) fn draw_sub_type(
     alloc: Global,
     config: &Config,
     space: &TypeSpace,
@@ -132,10 +134,10 @@ pub(crate) fn sub_type(
     ensures { Draws (sub_type_at config.now space.now.types limit u.old) result u.old u.new }
 {
     let indices = supertypes(space);
-    if supertype_wanted(config, indices.len(), u) {
-        return sub_type_of(alloc, config, space, limit, indices, u);
+    if is_supertype_wanted(config, indices.len(), u) {
+        return draw_sub_type_of(alloc, config, space, limit, indices, u);
     }
-    root_type(alloc, config, space.types(), limit, u)
+    draw_root_type(alloc, config, space.types(), limit, u)
 }
 
 /// Draws a subtype: below a type of `spaces` that may have subtypes, or without a supertype. Without garbage collection the
@@ -155,7 +157,7 @@ pub fn arbitrary_sub_type(
     ensures follows { IfOk result (HasSuperType spaces.now.types.now.types) }
     ensures reach { All IsRoot spaces.now.types.now.types → IfOk result (λ drawn. Takes (SpellsSuch (λ t. IsInnerInRange spaces.now.types.now.types t.composite_type.inner) (SpellsSubType config.now spaces.now.types.now.types limit)) u.old drawn u.new) }
 {
-    sub_type(alloc, config, spaces.types, limit, u)
+    draw_sub_type(alloc, config, spaces.types, limit, u)
 }
 
 /// Draws a subtype below a type of `spaces` that may have subtypes. The standard's section Structure, Recursive Types.
@@ -180,5 +182,5 @@ pub fn arbitrary_sub_type_of_super_type(
 {
     orderly(spaces);
     let indices = supertypes(spaces.types);
-    sub_type_of(alloc, config, spaces.types, limit, indices, u)
+    draw_sub_type_of(alloc, config, spaces.types, limit, indices, u)
 }

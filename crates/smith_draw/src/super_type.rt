@@ -16,7 +16,7 @@ use smith_config::Config;
 use smith_types::{HeapType, Items, RefType, TypeSpace, ValType};
 use std::alloc::Global;
 
-fn super_heap_type(
+fn draw_super_heap_type(
     alloc: Global,
     config: &Config,
     space: &TypeSpace,
@@ -33,7 +33,7 @@ fn super_heap_type(
 }
 
 #[tactic(auto, unfolding(crate::specs::MatchingTypes::super_ref_type_at))]
-fn super_ref_type(
+fn draw_super_ref_type(
     alloc: Global,
     config: &Config,
     space: &TypeSpace,
@@ -42,14 +42,14 @@ fn super_ref_type(
 ) -> Result<RefType, Error>
     ensures { Draws (super_ref_type_at config.now space.now.types ty u.old) result u.old u.new }
 {
-    let heap_type = super_heap_type(alloc, config, space, ty.heap_type, u)?;
+    let heap_type = draw_super_heap_type(alloc, config, space, ty.heap_type, u)?;
     Ok(RefType {
         nullable: true,
         heap_type,
     })
 }
 
-fn super_val_type(
+fn draw_super_val_type(
     alloc: Global,
     config: &Config,
     space: &TypeSpace,
@@ -59,14 +59,14 @@ fn super_val_type(
     ensures { Draws (super_val_type_at config.now space.now.types ty u.old) result u.old u.new }
 {
     if let ValType::Ref(reference) = ty {
-        let drawn = super_ref_type(alloc, config, space, reference, u)?;
+        let drawn = draw_super_ref_type(alloc, config, space, reference, u)?;
         return Ok(ValType::Ref(drawn));
     }
     Ok(ty)
 }
 
 /// Draws a supertype for each of `values`, in order.
-pub(crate) fn super_val_types(
+pub(crate) fn draw_super_val_types(
     alloc: Global,
     config: &Config,
     space: &TypeSpace,
@@ -77,7 +77,7 @@ pub(crate) fn super_val_types(
 {
     let mut supertypes = Items::with_capacity(alloc, values.len())?;
     for ty in values {
-        supertypes.push(super_val_type(alloc, config, space, *ty, u)?)?;
+        supertypes.push(draw_super_val_type(alloc, config, space, *ty, u)?)?;
     }
     Ok(supertypes)
 }
@@ -99,7 +99,7 @@ pub fn arbitrary_super_type_of_heap_type(
     ensures stands { IfOk result (λ drawn. IsInRange spaces.now.types.now.types ty → IsInRange spaces.now.types.now.types drawn) }
 {
     orderly(spaces);
-    super_heap_type(alloc, config, spaces.types, ty, u)
+    draw_super_heap_type(alloc, config, spaces.types, ty, u)
 }
 
 /// Draws a nullable reference type above `ty`, over the types of `spaces`. The standard's section Validation, Matching, Reference
@@ -119,7 +119,7 @@ pub fn arbitrary_super_type_of_ref_type(
     ensures stands { IfOk result (λ drawn. IsInRange spaces.now.types.now.types ty.heap_type → IsInRange spaces.now.types.now.types drawn.heap_type) }
 {
     orderly(spaces);
-    super_ref_type(alloc, config, spaces.types, ty, u)
+    draw_super_ref_type(alloc, config, spaces.types, ty, u)
 }
 
 /// Draws a value type above `ty`, over the types of `spaces`; a number or a vector is `ty` itself. The standard's section
@@ -138,5 +138,5 @@ pub fn arbitrary_super_type_of_val_type(
     ensures stands { IfOk result (λ drawn. IsValInRange spaces.now.types.now.types ty → IsValInRange spaces.now.types.now.types drawn) }
 {
     orderly(spaces);
-    super_val_type(alloc, config, spaces.types, ty, u)
+    draw_super_val_type(alloc, config, spaces.types, ty, u)
 }

@@ -7,11 +7,11 @@ ghost use Rattle.smith_draw.specs.Bounds.{IsTableWithin};
 ghost use Rattle.smith_draw.specs.Drawing.{AlwaysDraws, Draws};
 ghost use Rattle.smith_draw.specs.TableTypes.{least_elements, drawn_elements, table_type_at};
 
-use crate::entity_type::memory64;
+use crate::entity_type::draw_memory64;
 use crate::limits::arbitrary_limits64;
 use crate::shared_reference::is_reference_shared;
 use crate::spaces::Spaces;
-use crate::value_type::ref_type;
+use crate::value_type::draw_ref_type;
 use smith_bytes::{Error, Unstructured};
 use smith_config::Config;
 use smith_types::{TableType, TypeSpace, most_elements_of};
@@ -31,7 +31,7 @@ fn drawn_elements(config: &Config, table64: bool) -> u64
 }
 
 #[tactic(auto, unfolding(crate::specs::TableTypes::table_type_at))]
-fn table_type(config: &Config, types: &TypeSpace, u: &mut Unstructured<'_>) -> TableType
+fn draw_table_type(config: &Config, types: &TypeSpace, u: &mut Unstructured<'_>) -> TableType
     requires { IsSanitized config.now }
     ensures draws { AlwaysDraws (table_type_at config.now types.now.types u.old) result u.old u.new }
     ensures valid { AreTypesValid (features_of config.now) types.now → IsTableValid (features_of config.now) types.now.types result }
@@ -39,12 +39,12 @@ fn table_type(config: &Config, types: &TypeSpace, u: &mut Unstructured<'_>) -> T
     ensures nullable { result.element_type.nullable ≡ true }
 {
     let standing = types.types();
-    let table64 = memory64(config, u);
+    let table64 = draw_memory64(config, u);
     let most = drawn_elements(config, table64);
     let least = u64::from(config.disallow_traps);
     let required = config.table_max_size_required;
     let (minimum, maximum) = arbitrary_limits64(least, most, required, most.min(10_000), u);
-    let element_type = ref_type(config, standing, false, standing.len() as u32, u);
+    let element_type = draw_ref_type(config, standing, false, standing.len() as u32, u);
     let shared = is_reference_shared(standing, element_type);
     TableType {
         element_type,
@@ -75,5 +75,5 @@ pub fn arbitrary_table_type(
     ensures within { IfOk result (IsTableWithin config.now) }
     ensures nullable { IfOk result (λ drawn. drawn.element_type.nullable ≡ true) }
 {
-    Ok(table_type(config, spaces.types, u))
+    Ok(draw_table_type(config, spaces.types, u))
 }

@@ -101,10 +101,8 @@ fn type_at(for_use: TypeUse, types: &[SubType], mut place: usize) -> u32
 }
 
 /// Chooses a type of `types` that is right for `for_use`, and gives its index.
-///
-/// Some type of `types` is right for `for_use`: [`count_types`] tells it. `types` has fewer than 2^32 types.
 #[tactic(auto, unfolding(crate::specs::Choices::chosen_at))]
-pub fn choose_type(for_use: TypeUse, types: &[SubType], u: &mut Unstructured<'_>) -> u32
+fn choose_type(for_use: TypeUse, types: &[SubType], u: &mut Unstructured<'_>) -> u32
     requires few { length types.now < 2 ^ 32 }
     requires some { 0 < length (types_for for_use types.now) }
     ensures draws { AlwaysDraws (chosen_at 0 (types_for for_use types.now) u.old) result u.old u.new }

@@ -46,7 +46,7 @@ enum ValueClass {
 }
 
 #[tactic(auto, unfolding(crate::specs::ValueTypes::sharedness_at))]
-pub(crate) fn sharedness(config: &Config, must_share: bool, u: &mut Unstructured<'_>) -> bool
+pub(crate) fn draw_sharedness(config: &Config, must_share: bool, u: &mut Unstructured<'_>) -> bool
     ensures { AlwaysDraws (sharedness_at config.now must_share u.old) result u.old u.new }
 {
     if must_share {
@@ -82,16 +82,16 @@ fn abstract_heap_types(config: &Config) -> &'static [AbstractHeapType]
 }
 
 #[tactic(auto, unfolding(crate::specs::ValueTypes::abstract_heap_type_at))]
-fn abstract_heap_type(config: &Config, must_share: bool, u: &mut Unstructured<'_>) -> HeapType
+fn draw_abstract_heap_type(config: &Config, must_share: bool, u: &mut Unstructured<'_>) -> HeapType
     ensures { AlwaysDraws (abstract_heap_type_at config.now must_share u.old) result u.old u.new }
 {
-    let shared = sharedness(config, must_share, u);
+    let shared = draw_sharedness(config, must_share, u);
     let ty = choose(abstract_heap_types(config), u);
     HeapType::Abstract { shared, ty }
 }
 
 /// Whether the index of a type below `limit` is asked for.
-fn index_wanted(config: &Config, limit: u32, u: &mut Unstructured<'_>) -> bool
+fn is_index_wanted(config: &Config, limit: u32, u: &mut Unstructured<'_>) -> bool
     ensures draws { AlwaysDraws (index_wanted_at config.now limit u.old) result u.old u.new }
     ensures below { IsTrue result → 0 < limit }
 {
@@ -119,7 +119,7 @@ fn kept_index(types: &[SubType], must_share: bool, index: u32) -> Option<u32>
 
 /// Draws the index of a type below `limit`, if a bool asks for it and the index is kept.
 #[tactic(auto, unfolding(crate::specs::ValueTypes::type_index_at))]
-fn type_index(
+fn draw_type_index(
     config: &Config,
     types: &[SubType],
     must_share: bool,
@@ -128,7 +128,7 @@ fn type_index(
 ) -> Option<u32>
     ensures { AlwaysDraws (type_index_at config.now types.now must_share limit u.old) result u.old u.new }
 {
-    if !index_wanted(config, limit, u) {
+    if !is_index_wanted(config, limit, u) {
         return None;
     }
     let index = u.int_in_range(0..=limit - 1);
@@ -136,7 +136,7 @@ fn type_index(
 }
 
 #[tactic(auto, unfolding(crate::specs::ValueTypes::heap_type_at))]
-fn heap_type(
+fn draw_heap_type(
     config: &Config,
     types: &[SubType],
     must_share: bool,
@@ -145,14 +145,14 @@ fn heap_type(
 ) -> HeapType
     ensures { AlwaysDraws (heap_type_at config.now types.now must_share limit u.old) result u.old u.new }
 {
-    match type_index(config, types, must_share, limit, u) {
+    match draw_type_index(config, types, must_share, limit, u) {
         Some(index) => HeapType::Concrete(index),
-        None => abstract_heap_type(config, must_share, u),
+        None => draw_abstract_heap_type(config, must_share, u),
     }
 }
 
 #[tactic(auto, unfolding(crate::specs::ValueTypes::ref_type_at))]
-pub(crate) fn ref_type(
+pub(crate) fn draw_ref_type(
     config: &Config,
     types: &[SubType],
     must_share: bool,
@@ -162,7 +162,7 @@ pub(crate) fn ref_type(
     ensures { AlwaysDraws (ref_type_at config.now types.now must_share limit u.old) result u.old u.new }
 {
     let heap_type = if config.reference_types_enabled {
-        heap_type(config, types, must_share, limit, u)
+        draw_heap_type(config, types, must_share, limit, u)
     } else {
         HeapType::Abstract {
             shared: false,
@@ -193,7 +193,7 @@ fn value_classes(config: &Config) -> &'static [ValueClass]
     }
 }
 
-fn value_of_class(
+fn draw_value_of_class(
     config: &Config,
     types: &[SubType],
     must_share: bool,
@@ -209,12 +209,12 @@ fn value_of_class(
         ValueClass::F32 => ValType::F32,
         ValueClass::F64 => ValType::F64,
         ValueClass::V128 => ValType::V128,
-        ValueClass::Reference => ValType::Ref(ref_type(config, types, must_share, limit, u)),
+        ValueClass::Reference => ValType::Ref(draw_ref_type(config, types, must_share, limit, u)),
     }
 }
 
 #[tactic(auto, unfolding(crate::specs::ValueTypes::val_type_at))]
-pub(crate) fn val_type(
+pub(crate) fn draw_val_type(
     config: &Config,
     types: &[SubType],
     must_share: bool,
@@ -224,7 +224,7 @@ pub(crate) fn val_type(
     ensures { AlwaysDraws (val_type_at config.now types.now must_share limit u.old) result u.old u.new }
 {
     let class = choose(value_classes(config), u);
-    value_of_class(config, types, must_share, limit, class, u)
+    draw_value_of_class(config, types, must_share, limit, class, u)
 }
 
 /// Draws a heap type: a type of `spaces` below `limit`, or an abstract heap type that `config` enables. The heap type is shared
@@ -250,7 +250,7 @@ pub fn arbitrary_heap_type(
     ensures shared { IsTrue must_share → IfOk result (IsHeapTypeShared spaces.now.types.now.types) }
     ensures reach { must_share ≡ false → IfOk result (λ drawn. Takes (SpellsSuch (IsInRange spaces.now.types.now.types) (SpellsHeapType config.now limit)) u.old drawn u.new) }
 {
-    Ok(heap_type(config, spaces.types.types(), must_share, limit, u))
+    Ok(draw_heap_type(config, spaces.types.types(), must_share, limit, u))
 }
 
 /// Draws a nullable reference type, which is `funcref` where `config` has reference types off. The standard's section Structure,
@@ -277,7 +277,7 @@ pub fn arbitrary_ref_type(
     ensures shared { IsTrue must_share → IfOk result (λ drawn. IsHeapTypeShared spaces.now.types.now.types drawn.heap_type) }
     ensures reach { must_share ≡ false → IfOk result (λ drawn. Takes (SpellsSuch (λ reference. IsInRange spaces.now.types.now.types reference.heap_type) (SpellsRefType config.now limit)) u.old drawn u.new) }
 {
-    Ok(ref_type(config, spaces.types.types(), must_share, limit, u))
+    Ok(draw_ref_type(config, spaces.types.types(), must_share, limit, u))
 }
 
 /// Draws a value type that `config` enables. The standard's section Structure, Value Types.
@@ -303,5 +303,5 @@ pub fn arbitrary_valtype(
     ensures shared { IsTrue must_share → IfOk result (IsShareable spaces.now.types.now.types) }
     ensures reach { must_share ≡ false → IfOk result (λ drawn. Takes (SpellsSuch (IsValInRange spaces.now.types.now.types) (SpellsValType config.now limit)) u.old drawn u.new) }
 {
-    Ok(val_type(config, spaces.types.types(), must_share, limit, u))
+    Ok(draw_val_type(config, spaces.types.types(), must_share, limit, u))
 }

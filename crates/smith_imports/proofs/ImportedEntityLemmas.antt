@@ -25,8 +25,11 @@ use Rattle.smith_config.specs.Features.{features_of}
 use Rattle.smith_draw.specs.Bounds.{IsTableWithin, IsMemoryWithin}
 use Rattle.smith_draw.specs.Choices.{enabled, chosen_at}
 use Rattle.smith_draw.specs.FuncSizes.{IsSmall, IsSmallInner}
+use Rattle.smith_draw.specs.TypeUses.{types_for, IsUsable}
+use Rattle.smith_draw.specs.declared.type_use.TypeUse.{TypeUse}
 use Rattle.smith_draw.proofs.EnabledLemmas.{enabled_all}
 use Rattle.smith_draw.proofs.SupertypeLemmas.{chosen_of}
+use Rattle.smith_draw.proofs.TypeUseLemmas.{types_usable}
 use Rattle.smith_imports.specs.Imported.{MayImport, HasNoFloatValue, HasNullableElements, IsEntityFit, IsOffered}
 use Rattle.smith_imports.specs.ImportedEntities.{kind_rows}
 
@@ -65,6 +68,10 @@ first_holds false b both = both
 pub second_holds : (a b : Bool) → (a && b) ≡ true → b ≡ true
 second_holds true b both = both
 second_holds false b both = absurd cc
+
+-- a type that is chosen for a use is right for it
+pub chosen_usable : (for_use : TypeUse) (types : List SubType) (bytes : List ℕ) → 0 < length (types_for for_use types) → IsUsable for_use types (chosen_at 0 (types_for for_use types) bytes).0
+chosen_usable for_use types bytes some = chosen_of (IsUsable for_use types) 0 (types_for for_use types) bytes some (types_usable for_use types)
 
 -- a small function type takes and gives at most 40 values
 few_values : (inner : CompositeInnerType) → IsSmallInner inner → value_count inner ≤ 40

@@ -8,10 +8,10 @@ ghost use Rattle.smith_imports.specs.AvailableImports.{available_at, IsTaken};
 ghost use Rattle.smith_imports.specs.ShapeImports.{taken_from};
 
 use crate::flat_imports::flat_imports;
-use crate::grouped_imports::grouped_imports;
+use crate::grouped_imports::group_imports;
 use crate::imported::Imported;
 use crate::shape_types::types_of_shape;
-use crate::taken_imports::taken_imports;
+use crate::taken_imports::take_imports;
 use smith_bytes::{Error, Unstructured};
 use smith_config::{Config, Shape};
 use smith_types::TypeSpace;
@@ -22,7 +22,7 @@ use std::alloc::Global;
 /// An import fits where it stays within the maximums and the type size of `config`; a tag needs exceptions too.
 /// `shape` passes [`Shape::check`] as available imports for `config`.
 #[tactic(auto, unfolding(crate::specs::AvailableImports::available_at))]
-pub fn available_imports(
+pub fn take_available_imports(
     alloc: Global,
     config: &Config,
     shape: &Shape,
@@ -39,7 +39,7 @@ pub fn available_imports(
     let types = types_of_shape(alloc, shape)?;
     let offered = flat_imports(alloc, shape.imports.as_slice())?;
     let mut imported = Imported::new(alloc);
-    let taken = taken_imports(alloc, config, &types, &mut imported, offered.as_slice(), u)?;
-    imported.groups = grouped_imports(alloc, config, taken.as_slice(), u)?;
+    let taken = take_imports(alloc, config, &types, &mut imported, offered.as_slice(), u)?;
+    imported.groups = group_imports(alloc, config, taken.as_slice(), u)?;
     Ok((types, imported))
 }

@@ -6,7 +6,7 @@ ghost use Rattle.smith_config.specs.Features.{features_of};
 ghost use Rattle.smith_draw.specs.Drawing.{Draws, AlwaysDraws};
 ghost use Rattle.smith_imports.specs.AvailableImports.{may_join, begun, joins_at, begun_at, joined_at, grouped_at, AreGroupsOf};
 
-use crate::import_groups::{GroupKind, group_kind, push_import};
+use crate::import_groups::{GroupKind, draw_group_kind, push_import};
 use smith_bytes::{Error, Unstructured};
 use smith_config::Config;
 use smith_types::{Import, ImportItem, Imports, Items};
@@ -72,7 +72,7 @@ fn begin(
     ensures one { IfOk result (λ group. imports_of group ≡ first.now ∷ []) }
     ensures valid { IfOk result (IsImportsValid (features_of config.now)) }
 {
-    let kind = group_kind(config, u);
+    let kind = draw_group_kind(config, u);
     begun(alloc, kind, first)
 }
 
@@ -86,7 +86,7 @@ fn joins(group: &Imports, next: &Import, u: &mut Unstructured<'_>) -> bool
 }
 
 /// Adds the import `next` to `group`, or adds `group` to `made` and begins another group. Gives the last group.
-fn joined(
+fn add_next(
     alloc: Global,
     config: &Config,
     made: &mut Items<Imports>,
@@ -109,7 +109,7 @@ fn joined(
 }
 
 /// Puts the imports `first` and `more` into groups of drawn kinds.
-fn grouped(
+fn put_in_groups(
     alloc: Global,
     config: &Config,
     first: &Import,
@@ -122,7 +122,7 @@ fn grouped(
     let mut made = Items::new(alloc);
     let mut group = begin(alloc, config, first, u)?;
     for next in more {
-        group = joined(alloc, config, &mut made, group, next, u)?;
+        group = add_next(alloc, config, &mut made, group, next, u)?;
     }
     made.push(group)?;
     Ok(made)
@@ -130,7 +130,7 @@ fn grouped(
 
 /// Puts `imports` into groups of drawn kinds, in fresh memory.
 #[tactic(auto, unfolding(crate::specs::AvailableImports::grouped_at))]
-pub(crate) fn grouped_imports(
+pub(crate) fn group_imports(
     alloc: Global,
     config: &Config,
     imports: &[Import],
@@ -140,7 +140,7 @@ pub(crate) fn grouped_imports(
     ensures groups { IfOk result (AreGroupsOf (features_of config.now) imports.now) }
 {
     match imports {
-        [first, more @ ..] => grouped(alloc, config, first, more, u),
+        [first, more @ ..] => put_in_groups(alloc, config, first, more, u),
         [] => Ok(Items::new(alloc)),
     }
 }

@@ -4,13 +4,13 @@ ghost use Rattle.smith_draw.specs.Drawing.{Draws};
 ghost use Rattle.smith_imports.specs.Imported.{MayImport, IsEntityFit, IsNext, MayEndAt, spaces_of};
 ghost use Rattle.smith_imports.specs.ImportedEntities.{kind_of, has_room, may_import, entity_of_kind_at, fits, entity_at, again};
 
-use crate::import_kinds::{has_room, kind};
+use crate::import_kinds::{draw_kind, has_room};
+use crate::import_types::ImportTypes;
 use crate::imported::Imported;
 use smith_bytes::{Error, Unstructured};
 use smith_config::Config;
 use smith_draw::{
-    Entities, Spaces, TypeUse, arbitrary_global_type, arbitrary_memtype, arbitrary_table_type,
-    choose_type,
+    Entities, Spaces, arbitrary_global_type, arbitrary_memtype, arbitrary_table_type, choose,
 };
 use smith_types::{EntityType, ExportKind, TypeSpace};
 use std::alloc::Global;
@@ -30,10 +30,10 @@ pub(crate) fn kind_of(added: &EntityType) -> ExportKind
 
 /// Draws an entity of the kind `kind`, which may be imported over `types`.
 #[tactic(auto, unfolding(crate::specs::ImportedEntities::entity_of_kind_at))]
-fn entity_of_kind(
+fn draw_entity_of_kind(
     alloc: Global,
     config: &Config,
-    types: &TypeSpace,
+    types: &ImportTypes<'_>,
     kind: ExportKind,
     u: &mut Unstructured<'_>,
 ) -> Result<EntityType, Error>
@@ -44,16 +44,12 @@ fn entity_of_kind(
     ensures fit { IfOk result (IsEntityFit config.now types.now.types) }
 {
     let spaces = Spaces {
-        types,
+        types: types.space(),
         entities: Entities::none(),
     };
     match kind {
-        ExportKind::Tag => Ok(EntityType::Tag(choose_type(TypeUse::Tag, types.types(), u))),
-        ExportKind::Func => Ok(EntityType::Func(choose_type(
-            TypeUse::ImportedFunc,
-            types.types(),
-            u,
-        ))),
+        ExportKind::Tag => Ok(EntityType::Tag(choose(types.for_tags(), u))),
+        ExportKind::Func => Ok(EntityType::Func(choose(types.for_funcs(), u))),
         ExportKind::Global => Ok(EntityType::Global(arbitrary_global_type(
             alloc, config, &spaces, u,
         )?)),
@@ -96,10 +92,10 @@ fn if_fits(
 
 /// Draws the entity to import behind `imported`, of a kind with room: none where no kind has room, or the entity is too large.
 #[tactic(auto, unfolding(crate::specs::ImportedEntities::entity_at))]
-pub(crate) fn entity(
+pub(crate) fn draw_entity(
     alloc: Global,
     config: &Config,
-    types: &TypeSpace,
+    types: &ImportTypes<'_>,
     imported: &Imported,
     u: &mut Unstructured<'_>,
 ) -> Result<Option<EntityType>, Error>
@@ -108,11 +104,11 @@ pub(crate) fn entity(
     ensures next { IfOk result (λ drawn. IfSome drawn (IsNext config.now types.now.types (spaces_of imported.now) imported.now.type_size)) }
     ensures ended { IfOk result (λ drawn. drawn ≡ None → MayEndAt config.now (spaces_of imported.now) imported.now.type_size) }
 {
-    let Some(kind) = kind(config, types.types(), imported, u) else {
+    let Some(kind) = draw_kind(config, types, imported, u) else {
         return Ok(None);
     };
-    let added = entity_of_kind(alloc, config, types, kind, u)?;
-    Ok(if_fits(config, types, imported, added))
+    let added = draw_entity_of_kind(alloc, config, types, kind, u)?;
+    Ok(if_fits(config, types.space(), imported, added))
 }
 
 /// Gives the entity `added` once more, if its kind has room and an import of it fits beside `imported`.

@@ -21,7 +21,7 @@ pub(crate) enum GroupKind {
 
 /// Draws the kind of a group: a single import, without a draw, where `config` has no compact imports.
 #[tactic(auto, unfolding(crate::specs::ImportGroups::group_kind_at))]
-pub(crate) fn group_kind(config: &Config, u: &mut Unstructured<'_>) -> GroupKind
+pub(crate) fn draw_group_kind(config: &Config, u: &mut Unstructured<'_>) -> GroupKind
     ensures draws { AlwaysDraws (group_kind_at config.now u.old) result u.old u.new }
     ensures enabled { (result ≡ GroupKind.Single → ⊥) → IsTrue config.now.compact_imports_enabled }
     ensures shorter { (result ≡ GroupKind.Single → ⊥) → length u.new < length u.old }

@@ -4,11 +4,11 @@ ghost use Rattle.smith_draw.specs.Drawing.{AlwaysDraws};
 ghost use Rattle.smith_imports.specs.Imported.{IsOffered, spaces_of};
 ghost use Rattle.smith_imports.specs.ImportedEntities.{has_room, may_import, kind_row, kind_at};
 
+use crate::import_types::ImportTypes;
 use crate::imported::Imported;
 use smith_bytes::Unstructured;
 use smith_config::Config;
-use smith_draw::{TypeUse, count_types};
-use smith_types::{ExportKind, SubType};
+use smith_types::ExportKind;
 
 /// Whether another entity of the kind `kind` may stand beside `imported`.
 pub(crate) fn has_room(config: &Config, imported: &Imported, kind: ExportKind) -> bool
@@ -23,12 +23,12 @@ pub(crate) fn has_room(config: &Config, imported: &Imported, kind: ExportKind) -
     }
 }
 
-fn may_import(config: &Config, types: &[SubType], kind: ExportKind) -> bool
-    ensures { result ≡ may_import config.now types.now kind }
+fn may_import(config: &Config, types: &ImportTypes<'_>, kind: ExportKind) -> bool
+    ensures { result ≡ may_import config.now types.now.types kind }
 {
     match kind {
-        ExportKind::Tag => config.exceptions_enabled && count_types(TypeUse::Tag, types) > 0,
-        ExportKind::Func => count_types(TypeUse::ImportedFunc, types) > 0,
+        ExportKind::Tag => config.exceptions_enabled && !types.for_tags().is_empty(),
+        ExportKind::Func => !types.for_funcs().is_empty(),
         _ => true,
     }
 }
@@ -36,11 +36,11 @@ fn may_import(config: &Config, types: &[SubType], kind: ExportKind) -> bool
 /// Gives `kind`, with whether another entity of that kind may be imported.
 fn kind_row(
     config: &Config,
-    types: &[SubType],
+    types: &ImportTypes<'_>,
     imported: &Imported,
     kind: ExportKind,
 ) -> (ExportKind, bool)
-    ensures { result ≡ kind_row config.now types.now (spaces_of imported.now) kind }
+    ensures { result ≡ kind_row config.now types.now.types (spaces_of imported.now) kind }
 {
     let offered = may_import(config, types, kind) && has_room(config, imported, kind);
     (kind, offered)
@@ -82,14 +82,14 @@ pub fn choose_enabled(table: &[(ExportKind, bool)], u: &mut Unstructured<'_>) ->
 
 /// Draws a kind of which another entity may be imported, or none where no kind is offered.
 #[tactic(auto, using(crate::proofs::ImportedEntityLemmas::length_enabled), unfolding(crate::specs::ImportedEntities::kind_at))]
-pub(crate) fn kind(
+pub(crate) fn draw_kind(
     config: &Config,
-    types: &[SubType],
+    types: &ImportTypes<'_>,
     imported: &Imported,
     u: &mut Unstructured<'_>,
 ) -> Option<ExportKind>
-    ensures draws { AlwaysDraws (kind_at config.now types.now (spaces_of imported.now) u.old) result u.old u.new }
-    ensures offered { IfSome result (IsOffered config.now types.now (spaces_of imported.now)) }
+    ensures draws { AlwaysDraws (kind_at config.now types.now.types (spaces_of imported.now) u.old) result u.old u.new }
+    ensures offered { IfSome result (IsOffered config.now types.now.types (spaces_of imported.now)) }
     ensures full { result ≡ None → has_room config.now (spaces_of imported.now) ExportKind.Table ≡ false }
 {
     let table = [

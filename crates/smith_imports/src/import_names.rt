@@ -48,7 +48,7 @@ fn distinct_name(
 
 /// Draws the name of an import from the module `from`. Where `distinct` is set, the pair of both is new among `pairs`, and added.
 #[tactic(auto, unfolding(crate::specs::ImportNames::import_name_at))]
-pub(crate) fn import_name(
+pub(crate) fn draw_import_name(
     alloc: Global,
     distinct: bool,
     from: &Name,

@@ -21,9 +21,10 @@ ghost use Rattle.smith_imports.specs.Imported.{
 };
 ghost use Rattle.smith_imports.specs.Importing.{next_entity_at, fill_at, filled_at, group_of_kind_at, group_at, groups_at, imports_at};
 
-use crate::import_entities::{again, entity};
-use crate::import_groups::{GroupKind, group_kind, has_imports, module_name, push_import};
-use crate::import_names::import_name;
+use crate::import_entities::{again, draw_entity};
+use crate::import_groups::{GroupKind, draw_group_kind, has_imports, module_name, push_import};
+use crate::import_names::draw_import_name;
+use crate::import_types::ImportTypes;
 use crate::imported::Imported;
 use smith_bytes::{Count, Error, Unstructured, Why, goes_on, limited_string};
 use smith_config::Config;
@@ -31,10 +32,10 @@ use smith_types::{EntityType, Import, Imports, Items, Name, TypeSpace};
 use std::alloc::Global;
 
 /// Draws the entity that the compact group `group` imports next, or none where no entity fits beside `imported`.
-fn next_entity(
+fn draw_next_entity(
     alloc: Global,
     config: &Config,
-    types: &TypeSpace,
+    types: &ImportTypes<'_>,
     imported: &Imported,
     group: &Imports,
     u: &mut Unstructured<'_>,
@@ -47,8 +48,13 @@ fn next_entity(
     ensures ended { IfOk result (λ drawn. drawn ≡ None → MayEndAt config.now (spaces_of imported.now) imported.now.type_size) }
 {
     match group {
-        Imports::Compact2 { entity_type, .. } => Ok(again(config, types, imported, *entity_type)),
-        _ => entity(alloc, config, types, imported, u),
+        Imports::Compact2 { entity_type, .. } => Ok(again(
+            config,
+            types.space(),
+            imported,
+            *entity_type,
+        )),
+        _ => draw_entity(alloc, config, types, imported, u),
     }
 }
 
@@ -57,7 +63,7 @@ fn fill(
     alloc: Global,
     config: &Config,
     distinct: bool,
-    types: &TypeSpace,
+    types: &ImportTypes<'_>,
     imported: &mut Imported,
     group: &mut Imports,
     u: &mut Unstructured<'_>,
@@ -80,11 +86,11 @@ fn fill(
         if !u.arbitrary::<bool>() {
             return Ok(true);
         }
-        let Some(added) = next_entity(alloc, config, types, imported, group, u)? else {
+        let Some(added) = draw_next_entity(alloc, config, types, imported, group, u)? else {
             return Ok(false);
         };
-        let name = import_name(alloc, distinct, module_name(group), &mut imported.pairs, u)?;
-        imported.count_entity(types, added)?;
+        let name = draw_import_name(alloc, distinct, module_name(group), &mut imported.pairs, u)?;
+        imported.count_entity(types.space(), added)?;
         push_import(group, name, added)?;
     }
     Ok(true)
@@ -92,11 +98,11 @@ fn fill(
 
 /// Fills the compact group `group`, adds it unless it stays empty, and gives whether imports go on.
 #[tactic(auto, unfolding(crate::specs::Importing::filled_at))]
-fn filled(
+fn add_filled(
     alloc: Global,
     config: &Config,
     distinct: bool,
-    types: &TypeSpace,
+    types: &ImportTypes<'_>,
     imported: &mut Imported,
     mut group: Imports,
     u: &mut Unstructured<'_>,
@@ -121,11 +127,11 @@ fn filled(
 
 /// Adds an import from `module` by itself, and gives whether imports go on.
 #[tactic(auto, unfolding(crate::specs::Importing::group_of_kind_at))]
-fn single(
+fn add_single(
     alloc: Global,
     config: &Config,
     distinct: bool,
-    types: &TypeSpace,
+    types: &ImportTypes<'_>,
     imported: &mut Imported,
     module: Name,
     u: &mut Unstructured<'_>,
@@ -140,11 +146,11 @@ fn single(
     ensures memory { IfErr result (λ e. e ≡ Error.Memory) }
     ensures left { KeepsPieces u.old u.new }
 {
-    let Some(entity_type) = entity(alloc, config, types, imported, u)? else {
+    let Some(entity_type) = draw_entity(alloc, config, types, imported, u)? else {
         return Ok(false);
     };
-    let name = import_name(alloc, distinct, &module, &mut imported.pairs, u)?;
-    imported.count_entity(types, entity_type)?;
+    let name = draw_import_name(alloc, distinct, &module, &mut imported.pairs, u)?;
+    imported.count_entity(types.space(), entity_type)?;
     imported.groups.push(Imports::Single(Import {
         module,
         name,
@@ -155,11 +161,11 @@ fn single(
 
 /// Adds a group of imports from `module` that have one type, and gives whether imports go on.
 #[tactic(auto, unfolding(crate::specs::Importing::group_of_kind_at))]
-fn of_one_type(
+fn add_of_one_type(
     alloc: Global,
     config: &Config,
     distinct: bool,
-    types: &TypeSpace,
+    types: &ImportTypes<'_>,
     imported: &mut Imported,
     module: Name,
     u: &mut Unstructured<'_>,
@@ -174,7 +180,7 @@ fn of_one_type(
     ensures memory { IfErr result (λ e. e ≡ Error.Memory) }
     ensures left { KeepsPieces u.old u.new }
 {
-    let Some(entity_type) = entity(alloc, config, types, imported, u)? else {
+    let Some(entity_type) = draw_entity(alloc, config, types, imported, u)? else {
         return Ok(false);
     };
     let group = Imports::Compact2 {
@@ -182,16 +188,16 @@ fn of_one_type(
         entity_type,
         names: Items::new(alloc),
     };
-    filled(alloc, config, distinct, types, imported, group, u)
+    add_filled(alloc, config, distinct, types, imported, group, u)
 }
 
 /// Adds a group of imports to `imported`, and gives whether imports go on.
 #[tactic(auto, unfolding(crate::specs::Importing::group_at, crate::specs::Importing::group_of_kind_at))]
-fn group(
+fn add_group(
     alloc: Global,
     config: &Config,
     distinct: bool,
-    types: &TypeSpace,
+    types: &ImportTypes<'_>,
     imported: &mut Imported,
     u: &mut Unstructured<'_>,
 ) -> Result<bool, Error>
@@ -205,25 +211,27 @@ fn group(
     ensures memory { IfErr result (λ e. e ≡ Error.Memory) }
     ensures left { KeepsPieces u.old u.new }
 {
-    let kind = group_kind(config, u);
+    let kind = draw_group_kind(config, u);
     let module = Name::from_string(limited_string(alloc, 1000, u)?);
     match kind {
-        GroupKind::Single => single(alloc, config, distinct, types, imported, module, u),
+        GroupKind::Single => add_single(alloc, config, distinct, types, imported, module, u),
         GroupKind::OfOneModule => {
             let items = Items::new(alloc);
             let group = Imports::Compact1 { module, items };
-            filled(alloc, config, distinct, types, imported, group, u)
+            add_filled(alloc, config, distinct, types, imported, group, u)
         }
-        GroupKind::OfOneType => of_one_type(alloc, config, distinct, types, imported, module, u),
+        GroupKind::OfOneType => add_of_one_type(
+            alloc, config, distinct, types, imported, module, u,
+        ),
     }
 }
 
 /// Adds groups of imports to `imported`, while there is room and imports go on.
-fn groups(
+fn add_groups(
     alloc: Global,
     config: &Config,
     distinct: bool,
-    types: &TypeSpace,
+    types: &ImportTypes<'_>,
     imported: &mut Imported,
     u: &mut Unstructured<'_>,
 ) -> Result<(), Error>
@@ -239,16 +247,40 @@ fn groups(
         if !goes_on(u, imported.count, config.min_imports) {
             return Ok(());
         }
-        if !group(alloc, config, distinct, types, imported, u)? {
+        if !add_group(alloc, config, distinct, types, imported, u)? {
             return Ok(());
         }
     }
     Ok(())
 }
 
+/// Lists the types that an import may have, unless no import may be, and adds groups of imports to `imported`.
+fn add_all_groups(
+    alloc: Global,
+    config: &Config,
+    distinct: bool,
+    types: &TypeSpace,
+    imported: &mut Imported,
+    u: &mut Unstructured<'_>,
+) -> Result<(), Error>
+    requires may { MayImport config.now types.now }
+    requires so_far { IsImported config.now types.now.types distinct imported.old }
+    ensures exact { OnOk result (groups_at config.now types.now.types distinct (config.now.max_imports + length u.old + 1) imported.old.groups u.old ≡ (imported.new.groups, u.new)) }
+    ensures so_far { OnOk result (IsImported config.now types.now.types distinct imported.new) }
+    ensures least { OnOk result (imported.new.count < config.now.min_imports → MayEnd config.now imported.new.count) }
+    ensures memory { IfErr result (λ e. e ≡ Error.Memory) }
+    ensures left { KeepsPieces u.old u.new }
+{
+    if config.max_imports == 0 {
+        return Ok(());
+    }
+    let types = ImportTypes::new(alloc, types)?;
+    add_groups(alloc, config, distinct, &types, imported, u)
+}
+
 /// Draws imports into `imported`, which has none, and refuses fewer than `config` asks for.
 #[tactic(auto, unfolding(crate::specs::Importing::imports_at))]
-fn drawn_imports(
+fn draw_imports(
     alloc: Global,
     config: &Config,
     distinct: bool,
@@ -264,7 +296,7 @@ fn drawn_imports(
     ensures refusal { IfErr result (MayRefuseImports config.now) }
     ensures left { KeepsPieces u.old u.new }
 {
-    groups(alloc, config, distinct, types, imported, u)?;
+    add_all_groups(alloc, config, distinct, types, imported, u)?;
     if imported.count < config.min_imports {
         return Err(Error::IncorrectFormat(Why::Unmet(Count::Imports)));
     }
@@ -297,5 +329,5 @@ pub fn arbitrary_imports(
     ensures none { config.now.min_imports ≡ 0 → OnOk result (Takes (SpellsNoImport config.now) u.old imported.new.groups u.new) }
     ensures left { KeepsPieces u.old u.new }
 {
-    drawn_imports(alloc, config, distinct, types, imported, u)
+    draw_imports(alloc, config, distinct, types, imported, u)
 }

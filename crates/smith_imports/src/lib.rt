@@ -9,13 +9,14 @@ mod import_entities;
 mod import_groups;
 mod import_kinds;
 mod import_names;
+mod import_types;
 mod imported;
 mod imports;
 mod module_shape;
 mod shape_types;
 mod taken_imports;
 
-pub use available::available_imports;
+pub use available::take_available_imports;
 pub use import_kinds::{choose_enabled, count_enabled};
 pub use imported::Imported;
 pub use imports::arbitrary_imports;

@@ -63,7 +63,7 @@ fn take(
 }
 
 /// Takes those imports of `offered` that fit and that a bool picks, which is drawn for each import.
-pub(crate) fn taken_imports(
+pub(crate) fn take_imports(
     alloc: Global,
     config: &Config,
     types: &TypeSpace,

@@ -234,12 +234,6 @@ impl<'a> Predicate<u32> for ValidTag<'a> {
 fn is_tag_valid(types: &[SubType], index: u32) -> bool
     ensures { IsTrue result ↔ IsTagValid types.now index }
 {
-    has_tag_type(types, index)
-}
-
-fn has_tag_type(types: &[SubType], index: u32) -> bool
-    ensures { IsTrue result ↔ ((t : SubType) × (slice_get types.now index ≡ Some t) × IsTagType t.composite_type.inner) }
-{
     match types.get(index as usize) {
         Some(ty) => is_tag_type(&ty.composite_type.inner),
         None => false,

@@ -6,7 +6,7 @@ use smith_types::{ConstInstr, ValType};
 
 /// Draws a constant of the type `wanted`: a number or a vector by its bits, or null.
 #[tactic(auto, unfolding(crate::specs::Constants::constant_at))]
-pub(super) fn constant(wanted: ValType, u: &mut Unstructured<'_>) -> ConstInstr
+pub(super) fn draw_constant(wanted: ValType, u: &mut Unstructured<'_>) -> ConstInstr
     ensures { AlwaysDraws (constant_at wanted u.old) result u.old u.new }
 {
     match wanted {

@@ -9,9 +9,9 @@ ghost use Rattle.smith_draw.specs.ConstExprs.{state_of, length_at, expression_al
 ghost use Rattle.smith_draw.specs.ConstBounds.{most_instructions, MayRefuseConstExpr};
 ghost use Rattle.smith_draw.specs.ConstSteps.{operand_type, MayRefuseValues, IsDrawn, ReadsValue, ReadsOperand, ReadsOperands};
 
-use super::extended::extended_constant;
-use super::found::chosen;
-use super::node::{Operand, drawn_node};
+use super::extended::draw_extended_constant;
+use super::found::choose_offer;
+use super::node::{Operand, draw_node};
 use super::node_choice::{Choice, is_extended};
 use super::scope::Scope;
 use smith_bytes::{Error, Unstructured};
@@ -20,7 +20,7 @@ use std::alloc::Global;
 
 /// Draws a value of the type `wanted` behind the instructions of `out`.
 #[cycle(expression)]
-fn expression(
+fn draw_expression(
     alloc: Global,
     scope: &Scope<'_>,
     wanted: ValType,
@@ -35,19 +35,19 @@ fn expression(
     ensures refusal { IfErr result (MayRefuseValues (context_of scope.now).types (wanted ∷ [])) }
     ensures left { KeepsPieces u.old u.new }
 {
-    let choice = chosen(scope, wanted, *fuel, u)?;
+    let choice = choose_offer(scope, wanted, *fuel, u)?;
     *fuel = fuel.saturating_sub(1);
     if is_extended(choice) {
-        return extended_constant(alloc, wanted, out, u);
+        return draw_extended_constant(alloc, wanted, out, u);
     }
-    let node = drawn_node(alloc, scope.spaces.types.types(), wanted, choice, u)?;
-    operands(alloc, scope, node.operands.as_slice(), fuel, out, u)?;
+    let node = draw_node(alloc, scope.spaces.types.types(), wanted, choice, u)?;
+    draw_operands(alloc, scope, node.operands.as_slice(), fuel, out, u)?;
     out.push(node.instruction)
 }
 
 /// Draws `operands` in order.
 #[cycle(expression)]
-fn operands(
+fn draw_operands(
     alloc: Global,
     scope: &Scope<'_>,
     operands: &[Operand],
@@ -63,14 +63,14 @@ fn operands(
     ensures left { KeepsPieces u.old u.new }
 {
     for each in operands {
-        operand(alloc, scope, *each, fuel, out, u)?;
+        draw_operand(alloc, scope, *each, fuel, out, u)?;
     }
     Ok(())
 }
 
 /// Draws `operand`: a value, or a length.
 #[cycle(expression)]
-fn operand(
+fn draw_operand(
     alloc: Global,
     scope: &Scope<'_>,
     operand: Operand,
@@ -86,18 +86,18 @@ fn operand(
     ensures left { KeepsPieces u.old u.new }
 {
     match operand {
-        Operand::Value(value) => expression(alloc, scope, value, fuel, out, u),
+        Operand::Value(value) => draw_expression(alloc, scope, value, fuel, out, u),
         Operand::Length => {
             if scope.config.limit_arrays_in_const_exprs {
-                return limited_length(fuel, out, u);
+                return draw_length(fuel, out, u);
             }
-            expression(alloc, scope, ValType::I32, fuel, out, u)
+            draw_expression(alloc, scope, ValType::I32, fuel, out, u)
         }
     }
 }
 
 /// Draws a length of at most `fuel`, and takes the length from `fuel`.
-fn limited_length(
+fn draw_length(
     fuel: &mut u32,
     out: &mut Items<ConstInstr>,
     u: &mut Unstructured<'_>,
@@ -113,7 +113,7 @@ fn limited_length(
 }
 
 /// Draws an expression of the type `wanted`, with all of the configured fuel.
-pub(super) fn whole_expression(
+pub(super) fn draw_whole_expression(
     alloc: Global,
     scope: &Scope<'_>,
     wanted: ValType,
@@ -130,6 +130,6 @@ pub(super) fn whole_expression(
 {
     let mut drawn = Items::new(alloc);
     let mut fuel = scope.config.const_expr_fuel;
-    expression(alloc, scope, wanted, &mut fuel, &mut drawn, u)?;
+    draw_expression(alloc, scope, wanted, &mut fuel, &mut drawn, u)?;
     Ok(drawn)
 }

@@ -7,7 +7,7 @@ ghost use Rattle.smith_draw.specs.Drawing.{AlwaysDraws};
 ghost use Rattle.smith_draw.specs.Constants.{is_wide, operation, operator_of, operator_at, extended_at};
 ghost use Rattle.smith_draw.specs.Putting.{Adds, Puts};
 
-use super::constant::constant;
+use super::constant::draw_constant;
 use smith_bytes::{Error, Unstructured};
 use smith_types::{ConstInstr, Items, ValType};
 use std::alloc::Global;
@@ -47,7 +47,7 @@ fn operator_of(number: u8) -> Option<Operator>
 
 /// Draws the operator before `count` instructions, or none where a constant stands there.
 #[tactic(auto, unfolding(crate::specs::Constants::operator_at))]
-fn drawn_operator(count: usize, u: &mut Unstructured<'_>) -> Option<Operator>
+fn draw_operator(count: usize, u: &mut Unstructured<'_>) -> Option<Operator>
     ensures draws { AlwaysDraws (operator_at count u.old) result u.old u.new }
     ensures few { 10 < count → result ≡ None }
 {
@@ -59,7 +59,7 @@ fn drawn_operator(count: usize, u: &mut Unstructured<'_>) -> Option<Operator>
 
 /// Draws the instructions of an extended constant of the type `wanted`, the last instruction first.
 #[tactic(auto, unfolding(crate::specs::Constants::extended_at))]
-fn extended(
+fn draw_extended(
     alloc: Global,
     wanted: ValType,
     u: &mut Unstructured<'_>,
@@ -75,9 +75,9 @@ fn extended(
     let mut drawn = Items::new(alloc);
     let mut needed = 1usize;
     while needed > 0 {
-        match drawn_operator(drawn.len(), u) {
+        match draw_operator(drawn.len(), u) {
             None => {
-                let constant = constant(wanted, u);
+                let constant = draw_constant(wanted, u);
                 drawn.push(constant)?;
                 needed -= 1;
             }
@@ -91,7 +91,7 @@ fn extended(
 }
 
 /// Draws an extended constant of the type `wanted` behind the instructions of `out`.
-pub(super) fn extended_constant(
+pub(super) fn draw_extended_constant(
     alloc: Global,
     wanted: ValType,
     out: &mut Items<ConstInstr>,
@@ -104,7 +104,7 @@ pub(super) fn extended_constant(
     ensures memory { IfErr result (λ e. e ≡ Error.Memory) }
     ensures left { KeepsPieces u.old u.new }
 {
-    let drawn = extended(alloc, wanted, u)?;
+    let drawn = draw_extended(alloc, wanted, u)?;
     push_reversed(drawn.as_slice(), out)
 }
 

@@ -26,7 +26,7 @@ fn count_offers(scope: &Scope<'_>, wanted: ValType, fuel: u32) -> usize
 }
 
 /// Chooses among what is offered where a value of the type `wanted` is drawn.
-pub(super) fn chosen(
+pub(super) fn choose_offer(
     scope: &Scope<'_>,
     wanted: ValType,
     fuel: u32,

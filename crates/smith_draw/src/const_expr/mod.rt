@@ -28,7 +28,7 @@ mod references;
 mod scope;
 
 use crate::spaces::Spaces;
-use drawn::whole_expression;
+use drawn::draw_whole_expression;
 use references::is_below;
 use scope::{Scope, visible_end};
 use smith_bytes::{Error, Unstructured};
@@ -75,7 +75,7 @@ pub fn arbitrary_const_expr(
         spaces,
         visible,
     };
-    whole_expression(alloc, &scope, wanted, u)
+    draw_whole_expression(alloc, &scope, wanted, u)
 }
 
 /// Draws the initialiser of a table whose elements are of the type `element`, or none where null will do. The initialiser may

@@ -6,7 +6,7 @@ ghost use Rattle.smith_types.specs.Expressions.{field_values};
 ghost use Rattle.smith_types.specs.declared.value_type.ValType.TheVariants.{I32};
 ghost use Rattle.smith_draw.specs.declared.const_expr.node.Operand.TheVariants.{Value};
 
-use super::constant::constant;
+use super::constant::draw_constant;
 use super::defaults::unpacked;
 use super::node_choice::Choice;
 use smith_bytes::{Error, Unstructured};
@@ -34,7 +34,7 @@ pub(super) struct Node {
 
 /// Makes `choice` into a node: draws the value of a constant, and the size of a fixed array.
 #[tactic(auto, unfolding(crate::specs::ConstNodes::node_at))]
-pub(super) fn drawn_node(
+pub(super) fn draw_node(
     alloc: Global,
     types: &[SubType],
     wanted: ValType,
@@ -45,12 +45,12 @@ pub(super) fn drawn_node(
 {
     match choice {
         Choice::Global(index) => Ok(leaf(alloc, ConstInstr::GlobalGet(index))),
-        Choice::Constant | Choice::Extended => Ok(leaf(alloc, constant(wanted, u))),
+        Choice::Constant | Choice::Extended => Ok(leaf(alloc, draw_constant(wanted, u))),
         Choice::Function(index) => Ok(leaf(alloc, ConstInstr::RefFunc(index))),
         Choice::Struct(index) => of_fields(alloc, types, index, ConstInstr::StructNew(index)),
         Choice::StructDefault(index) => Ok(leaf(alloc, ConstInstr::StructNewDefault(index))),
         Choice::Array(index) => array(alloc, types, index),
-        Choice::FixedArray(index) => fixed_array(alloc, types, index, u),
+        Choice::FixedArray(index) => draw_fixed_array(alloc, types, index, u),
         Choice::ArrayDefault(index) => {
             of_one(alloc, Operand::Length, ConstInstr::ArrayNewDefault(index))
         }
@@ -125,7 +125,7 @@ fn of_fields(
 
 /// The node of an array of a drawn size, with each element by itself.
 #[tactic(auto, unfolding(crate::specs::ConstNodes::node_at))]
-fn fixed_array(
+fn draw_fixed_array(
     alloc: Global,
     types: &[SubType],
     index: u32,

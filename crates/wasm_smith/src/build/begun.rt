@@ -13,8 +13,8 @@ ghost use Rattle.smith_definitions.specs.RequiredExports.{Answers};
 use crate::build::drawn::Drawn;
 use smith_bytes::{Error, Unstructured};
 use smith_config::{Config, Shape};
-use smith_definitions::exports_of_shape;
-use smith_imports::{available_imports, imports_of_shape, types_of_shape};
+use smith_definitions::make_shape_exports;
+use smith_imports::{imports_of_shape, take_available_imports, types_of_shape};
 use smith_types::TypeSpace;
 use std::alloc::Global;
 
@@ -38,7 +38,7 @@ pub(crate) fn begin_with_module(
 {
     drawn.types = types_of_shape(alloc, shape)?;
     drawn.imported = imports_of_shape(alloc, config, shape)?;
-    drawn.contents.exports = exports_of_shape(
+    drawn.contents.exports = make_shape_exports(
         alloc,
         config,
         shape,
@@ -67,7 +67,7 @@ pub(crate) fn begin_with_imports(
     ensures memory { IfErr result (λ e. e ≡ Error.Memory) }
     ensures left { KeepsPieces u.old u.new }
 {
-    let (types, imported) = available_imports(alloc, config, shape, u)?;
+    let (types, imported) = take_available_imports(alloc, config, shape, u)?;
     drawn.types = types;
     drawn.imported = imported;
     Ok(())

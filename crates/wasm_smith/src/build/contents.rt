@@ -15,8 +15,8 @@ ghost use Rattle.smith_imports.specs.Imported.{spaces_of};
 ghost use Rattle.smith_imports.specs.Steps.{Gives};
 
 use crate::build::drawn::Drawn;
-use crate::build::section_flag::section_flag;
-use crate::build::segments::{Segments, all_segments};
+use crate::build::section_flag::draw_section_flag;
+use crate::build::segments::{Segments, draw_segments};
 use smith_bytes::{Error, Unstructured};
 use smith_config::Config;
 use smith_contents::{Exports, arbitrary_bodies, arbitrary_start};
@@ -68,7 +68,7 @@ impl Contents {
 /// Draws, behind the exports `made`, whether a type section is written, a start function, segments and bodies, in this order,
 /// over all that is imported and defined.
 #[tactic(auto, unfolding(crate::specs::DrawnContents::behind_exports_at))]
-pub(crate) fn behind_exports(
+pub(crate) fn draw_behind_exports(
     alloc: Global,
     config: &Config,
     types: &TypeSpace,
@@ -87,9 +87,9 @@ pub(crate) fn behind_exports(
     ensures refusal { IfErr result (MayRefuseContents config.now types.now.types (spaces_of imported.now)) }
     ensures left { KeepsPieces u.old u.new }
 {
-    let encodes_types = section_flag(types.types().len(), u);
+    let encodes_types = draw_section_flag(types.types().len(), u);
     let start = arbitrary_start(config, types.types(), imported.spaces.funcs.as_slice(), u);
-    let segments = all_segments(alloc, config, types, imported, definitions, u)?;
+    let segments = draw_segments(alloc, config, types, imported, definitions, u)?;
     let code = arbitrary_bodies(alloc, config, types, definitions.num_funcs, u)?;
     Ok(Contents {
         exports: made.exports,
@@ -101,7 +101,7 @@ pub(crate) fn behind_exports(
     })
 }
 
-/// Draws the contents behind the exports `made`, as [`behind_exports`] does, over all that stands in `drawn`.
+/// Draws the contents behind the exports `made`, as [`draw_behind_exports`] does, over all that stands in `drawn`.
 pub(crate) fn draw_contents(
     alloc: Global,
     config: &Config,
@@ -122,7 +122,7 @@ pub(crate) fn draw_contents(
     ensures left { KeepsPieces u.old u.new }
 {
     let imported = &drawn.imported;
-    behind_exports(
+    draw_behind_exports(
         alloc,
         config,
         &drawn.types,

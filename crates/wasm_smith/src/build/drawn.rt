@@ -15,8 +15,8 @@ ghost use Rattle.smith_definitions.specs.Refusals.{AreShapesValid, MayRefuse};
 ghost use Rattle.smith_definitions.specs.ShapesKept.{KeepsShapes};
 
 use crate::build::contents::{Contents, draw_contents};
-use crate::build::exports::exports;
-use crate::build::section_flag::section_flag;
+use crate::build::exports::make_exports;
+use crate::build::section_flag::draw_section_flag;
 use crate::build::steps::{add_definitions, add_imports, begin_with_types};
 use smith_bytes::{Error, Unstructured};
 use smith_config::Config;
@@ -63,7 +63,7 @@ impl Drawn {
 
 /// Draws the parts of a module into `drawn`, which has none yet, in the order of the steps, and collects the interesting values.
 #[tactic(auto, unfolding(crate::specs::Build::module_at))]
-fn parts(
+fn draw_parts(
     alloc: Global,
     config: &Config,
     distinct: bool,
@@ -82,9 +82,9 @@ fn parts(
 {
     begin_with_types(alloc, config, drawn, u)?;
     add_imports(alloc, config, distinct, drawn, u)?;
-    let encodes_imports = section_flag(drawn.imported.groups.len(), u);
+    let encodes_imports = draw_section_flag(drawn.imported.groups.len(), u);
     add_definitions(alloc, config, drawn, u)?;
-    let made = exports(alloc, config, drawn, u)?;
+    let made = make_exports(alloc, config, drawn, u)?;
     drawn.contents = draw_contents(alloc, config, drawn, made, u)?;
     drawn.encodes_imports = encodes_imports;
     let (narrow, wide) = collect_interesting_values(
@@ -119,6 +119,6 @@ pub(crate) fn draw(
     ensures left { KeepsPieces u.old u.new }
 {
     let mut drawn = Box::new(alloc, Drawn::none(alloc))?;
-    parts(alloc, config, distinct, drawn.as_mut(), u)?;
+    draw_parts(alloc, config, distinct, drawn.as_mut(), u)?;
     Ok(drawn)
 }

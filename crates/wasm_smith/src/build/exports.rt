@@ -19,7 +19,7 @@ use crate::build::drawn::Drawn;
 use smith_bytes::{Error, Unstructured};
 use smith_config::Config;
 use smith_contents::{Exports, arbitrary_exports};
-use smith_definitions::required_exports;
+use smith_definitions::make_required_exports;
 use smith_types::Items;
 use std::alloc::Global;
 use std::mem;
@@ -27,7 +27,7 @@ use std::mem;
 /// Takes the exports that a module shape made, makes the exports of a shape for exports, each of an entity that is defined for
 /// it, or draws exports.
 #[tactic(auto, unfolding(crate::specs::Build::exported_at))]
-pub(crate) fn exports(
+pub(crate) fn make_exports(
     alloc: Global,
     config: &Config,
     drawn: &mut Drawn,
@@ -54,7 +54,7 @@ pub(crate) fn exports(
         return Ok(Exports { exports, type_size });
     }
     if let Some(shape) = &config.exports {
-        let exports = required_exports(
+        let exports = make_required_exports(
             alloc,
             config,
             shape,

@@ -16,7 +16,6 @@ mod begun;
 mod contents;
 mod drawn;
 mod exports;
-mod imports;
 mod section_flag;
 mod segment_spaces;
 mod segments;

@@ -8,7 +8,7 @@ use smith_bytes::Unstructured;
 
 /// Draws whether a section of `count` types or groups of imports is written: always where `count` is above 0.
 #[tactic(auto, unfolding(smith_imports::specs::Steps::section_flag_at))]
-pub(crate) fn section_flag(count: usize, u: &mut Unstructured<'_>) -> bool
+pub(crate) fn draw_section_flag(count: usize, u: &mut Unstructured<'_>) -> bool
     ensures draws { AlwaysDraws (section_flag_at count u.old) result u.old u.new }
     ensures written { 0 < count → result ≡ true }
     ensures reach { count ≡ 0 → Takes SpellsBool u.old result u.new }

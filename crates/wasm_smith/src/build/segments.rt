@@ -38,7 +38,7 @@ impl Segments {
 
 /// Draws the element segments, then the data segments, over all that is imported and defined.
 #[tactic(auto, unfolding(crate::specs::DrawnContents::all_segments_at))]
-pub(crate) fn all_segments(
+pub(crate) fn draw_segments(
     alloc: Global,
     config: &Config,
     types: &TypeSpace,

@@ -12,11 +12,11 @@ ghost use Rattle.smith_definitions.specs.Refusals.{AreShapesValid, MayRefuse};
 
 use crate::build::begun::begin;
 use crate::build::drawn::Drawn;
-use crate::build::imports::imports;
-use crate::build::types::more_types;
+use crate::build::types::add_more_types;
 use smith_bytes::{Error, Unstructured};
 use smith_config::Config;
 use smith_definitions::define;
+use smith_imports::arbitrary_imports;
 use std::alloc::Global;
 
 /// Begins a module with the module shape or the available imports of `config`, and draws types behind the types of the shape.
@@ -38,7 +38,7 @@ pub(crate) fn begin_with_types(
     ensures left { KeepsPieces u.old u.new }
 {
     begin(alloc, config, drawn, u)?;
-    more_types(alloc, config, &mut drawn.types, u)
+    add_more_types(alloc, config, &mut drawn.types, u)
 }
 
 /// Draws imports, where no shape fixes them. Where `distinct` is set, no two imports have the same pair of names.
@@ -64,7 +64,7 @@ pub(crate) fn add_imports(
         return Ok(());
     }
     let imported = &mut drawn.imported;
-    imports(alloc, config, distinct, &drawn.types, imported, u)
+    arbitrary_imports(alloc, config, distinct, &drawn.types, imported, u)
 }
 
 /// Defines entities behind those of `drawn`.

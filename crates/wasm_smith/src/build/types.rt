@@ -18,7 +18,7 @@ use std::alloc::Global;
 
 /// Draws types behind those of `types`, which stay.
 #[tactic(auto, using(smith_draw::proofs::CallerLemmas::passes_but_imports))]
-pub(crate) fn more_types(
+pub(crate) fn add_more_types(
     alloc: Global,
     config: &Config,
     types: &mut TypeSpace,

@@ -11,7 +11,7 @@ path_is url shown path is same = ap url_path is ∙ same
 pub returns-clause-shape : goal.returns-clause-shape
 returns-clause-shape c =
     rw (path_is _ _ _ c.in_ok-url.ensures.exact c.deref.ensures)
-    (kebab_new c.args.names.now c.args.max_size c.args.u.now _ _ _ c.in_ok-kebab_string.ensures.exact c.in_ok-path.ensures.made)
+    (kebab_new c.args.names.now c.args.max_size c.args.u.now _ _ _ c.in_ok-draw_kebab_string.ensures.exact c.in_ok-path.ensures.made)
 
 pub returns-clause-added : goal.returns-clause-added
 returns-clause-added c =

@@ -7,12 +7,12 @@ pub returns : goal.returns
 returns c =
     let config = c.args.config.now in
     let types = c.args.types.now.types in
-    let draws = c.drawn_bodies.ensures in
+    let draws = c.draw_bodies.ensures in
     let valid = of_drawn _ draws (bodies_valid config types c.args.count c.args.u.now c.requires) in
     record {
       draws = draws;
       each = of_drawn _ draws (bodies_each config types c.args.count c.args.u.now);
       valid = valid;
       floats = λ off. of_drawn _ draws (bodies_no_float config types c.args.count c.args.u.now off);
-      no_raw = λ off. IfOk-weaker c.drawn_bodies.result _ _ (λ bodies h. none_raw config _ bodies off h) valid;
+      no_raw = λ off. IfOk-weaker c.draw_bodies.result _ _ (λ bodies h. none_raw config _ bodies off h) valid;
     }

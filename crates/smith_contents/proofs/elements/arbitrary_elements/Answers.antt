@@ -17,19 +17,19 @@ returns-clause-least c =
     let config = c.args.config.now in
     let context = seen_by config c.args.spaces.now true in
     let tables = c.args.spaces.now.entities.tables.now in
-    given_is (λ (segments : List ElementSegment). config.min_element_segments ≤ length segments) (λ segments. segments) (elements_at config context tables c.args.u.now) _ c.drawn_elements.result
-    (elements_least config context tables c.args.u.now (c.requires.may.passes.ordered counts.ElementSegments tt)) c.drawn_elements.ensures.exact
+    given_is (λ (segments : List ElementSegment). config.min_element_segments ≤ length segments) (λ segments. segments) (elements_at config context tables c.args.u.now) _ c.draw_elements.result
+    (elements_least config context tables c.args.u.now (c.requires.may.passes.ordered counts.ElementSegments tt)) c.draw_elements.ensures.exact
 
 pub returns-clause-enough : goal.returns-clause-enough
 returns-clause-enough c =
     let config = c.args.config.now in
     let spaces = c.args.spaces.now in
-    IfOk-weaker c.drawn_elements.result _ _
+    IfOk-weaker c.draw_elements.result _ _
     (λ segments fit. All-weaker (IsElementFit config (seen_by config spaces true) spaces.entities.tables.now) (λ (segment : ElementSegment). HasItems config spaces.types.now.types spaces.entities.funcs.now segment.items) (λ segment one. one.enough) segments fit)
-    c.drawn_elements.ensures.fit
+    c.draw_elements.ensures.fit
 
 pub returns-clause-floats : goal.returns-clause-floats
-returns-clause-floats c = λ calm. IfOk-weaker c.drawn_elements.result _ _ (λ segments fit. elements_no_float calm segments fit) c.drawn_elements.ensures.fit
+returns-clause-floats c = λ calm. IfOk-weaker c.draw_elements.result _ _ (λ segments fit. elements_no_float calm segments fit) c.draw_elements.ensures.fit
 
 pub returns-clause-none : goal.returns-clause-none
-returns-clause-none c = λ none empty. elements_taken c.args.config.now (seen_by c.args.config.now c.args.spaces.now true) c.args.spaces.now.entities.tables.now _ _ c.drawn_elements.result none empty c.drawn_elements.ensures.exact
+returns-clause-none c = λ none empty. elements_taken c.args.config.now (seen_by c.args.config.now c.args.spaces.now true) c.args.spaces.now.entities.tables.now _ _ c.draw_elements.result none empty c.draw_elements.ensures.exact

@@ -11,7 +11,7 @@ pub returns-then-config-clause-refusal : goal.returns-then-config-clause-refusal
 returns-then-config-clause-refusal c = IfErr-weaker c.export_everything.result _ _ (λ e h. inl (c.if-config.true, h)) c.export_everything.ensures.refusal
 
 pub returns-clause-exact : goal.returns-clause-exact
-returns-clause-exact c = rw (exports_free c.args.config.now c.args.types.now.types (spaces_in c.args.spaces.now) c.args.imports_size c.args.u.now c.if-config.false) c.free_exports.ensures.exact
+returns-clause-exact c = rw (exports_free c.args.config.now c.args.types.now.types (spaces_in c.args.spaces.now) c.args.imports_size c.args.u.now c.if-config.false) c.draw_free_exports.ensures.exact
 
 pub returns-clause-refusal : goal.returns-clause-refusal
-returns-clause-refusal c = IfErr-weaker c.free_exports.result _ _ (λ e h. inr (c.if-config.false, h)) c.free_exports.ensures.refusal
+returns-clause-refusal c = IfErr-weaker c.draw_free_exports.result _ _ (λ e h. inr (c.if-config.false, h)) c.draw_free_exports.ensures.refusal

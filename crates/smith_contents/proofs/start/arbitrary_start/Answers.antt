@@ -9,9 +9,9 @@ returns c =
     let config = c.args.config.now in
     let types = c.args.types.now in
     let funcs = c.args.funcs.now in
-    let exact = c.drawn_start.ensures.exact in
+    let exact = c.draw_start.ensures.exact in
     record {
-      draws = c.drawn_start.ensures;
+      draws = c.draw_start.ensures;
       valid = drawn_is (λ (start : Option ℕ). IsStartValid types funcs start) _ (start_valid config types funcs c.args.u.now) exact;
       off = λ off. drawn_is (λ (start : Option ℕ). start ≡ None) _ (start_off config types funcs c.args.u.now off) exact;
       none = start_taken config types funcs _ _ _ exact;

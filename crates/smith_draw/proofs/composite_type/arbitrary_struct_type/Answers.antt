@@ -12,7 +12,7 @@ pub returns : goal.returns
 returns c =
     let types = c.args.spaces.now.types.now.types in
     let config = c.args.config.now in
-    let draws = rw c.types.ensures.value at c.struct_type.ensures in
+    let draws = rw c.types.ensures.value at c.draw_struct_type.ensures in
     let drawn = struct_type_drawn config types c.args.must_share c.args.limit c.args.u.now c.requires.sanitized c.requires.may_share in
     let values = field_values_drawn config types c.args.must_share c.args.limit _ drawn.fields in
     record {
@@ -21,5 +21,5 @@ returns c =
       valid = of_drawn _ draws (values_valid _ _ _ _ _ values);
       stands = of_drawn _ draws (All-weaker (IsFieldDrawn config types c.args.must_share c.args.limit) (IsFieldInRange types) (λ field d. d.stands) _ drawn.fields);
       shared = λ must. of_drawn _ draws (values_shared _ _ _ _ _ must values);
-      reach = λ no. IfOk-weaker c.struct_type.result _ _ (λ _ e. struct_type_taken _ _ _ _ _ _ _ no e) draws.exact;
+      reach = λ no. IfOk-weaker c.draw_struct_type.result _ _ (λ _ e. struct_type_taken _ _ _ _ _ _ _ no e) draws.exact;
     }

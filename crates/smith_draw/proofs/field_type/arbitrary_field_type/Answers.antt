@@ -10,12 +10,12 @@ pub returns : goal.returns
 returns c =
     let types = c.args.spaces.now.types.now.types in
     let config = c.args.config.now in
-    let exact = rw c.types.ensures.value at c.field_type.ensures.exact in
+    let exact = rw c.types.ensures.value at c.draw_field_type.ensures.exact in
     let drawn = drawn_is (λ (ty : FieldType). IsFieldDrawn config types c.args.must_share c.args.limit ty) _ (field_type_drawn _ _ _ _ _ c.requires.sanitized c.requires.may_share) exact in
-    let values = values_of_storage c.field_type.result.element_type in
+    let values = values_of_storage c.draw_field_type.result.element_type in
     record {
       ok = refl;
-      draws = record { exact = exact; memory = tt; left = c.field_type.ensures.left };
+      draws = record { exact = exact; memory = tt; left = c.draw_field_type.ensures.left };
       valid = values_valid config types c.args.must_share c.args.limit values drawn.values;
       stands = drawn.stands;
       shared = λ must. values_shared config types c.args.must_share c.args.limit values must drawn.values;

@@ -11,10 +11,10 @@ use Rattle.smith_draw.proofs.global_type.arbitrary_global_type.Goals as goal
 
 pub returns : goal.returns
 returns c =
-    let exact = rw c.types.ensures.value at c.global_type.ensures.exact in
+    let exact = rw c.types.ensures.value at c.draw_global_type.ensures.exact in
     record {
       ok = refl;
-      draws = record { exact = exact; memory = tt; left = c.global_type.ensures.left };
+      draws = record { exact = exact; memory = tt; left = c.draw_global_type.ensures.left };
       valid = λ valid. drawn_is (IsGlobalValid (features_of c.args.config.now) c.args.spaces.now.types.now.types) _ (global_type_valid _ _ _ c.requires valid) exact;
       floats = λ off. drawn_is (λ (global : GlobalType). IsNoFloat global.val_type) _ (global_type_no_float _ _ _ off) exact;
       nullable = drawn_is (λ (global : GlobalType). ¬ IsNonNullable global.val_type) _ (global_type_nullable _ _ _) exact;

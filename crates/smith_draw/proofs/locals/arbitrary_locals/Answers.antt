@@ -9,7 +9,7 @@ unfolding locals_at
 returns c =
     let config = c.args.config.now in
     let types = c.args.spaces.now.types.now.types in
-    let draws : Draws (locals_at config types c.args.u.now) c.val_types.result c.args.u.now c.val_types.new.u = rw c.types-types.ensures.value at c.val_types.ensures in
+    let draws : Draws (locals_at config types c.args.u.now) c.draw_val_types.result c.args.u.now c.draw_val_types.new.u = rw c.types-types.ensures.value at c.draw_val_types.ensures in
     record {
       draws = draws;
       most = of_drawn _ draws (locals_most config types c.args.u.now);

@@ -5,16 +5,16 @@ use Rattle.smith_draw.proofs.DrawingLemmas.{of_drawn}
 use Rattle.smith_draw.proofs.super_type.arbitrary_super_type_of_ref_type.Goals as goal
 
 pub returns-clause-above : goal.returns-clause-above
-returns-clause-above c = of_drawn _ c.super_ref_type.ensures (super_ref_above _ _ _ _)
+returns-clause-above c = of_drawn _ c.draw_super_ref_type.ensures (super_ref_above _ _ _ _)
 
 pub returns-clause-nullable : goal.returns-clause-nullable
-returns-clause-nullable c = of_drawn _ c.super_ref_type.ensures (super_ref_nullable _ _ _ _)
+returns-clause-nullable c = of_drawn _ c.draw_super_ref_type.ensures (super_ref_nullable _ _ _ _)
 
 pub returns-clause-shared : goal.returns-clause-shared
-returns-clause-shared c = of_drawn _ c.super_ref_type.ensures (above_shared _ c.orderly.ensures _ _ (super_ref_above _ _ _ _).heap)
+returns-clause-shared c = of_drawn _ c.draw_super_ref_type.ensures (above_shared _ c.orderly.ensures _ _ (super_ref_above _ _ _ _).heap)
 
 pub returns-clause-valid : goal.returns-clause-valid
-returns-clause-valid c = of_drawn _ c.super_ref_type.ensures (super_ref_valid _ _ c.orderly.ensures _ _)
+returns-clause-valid c = of_drawn _ c.draw_super_ref_type.ensures (super_ref_valid _ _ c.orderly.ensures _ _)
 
 pub returns-clause-stands : goal.returns-clause-stands
-returns-clause-stands c = of_drawn _ c.super_ref_type.ensures (above_stands _ c.orderly.ensures _ _ (super_ref_above _ _ _ _).heap)
+returns-clause-stands c = of_drawn _ c.draw_super_ref_type.ensures (above_stands _ c.orderly.ensures _ _ (super_ref_above _ _ _ _).heap)

@@ -16,8 +16,8 @@ use Rattle.wasm_smith.proofs.build.begun.begin_with_module.Goals as goal
 pub types_of_shape-requires-clause-following : goal.types_of_shape-requires-clause-following
 types_of_shape-requires-clause-following c = valid_following (features_of c.args.config.now) (space_of c.args.shape.now.groups) c.requires.valid.consistent.types
 
-pub exports_of_shape-requires-clause-may : goal.exports_of_shape-requires-clause-may
-exports_of_shape-requires-clause-may c =
+pub make_shape_exports-requires-clause-may : goal.make_shape_exports-requires-clause-may
+make_shape_exports-requires-clause-may c =
     let kept = c.in_ok-drawn-2.ensures.kept in
     let nothing : c.args.drawn.now.definitions ≡ nothing_defined = ap (λ (begun : Begun). begun.defined) c.requires.nothing.begun in
     rw (c.in_ok-drawn.ensures.types, kept.spaces, nothing) (may_begin c.args.config.now c.args.shape.now c.requires.sanitized c.requires.valid kept.entities)
@@ -30,7 +30,7 @@ returns-in_err-drawn-3-clause-exact c =
     let given = rw (c.in_ok-drawn.ensures.types, kept.spaces, nothing) at c.in_err-drawn-3.ensures.exact in
     refused_with
     (λ (made : Required). record { types = made.types; groups = kept_groups c.args.config.now c.args.shape.now; spaces = made.spaces; defined = made.defined; exports = made.exports })
-    (λ (exports : List Export). (standing_with c.exports_of_shape.new.types (spaces_in c.exports_of_shape.new.spaces) c.exports_of_shape.new.definitions exports, c.exports_of_shape.new.u))
+    (λ (exports : List Export). (standing_with c.make_shape_exports.new.types (spaces_in c.make_shape_exports.new.spaces) c.make_shape_exports.new.definitions exports, c.make_shape_exports.new.u))
     _ c.in_err-drawn-3.field-0.0 _ c.from_residual-in_err-drawn-3.result given c.from_residual-in_err-drawn-3.ensures.1
 
 pub returns-clause-exact : goal.returns-clause-exact
@@ -58,8 +58,8 @@ returns-clause-begun c =
       valid = kept.valid;
       stands = made.stands imported (rw (c.in_ok-drawn.ensures.types, kept.spaces, nothing) (stands_alone c.args.config.now (space_of shape.groups) imported c.requires.valid.consistent.types kept.entities kept.counts));
       counted = λ count types imports. made.counted count types ∙ (ap (λ (spaces : IndexSpaces). count_in spaces count + exported_of count shape) kept.spaces ∙ brought_so count shape types imports);
-      tables = tables_of_shape shape (spaces_in c.exports_of_shape.new.spaces) (rw kept.spaces at made.limits);
-      memories = memories_of_shape shape (spaces_in c.exports_of_shape.new.spaces) (rw kept.spaces at made.limits);
+      tables = tables_of_shape shape (spaces_in c.make_shape_exports.new.spaces) (rw kept.spaces at made.limits);
+      memories = memories_of_shape shape (spaces_in c.make_shape_exports.new.spaces) (rw kept.spaces at made.limits);
       exports = made.kept;
       exports_valid = made.valid;
     }

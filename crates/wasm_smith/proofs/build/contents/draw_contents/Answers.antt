@@ -4,13 +4,13 @@ use Rattle.smith_types.specs.IndexSpaces.{spaces_in}
 use Rattle.wasm_smith.proofs.RefusalLemmas.{contents_refuse, lacks_so}
 use Rattle.wasm_smith.proofs.build.contents.draw_contents.Goals as goal
 
-pub behind_exports-requires-clause-may : goal.behind_exports-requires-clause-may
-behind_exports-requires-clause-may c = may_hold_contents c.args.config.now c.args.drawn.now c.requires.passes c.requires.sanitized c.requires.valid c.requires.drawn
+pub draw_behind_exports-requires-clause-may : goal.draw_behind_exports-requires-clause-may
+draw_behind_exports-requires-clause-may c = may_hold_contents c.args.config.now c.args.drawn.now c.requires.passes c.requires.sanitized c.requires.valid c.requires.drawn
 
-pub behind_exports-requires-clause-told : goal.behind_exports-requires-clause-told
-behind_exports-requires-clause-told c = imports_told c.requires.drawn
+pub draw_behind_exports-requires-clause-told : goal.draw_behind_exports-requires-clause-told
+draw_behind_exports-requires-clause-told c = imports_told c.requires.drawn
 
 pub returns-clause-refusal : goal.returns-clause-refusal
 returns-clause-refusal c =
     let drawn = c.args.drawn.now in
-    contents_refuse c.args.config.now drawn.types.types (spaces_in drawn.imported.spaces) c.behind_exports.result (lacks_so c.args.config.now drawn.types.types (spaces_in drawn.imported.spaces) c.requires.drawn.nullable) c.behind_exports.ensures.refusal
+    contents_refuse c.args.config.now drawn.types.types (spaces_in drawn.imported.spaces) c.draw_behind_exports.result (lacks_so c.args.config.now drawn.types.types (spaces_in drawn.imported.spaces) c.requires.drawn.nullable) c.draw_behind_exports.ensures.refusal

@@ -1,22 +1,29 @@
-use Rattle.std.proofs.lemmas.Result.{on_ok_weaker}
+use Rattle.std.proofs.lemmas.Result.{on_ok_weaker, IfErr-weaker}
 use Rattle.wasm_smith.proofs.AddedImportLemmas.{imports_beyond, imports_drawn, may_import, none_there}
+use Rattle.wasm_smith.proofs.RefusalLemmas.{imports_refuse}
 use Rattle.wasm_smith.proofs.build.steps.add_imports.Goals as goal
 
-pub imports-requires-clause-may : goal.imports-requires-clause-may
-imports-requires-clause-may c =
+pub arbitrary_imports-requires-clause-may : goal.arbitrary_imports-requires-clause-may
+arbitrary_imports-requires-clause-may c =
     let config = c.args.config.now in
     may_import config c.args.drawn.now c.requires.passes c.requires.sanitized c.requires.types (none_there config.available_imports c.if-is_some.ensures) (none_there config.module_shape c.if-is_some-2.ensures)
 
 pub returns-clause-drawn : goal.returns-clause-drawn
 returns-clause-drawn c =
     let config = c.args.config.now in
-    on_ok_weaker c.imports.result
-    (imports_drawn config c.args.drawn.now c.requires.passes c.requires.sanitized c.requires.types (none_there config.available_imports c.if-is_some.ensures) (none_there config.module_shape c.if-is_some-2.ensures) c.args.distinct c.imports.new.imported)
-    c.imports.ensures.so_far
+    on_ok_weaker c.arbitrary_imports.result
+    (imports_drawn config c.args.drawn.now c.requires.passes c.requires.sanitized c.requires.types (none_there config.available_imports c.if-is_some.ensures) (none_there config.module_shape c.if-is_some-2.ensures) c.args.distinct c.arbitrary_imports.new.imported)
+    c.arbitrary_imports.ensures.so_far
 
 pub returns-clause-beyond : goal.returns-clause-beyond
 returns-clause-beyond c =
     let config = c.args.config.now in
-    on_ok_weaker c.imports.result
-    (imports_beyond config c.args.drawn.now c.requires.passes c.requires.sanitized c.requires.types (none_there config.available_imports c.if-is_some.ensures) (none_there config.module_shape c.if-is_some-2.ensures) c.args.distinct c.imports.new.imported)
-    c.imports.ensures.so_far
+    on_ok_weaker c.arbitrary_imports.result
+    (imports_beyond config c.args.drawn.now c.requires.passes c.requires.sanitized c.requires.types (none_there config.available_imports c.if-is_some.ensures) (none_there config.module_shape c.if-is_some-2.ensures) c.args.distinct c.arbitrary_imports.new.imported)
+    c.arbitrary_imports.ensures.so_far
+
+pub returns-clause-refusal : goal.returns-clause-refusal
+returns-clause-refusal c =
+    let config = c.args.config.now in
+    let may = may_import config c.args.drawn.now c.requires.passes c.requires.sanitized c.requires.types (none_there config.available_imports c.if-is_some.ensures) (none_there config.module_shape c.if-is_some-2.ensures) in
+    IfErr-weaker c.arbitrary_imports.result _ _ (λ e. imports_refuse config e may.free) c.arbitrary_imports.ensures.refusal

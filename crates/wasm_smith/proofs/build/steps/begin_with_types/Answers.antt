@@ -7,11 +7,11 @@ use Rattle.wasm_smith.proofs.build.steps.begin_with_types.Goals as goal
 pub returns-in_err-begin-clause-refusal : goal.returns-in_err-begin-clause-refusal
 returns-in_err-begin-clause-refusal c = passed_on _ c.from_residual.result c.in_err-begin.field-0.0 c.from_residual.ensures.1 (begun_refused c.args.config.now c.in_err-begin.field-0.0 c.in_err-begin.ensures.refusal)
 
-pub more_types-requires-clause-valid : goal.more_types-requires-clause-valid
-more_types-requires-clause-valid c = (begun_stands c.args.config.now c.args.u.now c.begin.new.drawn c.in_ok-begin.ensures.begun).stands.types
+pub add_more_types-requires-clause-valid : goal.add_more_types-requires-clause-valid
+add_more_types-requires-clause-valid c = (begun_stands c.args.config.now c.args.u.now c.begin.new.drawn c.in_ok-begin.ensures.begun).stands.types
 
 pub returns-clause-drawn : goal.returns-clause-drawn
 returns-clause-drawn c =
-    let more = c.more_types.ensures in
-    drawn_behind c.args.config.now c.args.u.now c.begin.new.drawn c.more_types.new.types c.more_types.result c.requires.valid c.in_ok-begin.ensures.begun
-    (types_behind c.args.config.now c.begin.new.drawn.types c.more_types.new.types c.more_types.result more.valid more.types more.most more.full more.least more.floats more.few_values more.nullable)
+    let more = c.add_more_types.ensures in
+    drawn_behind c.args.config.now c.args.u.now c.begin.new.drawn c.add_more_types.new.types c.add_more_types.result c.requires.valid c.in_ok-begin.ensures.begun
+    (types_behind c.args.config.now c.begin.new.drawn.types c.add_more_types.new.types c.add_more_types.result more.valid more.types more.most more.full more.least more.floats more.few_values more.nullable)

@@ -1,0 +1,18 @@
+use Rattle.std.proofs.Common.{true, ◌≤◌, List, length}
+use Rattle.std.proofs.lemmas.Result.{IfOk-weaker}
+use Rattle.smith_types.specs.declared.const_instr.ConstInstr.{ConstInstr}
+use Rattle.smith_draw.specs.ConstScopes.{seen_by}
+use Rattle.smith_draw.proofs.ValueTypeLemmas.{drawn_is}
+use Rattle.smith_contents.proofs.ElementFitLemmas.{expressions_fit}
+use Rattle.smith_contents.proofs.ElementItemLemmas.{expressions_few}
+use Rattle.smith_contents.proofs.element_items.draw_expressions.Goals as goal
+
+pub returns-clause-few : goal.returns-clause-few
+returns-clause-few c =
+    let few = expressions_few c.args.config.now (seen_by c.args.config.now c.args.spaces.now true) c.args.ty c.args.most _ in
+    IfOk-weaker c.draw_each_expression.result _ _ (λ items. drawn_is (λ (made : List (List ConstInstr)). length made ≤ c.args.most) _ few) c.draw_each_expression.ensures.exact
+
+pub returns-clause-fit : goal.returns-clause-fit
+returns-clause-fit c =
+    let drawn = c.draw_each_expression.ensures in
+    expressions_fit c.args.config.now (seen_by c.args.config.now c.args.spaces.now true) c.args.ty c.args.most _ _ c.draw_each_expression.result c.requires.references c.in_ok-ask_enough.ensures.enough drawn.exact drawn.typed drawn.floats

@@ -1,0 +1,17 @@
+use Rattle.std.proofs.Common.{◌≡◌, false}
+use Rattle.smith_types.specs.declared.value_type.RefType.{RefType}
+use Rattle.smith_contents.specs.DrawnElements.{HasNonNullableElements}
+use Rattle.smith_draw.proofs.DrawingLemmas.{of_drawn}
+use Rattle.smith_contents.proofs.ElementItemLemmas.{item_type_may, item_type_fits, item_type_needed}
+use Rattle.smith_contents.proofs.element_items.draw_item_type.Goals as goal
+
+pub returns-clause-may : goal.returns-clause-may
+returns-clause-may c = of_drawn _ c.draw_type_for.ensures (item_type_may c.args.config.now c.args.spaces.now c.args.choice c.args.u.now c.requires.may c.requires.offered)
+
+pub returns-clause-fits : goal.returns-clause-fits
+returns-clause-fits c = of_drawn _ c.draw_type_for.ensures (item_type_fits c.args.config.now c.args.spaces.now.types.now.types c.args.choice c.args.u.now)
+
+pub returns-clause-needed : goal.returns-clause-needed
+returns-clause-needed c =
+    of_drawn (λ (ty : RefType). ty.nullable ≡ false → HasNonNullableElements c.args.spaces.now.entities.tables.now) c.draw_type_for.ensures
+    (item_type_needed c.args.config.now c.args.spaces.now.types.now.types c.args.spaces.now.entities.tables.now c.args.choice c.args.u.now c.requires.offered)

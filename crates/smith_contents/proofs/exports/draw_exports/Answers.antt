@@ -1,0 +1,10 @@
+use Rattle.std.proofs.Common.{◌<◌, length, inr, refl, arith}
+use Rattle.smith_types.specs.IndexSpaces.{spaces_in}
+use Rattle.smith_contents.proofs.ExportRefusalLemmas.{run_out}
+use Rattle.smith_contents.proofs.exports.draw_exports.Goals as goal
+
+pub returns-then-len-config-clause-refusal : goal.returns-then-len-config-clause-refusal
+returns-then-len-config-clause-refusal c =
+    let drawn = c.in_ok-drawn.ensures in
+    let few : length c.in_ok-drawn.drawn.exports < c.args.config.now.min_exports = omega (arith, c.len.ensures, c.if-len-config.true) in
+    inr (refl, omega (arith, few), λ no_shapes. run_out c.args.config.now c.args.types.now.types (spaces_in c.args.spaces.now) c.args.imports_size c.in_ok-drawn.drawn.exports c.in_ok-drawn.drawn.type_size c.requires.may drawn.kept no_shapes few (drawn.none_left few))

@@ -1,0 +1,23 @@
+use Rattle.std.proofs.Common.{ap, ◌∙◌, arith, rules}
+use Rattle.smith_bytes.proofs.GrowingLoop.{grow_full}
+use Rattle.smith_types.specs.Space.{Space}
+use Rattle.smith_draw.specs.SubTypes.{HasSuperType}
+use Rattle.smith_draw.proofs.UntilLoop.{until_go}
+use Rattle.smith_draw.proofs.ValueTypeLemmas.{drawn_is}
+use Rattle.smith_draw.proofs.SubTypeLemmas.{sub_type_follows}
+use Rattle.smith_draw.proofs.rec_group.add_types.Goals as goal
+
+pub add_type-requires : goal.add_type-requires
+add_type-requires c = record {
+  below = (drawn_is (HasSuperType c.loop-made.types.types) _ (sub_type_follows _ _ _ _) c.in_ok-added.ensures.exact).below;
+  room = let len = c.loop-made.invariant.grown.len in omega arith;
+}
+
+pub loop-made-preserved : goal.loop-made-preserved
+loop-made-preserved c = record {
+  grown = until_go c.loop-made.invariant.grown c.loop-made-test.true c.in_ok-added.ensures.exact (ap (λ (s : Space). s.types) c.in_ok-add_type.ensures.ok) c.in_ok-added.ensures.left;
+  groups = ap (λ (s : Space). s.groups) c.in_ok-add_type.ensures.ok ∙ c.loop-made.invariant.groups;
+}
+
+pub returns-clause-draws : goal.returns-clause-draws
+returns-clause-draws c = record { exact = grow_full c.loop-made.invariant.grown c.loop-made-test.false; memory = search rules; left = search rules }

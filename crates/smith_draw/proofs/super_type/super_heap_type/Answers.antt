@@ -1,9 +1,0 @@
-use Rattle.std.proofs.Common.{◌∙◌, rules}
-use Rattle.smith_draw.proofs.ChosenLemmas.{super_without_gc, super_with_gc}
-use Rattle.smith_draw.proofs.super_type.super_heap_type.Goals as goal
-
-pub returns-then-not-config : goal.returns-then-not-config
-returns-then-not-config c = record { exact = super_without_gc _ _ _ _ c.if-not-config.true; memory = search rules; left = search rules }
-
-pub returns : goal.returns
-returns c = record { exact = super_with_gc _ _ _ _ _ _ _ c.if-not-config.false c.types.ensures.value (c.as_slice.ensures ∙ c.in_ok-offered.ensures.exact) (c.choose.ensures.exact _); memory = search rules; left = search rules }

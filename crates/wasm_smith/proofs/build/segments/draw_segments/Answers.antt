@@ -1,0 +1,46 @@
+use Rattle.std.proofs.Common.{subst, arith}
+use Rattle.std.specs.Prelude.{All}
+use Rattle.smith_types.specs.Expressions.{Context}
+use Rattle.smith_types.specs.Segments.{IsElementValid, IsDataValid}
+use Rattle.wasm_smith.specs.DrawnContents.{imported_in}
+use Rattle.wasm_smith.proofs.ContentsLemmas.{may_draw_elements, spaces_valid, memories_few}
+use Rattle.smith_draw.proofs.ConstStepLemmas.{passed_on}
+use Rattle.smith_imports.specs.Imported.{spaces_of}
+use Rattle.wasm_smith.proofs.RefusalLemmas.{elements_refuse}
+use Rattle.wasm_smith.proofs.SegmentScopeLemmas.{seen_over}
+use Rattle.wasm_smith.proofs.build.segments.draw_segments.Goals as goal
+
+pub arbitrary_elements-requires : goal.arbitrary_elements-requires
+arbitrary_elements-requires c = record { may = may_draw_elements c.requires.may c.segment_spaces-spaces.ensures (omega (arith, c.len-2.ensures)) }
+
+pub arbitrary_data-requires-clause-standing : goal.arbitrary_data-requires-clause-standing
+arbitrary_data-requires-clause-standing c = spaces_valid c.requires.may c.segment_spaces-spaces.ensures (omega (arith, c.len-2.ensures))
+
+pub arbitrary_data-requires-clause-few : goal.arbitrary_data-requires-clause-few
+arbitrary_data-requires-clause-few c = memories_few c.requires.may c.segment_spaces-spaces.ensures
+
+pub returns-clause-fit : goal.returns-clause-fit
+returns-clause-fit c =
+    let spaces = c.segment_spaces-spaces.result in
+    let over = c.segment_spaces-spaces.ensures in
+    let elements = c.in_ok-elements.ensures in
+    let data_segments = c.in_ok-data_segments.ensures in
+    let scope = seen_over (imported_in c.args.imported.now) c.args.config.now over (omega (arith, c.requires.told.funcs, c.len.ensures)) (omega (arith, c.requires.told.globals, c.len-2.ensures, c.len-3.ensures)) in
+    record {
+      elements = rw over.tables at (subst (λ (context : Context). All (IsElementValid context spaces.entities.tables.now) c.in_ok-elements.elements) scope elements.valid);
+      most_elements = elements.most.0;
+      least_elements = elements.least;
+      most_items = elements.most.1;
+      enough_items = rw (over.types, over.funcs) at elements.enough;
+      elements_inside = λ on. rw over.tables at (elements.inside on);
+      data_segments = rw over.memories at (subst (λ (context : Context). All (IsDataValid context spaces.entities.memories.now) c.in_ok-data_segments.data_segments) scope data_segments.valid);
+      most_data = data_segments.most;
+      least_data = data_segments.least;
+      data_inside = λ on. rw over.memories at (data_segments.inside on);
+    }
+
+pub returns-in_err-elements-clause-refusal : goal.returns-in_err-elements-clause-refusal
+returns-in_err-elements-clause-refusal c =
+    let over = c.segment_spaces-spaces.ensures in
+    passed_on _ c.from_residual.result c.in_err-elements.field-0.0 c.from_residual.ensures.1
+    (elements_refuse c.args.config.now c.args.types.now.types (spaces_of c.args.imported.now) c.in_err-elements.field-0.0 (rw (over.types, over.tables) at c.in_err-elements.ensures.refusal))
