@@ -5,6 +5,7 @@
 mod choice;
 mod composite_type;
 mod const_expr;
+mod each;
 mod entity_type;
 mod examples;
 mod field_type;

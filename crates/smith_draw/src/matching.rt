@@ -21,23 +21,22 @@ ghost use Rattle.smith_draw.specs.Kept.{
 };
 ghost use Rattle.smith_draw.specs.Offered.{subtypes_offered};
 ghost use Rattle.smith_draw.specs.MatchingTypes.{
-  each_at,
   matching_heap_type_at,
   matching_ref_type_at,
   matching_val_type_at,
   matching_storage_type_at,
   matching_field_type_at,
-  matched_fields_at,
   matching_func_type_at,
 };
 
 use crate::choice::choose;
+use crate::each::{Replacement, draw_each};
 use crate::offered::gc_subtypes;
 use crate::spaces::{Spaces, orderly};
-use crate::super_type::draw_super_val_types;
+use crate::super_type::Above;
 use smith_bytes::{Error, Unstructured};
 use smith_config::Config;
-use smith_types::{FieldType, FuncType, HeapType, Items, RefType, StorageType, TypeSpace, ValType};
+use smith_types::{FieldType, FuncType, HeapType, RefType, StorageType, TypeSpace, ValType};
 use std::alloc::Global;
 
 fn draw_matching_heap_type(
@@ -125,39 +124,37 @@ pub(crate) fn draw_matching_field_type(
     })
 }
 
-/// Draws a matching field for each of `fields`, in order.
-#[tactic(auto, unfolding(crate::specs::MatchingTypes::matched_fields_at))]
-pub(crate) fn draw_matching_fields(
-    alloc: Global,
-    config: &Config,
-    space: &TypeSpace,
-    fields: &[FieldType],
-    u: &mut Unstructured<'_>,
-) -> Result<Items<FieldType>, Error>
-    ensures { Draws (matched_fields_at config.now space.now.types fields.now u.old) result u.old u.new }
-{
-    let mut matched = Items::with_capacity(alloc, fields.len())?;
-    for field in fields {
-        matched.push(draw_matching_field_type(alloc, config, space, *field, u)?)?;
-    }
-    Ok(matched)
+/// Draws what matches: a subtype of a value type, and a field that matches a field.
+#[derive(Clone, Copy)]
+pub(crate) struct Matching<'a> {
+    pub(crate) config: &'a Config,
+    pub(crate) space: &'a TypeSpace,
 }
 
-/// Draws a matching value type for each of `values`, in order.
-fn draw_matching_val_types(
-    alloc: Global,
-    config: &Config,
-    space: &TypeSpace,
-    values: &[ValType],
-    u: &mut Unstructured<'_>,
-) -> Result<Items<ValType>, Error>
-    ensures { Draws (each_at (matching_val_type_at config.now space.now.types) values.now u.old) result u.old u.new }
-{
-    let mut matching = Items::with_capacity(alloc, values.len())?;
-    for ty in values {
-        matching.push(draw_matching_val_type(alloc, config, space, *ty, u)?)?;
+impl<'a> Replacement<ValType> for Matching<'a> {
+    ghost draw_at = { λ matching. matching_val_type_at matching.config.now matching.space.now.types };
+
+    fn draw(
+        &self,
+        alloc: Global,
+        item: ValType,
+        u: &mut Unstructured<'_>,
+    ) -> Result<ValType, Error> {
+        draw_matching_val_type(alloc, self.config, self.space, item, u)
     }
-    Ok(matching)
+}
+
+impl<'a> Replacement<FieldType> for Matching<'a> {
+    ghost draw_at = { λ matching. matching_field_type_at matching.config.now matching.space.now.types };
+
+    fn draw(
+        &self,
+        alloc: Global,
+        item: FieldType,
+        u: &mut Unstructured<'_>,
+    ) -> Result<FieldType, Error> {
+        draw_matching_field_type(alloc, self.config, self.space, item, u)
+    }
 }
 
 #[tactic(auto, unfolding(crate::specs::MatchingTypes::matching_func_type_at))]
@@ -170,8 +167,10 @@ pub(crate) fn draw_matching_func_type(
 ) -> Result<FuncType, Error>
     ensures { Draws (matching_func_type_at config.now space.now.types function.now u.old) result u.old u.new }
 {
-    let params = draw_super_val_types(alloc, config, space, function.params.as_slice(), u)?;
-    let results = draw_matching_val_types(alloc, config, space, function.results.as_slice(), u)?;
+    let above = Above { config, space };
+    let params = draw_each(alloc, &above, function.params.as_slice(), u)?;
+    let matching = Matching { config, space };
+    let results = draw_each(alloc, &matching, function.results.as_slice(), u)?;
     Ok(FuncType { params, results })
 }
 

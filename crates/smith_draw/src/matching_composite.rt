@@ -13,14 +13,15 @@ ghost use Rattle.smith_draw.specs.MatchingComposites.{
 };
 
 use crate::composite_type::draw_fields;
-use crate::matching::{draw_matching_field_type, draw_matching_fields, draw_matching_func_type};
+use crate::each::draw_each;
+use crate::matching::{Matching, draw_matching_field_type, draw_matching_func_type};
 use crate::spaces::{Spaces, orderly};
 use smith_bytes::{Error, Unstructured};
 use smith_config::Config;
 use smith_types::{ArrayType, CompositeInnerType, CompositeType, StructType, TypeSpace};
 use std::alloc::Global;
 
-#[tactic(auto, unfolding(crate::specs::MatchingComposites::matching_struct_type_at))]
+#[tactic(auto, unfolding(crate::specs::MatchingComposites::matching_struct_type_at, crate::specs::MatchingTypes::matched_fields_at))]
 fn draw_matching_struct_type(
     alloc: Global,
     config: &Config,
@@ -33,7 +34,8 @@ fn draw_matching_struct_type(
     ensures { Draws (matching_struct_type_at config.now space.now.types must_share limit structure.now u.old) result u.old u.new }
 {
     let extra = u.int_in_range(0..=5usize);
-    let matched = draw_matching_fields(alloc, config, space, structure.fields.as_slice(), u)?;
+    let matching = Matching { config, space };
+    let matched = draw_each(alloc, &matching, structure.fields.as_slice(), u)?;
     let end = matched.as_slice().len() + extra;
     let fields = draw_fields(config, space.types(), must_share, limit, end, matched, u)?;
     Ok(StructType { fields })

@@ -6,14 +6,15 @@ ghost use Rattle.smith_config.specs.Features.{features_of};
 ghost use Rattle.smith_draw.specs.Drawing.{Draws};
 ghost use Rattle.smith_draw.specs.Kept.{StaysValid};
 ghost use Rattle.smith_draw.specs.Offered.{supertypes_offered};
-ghost use Rattle.smith_draw.specs.MatchingTypes.{each_at, super_heap_type_at, super_ref_type_at, super_val_type_at};
+ghost use Rattle.smith_draw.specs.MatchingTypes.{super_heap_type_at, super_ref_type_at, super_val_type_at};
 
 use crate::choice::choose;
+use crate::each::Replacement;
 use crate::offered::gc_supertypes;
 use crate::spaces::{Spaces, orderly};
 use smith_bytes::{Error, Unstructured};
 use smith_config::Config;
-use smith_types::{HeapType, Items, RefType, TypeSpace, ValType};
+use smith_types::{HeapType, RefType, TypeSpace, ValType};
 use std::alloc::Global;
 
 fn draw_super_heap_type(
@@ -65,21 +66,24 @@ fn draw_super_val_type(
     Ok(ty)
 }
 
-/// Draws a supertype for each of `values`, in order.
-pub(crate) fn draw_super_val_types(
-    alloc: Global,
-    config: &Config,
-    space: &TypeSpace,
-    values: &[ValType],
-    u: &mut Unstructured<'_>,
-) -> Result<Items<ValType>, Error>
-    ensures { Draws (each_at (super_val_type_at config.now space.now.types) values.now u.old) result u.old u.new }
-{
-    let mut supertypes = Items::with_capacity(alloc, values.len())?;
-    for ty in values {
-        supertypes.push(draw_super_val_type(alloc, config, space, *ty, u)?)?;
+/// Draws a supertype of a value type.
+#[derive(Clone, Copy)]
+pub(crate) struct Above<'a> {
+    pub(crate) config: &'a Config,
+    pub(crate) space: &'a TypeSpace,
+}
+
+impl<'a> Replacement<ValType> for Above<'a> {
+    ghost draw_at = { λ above. super_val_type_at above.config.now above.space.now.types };
+
+    fn draw(
+        &self,
+        alloc: Global,
+        item: ValType,
+        u: &mut Unstructured<'_>,
+    ) -> Result<ValType, Error> {
+        draw_super_val_type(alloc, self.config, self.space, item, u)
     }
-    Ok(supertypes)
 }
 
 /// Draws a heap type above `ty`, over the types of `spaces`; without garbage collection `ty` itself. The standard's section
