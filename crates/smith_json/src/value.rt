@@ -1,0 +1,243 @@
+ghost use Rattle.std.specs.Prelude.{◌≡◌, ◌≤◌, length, drop, IfOk, IfSome, OnOk};
+ghost use Rattle.std.specs.List.{list_all};
+ghost use Rattle.std.specs.Char.{is_ascii_digit};
+ghost use Rattle.json.specs.Reads.{token_of};
+ghost use Rattle.smith_json.specs.Fields.{named, others, other_named, field_named};
+ghost use Rattle.smith_json.specs.Values.{
+  first,
+  unwanted,
+  are_digits,
+  number_of,
+  whole_value,
+  truth_value,
+  file_value,
+  AreKinds,
+  weight,
+  weights,
+  list_end,
+};
+ghost use Rattle.smith_json.specs.Objects.{Sets, outcome};
+
+use crate::by_name::{byte, long, maximum, minimum, proposal, rule, wide, word};
+use crate::refusal::Fault;
+use bitflags::Flags;
+use json::{Reader, Token};
+use smith_config::{Config, MemoryOffsetChoices};
+use smith_types::InstructionKinds;
+use std::str::FromStr;
+
+/// Takes the next token. The end of the text counts as a bad one.
+fn next<'a>(reader: &mut Reader<'a>) -> Token<'a>
+    ensures token { token_of result ≡ first reader.old }
+    ensures rest { reader.new ≡ drop 1 reader.old }
+{
+    reader.next().unwrap_or(Token::Bad)
+}
+
+/// The fault of a token that a field doesn't take.
+fn unwanted(token: Token<'_>) -> Fault
+    ensures { result ≡ unwanted (token_of token.entry) }
+{
+    match token {
+        Token::BeginObject
+        | Token::BeginArray
+        | Token::String(_)
+        | Token::Number(_)
+        | Token::Bool(_)
+        | Token::Null => Fault::WrongType,
+        Token::EndObject | Token::EndArray | Token::Key(_) | Token::Bad => Fault::NotAnObject,
+    }
+}
+
+/// Whether a text has a digit and digits alone.
+fn are_digits(text: &str) -> bool
+    ensures { result ≡ are_digits text.now }
+{
+    !text.is_empty() && all_digits(text.as_bytes())
+}
+
+/// Whether each byte is a digit.
+fn all_digits(text: &[u8]) -> bool
+    ensures { result ≡ list_all is_ascii_digit text.now }
+{
+    text.iter().all(|byte| byte.is_ascii_digit())
+}
+
+/// The number, at most `most`, that the text of a JSON number writes in digits alone.
+fn number(text: &str, most: u128) -> Result<u128, Fault>
+    ensures exact { result ≡ number_of most text.now }
+    ensures bounded { IfOk result (λ n. n ≤ most) }
+{
+    if !are_digits(text) {
+        return Err(Fault::WrongType);
+    }
+    match u128::from_str(text) {
+        Ok(number) if number <= most => Ok(number),
+        _ => Err(Fault::OutOfRange),
+    }
+}
+
+/// The whole number, at most `most`, that a token denotes, or none at `null`.
+fn whole(token: Token<'_>, most: u128) -> Result<Option<u128>, Fault>
+    ensures exact { result ≡ whole_value most (token_of token.entry) }
+    ensures bounded { IfOk result (λ value. IfSome value (λ n. n ≤ most)) }
+{
+    match token {
+        Token::Null => Ok(None),
+        Token::Number(text) => Ok(Some(number(text, most)?)),
+        token => Err(unwanted(token)),
+    }
+}
+
+/// The truth value that a token denotes, or none at `null`.
+fn truth(token: Token<'_>) -> Result<Option<bool>, Fault>
+    ensures { result ≡ truth_value (token_of token.entry) }
+{
+    match token {
+        Token::Null => Ok(None),
+        Token::Bool(value) => Ok(Some(value)),
+        token => Err(unwanted(token)),
+    }
+}
+
+/// Takes `null` alone, in place of a path.
+fn no_file(token: Token<'_>) -> Result<(), Fault>
+    ensures { result ≡ file_value (token_of token.entry) }
+{
+    match token {
+        Token::Null => Ok(()),
+        token => Err(unwanted(token)),
+    }
+}
+
+/// The set of kinds of instructions that a token denotes, or none at `null`.
+fn kinds(token: Token<'_>) -> Result<Option<InstructionKinds>, Fault>
+    ensures { AreKinds (token_of token.entry) result }
+{
+    match token {
+        Token::Null => Ok(None),
+        Token::Number(text) => {
+            let bits = number(text, 0xFFF)?;
+            Ok(Some(InstructionKinds::from_bits_retain(bits as u16)))
+        }
+        Token::String(names) => match InstructionKinds::from_str(names) {
+            Ok(kinds) => Ok(Some(kinds)),
+            Err(_) => Err(Fault::OutOfRange),
+        },
+        token => Err(unwanted(token)),
+    }
+}
+
+/// One of the three weights.
+fn weight(token: Token<'_>) -> Result<u32, Fault>
+    ensures { result ≡ weight (token_of token.entry) }
+{
+    match token {
+        Token::Number(text) => Ok(number(text, u32::MAX as u128)? as u32),
+        Token::EndArray => Err(Fault::WrongType),
+        token => Err(unwanted(token)),
+    }
+}
+
+/// The end of the list of weights.
+fn list_end(token: Token<'_>) -> Result<(), Fault>
+    ensures { result ≡ list_end (token_of token.entry) }
+{
+    match token {
+        Token::EndArray => Ok(()),
+        token => Err(unwanted(token)),
+    }
+}
+
+/// Reads the rest of a list of three weights.
+fn weights(reader: &mut Reader<'_>) -> Result<MemoryOffsetChoices, Fault>
+    ensures value { result ≡ weights reader.old }
+    ensures rest { OnOk result (reader.new ≡ drop 4 reader.old) }
+    ensures shorter { length reader.new ≤ length reader.old }
+{
+    let inside = weight(next(reader))?;
+    let between = weight(next(reader))?;
+    let past = weight(next(reader))?;
+    list_end(next(reader))?;
+    Ok(MemoryOffsetChoices(inside, between, past))
+}
+
+/// Reads the value of the member `name` from `reader`, and sets the field of that name to it.
+pub(crate) fn set_field(
+    config: &mut Config,
+    name: &str,
+    reader: &mut Reader<'_>,
+) -> Result<(), Fault>
+    ensures exact { Sets (field_named name.now) config.old reader.old (outcome result config.new reader.new) }
+    ensures shorter { length reader.new ≤ length reader.old }
+{
+    if let Some(field) = minimum(config, name) {
+        if let Some(value) = whole(next(reader), usize::MAX as u128)? {
+            *field = value as usize;
+        }
+    } else if let Some(field) = maximum(config, name) {
+        if let Some(value) = whole(next(reader), usize::MAX as u128)? {
+            *field = value as usize;
+        }
+    } else if let Some(field) = byte(config, name) {
+        if let Some(value) = whole(next(reader), u8::MAX as u128)? {
+            *field = value as u8;
+        }
+    } else if let Some(field) = word(config, name) {
+        if let Some(value) = whole(next(reader), u32::MAX as u128)? {
+            *field = value as u32;
+        }
+    } else if let Some(field) = long(config, name) {
+        if let Some(value) = whole(next(reader), u64::MAX as u128)? {
+            *field = value as u64;
+        }
+    } else if let Some(field) = wide(config, name) {
+        if let Some(value) = whole(next(reader), u128::MAX)? {
+            *field = value;
+        }
+    } else {
+        return set_flag(config, name, reader);
+    }
+    Ok(())
+}
+
+/// The same for the fields that are no numbers.
+fn set_flag(config: &mut Config, name: &str, reader: &mut Reader<'_>) -> Result<(), Fault>
+    ensures exact { Sets (other_named name.now) config.old reader.old (outcome result config.new reader.new) }
+    ensures shorter { length reader.new ≤ length reader.old }
+{
+    if let Some(field) = proposal(config, name) {
+        if let Some(value) = truth(next(reader))? {
+            *field = value;
+        }
+    } else if let Some(field) = rule(config, name) {
+        if let Some(value) = truth(next(reader))? {
+            *field = value;
+        }
+    } else {
+        return set_other(config, name, reader);
+    }
+    Ok(())
+}
+
+/// The same for the fields that are neither numbers nor flags.
+fn set_other(config: &mut Config, name: &str, reader: &mut Reader<'_>) -> Result<(), Fault>
+    ensures exact { Sets (named name.now others) config.old reader.old (outcome result config.new reader.new) }
+    ensures shorter { length reader.new ≤ length reader.old }
+{
+    match name {
+        "allowed-instructions" => {
+            if let Some(kinds) = kinds(next(reader))? {
+                config.allowed_instructions = kinds;
+            }
+        }
+        "memory-offset-choices" => match next(reader) {
+            Token::Null => {}
+            Token::BeginArray => config.memory_offset_choices = weights(reader)?,
+            token => return Err(unwanted(token)),
+        },
+        "available-imports" | "exports" | "module-shape" => no_file(next(reader))?,
+        _ => return Err(Fault::UnknownField),
+    }
+    Ok(())
+}
