@@ -4,3 +4,4 @@ pub mod ShapeLemmas
 pub mod DepthLemmas
 pub mod NamesInSetLemmas
 pub mod FirstFaultLemmas
+mod FeatureNumberLemmas

@@ -4,6 +4,7 @@ pub mod Faults
 pub mod Features
 pub mod OffsetChoices
 pub mod Shapes
+pub mod SameShape
 pub mod InUse
 pub mod ShapeFaults
 pub mod Decided

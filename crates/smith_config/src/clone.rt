@@ -1,4 +1,5 @@
-ghost use Rattle.std.specs.Prelude.{◌≡◌, IfOk, IfErr};
+ghost use Rattle.std.specs.Prelude.{◌≡◌, IsOk, IfOk, IfErr};
+ghost use Rattle.smith_config.specs.InUse.{HasNoShapes};
 
 use crate::{Config, Shape};
 use smith_bytes::Error;
@@ -31,10 +32,11 @@ impl Shape {
 }
 
 impl Config {
-    /// Copies the configuration. Only the shapes take memory of `alloc`.
+    /// Copies the configuration. Only the shapes take memory of `alloc`, so that a configuration without shapes is always copied.
     pub fn clone(&self, alloc: Global) -> Result<Self, Error>
         ensures ok { IfOk result (λ copy. copy ≡ self.now) }
         ensures memory { IfErr result (λ e. e ≡ Error.Memory) }
+        ensures shapeless { HasNoShapes self.now → IsOk result }
     {
         Ok(Config {
             available_imports: copy_of(&self.available_imports, alloc)?,
@@ -48,6 +50,7 @@ impl Config {
 fn copy_of(shape: &Option<Shape>, alloc: Global) -> Result<Option<Shape>, Error>
     ensures ok { IfOk result (λ copy. copy ≡ shape.now) }
     ensures memory { IfErr result (λ e. e ≡ Error.Memory) }
+    ensures none { shape.now ≡ None → IsOk result }
 {
     Ok(match shape {
         Some(shape) => Some(shape.clone(alloc)?),

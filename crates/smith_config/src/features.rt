@@ -1,6 +1,6 @@
 ghost use Rattle.std.specs.Prelude.{◌≡◌};
-ghost use Rattle.smith_types.specs.FeatureBits.{features_in};
-ghost use Rattle.smith_config.specs.Features.{features_of};
+ghost use Rattle.smith_types.specs.FeatureBits.{bits_of, features_in};
+ghost use Rattle.smith_config.specs.Features.{features_of, number_of};
 
 use crate::Config;
 use smith_types::WasmFeatures;
@@ -8,7 +8,8 @@ use smith_types::WasmFeatures;
 impl Config {
     /// The features that a module drawn for the configuration may use.
     pub fn features(&self) -> WasmFeatures
-        ensures { features_in result ≡ features_of self.now }
+        ensures flags { features_in result ≡ features_of self.now }
+        ensures number { bits_of result ≡ number_of (features_of self.now) }
     {
         WasmFeatures::MUTABLE_GLOBAL
             .with(true, WasmFeatures::WASM1)

@@ -1,4 +1,6 @@
-use smith_types::{ExportKind, GlobalType, Imports, Items, MemoryType, Name, SubType, TableType};
+use smith_types::{
+    Exact, ExportKind, GlobalType, Imports, Items, MemoryType, Name, SubType, TableType,
+};
 
 /// What a module is asked to have: the types, imports, definitions and exports of a module, without bodies.
 ///
@@ -23,4 +25,10 @@ pub struct Shape {
     pub globals: Items<GlobalType>,
     /// The name, kind and index of each export. Indices count imported items first.
     pub exports: Items<(Name, ExportKind, u32)>,
+}
+
+impl Exact for Shape {
+    ghost use Rattle.smith_config.specs.SameShape.{exact_shape};
+
+    ghost exact = { exact_shape };
 }
