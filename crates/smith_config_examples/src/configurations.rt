@@ -6,10 +6,11 @@ ghost use Rattle.smith_bytes.specs.declared.error.ConfigFault.TheVariants.{MinAb
 ghost use Rattle.smith_types.specs.Instructions.{every_kind};
 ghost use Rattle.smith_config.specs.Config.{default_config};
 ghost use Rattle.smith_types.specs.Features.{every_feature};
+ghost use Rattle.smith_types.specs.ExampleFeatures.{no_features};
 ghost use Rattle.smith_config.specs.Arbitrary.{config_at};
 ghost use Rattle.smith_config.specs.ExampleConfigs.{least_config, counting_bytes, counting_config};
 ghost use Rattle.smith_config.specs.Sanitized.{sanitized, IsSanitized, IsLowered};
-ghost use Rattle.smith_config.specs.Features.{features_of};
+ghost use Rattle.smith_config.specs.Features.{features_of, number_of};
 ghost use Rattle.smith_config.specs.Faults.{Passes, HasFault, IsFirstFault};
 ghost use Rattle.smith_config.specs.OffsetChoices.{AreReadChoices, zero_choices};
 ghost use Rattle.smith_config.specs.declared.offset_choices.OffsetChoicesFault.TheVariants.{NeedThree, Number, TooMany, AllZero};
@@ -78,6 +79,13 @@ fn features()
     ensures references_to_functions_with_gc { (features_of default_config).function_references ≡ true }
     ensures references_to_functions_without_gc { (features_of (record default_config { gc_enabled = false })).function_references ≡ false }
     ensures always_there { (features_of (record default_config { reference_types_enabled = false })).mutable_global ≡ true }
+{}
+
+fn feature_numbers()
+    ensures no_feature { number_of no_features ≡ 0 }
+    ensures every_feature { number_of every_feature ≡ 16777215 }
+    ensures by_default { number_of (features_of default_config) ≡ 1703423 }
+    ensures simd_off { number_of (features_of (record default_config { simd_enabled = false })) ≡ 1703295 }
 {}
 
 fn features_off()

@@ -80,7 +80,8 @@ pub fn arbitrary_const_expr(
 }
 
 /// Draws the initialiser of a table whose elements are of the type `element`, or none where null will do. The initialiser may
-/// read imported immutable globals alone. The standard's section Validation, Tables.
+/// read imported immutable globals alone. The standard's section Validation, Tables. Without garbage collection there is
+/// none, whatever the input, and no memory is taken.
 ///
 /// `config` and `spaces` are as [`arbitrary_const_expr`] asks, and `element` is valid over the types of `spaces`. `config` has
 /// garbage collection on where `element` may not be null, and reference types on where garbage collection is on.
@@ -108,6 +109,7 @@ pub fn arbitrary_table_init(
     ensures short { IfOk result (λ initial. IfSome initial (λ drawn. length drawn ≤ most_instructions config.now spaces.now.types.now.types)) }
     ensures floats { All HasNoFloat spaces.now.types.now.types → IfOk result (λ initial. IfSome initial (All GivesNoFloat)) }
     ensures gc { IfOk result (λ initial. IsSome initial → IsTrue config.now.gc_enabled) }
+    ensures without_gc { config.now.gc_enabled ≡ false → result ≡ Ok None }
     ensures needed { element.nullable ≡ false → IfOk result IsSome }
     ensures refusal { IfErr result (MayRefuseConstExpr spaces.now.types.now.types (Ref element)) }
     ensures left { KeepsPieces u.old u.new }
