@@ -1,5 +1,5 @@
 -- Types one behind another are members where each is, and what lists of the family are by their parts.
-use Rattle.std.proofs.Common.{◌≡◌, ℕ, zero, suc, ◌+◌, ◌<◌, List, [], ◌∷◌, ◌++◌, Some, length, drop, get_or, refl, ap, sym, subst, arith, add-one, drop-cons, length-append}
+use Rattle.std.proofs.Common.{◌≡◌, ℕ, zero, suc, ◌+◌, ◌<◌, List, [], ◌∷◌, ◌++◌, Some, length, drop, get_or, refl, ap, sym, subst, rules, arith, add-one, drop-cons, length-append}
 use Rattle.std.specs.Prelude.{◌≤◌, ◌↔◌, slice_get, All}
 use Rattle.std.specs.List.{flat_map}
 use Rattle.std.proofs.lemmas.Option.{same_Some}
@@ -93,3 +93,7 @@ module _ (config : Config) where
     few_funcs = few;
     each_func = valid;
   }
+
+  -- the groups alone
+  pub groups_alone : (groups : List (List SubType)) → AreGroupsInFamily config groups → IsInFamily config groups []
+  groups_alone groups h = family_of_groups groups [] h (omega arith) (search rules)

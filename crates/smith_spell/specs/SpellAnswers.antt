@@ -1,6 +1,6 @@
 -- What spelling answers: bytes from which a module gets these types and functions, whatever follows them. Rules of this
 -- project.
-use Rattle.std.specs.Prelude.{◌≡◌, ℕ, false, List, Option, Some, None, Result, Ok, Err}
+use Rattle.std.specs.Prelude.{◌≡◌, ℕ, ◌≤◌, false, List, [], length, Option, Some, None, Result, Ok, Err}
 use Rattle.smith_bytes.specs.declared.error.Error.{Error}
 use Rattle.smith_bytes.specs.declared.error.Error.TheVariants.{Memory}
 use Rattle.smith_types.specs.declared.composite_type.SubType.{SubType}
@@ -21,8 +21,15 @@ pub record IsSpellable (config : Config) (groups : List (List SubType)) (funcs :
   pub not_everything : config.export_everything ≡ false
   pub member : IsInFamily config groups funcs
 
+-- want of memory, of lists that nothing rules out before memory is taken: with no function the groups can be spelled, and there
+-- are no more functions than the configuration allows
+pub record IsSpellingRefused (config : Config) (groups : List (List SubType)) (funcs : List ℕ) (error : Error) : Type 0 where
+  pub memory : error ≡ Memory
+  pub groups_alone : IsSpellable config groups []
+  pub few_funcs : length funcs ≤ config.max_funcs
+
 -- what is answered: bytes that spell the lists, none exactly where they cannot be spelled, or want of memory
 abbrev pub AnswersSpelling : Config → List (List SubType) → List ℕ → Result (Option (List ℕ)) Error → Type 0
 AnswersSpelling config groups funcs (Ok (Some bytes)) = IsSpellable (sanitized config) groups funcs × SpellsMember (sanitized config) groups funcs bytes
 AnswersSpelling config groups funcs (Ok None) = IsSpellable (sanitized config) groups funcs → ⊥
-AnswersSpelling config groups funcs (Err error) = error ≡ Memory
+AnswersSpelling config groups funcs (Err error) = IsSpellingRefused (sanitized config) groups funcs error

@@ -1,4 +1,4 @@
-ghost use Rattle.std.specs.Prelude.{◌≡◌, ◌↔◌, ◌<◌, ◌≤◌, ◌+◌, ◌^◌, false, List, IsTrue, IfOk, IfErr, MatchOption, All, length};
+ghost use Rattle.std.specs.Prelude.{◌≡◌, ◌↔◌, ◌<◌, ◌≤◌, ◌+◌, ◌^◌, false, List, [], IsTrue, IfOk, IfErr, OnErr, MatchOption, All, length};
 ghost use Rattle.std.specs.List.{flat_map};
 ghost use Rattle.smith_types.specs.Groups.{space_of};
 ghost use Rattle.smith_types.specs.declared.composite_type.SubType.{SubType as Sub};
@@ -22,6 +22,7 @@ pub(crate) fn member_space(
     requires few { config.now.max_types ≤ 2 ^ 31 }
     ensures found { IfOk result (λ found. MatchOption found (¬ IsInFamily config.now groups.now funcs.now) (λ space. (space ≡ space_of groups.now) × IsInFamily config.now groups.now funcs.now)) }
     ensures memory { IfErr result (λ e. e ≡ Error.Memory) }
+    ensures allowed { OnErr result (IsInFamily config.now groups.now [] × (length funcs.now ≤ config.now.max_funcs)) }
 {
     if !are_groups_in_family(config, groups) {
         return Ok(None);

@@ -1,6 +1,7 @@
-ghost use Rattle.std.specs.Prelude.{◌≡◌, ◌≤◌, ◌^◌, Option, IfOk, IfErr, MatchOption};
+ghost use Rattle.std.specs.Prelude.{◌≡◌, ◌≤◌, ◌^◌, [], length, Option, IsOk, IfOk, IfErr, OnErr, MatchOption};
 ghost use Rattle.smith_bytes.specs.declared.error.Error.TheVariants.{Memory};
 ghost use Rattle.smith_config.specs.Faults.{Passes};
+ghost use Rattle.smith_config.specs.InUse.{HasNoShapes};
 ghost use Rattle.smith_config.specs.Sanitized.{sanitized};
 ghost use Rattle.smith_spell.specs.Family.{IsInFamily};
 ghost use Rattle.smith_spell.specs.Spelling.{SpellsMember};
@@ -18,6 +19,7 @@ use std::alloc::Global;
 fn passing(alloc: Global, config: &Config) -> Result<Option<Config>, Error>
     ensures found { IfOk result (λ found. MatchOption found (¬ Passes (sanitized config.now)) (λ own. (own ≡ sanitized config.now) × Passes (sanitized config.now))) }
     ensures memory { IfErr result (λ e. e ≡ Memory) }
+    ensures shapeless { HasNoShapes config.now → IsOk result }
 {
     let mut own = config.clone(alloc)?;
     own.sanitize();
@@ -37,6 +39,7 @@ fn spell_in_family(
     requires { config.now.max_types ≤ 2 ^ 31 }
     ensures found { IfOk result (λ found. MatchOption found (¬ IsInFamily config.now groups.now funcs.now) (λ bytes. IsInFamily config.now groups.now funcs.now × SpellsMember config.now groups.now funcs.now bytes)) }
     ensures memory { IfErr result (λ e. e ≡ Memory) }
+    ensures allowed { OnErr result (IsInFamily config.now groups.now [] × (length funcs.now ≤ config.now.max_funcs)) }
 {
     let Some(space) = member_space(alloc, config, groups, funcs)? else {
         return Ok(None);

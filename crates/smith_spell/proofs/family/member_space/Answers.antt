@@ -2,7 +2,8 @@ use Rattle.std.proofs.Common.{◌≡◌, ◌∙◌, ap, sym, subst, rules, List}
 use Rattle.smith_types.specs.Groups.{space_of}
 use Rattle.smith_types.specs.Decided.{AreFuncsValid}
 use Rattle.smith_types.specs.declared.composite_type.SubType.{SubType}
-use Rattle.smith_spell.proofs.MemberLemmas.{groups_of_family, family_of_groups}
+use Rattle.smith_spell.proofs.AnsweredLemmas.{on_refusal}
+use Rattle.smith_spell.proofs.MemberLemmas.{groups_of_family, family_of_groups, groups_alone}
 use Rattle.smith_spell.proofs.family.member_space.Goals as goal
 
 pub returns-then-not-are_groups_in_family-clause-found : goal.returns-then-not-are_groups_in_family-clause-found
@@ -26,3 +27,8 @@ returns-clause-found c =
     let valid = subst (λ (types : List SubType). AreFuncsValid types c.args.funcs.now) same (c.are_funcs_valid.ensures.0 c.if-not-are_funcs_valid.false) in
     let parts = c.are_groups_in_family.ensures.0 c.if-not-are_groups_in_family.false in
     (found, family_of_groups c.args.config.now c.args.groups.now c.args.funcs.now parts c.if-funcs-config.false valid.each)
+
+pub returns-in_err-space-clause-allowed : goal.returns-in_err-space-clause-allowed
+returns-in_err-space-clause-allowed c =
+    let parts = c.are_groups_in_family.ensures.0 c.if-not-are_groups_in_family.false in
+    on_refusal _ c.from_residual.result (groups_alone c.args.config.now c.args.groups.now parts, c.if-funcs-config.false)
