@@ -3,6 +3,7 @@
 #![tactic(auto)]
 
 mod line;
+mod program;
 mod run;
 mod sink;
 mod source;
@@ -10,10 +11,10 @@ mod source;
 mod tests;
 mod words;
 
-use crate::run::{RunFault, run};
+use crate::program::{exit_status, run_words};
+use crate::run::RunFault;
 use crate::sink::FromWrite;
 use crate::source::FromRead;
-use crate::words::{status, words};
 use std::process::ExitCode;
 use std::{env, io};
 
@@ -22,17 +23,13 @@ fn main(rt: HostRuntime) -> ExitCode {
         let _ = eprintln!(rt; "{}", RunFault::Read);
         return ExitCode::FAILURE;
     };
-    let Some(drawn) = words(asked.as_slice()) else {
-        let _ = eprintln!(rt; "usage: smith_run [arbitrary]");
-        return ExitCode::from(2);
-    };
     let mut source = FromRead::new(rt.stdin());
     let mut sink = FromWrite::new(rt.stdout());
-    let ended = run(rt.alloc(), drawn, &mut source, &mut sink);
+    let ended = run_words(rt.alloc(), asked.as_slice(), &mut source, &mut sink);
     if let Err(fault) = ended {
         let _ = eprintln!(rt; "{fault}");
     }
-    ExitCode::from(status(&ended))
+    ExitCode::from(exit_status(&ended))
 }
 
 /// Reads the words after the program's name. A word that isn't UTF-8 is a failure.

@@ -1,4 +1,5 @@
 use crate::line::line;
+use crate::program::{ProgramFault, exit_status, run_words};
 use crate::run::{Outcome, RunFault, run};
 use crate::sink::{FromWrite, Sink};
 use crate::source::{FromRead, Source};
@@ -265,5 +266,27 @@ fn one_word_asks_for_a_drawn_configuration(rt: HostRuntime) -> Result<(), Fail> 
         String::from_str(alloc, "arbitrary")?,
     ];
     assert_eq!(rt; words(&twice), None);
+    Ok(())
+}
+
+// What the program comes to for one word, with an empty input.
+fn ended_for(alloc: Global, word: &str) -> io::Result<(Result<Outcome, ProgramFault>, bool)> {
+    let asked = [String::from_str(alloc, word)?];
+    let mut out = Vec::new(alloc);
+    let mut source = FromRead::new(b"".as_slice());
+    let mut sink = FromWrite::new(&mut out);
+    let ended = run_words(alloc, &asked, &mut source, &mut sink);
+    Ok((ended, out.is_empty()))
+}
+
+#[test]
+fn words_are_looked_at_first(rt: HostRuntime) -> Result<(), Fail> {
+    let (made, is_silent) = ended_for(rt.alloc(), "arbitrary")?;
+    assert_eq!(rt; made, Ok(Outcome::Made));
+    assert!(rt; !is_silent && exit_status(&made) == 0);
+    let (refused, is_silent) = ended_for(rt.alloc(), "draw")?;
+    assert_eq!(rt; refused, Err(ProgramFault::Usage));
+    assert!(rt; is_silent && exit_status(&refused) == 2);
+    assert_eq!(rt; exit_status(&Err(ProgramFault::Run(RunFault::Write))), 1);
     Ok(())
 }
