@@ -18,9 +18,8 @@ use Rattle.smith_draw.specs.Choices.{chosen_at}
 use Rattle.smith_draw.specs.ConstScopes.{IsReadable}
 use Rattle.smith_draw.proofs.SupertypeLemmas.{chosen_of}
 use Rattle.smith_draw.proofs.ValueTypeLemmas.{drawn_is}
-use Rattle.smith_contents.specs.DataSegments.{Indexed, no_memory, least_bytes, segment_at, segments_at}
+use Rattle.smith_contents.specs.DataSegments.{Targets, Indexed, no_memory, least_bytes, segment_at, segments_at}
 use Rattle.smith_contents.specs.DataTargets.{StandsIn, TellOffsets, IsDataFit}
-use Rattle.smith_contents.specs.declared.data.Targets.{Targets}
 
 -- what holds of all memories that count holds of the one that is chosen
 pub chosen_keeps : (P : Indexed → Type 0) {items seen : List Indexed} (bytes : List ℕ) {after : List ℕ} {one : Indexed} → seen ≡ items → 0 < length items → All P items → chosen_at no_memory seen bytes ≡ (one, after) → P one

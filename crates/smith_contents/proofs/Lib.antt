@@ -17,5 +17,7 @@ pub mod ExportNameLemmas
 pub mod ExportRefusalLemmas
 pub mod ExportsFitLemmas
 pub mod ExportsLoop
+pub mod OfferedIndexLemmas
+pub mod OfferedKindLemmas
 pub mod PassiveDataLemmas
 pub mod StartLemmas

@@ -14,10 +14,9 @@ use Rattle.smith_types.specs.declared.entity_type.MemoryType.{MemoryType}
 use Rattle.smith_types.specs.declared.segments.DataSegment.{DataSegment}
 use Rattle.smith_config.specs.declared.config.Config.{Config}
 use Rattle.smith_imports.specs.Steps.{Gives}
-use Rattle.smith_contents.specs.DataSegments.{counting_at, targets_of, passive_at, segment_at, segments_at, data_at}
+use Rattle.smith_contents.specs.DataSegments.{Targets, counting_at, targets_of, passive_at, segment_at, segments_at, data_at}
 use Rattle.smith_contents.specs.PassiveData.{passive_data, SpellsPassive}
 use Rattle.smith_spell.specs.Spelling.{SpellsBytes}
-use Rattle.smith_contents.specs.declared.data.Targets.{Targets}
 use Rattle.smith_imports.proofs.GivenLemmas.{given_takes}
 
 one_byte : (byte : ℕ) (after : List ℕ) → whole_at 1 (byte ∷ after) ≡ (byte, after)

@@ -19,7 +19,6 @@ use Rattle.smith_config.specs.declared.config.Config.{Config}
 use Rattle.smith_draw.specs.Choices.{chosen_at}
 use Rattle.smith_draw.specs.ConstOffers.{offered_if, readable_globals}
 use Rattle.smith_draw.specs.Offsets.{offset_at}
-use Rattle.smith_contents.specs.declared.data.Targets.{Targets}
 
 -- whether a memory counts as one that segments are copied into: always where its minimum is above 0, else for one of eleven
 -- numbers
@@ -38,6 +37,12 @@ counting_at so_far index [] bytes = (so_far, bytes)
 counting_at so_far index (memory ∷ memories) bytes =
     let counts = counts_at memory bytes in
     counting_at (so_far ++ offered_if counts.0 (index, memory)) (index + 1) memories counts.1
+
+-- the memories that segments are copied into, and the globals that may tell an offset of 32 bits, and of 64
+pub record Targets : Type 0 where
+  pub memories : List Indexed
+  pub globals32 : List ℕ
+  pub globals64 : List ℕ
 
 -- a memory's pages are of 64 KiB or fewer bytes
 abbrev pub HasPages : Indexed → Type 0

@@ -1,5 +1,5 @@
 -- What data segments may be copied into, and what each is like. Rules of this project.
-use Rattle.std.specs.Prelude.{◌≡◌, ℕ, ◌<◌, Bool, false, IsTrue, List, [], Some, slice_get, All}
+use Rattle.std.specs.Prelude.{◌≡◌, ℕ, ◌<◌, Bool, false, IsTrue, List, [], Some, map, slice_get, slice_index_or, All}
 use Rattle.smith_bytes.specs.declared.error.Error.{Error}
 use Rattle.smith_bytes.specs.declared.error.Error.TheVariants.{IncorrectFormat, Memory}
 use Rattle.smith_bytes.specs.declared.error.Why.TheVariants.{Unmet}
@@ -9,8 +9,11 @@ use Rattle.smith_types.specs.Segments.{IsDataValid, IsDataInside, address_type}
 use Rattle.smith_types.specs.declared.entity_type.MemoryType.{MemoryType}
 use Rattle.smith_types.specs.declared.segments.DataSegment.{DataSegment}
 use Rattle.smith_config.specs.declared.config.Config.{Config}
-use Rattle.smith_contents.specs.DataSegments.{Indexed, globals_for}
-use Rattle.smith_contents.specs.declared.data.Targets.{Targets}
+use Rattle.smith_contents.specs.DataSegments.{Indexed, Targets, globals_for, no_memory}
+
+-- the memories of these indices, each with its index
+abbrev pub indexed : List MemoryType → List ℕ → List Indexed
+indexed memories indices = map (λ index. (index, slice_index_or memories index no_memory.1)) indices
 
 -- a memory stands at its index
 abbrev pub StandsIn : List MemoryType → Indexed → Type 0

@@ -4,7 +4,9 @@ pub mod Exporting
 pub mod AllExports
 pub mod Exported
 pub mod Start
+pub mod OfferedIndices
 pub mod ElementSegments
+pub mod OfferedKinds
 pub mod DrawnElements
 pub mod DataSegments
 pub mod DataTargets

@@ -11,26 +11,16 @@ ghost use Rattle.smith_config.specs.Features.{features_of};
 ghost use Rattle.smith_draw.specs.ConstScopes.{AreSpacesValid, seen_by};
 ghost use Rattle.smith_draw.specs.Drawing.{AlwaysDraws, Draws};
 ghost use Rattle.smith_imports.specs.Steps.{Gives};
-ghost use Rattle.smith_contents.specs.DataSegments.{HasPages, counts_at, counting_at, offset_globals, globals_for, least_bytes, last_address, constant_offset, address_at, constant_at, placed_at, active_at, passive_at, segment_at, segments_at, data_at};
+ghost use Rattle.smith_contents.specs.DataSegments.{HasPages, least_bytes, last_address, constant_offset, address_at, constant_at, placed_at, active_at, passive_at, segment_at, segments_at, data_at};
 ghost use Rattle.smith_contents.specs.DataTargets.{StandsIn, TellOffsets, AreTargets, IsDataFit, MayRefuseData};
 ghost use Rattle.smith_contents.specs.PassiveData.{SpellsPassive};
 
+use crate::data_targets::{Targets, offer_memories};
 use smith_bytes::{Count, Error, Unstructured, Why, goes_on};
 use smith_config::Config;
-use smith_draw::{Spaces, arbitrary_offset, choose, globals_for_const_expr};
-use smith_types::{DataSegment, DataSegmentKind, Items, MemoryType, Offset, ValType};
+use smith_draw::{Spaces, arbitrary_offset};
+use smith_types::{DataSegment, DataSegmentKind, Items, MemoryType, Offset};
 use std::alloc::Global;
-
-/// The memories that segments may be copied into, and the globals that may tell where.
-#[derive(Drop)]
-pub(crate) struct Targets {
-    /// The memories, each with its index.
-    memories: Items<(u32, MemoryType)>,
-    /// The globals that may tell an offset into a memory of 32 bits.
-    globals32: Items<u32>,
-    /// The globals that may tell an offset into a memory of 64 bits.
-    globals64: Items<u32>,
-}
 
 #[tactic(auto, unfolding(smith_bytes::specs::ByteLists::byte_list_at))]
 fn draw_byte_list(alloc: Global, u: &mut Unstructured<'_>) -> Result<Items<u8>, Error>
@@ -44,60 +34,6 @@ fn draw_byte_list(alloc: Global, u: &mut Unstructured<'_>) -> Result<Items<u8>, 
         bytes.push(u.arbitrary::<u8>())?;
     }
     Ok(bytes)
-}
-
-/// Draws whether segments may be copied into `memory`: always where its minimum is above 0, else in one of eleven cases.
-#[tactic(auto, unfolding(crate::specs::DataSegments::counts_at))]
-fn is_target(memory: MemoryType, u: &mut Unstructured<'_>) -> bool
-    ensures { AlwaysDraws (counts_at memory u.old) result u.old u.new }
-{
-    if memory.minimum > 0 {
-        return true;
-    }
-    u.int_in_range(0u32..=10) == 0
-}
-
-/// Lists those of `memories` that segments may be copied into, each with its index.
-fn list_targets(
-    alloc: Global,
-    memories: &[MemoryType],
-    u: &mut Unstructured<'_>,
-) -> Result<Items<(u32, MemoryType)>, Error>
-    requires { length memories.now < 2 ^ 32 }
-    ensures draws { Draws (counting_at [] 0 memories.now u.old) result u.old u.new }
-    ensures stand { IfOk result (All (StandsIn memories.now)) }
-{
-    let mut counting = Items::new(alloc);
-    for index in 0..memories.len() {
-        let memory = memories[index];
-        if !is_target(memory, u) {
-            continue;
-        }
-        counting.push((index as u32, memory))?;
-    }
-    Ok(counting)
-}
-
-/// Lists the globals that may tell an offset: of 64 bits where `wide` is set, else of 32 bits.
-fn offset_globals(
-    alloc: Global,
-    config: &Config,
-    spaces: &Spaces<'_>,
-    wide: bool,
-) -> Result<Items<u32>, Error>
-    requires { AreSpacesValid config.now spaces.now }
-    ensures exact { IfOk result (λ globals. globals ≡ offset_globals config.now (seen_by config.now spaces.now true) wide) }
-    ensures tell { IfOk result (TellOffsets (seen_by config.now spaces.now true) wide) }
-    ensures none { IsTrue config.now.disallow_traps → IfOk result (λ globals. globals ≡ []) }
-    ensures memory { IfErr result (λ e. e ≡ Error.Memory) }
-{
-    if config.disallow_traps {
-        return Ok(Items::new(alloc));
-    }
-    if wide {
-        return globals_for_const_expr(alloc, config, spaces, ValType::I64, true);
-    }
-    globals_for_const_expr(alloc, config, spaces, ValType::I32, true)
 }
 
 fn least_bytes(memory: MemoryType) -> u128
@@ -190,21 +126,11 @@ fn draw_offset(
     (Offset::Global(globals[place - 1]), init)
 }
 
-/// The globals of `targets` that may tell an offset: of 64 bits where `wide` is set, else of 32 bits.
-fn globals_for<'a>(targets: &'a Targets, wide: bool) -> &'a [u32]
-    ensures { result.now ≡ globals_for targets.now wide }
-{
-    if wide {
-        return targets.globals64.as_slice();
-    }
-    targets.globals32.as_slice()
-}
-
 /// Draws a segment that copies `init` into one of the memories of `targets`.
 #[tactic(auto, unfolding(crate::specs::DataSegments::active_at))]
 fn draw_active(
     config: &Config,
-    targets: &Targets,
+    targets: &Targets<'_>,
     init: Items<u8>,
     u: &mut Unstructured<'_>,
 ) -> DataSegment
@@ -213,8 +139,8 @@ fn draw_active(
     ensures draws { AlwaysDraws (active_at config.now targets.now init u.old) result u.old u.new }
     ensures fit { (context : Context) (memories : List MemoryType) → AreTargets config.now context memories targets.now → IsDataFit config.now context memories result }
 {
-    let (memory_index, memory) = choose(targets.memories.as_slice(), u);
-    let globals = globals_for(targets, memory.memory64);
+    let (memory_index, memory) = targets.choose(u);
+    let globals = targets.globals_for(memory.memory64);
     let (offset, init) = draw_offset(config.disallow_traps, globals, memory, init, u);
     DataSegment {
         kind: DataSegmentKind::Active {
@@ -227,7 +153,7 @@ fn draw_active(
 
 /// Draws whether a segment is passive, which needs bulk memory.
 #[tactic(auto, unfolding(crate::specs::DataSegments::passive_at))]
-fn is_passive(config: &Config, targets: &Targets, u: &mut Unstructured<'_>) -> bool
+fn is_passive(config: &Config, targets: &Targets<'_>, u: &mut Unstructured<'_>) -> bool
     ensures draws { AlwaysDraws (passive_at config.now targets.now u.old) result u.old u.new }
     ensures bulk { result ≡ true → IsTrue config.now.bulk_memory_enabled }
     ensures some { result ≡ false → IsTrue config.now.bulk_memory_enabled → 0 < length targets.now.memories }
@@ -235,14 +161,14 @@ fn is_passive(config: &Config, targets: &Targets, u: &mut Unstructured<'_>) -> b
     if !config.bulk_memory_enabled {
         return false;
     }
-    targets.memories.is_empty() || u.arbitrary()
+    targets.is_empty() || u.arbitrary()
 }
 
 #[tactic(auto, unfolding(crate::specs::DataSegments::segment_at))]
 fn draw_segment(
     alloc: Global,
     config: &Config,
-    targets: &Targets,
+    targets: &Targets<'_>,
     u: &mut Unstructured<'_>,
 ) -> Result<DataSegment, Error>
     requires some { config.now.bulk_memory_enabled ≡ false → 0 < length targets.now.memories }
@@ -264,7 +190,7 @@ fn draw_segment(
 fn draw_segments(
     alloc: Global,
     config: &Config,
-    targets: &Targets,
+    targets: &Targets<'_>,
     u: &mut Unstructured<'_>,
 ) -> Result<Items<DataSegment>, Error>
     requires some { config.now.bulk_memory_enabled ≡ false → 0 < length targets.now.memories }
@@ -299,18 +225,14 @@ fn draw_data(
     ensures refusal { IfErr result (MayRefuseData config.now) }
     ensures left { KeepsPieces u.old u.new }
 {
-    let memories = list_targets(alloc, spaces.entities.memories, u)?;
-    if !config.bulk_memory_enabled && memories.is_empty() {
+    let offered = offer_memories(alloc, spaces.entities.memories, u)?;
+    if !config.bulk_memory_enabled && offered.len() == 0 {
         if config.min_data_segments > 0 {
             return Err(Error::IncorrectFormat(Why::Unmet(Count::DataSegments)));
         }
         return Ok(Items::new(alloc));
     }
-    let targets = Targets {
-        memories,
-        globals32: offset_globals(alloc, config, spaces, false)?,
-        globals64: offset_globals(alloc, config, spaces, true)?,
-    };
+    let targets = Targets::new(alloc, config, spaces, offered)?;
     draw_segments(alloc, config, &targets, u)
 }
 

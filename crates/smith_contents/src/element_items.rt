@@ -28,11 +28,10 @@ ghost use Rattle.smith_contents.specs.ElementSegments.{
 };
 
 use crate::element_kinds::{KindChoice, is_funcref};
+use crate::offered_indices::OfferedIndices;
 use smith_bytes::{Count, Error, Unstructured, Why, goes_on};
 use smith_config::Config;
-use smith_draw::{
-    Spaces, arbitrary_const_expr, arbitrary_matching_ref_type, arbitrary_ref_type, choose,
-};
+use smith_draw::{Spaces, arbitrary_const_expr, arbitrary_matching_ref_type, arbitrary_ref_type};
 use smith_types::{ConstInstr, Elements, Items, RefType, SubType, ValType};
 use std::alloc::Global;
 
@@ -84,19 +83,21 @@ fn is_unshared_type(types: &[SubType], index: u32) -> bool
     }
 }
 
-/// Lists the functions of `funcs` whose types are not shared, by their indices. There are fewer than 2^32 functions.
-fn unshared_funcs(alloc: Global, types: &[SubType], funcs: &[u32]) -> Result<Items<u32>, Error>
+/// Offers those functions of `funcs` whose types are not shared. There are fewer than 2^32 functions.
+fn offer_unshared(alloc: Global, types: &[SubType], funcs: &[u32]) -> Result<OfferedIndices, Error>
     requires few { length funcs.now < 2 ^ 32 }
-    ensures exact { IfOk result (λ indices. indices ≡ unshared_funcs types.now funcs.now) }
+    ensures exact { IfOk result (λ unshared. unshared.offered ≡ unshared_funcs types.now funcs.now) }
     ensures memory { IfErr result (λ e. e ≡ Error.Memory) }
 {
-    let mut indices = Items::new(alloc);
-    for (index, ty) in funcs.iter().enumerate() {
-        if is_unshared_type(types, *ty) {
-            indices.push(index as u32)?;
+    let mut unshared = OfferedIndices::new(alloc);
+    for ty in funcs {
+        if !is_unshared_type(types, *ty) {
+            unshared.leave_out()?;
+            continue;
         }
+        unshared.offer();
     }
-    Ok(indices)
+    Ok(unshared)
 }
 
 /// Draws whether items of the type `ty` are listed as functions.
@@ -125,24 +126,24 @@ fn ask_enough(config: &Config, most: usize) -> Result<(), Error>
     Ok(())
 }
 
-/// Chooses at most `most` items among the functions of `funcs`.
+/// Chooses at most `most` items among the functions `funcs`.
 #[tactic(auto, unfolding(crate::specs::ElementSegments::chosen_functions_at))]
 fn choose_functions(
     alloc: Global,
     config: &Config,
-    funcs: &[u32],
+    funcs: &OfferedIndices,
     most: usize,
     u: &mut Unstructured<'_>,
 ) -> Result<Items<u32>, Error>
-    requires { 0 < length funcs.now }
-    ensures { Draws (chosen_functions_at config.now funcs.now most u.old) result u.old u.new }
+    requires { 0 < length funcs.now.offered }
+    ensures { Draws (chosen_functions_at config.now funcs.now.offered most u.old) result u.old u.new }
 {
     let mut items = Items::new(alloc);
     for made in 0..most {
         if !goes_on(u, made, config.min_elements) {
             return Ok(items);
         }
-        items.push(choose(funcs, u))?;
+        items.push(funcs.choose(u))?;
     }
     Ok(items)
 }
@@ -161,12 +162,12 @@ fn draw_unshared(
     ensures refusal { IfErr result (MayRefuseFunctions config.now) }
     ensures left { KeepsPieces u.old u.new }
 {
-    let funcs = unshared_funcs(alloc, spaces.types.types(), spaces.entities.funcs)?;
-    if funcs.is_empty() {
-        return Ok(funcs);
+    let funcs = offer_unshared(alloc, spaces.types.types(), spaces.entities.funcs)?;
+    if funcs.len() == 0 {
+        return Ok(Items::new(alloc));
     }
     ask_enough(config, most)?;
-    choose_functions(alloc, config, funcs.as_slice(), most, u)
+    choose_functions(alloc, config, &funcs, most, u)
 }
 
 /// Draws at most `most` items that are functions.

@@ -1,12 +1,17 @@
-ghost use Rattle.std.specs.Prelude.{◌≡◌, ◌<◌, ◌^◌, false, length, OnOk, IfOk, IfErr, All};
+ghost use Rattle.std.specs.Prelude.{◌≡◌, ◌<◌, ◌^◌, false, length, IfOk, IfErr, All};
+ghost use Rattle.smith_bytes.specs.Source.{KeepsPieces};
+ghost use Rattle.smith_config.specs.declared.config.Config.{Config};
 ghost use Rattle.smith_draw.specs.Drawing.{AlwaysDraws, Draws};
 ghost use Rattle.smith_contents.specs.DrawnElements.{IsOffered, MayDrawElements};
-ghost use Rattle.smith_contents.specs.ElementSegments.{is_plain_func, is_funcref, is_offered_at, with_unnamed, with_named, kept_kinds, kinds_at};
+ghost use Rattle.smith_contents.specs.ElementSegments.{is_plain_func, is_funcref, is_offered_at, kinds_at};
+ghost use Rattle.smith_contents.specs.OfferedKinds.{kinds_over};
 
+use crate::offered_indices::OfferedIndices;
+use crate::offered_kinds::OfferedKinds;
 use smith_bytes::{Error, Unstructured};
 use smith_config::Config;
 use smith_draw::Spaces;
-use smith_types::{AbstractHeapType, HeapType, Items, RefType, TableType};
+use smith_types::{AbstractHeapType, HeapType, RefType, TableType};
 use std::alloc::Global;
 
 /// A kind of element segment that may be chosen.
@@ -52,78 +57,43 @@ fn is_offered(table: &TableType, u: &mut Unstructured<'_>) -> bool
     chance == 0
 }
 
-fn push_unnamed(index: usize, table: &TableType, kinds: &mut Items<KindChoice>) -> Result<(), Error>
-    ensures ok { OnOk result (kinds.new ≡ with_unnamed index table.now kinds.old) }
-    ensures memory { IfErr result (λ e. e ≡ Error.Memory) }
-{
-    if index == 0 && is_funcref(table.element_type) {
-        return kinds.push(KindChoice::Active(None, *table));
-    }
-    Ok(())
-}
-
-fn push_named(
-    config: &Config,
-    index: usize,
-    table: &TableType,
-    kinds: &mut Items<KindChoice>,
-) -> Result<(), Error>
-    requires { index < 2 ^ 32 }
-    ensures ok { OnOk result (kinds.new ≡ with_named config.now index table.now kinds.old) }
-    ensures memory { IfErr result (λ e. e ≡ Error.Memory) }
-{
-    if config.bulk_memory_enabled {
-        return kinds.push(KindChoice::Active(Some(index as u32), *table));
-    }
-    Ok(())
-}
-
-/// Lists the kinds that need no table, which need bulk memory.
-fn kept_kinds(alloc: Global, config: &Config) -> Result<Items<KindChoice>, Error>
-    ensures ok { IfOk result (λ kinds. kinds ≡ kept_kinds config.now) }
-    ensures memory { IfErr result (λ e. e ≡ Error.Memory) }
-{
-    let mut kinds = Items::new(alloc);
-    if !config.bulk_memory_enabled {
-        return Ok(kinds);
-    }
-    kinds.push(KindChoice::Passive)?;
-    kinds.push(KindChoice::Declared)?;
-    Ok(kinds)
-}
-
-#[tactic(auto, unfolding(crate::specs::ElementSegments::kinds_at, crate::specs::ElementSegments::table_kinds_at))]
-fn draw_kinds(
+/// Draws which of `tables` segments may be copied into.
+#[tactic(auto, unfolding(crate::specs::ElementSegments::kinds_at))]
+fn draw_tables(
     alloc: Global,
-    config: &Config,
     tables: &[TableType],
     u: &mut Unstructured<'_>,
-) -> Result<Items<KindChoice>, Error>
+) -> Result<OfferedIndices, Error>
     requires { length tables.now < 2 ^ 32 }
-    ensures { Draws (kinds_at config.now tables.now u.old) result u.old u.new }
+    ensures kinds { (config : Config) → IfOk result (λ drawn. kinds_at config tables.now u.old ≡ (kinds_over config tables.now drawn.offered, u.new)) }
+    ensures within { IfOk result (λ drawn. All (λ index. index < length tables.now) drawn.offered) }
+    ensures memory { IfErr result (λ e. e ≡ Error.Memory) }
+    ensures left { KeepsPieces u.old u.new }
 {
-    let mut kinds = kept_kinds(alloc, config)?;
-    for (index, table) in tables.iter().enumerate() {
+    let mut offered = OfferedIndices::new(alloc);
+    for table in tables {
         if !is_offered(table, u) {
+            offered.leave_out()?;
             continue;
         }
-        push_unnamed(index, table, &mut kinds)?;
-        push_named(config, index, table, &mut kinds)?;
+        offered.offer();
     }
-    Ok(kinds)
+    Ok(offered)
 }
 
-/// Lists the kinds of element segments that are offered beside the tables of `spaces`.
-pub(crate) fn list_kinds(
+/// Offers kinds of element segments beside the tables of `spaces`.
+pub(crate) fn offer_kinds<'a>(
     alloc: Global,
-    config: &Config,
-    spaces: &Spaces<'_>,
+    config: &'a Config,
+    spaces: &'a Spaces<'_>,
     u: &mut Unstructured<'_>,
-) -> Result<Items<KindChoice>, Error>
+) -> Result<OfferedKinds<'a>, Error>
     requires { MayDrawElements config.now spaces.now }
     ensures draws { Draws (kinds_at config.now spaces.now.entities.tables.now u.old) result u.old u.new }
     ensures offered { IfOk result (All (IsOffered config.now spaces.now.types.now.types spaces.now.entities.tables.now)) }
     ensures bulk { IfOk result (λ kinds. length kinds ≡ 0 → config.now.bulk_memory_enabled ≡ false) }
 {
-    draw_kinds(alloc, config, spaces.entities.tables, u)
+    let tables = spaces.entities.tables;
+    let offered = draw_tables(alloc, tables, u)?;
+    Ok(OfferedKinds::new(config, tables, offered))
 }

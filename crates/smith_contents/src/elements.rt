@@ -16,11 +16,12 @@ ghost use Rattle.smith_contents.specs.Held.{expressions_of};
 ghost use Rattle.smith_bytes.specs.Spelling.{SpellsNone};
 
 use crate::element_items::{draw_item_type, draw_items};
-use crate::element_kinds::{KindChoice, list_kinds};
+use crate::element_kinds::offer_kinds;
 use crate::element_offsets::draw_kind;
+use crate::offered_kinds::OfferedKinds;
 use smith_bytes::{Count, Error, Unstructured, Why, goes_on};
 use smith_config::Config;
-use smith_draw::{Spaces, choose};
+use smith_draw::Spaces;
 use smith_types::{ElementSegment, Elements, Items};
 use std::alloc::Global;
 
@@ -43,7 +44,7 @@ fn draw_segment(
     alloc: Global,
     config: &Config,
     spaces: &Spaces<'_>,
-    kinds: &[KindChoice],
+    kinds: &OfferedKinds<'_>,
     total: usize,
     u: &mut Unstructured<'_>,
 ) -> Result<ElementSegment, Error>
@@ -57,7 +58,7 @@ fn draw_segment(
     ensures refusal { IfErr result (MayRefuseSegment config.now spaces.now.types.now.types spaces.now.entities.tables.now) }
     ensures left { KeepsPieces u.old u.new }
 {
-    let choice = choose(kinds, u);
+    let choice = kinds.choose(u);
     let (kind, hint) = draw_kind(alloc, config, spaces, choice, u)?;
     let ty = draw_item_type(alloc, config, spaces, choice, u)?;
     let most = most_items(config, hint, total);
@@ -80,7 +81,7 @@ fn draw_segments(
     alloc: Global,
     config: &Config,
     spaces: &Spaces<'_>,
-    kinds: &[KindChoice],
+    kinds: &OfferedKinds<'_>,
     u: &mut Unstructured<'_>,
 ) -> Result<Items<ElementSegment>, Error>
     requires may { MayDrawElements config.now spaces.now }
@@ -130,11 +131,11 @@ fn draw_elements(
     ensures refusal { IfErr result (MayRefuseElements config.now spaces.now.types.now.types spaces.now.entities.tables.now) }
     ensures left { KeepsPieces u.old u.new }
 {
-    let kinds = list_kinds(alloc, config, spaces, u)?;
+    let kinds = offer_kinds(alloc, config, spaces, u)?;
     if kinds.is_empty() {
         return none(alloc, config);
     }
-    draw_segments(alloc, config, spaces, kinds.as_slice(), u)
+    draw_segments(alloc, config, spaces, &kinds, u)
 }
 
 /// Draws the element segments: at least `min_element_segments` and at most `max_element_segments` of `config`, each of at least

@@ -4,6 +4,7 @@
 mod all_exports;
 mod bodies;
 mod data;
+mod data_targets;
 mod element_items;
 mod element_kinds;
 mod element_offsets;
@@ -13,6 +14,8 @@ mod export_kinds;
 mod export_names;
 mod exported;
 mod exports;
+mod offered_indices;
+mod offered_kinds;
 mod start;
 
 pub use bodies::arbitrary_bodies;

@@ -1,20 +1,15 @@
-use Rattle.std.proofs.Common.{rules, ◌≤◌, List, length, true}
+use Rattle.std.proofs.Common.{◌≤◌, List, length, true}
 use Rattle.std.proofs.lemmas.Result.{IfOk-weaker}
 use Rattle.smith_types.specs.declared.segments.DataSegment.{DataSegment}
 use Rattle.smith_draw.specs.ConstScopes.{seen_by}
 use Rattle.smith_draw.proofs.ValueTypeLemmas.{drawn_is}
-use Rattle.smith_contents.proofs.DataSegmentLemmas.{both_tell, both_none, segments_most, segments_least}
+use Rattle.smith_contents.proofs.DataSegmentLemmas.{segments_most, segments_least}
 use Rattle.smith_contents.proofs.data.draw_data.Goals as goal
 
 pub returns-clause-fit : goal.returns-clause-fit
 returns-clause-fit c =
     let context = seen_by c.args.config.now c.args.spaces.now true in
-    c.draw_segments.ensures.fit context c.args.spaces.now.entities.memories.now (record {
-      stand = search rules;
-      globals = λ wide. both_tell context wide _ _ c.in_ok-offset_globals.ensures.tell c.in_ok-offset_globals-2.ensures.tell;
-      none = λ on wide. both_none wide _ _ (c.in_ok-offset_globals.ensures.none on) (c.in_ok-offset_globals-2.ensures.none on);
-      bulk = λ on. on;
-    })
+    c.draw_segments.ensures.fit context c.args.spaces.now.entities.memories.now c.in_ok-targets.ensures.targets
 
 pub returns-clause-most : goal.returns-clause-most
 returns-clause-most c =

@@ -2,7 +2,7 @@ use Rattle.std.proofs.Common.{true, false}
 use Rattle.std.proofs.lemmas.Result.{IfOk-weaker}
 use Rattle.smith_draw.specs.ConstScopes.{seen_by}
 use Rattle.smith_contents.proofs.DataSegmentLemmas.{readable_tell}
-use Rattle.smith_contents.proofs.data.offset_globals.Goals as goal
+use Rattle.smith_contents.proofs.data_targets.offset_globals.Goals as goal
 
 pub returns-then-wide-clause-tell : goal.returns-then-wide-clause-tell
 returns-then-wide-clause-tell c =

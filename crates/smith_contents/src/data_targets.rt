@@ -1,0 +1,145 @@
+ghost use Rattle.std.specs.Prelude.{◌≡◌, [], ◌<◌, ◌^◌, ◌↔◌, true, length, IsTrue, IfOk, IfErr, All};
+ghost use Rattle.smith_bytes.specs.Source.{KeepsPieces};
+ghost use Rattle.smith_draw.specs.Choices.{chosen_at};
+ghost use Rattle.smith_draw.specs.ConstScopes.{AreSpacesValid, seen_by};
+ghost use Rattle.smith_draw.specs.Drawing.{AlwaysDraws};
+ghost use Rattle.smith_contents.specs.DataSegments.{counts_at, counting_at, offset_globals, globals_for, no_memory, targets_of};
+ghost use Rattle.smith_contents.specs.DataTargets.{TellOffsets, AreTargets, indexed};
+
+use crate::offered_indices::OfferedIndices;
+use smith_bytes::{Error, Unstructured};
+use smith_config::Config;
+use smith_draw::{Spaces, globals_for_const_expr};
+use smith_types::{Items, MemoryType, ValType};
+use std::alloc::Global;
+use std::marker::Model;
+
+/// The memories that segments may be copied into, and the globals that may tell where.
+#[derive(Drop)]
+pub(crate) struct Targets<'a> {
+    memories: &'a [MemoryType],
+    /// The memories that segments may be copied into.
+    offered: OfferedIndices,
+    /// The globals that may tell an offset into a memory of 32 bits.
+    globals32: Items<u32>,
+    /// The globals that may tell an offset into a memory of 64 bits.
+    globals64: Items<u32>,
+}
+
+impl<'a> Model for Targets<'a> {
+    ghost use Rattle.std.specs.Prelude.{◌<◌, length, All};
+    ghost use Rattle.smith_contents.specs.DataSegments.{Targets};
+    ghost use Rattle.smith_contents.specs.DataTargets.{indexed};
+
+    ghost Value = { Targets };
+
+    ghost view = { λ a. record { memories = indexed a.memories.now a.offered.offered; globals32 = a.globals32; globals64 = a.globals64 } };
+
+    ghost invariant = { λ a. All (λ index. index < length a.memories.now) a.offered.offered };
+}
+
+impl<'a> Targets<'a> {
+    /// Lists the globals of `spaces` that may tell where, beside those of its memories whose indices are `offered`.
+    pub(crate) fn new(
+        alloc: Global,
+        config: &Config,
+        spaces: &'a Spaces<'_>,
+        offered: OfferedIndices,
+    ) -> Result<Targets<'a>, Error>
+        requires standing { AreSpacesValid config.now spaces.now }
+        requires within { All (λ index. index < length spaces.now.entities.memories.now) offered.offered }
+        ensures exact { IfOk result (λ targets. targets ≡ targets_of config.now (seen_by config.now spaces.now true) (indexed spaces.now.entities.memories.now offered.offered)) }
+        ensures targets { IfOk result (AreTargets config.now (seen_by config.now spaces.now true) spaces.now.entities.memories.now) }
+        ensures memory { IfErr result (λ e. e ≡ Error.Memory) }
+    {
+        Ok(Targets {
+            memories: spaces.entities.memories,
+            offered,
+            globals32: offset_globals(alloc, config, spaces, false)?,
+            globals64: offset_globals(alloc, config, spaces, true)?,
+        })
+    }
+
+    /// Whether segments may be copied into no memory.
+    pub(crate) fn is_empty(&self) -> bool
+        ensures { IsTrue result ↔ (length self.now.memories ≡ 0) }
+    {
+        self.offered.len() == 0
+    }
+
+    /// Chooses a memory that segments may be copied into, of which there is at least one, and gives its index with it.
+    #[tactic(auto, unfolding(smith_draw::specs::Choices::chosen_at))]
+    pub(crate) fn choose(&self, u: &mut Unstructured<'_>) -> (u32, MemoryType)
+        requires { 0 < length self.now.memories }
+        ensures { AlwaysDraws (chosen_at no_memory self.now.memories u.old) result u.old u.new }
+    {
+        let index = self.offered.choose(u);
+        (index, self.memories[index as usize])
+    }
+
+    /// The globals that may tell an offset: of 64 bits where `wide` is set, else of 32 bits.
+    pub(crate) fn globals_for(&self, wide: bool) -> &[u32]
+        ensures { result.now ≡ globals_for self.now wide }
+    {
+        if wide {
+            return self.globals64.as_slice();
+        }
+        self.globals32.as_slice()
+    }
+}
+
+/// Draws whether segments may be copied into `memory`: always where its minimum is above 0, else in one of eleven cases.
+#[tactic(auto, unfolding(crate::specs::DataSegments::counts_at))]
+fn is_target(memory: MemoryType, u: &mut Unstructured<'_>) -> bool
+    ensures { AlwaysDraws (counts_at memory u.old) result u.old u.new }
+{
+    if memory.minimum > 0 {
+        return true;
+    }
+    u.int_in_range(0u32..=10) == 0
+}
+
+/// Draws which of `memories` segments may be copied into.
+pub(crate) fn offer_memories(
+    alloc: Global,
+    memories: &[MemoryType],
+    u: &mut Unstructured<'_>,
+) -> Result<OfferedIndices, Error>
+    requires { length memories.now < 2 ^ 32 }
+    ensures exact { IfOk result (λ drawn. counting_at [] 0 memories.now u.old ≡ (indexed memories.now drawn.offered, u.new)) }
+    ensures within { IfOk result (λ drawn. All (λ index. index < length memories.now) drawn.offered) }
+    ensures memory { IfErr result (λ e. e ≡ Error.Memory) }
+    ensures left { KeepsPieces u.old u.new }
+{
+    let mut offered = OfferedIndices::new(alloc);
+    for memory in memories {
+        if !is_target(*memory, u) {
+            offered.leave_out()?;
+            continue;
+        }
+        offered.offer();
+    }
+    Ok(offered)
+}
+
+/// Lists the globals that may tell an offset: of 64 bits where `wide` is set, else of 32 bits.
+fn offset_globals(
+    alloc: Global,
+    config: &Config,
+    spaces: &Spaces<'_>,
+    wide: bool,
+) -> Result<Items<u32>, Error>
+    requires { AreSpacesValid config.now spaces.now }
+    ensures exact { IfOk result (λ globals. globals ≡ offset_globals config.now (seen_by config.now spaces.now true) wide) }
+    ensures tell { IfOk result (TellOffsets (seen_by config.now spaces.now true) wide) }
+    ensures none { IsTrue config.now.disallow_traps → IfOk result (λ globals. globals ≡ []) }
+    ensures memory { IfErr result (λ e. e ≡ Error.Memory) }
+{
+    if config.disallow_traps {
+        return Ok(Items::new(alloc));
+    }
+    if wide {
+        return globals_for_const_expr(alloc, config, spaces, ValType::I64, true);
+    }
+    globals_for_const_expr(alloc, config, spaces, ValType::I32, true)
+}
