@@ -22,8 +22,8 @@ use Rattle.smith_contents.specs.DataSegments.{Targets, Indexed, no_memory, least
 use Rattle.smith_contents.specs.DataTargets.{StandsIn, TellOffsets, IsDataFit}
 
 -- what holds of all memories that count holds of the one that is chosen
-pub chosen_keeps : (P : Indexed → Type 0) {items seen : List Indexed} (bytes : List ℕ) {after : List ℕ} {one : Indexed} → seen ≡ items → 0 < length items → All P items → chosen_at no_memory seen bytes ≡ (one, after) → P one
-chosen_keeps P {items = items} bytes same some all chosen = drawn_is P _ (chosen_of P no_memory items bytes some all) (rw same at chosen)
+pub chosen_keeps : (P : Indexed → Type 0) (items : List Indexed) (bytes : List ℕ) {after : List ℕ} {one : Indexed} → 0 < length items → All P items → chosen_at no_memory items bytes ≡ (one, after) → P one
+chosen_keeps P items bytes some all chosen = drawn_is P _ (chosen_of P no_memory items bytes some all) chosen
 
 below_number : (wide : Bool) (types : List SubType) (value : ValType) → IsValBelow types value (address_type wide) → value ≡ address_type wide
 below_number true types I64 h = refl

@@ -1,15 +1,14 @@
 -- Offered indices, as more are offered or left out.
-use Rattle.std.proofs.Common.{◌≡◌, ◌∙◌, ℕ, zero, suc, ◌+◌, ◌<◌, ◌≤◌, ◌⊎◌, Bool, true, false, cond, List, [], ◌∷◌, ◌++◌, Some, length, get_or, refl, sym, ap, subst, arith, length-append, inl, inr, add-one}
+use Rattle.std.proofs.Common.{◌≡◌, ℕ, zero, suc, ◌+◌, ◌<◌, ◌≤◌, ◌⊎◌, true, false, List, [], ◌∷◌, ◌++◌, Some, length, get_or, refl, sym, subst, arith, length-append, inl, inr, add-one}
 use Rattle.std.specs.Prelude.{All, slice_get, nat_le}
 use Rattle.std.specs.List.{AllWithin}
-use Rattle.std.specs.List.Sorted.{IsPartitionPoint, IsNonDecreasing}
-use Rattle.std.proofs.lemmas.Bool.{le-leb, leb-false}
+use Rattle.std.specs.List.Sorted.{IsPartitionPoint}
+use Rattle.std.proofs.lemmas.Bool.{le-leb}
 use Rattle.std.proofs.lemmas.Bool.Decides.{leb_tells}
-use Rattle.std.proofs.lemmas.List.Elements.{All-push, All-head, All-tail}
-use Rattle.std.proofs.lemmas.List.Sorted.{IsNonDecreasingBy-push}
+use Rattle.std.proofs.lemmas.List.Elements.{All-head, All-tail}
 use Rattle.std.proofs.lemmas.Option.{get_or_from_slice_get}
 use Rattle.smith_types.proofs.ListLemmas.{slice_get-last, slice_get-grown}
-use Rattle.smith_contents.specs.OfferedIndices.{Indices, count_up_to, first_offered, indices_beside, AreSkipped}
+use Rattle.smith_contents.specs.OfferedIndices.{count_up_to, first_offered, indices_beside, AreSkipped}
 
 pub length_offered : (skipped : List ℕ) (count : ℕ) → length (first_offered skipped count) ≡ count
 length_offered skipped zero = refl

@@ -226,7 +226,7 @@ fn draw_data(
     ensures left { KeepsPieces u.old u.new }
 {
     let offered = offer_memories(alloc, spaces.entities.memories, u)?;
-    if !config.bulk_memory_enabled && offered.len() == 0 {
+    if !config.bulk_memory_enabled && offered.is_empty() {
         if config.min_data_segments > 0 {
             return Err(Error::IncorrectFormat(Why::Unmet(Count::DataSegments)));
         }

@@ -18,7 +18,7 @@ use std::marker::Model;
 #[derive(Drop)]
 pub(crate) struct Targets<'a> {
     memories: &'a [MemoryType],
-    /// The memories that segments may be copied into.
+    /// Those of `memories` that segments may be copied into.
     offered: OfferedIndices,
     /// The globals that may tell an offset into a memory of 32 bits.
     globals32: Items<u32>,
@@ -64,7 +64,7 @@ impl<'a> Targets<'a> {
     pub(crate) fn is_empty(&self) -> bool
         ensures { IsTrue result ↔ (length self.now.memories ≡ 0) }
     {
-        self.offered.len() == 0
+        self.offered.is_empty()
     }
 
     /// Chooses a memory that segments may be copied into, of which there is at least one, and gives its index with it.

@@ -163,7 +163,7 @@ fn draw_unshared(
     ensures left { KeepsPieces u.old u.new }
 {
     let funcs = offer_unshared(alloc, spaces.types.types(), spaces.entities.funcs)?;
-    if funcs.len() == 0 {
+    if funcs.is_empty() {
         return Ok(Items::new(alloc));
     }
     ask_enough(config, most)?;

@@ -1,4 +1,4 @@
-ghost use Rattle.std.specs.Prelude.{◌≡◌, ◌<◌, ◌+◌, ◌^◌, ◌++◌, ◌∷◌, [], length, slice_index_or, OnOk, IfErr};
+ghost use Rattle.std.specs.Prelude.{◌≡◌, ◌<◌, ◌+◌, ◌^◌, ◌++◌, ◌∷◌, [], length, slice_index_or, IsTrue, ◌↔◌, OnOk, IfErr};
 ghost use Rattle.smith_draw.specs.Choices.{chosen_at};
 ghost use Rattle.smith_draw.specs.Drawing.{AlwaysDraws};
 
@@ -63,6 +63,13 @@ impl OfferedIndices {
         ensures few { result < 2 ^ 32 }
     {
         self.count as usize
+    }
+
+    /// Whether no index is offered.
+    pub(crate) fn is_empty(&self) -> bool
+        ensures { IsTrue result ↔ (length self.now.offered ≡ 0) }
+    {
+        self.len() == 0
     }
 
     /// Finds the offered index at `place`.

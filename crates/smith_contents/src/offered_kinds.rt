@@ -17,7 +17,7 @@ use std::marker::Model;
 pub(crate) struct OfferedKinds<'a> {
     config: &'a Config,
     tables: &'a [TableType],
-    /// The tables that segments may be copied into.
+    /// Those of `tables` that segments may be copied into.
     offered: OfferedIndices,
 }
 
@@ -122,13 +122,17 @@ fn count_unnamed(tables: &[TableType], offered: &OfferedIndices) -> usize
     ensures kinds { result ≡ length (unnamed_kinds tables.now offered.now.offered) }
     ensures few { result < 2 }
 {
-    if offered.len() == 0 {
+    if offered.is_empty() {
         return 0;
     }
     if offered.at(0) > 0 {
         return 0;
     }
-    if is_funcref(tables[0].element_type) { 1 } else { 0 }
+    if is_funcref(tables[0].element_type) {
+        1
+    } else {
+        0
+    }
 }
 
 /// The kind of the table at `place` among those of `tables` whose indices are `offered`, by its index.

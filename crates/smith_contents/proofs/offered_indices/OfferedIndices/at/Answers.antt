@@ -1,4 +1,4 @@
-use Rattle.std.proofs.Common.{rules, arith, of_calls, ◌≡◌, ◌<◌, length}
+use Rattle.std.proofs.Common.{rules, arith}
 use Rattle.std.specs.Prelude.{nat_le}
 use Rattle.std.proofs.lemmas.List.Sorted.{IsPartitionPoint-from_clause, IsPartitionedBy-leb}
 use Rattle.smith_contents.proofs.OfferedIndexLemmas.{length_offered, found_at}
