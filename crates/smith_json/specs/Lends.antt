@@ -1,9 +1,9 @@
 -- What a configuration ends as where one of its fields is lent.
 use Rattle.std.specs.Prelude.{◌≡◌, ⊤, ℕ, Bool, List, Option, Some, None}
-use Rattle.std.specs.Borrow.{LendsIf, MutBor, Fml, RattleType, u8, u32, u64, u128, usize, bool}
+use Rattle.std.specs.Borrow.{LendsIf, MutBor, Fml, u8, u32, u64, u128, usize, bool}
 use Rattle.smith_config.specs.declared.config.Config.{Config}
 use Rattle.smith_config.specs.contracts.config.Config.{the_row}
-use Rattle.smith_json.specs.Fields.{Setter, Table, named, minimums, maximums, bytes, words, longs, wides, proposals, rules}
+use Rattle.smith_json.specs.Fields.{Setter, named, minimums, maximums, bytes, words, longs, wides, proposals, rules}
 
 -- a configuration with the field set, where there is one
 abbrev pub with_field : {A : Type 0} → Option (Setter A) → Setter A

@@ -2,7 +2,7 @@
 use Rattle.std.specs.Prelude.{◌≡◌, ℕ, List, [], ◌∷◌, ◌++◌, drop, Option, Some, None, Result, Ok, Err, Bool, true, false}
 use Rattle.std.specs.List.{list_any}
 use Rattle.std.specs.Str.{bytes_eq}
-use Rattle.json.specs.Token.{Token, begin_object, end_object, begin_array, end_array, key, string, number, boolean, null, bad}
+use Rattle.json.specs.Token.{Token, begin_object, begin_array, null}
 use Rattle.json.specs.Json.{read_key}
 use Rattle.json.specs.Lex.{tokens}
 use Rattle.smith_types.specs.declared.instruction_kind.InstructionKinds.{InstructionKinds}

@@ -1,9 +1,9 @@
-use Rattle.std.proofs.Common.{◌≡◌, ◌++◌, ◌<◌, ◌≤◌, suc, List, [], ◌∷◌, ℕ, Bool, true, false, Some, None, length, map, arith, ◌∙◌, Bor}
+use Rattle.std.proofs.Common.{◌≡◌, ◌++◌, ◌≤◌, [], ◌∷◌, Some, None, length, arith, ◌∙◌}
 use Rattle.std.proofs.lemmas.Grind.{common_steps}
 use Rattle.std.proofs.lemmas.List.{map-append}
 use Rattle.std.proofs.lemmas.Result.{err_from_is_err_and}
 use Rattle.json.specs.Json.{read_key}
-use Rattle.smith_json.specs.Objects.{is_given, ends, breaks, repeats, refuses, sets}
+use Rattle.smith_json.specs.Objects.{ends, breaks, repeats, refuses, sets}
 use Rattle.smith_json.proofs.MemberLemmas.{given_name, shorter_by_key}
 use Rattle.smith_json.proofs.read.read_members.Goals as goal
 

@@ -1,4 +1,4 @@
-use Rattle.std.proofs.Common.{◌≡◌, ℕ, List, [], map, length}
+use Rattle.std.proofs.Common.{[], map, length}
 use Rattle.smith_json.specs.Objects.{Reading, ReadsMembers}
 use Rattle.smith_json.proofs.read.read_members.Given as goal
 
