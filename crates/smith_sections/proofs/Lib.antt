@@ -1,0 +1,4 @@
+pub mod CheckLemmas
+pub mod FormLemmas
+pub mod ListLemmas
+pub mod SectionLemmas
