@@ -1,4 +1,5 @@
-ghost use Rattle.std.specs.Prelude.{◌≡◌, [], false};
+ghost use Rattle.std.specs.Prelude.{◌≡◌, ◌+◌, ◌<◌, ◌^◌, [], false, length, IsTrue};
+ghost use Rattle.smith_types.specs.Groups.{space_of};
 ghost use Rattle.smith_types.specs.declared.value_type.ValType.TheVariants.{I32};
 
 use crate::case::Case;
@@ -6,8 +7,11 @@ use crate::fault::Fault;
 use crate::shapes::shape_named;
 use smith_config::Config;
 use smith_draw::{Entities, Spaces};
-use smith_types::{GlobalType, TypeSpace, ValType, type_space_of};
+use smith_types::{GlobalType, Items, SubType, TypeSpace, ValType, type_space_of};
 use std::alloc::Global;
+
+/// More types than any shape of a case has.
+const MOST_TYPES: usize = 1 << 29;
 
 /// What a call of a case draws over.
 #[derive(Clone, Copy)]
@@ -64,12 +68,29 @@ pub(crate) fn with_globals<'a>(types: &'a TypeSpace, globals: &'a [GlobalType]) 
     }
 }
 
+/// Whether there are so few types in `groups` that they fit a type space.
+fn are_few(groups: &[Items<SubType>]) -> bool
+    ensures { IsTrue result → length (space_of groups.now).types + 1 < 2 ^ 32 }
+{
+    let mut left = MOST_TYPES;
+    for group in groups {
+        if group.len() > left {
+            return false;
+        }
+        left -= group.len();
+    }
+    true
+}
+
 /// The types under the key `types` of `case`: those of a shape, none where the key isn't given.
 pub(crate) fn types_of(alloc: Global, case: &Case) -> Result<TypeSpace, Fault> {
     let Some(name) = &case.types else {
         return Ok(TypeSpace::new(alloc));
     };
     let shape = shape_named(alloc, name.as_str())?;
+    if !are_few(shape.groups.as_slice()) {
+        return Err(Fault::UnknownTypes);
+    }
     match type_space_of(alloc, shape.groups.as_slice()) {
         Ok(Some(types)) => Ok(types),
         Ok(None) => Err(Fault::UnknownTypes),
