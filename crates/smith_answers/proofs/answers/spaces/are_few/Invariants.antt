@@ -1,7 +1,0 @@
-use Rattle.std.proofs.Common.{◌≡◌, ◌+◌, ◌^◌, List, length, drop}
-use Rattle.std.specs.List.{flat_map}
-use Rattle.smith_types.specs.declared.composite_type.SubType.{SubType}
-use Rattle.smith_answers.proofs.answers.spaces.are_few.Given as goal
-
-abbrev pub invariant-loop-group : goal.invariant-loop-group
-invariant-loop-group l = length (flat_map (λ (group : List SubType). group) l.groups) + l.left ≡ length (flat_map (λ (group : List SubType). group) (drop l.group-index l.groups)) + 2 ^ 29
