@@ -33,6 +33,7 @@ pub(crate) enum ModuleCall {
 #[derive(Clone, Copy, Debug, PartialEq)]
 pub(crate) enum ConfigCall {
     Arbitrary,
+    Clone,
     Sanitize,
     Check,
     Features,
@@ -153,7 +154,7 @@ pub(crate) enum SubtypeCall {
 pub(crate) const RECORDED: &str = "recorded";
 
 // Each call by its name.
-const CALLS: [(&str, Call); 66] = [
+const CALLS: [(&str, Call); 67] = [
     ("Module::new", Call::Module(ModuleCall::New)),
     (
         "Module::new_internal",
@@ -169,6 +170,7 @@ const CALLS: [(&str, Call); 66] = [
         Call::Module(ModuleCall::EnsureTermination),
     ),
     ("Config::arbitrary", Call::Config(ConfigCall::Arbitrary)),
+    ("Config::clone", Call::Config(ConfigCall::Clone)),
     ("Config::sanitize", Call::Config(ConfigCall::Sanitize)),
     ("Config::check", Call::Config(ConfigCall::Check)),
     ("Config::features", Call::Config(ConfigCall::Features)),

@@ -78,10 +78,7 @@ fn keys_of_module(call: ModuleCall) -> Keys {
     Keys {
         config: is_configured,
         shapes: is_configured,
-        args: matches!(
-            call,
-            ModuleCall::NewInternal | ModuleCall::EnsureTermination
-        ),
+        args: is_configured,
         input: true,
         ..NONE
     }

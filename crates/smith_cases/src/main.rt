@@ -20,8 +20,8 @@
 //! - `available-imports`, `exports` and `module-shape` name the shapes of the configuration, `shape` the shape that the call is
 //!   about, and `types` the shape whose types the call draws over or compares. The shapes are in `shapes.rt`.
 //! - `input` is the input in hexadecimal, with blanks between words; `00*512` stands for 512 bytes 00.
-//! - `inputs` is `each byte` for all inputs of one byte, or `each cut` for each front of `input`. What is wanted is then wanted of
-//!   each answer.
+//! - `inputs` is `each byte` for all inputs of one byte, `each even byte` or `each odd byte` for half of them, or `each cut` for each
+//!   front of `input`. What is wanted is then wanted of each answer.
 //!
 //! An answer is text: the text of a module as `smith_text` writes it, else a line for each value. A refusal is a line such as
 //! `refused: IncorrectFormat(TypeSize)`. After a draw, `left 2` says how many bytes are left, and `next 0102` which come first.

@@ -5,7 +5,7 @@ use smith_types::Items;
 use std::alloc::Global;
 
 // Each shape by its name, with its parts in the form that `add_part` reads.
-const SHAPES: [(&str, &[&str]); 30] = [
+const SHAPES: [(&str, &[&str]); 41] = [
     ("nothing", &[]),
     (
         "a function without parameters and results",
@@ -142,6 +142,69 @@ const SHAPES: [(&str, &[&str]); 30] = [
             "export own-global global 1",
             "export own-tag tag 1",
         ],
+    ),
+    ("a final struct below itself", &["group below 0 struct"]),
+    (
+        "five imports",
+        &[
+            "group func ->",
+            "group func i32,i64 -> f32",
+            "import env foo func 1",
+            "import env bar memory 1",
+            "import env baz memory 1 10",
+            "import b qux tag 0",
+            "import b quux global i32",
+        ],
+    ),
+    (
+        "three globals to import",
+        &[
+            "import env one global i32",
+            "import env two global i32",
+            "import env three global i64",
+        ],
+    ),
+    (
+        "a reference to import that is never null",
+        &["import env one global (ref i31)"],
+    ),
+    (
+        "three exports of two constants",
+        &[
+            "global f32",
+            "global f32",
+            "export foo global 1",
+            "export bar global 0",
+            "export baz global 0",
+        ],
+    ),
+    (
+        "imports that are exported",
+        &[
+            "group func ->",
+            "import env one func 0",
+            "import a two global i64",
+            "export foo func 0",
+            "export bar func 0",
+            "export baz global 0",
+        ],
+    ),
+    (
+        "a constant reference to a number",
+        &["global (ref i31)", "export a global 0"],
+    ),
+    ("an import of no type", &["import env f func 0"]),
+    (
+        "a memory that is imported and exported as a",
+        &["import env memory memory 1", "export a memory 0"],
+    ),
+    (
+        "a memory that is imported and exported as b",
+        &["import env memory memory 1", "export b memory 0"],
+    ),
+    (
+        "a memory that is imported and exported as c",
+        &["import env memory memory 1", "export c memory 0"],
     ),
 ];
 

@@ -1,4 +1,4 @@
-use crate::answers::configured::config_of;
+use crate::answers::configured::{config_of, tell_copy};
 use crate::answers::told::{tell_bytes, tell_refusal};
 use crate::arguments::{at_most, word};
 use crate::call::ConfigCall;
@@ -27,6 +27,7 @@ pub(crate) fn answer_config(
     match call {
         ConfigCall::ShapeCheck => checked_shape(alloc, case, &config, answer),
         ConfigCall::Spell => spelled(alloc, case, &config, answer),
+        ConfigCall::Clone => tell_copy(alloc, &config, answer),
         _ => told(call, &mut config, answer),
     }
 }

@@ -41,3 +41,21 @@ fn shape_under(alloc: Global, name: &Option<String>) -> Result<Option<Shape>, Fa
         None => Ok(None),
     }
 }
+
+/// Appends whether a copy of `config` is equal: whether the shapes are, and what the two print for debugging.
+pub(crate) fn tell_copy(alloc: Global, config: &Config, answer: &mut String) -> Result<(), Fault> {
+    let copy = config.clone(alloc)?;
+    let is_equal = have_same_shapes(&copy, config) && print_the_same(alloc, &copy, config)?;
+    writeln!(answer, "{}", if is_equal { "is equal" } else { "differs" })?;
+    Ok(())
+}
+
+fn have_same_shapes(one: &Config, other: &Config) -> bool {
+    one.available_imports == other.available_imports
+        && one.exports == other.exports
+        && one.module_shape == other.module_shape
+}
+
+fn print_the_same(alloc: Global, one: &Config, other: &Config) -> Result<bool, Fault> {
+    Ok(format!(in alloc; "{one:?}")? == format!(in alloc; "{other:?}")?)
+}

@@ -1,6 +1,6 @@
 use crate::answers::configured::config_of;
-use crate::answers::told::tell_refusal;
-use crate::arguments::{at_most, number, word};
+use crate::answers::told::{tell_refusal, tell_rest};
+use crate::arguments::{number, word};
 use crate::call::ModuleCall;
 use crate::case::Case;
 use crate::fault::Fault;
@@ -10,7 +10,9 @@ use smith_text::text;
 use std::alloc::Global;
 use wasm_smith::{DuplicateImportsBehavior, Module};
 
-/// Appends the text of the module that `call` makes, or its refusal.
+/// Appends the text of the module that `call` makes, or its refusal. Arguments of `Module::new`, and those of
+/// `Module::new_internal` after the first, name what is told afterwards: `debug` is a line of the module as it prints for debugging,
+/// `left` what the call leaves of the input.
 pub(crate) fn answer_module(
     alloc: Global,
     line: &str,
@@ -19,11 +21,40 @@ pub(crate) fn answer_module(
     input: &[u8],
     answer: &mut String,
 ) -> Result<(), Fault> {
+    let details = details_of(case, call)?;
     let mut u = Unstructured::new(input);
     match made(alloc, line, case, call, &mut u)? {
-        Ok(module) => told(alloc, case, call, module, answer),
-        Err(refusal) => tell_refusal(refusal, answer),
+        Ok(module) => told(alloc, case, call, module, answer)?,
+        Err(refusal) => tell_refusal(refusal, answer)?,
     }
+    if names(details, LEFT) {
+        tell_rest(&u, answer)?;
+    }
+    Ok(())
+}
+
+// The details that may be told beside a module.
+const DEBUG: &str = "debug";
+
+const LEFT: &str = "left";
+
+// The arguments of `case` that name details.
+fn details_of(case: &Case, call: ModuleCall) -> Result<&[String], Fault> {
+    let first = match call {
+        ModuleCall::New => 0,
+        ModuleCall::NewInternal => 1,
+        _ => return Ok(&[]),
+    };
+    for (place, detail) in case.args().iter().enumerate().skip(first) {
+        if ![DEBUG, LEFT].contains(&detail.as_str()) {
+            return Err(Fault::Argument(place));
+        }
+    }
+    Ok(case.args().get(first..).unwrap_or(&[]))
+}
+
+fn names(details: &[String], wanted: &str) -> bool {
+    details.iter().any(|detail| detail.as_str() == wanted)
 }
 
 // The module that `call` makes, before it is made to terminate.
@@ -50,7 +81,6 @@ fn behavior_of(case: &Case, call: ModuleCall) -> Result<DuplicateImportsBehavior
     if call != ModuleCall::NewInternal {
         return Ok(DuplicateImportsBehavior::Allowed);
     }
-    at_most(case, 1)?;
     match word(case, 0)? {
         "Allowed" => Ok(DuplicateImportsBehavior::Allowed),
         "Disallowed" => Ok(DuplicateImportsBehavior::Disallowed),
@@ -74,7 +104,11 @@ fn told(
     if call == ModuleCall::EnsureTermination {
         terminate(alloc, case, &mut module, answer)?;
     }
-    tell_module(alloc, &module, answer)
+    tell_module(alloc, &module, answer)?;
+    if names(details_of(case, call)?, DEBUG) {
+        writeln!(answer, "{module:?}")?;
+    }
+    Ok(())
 }
 
 fn tell_module(alloc: Global, module: &Module, answer: &mut String) -> Result<(), Fault> {
