@@ -1,9 +1,8 @@
 -- The types on the way up from a type.
-use Rattle.std.proofs.Common.{◌≡◌, ℕ, zero, suc, ◌-◌, ◌<◌, ◌≤◌, List, [], ◌∷◌, ◌++◌, Option, Some, None, length, refl, sym, ◌∙◌, ap, subst, arith, append_assoc}
+use Rattle.std.proofs.Common.{◌≡◌, ℕ, zero, suc, ◌-◌, ◌<◌, ◌≤◌, List, [], ◌∷◌, Option, Some, None, length, refl, sym, ap, subst, arith}
 use Rattle.std.specs.Prelude.{slice_get}
 use Rattle.std.specs.List.{AllByRecursion as ByRecursion}
 use Rattle.std.proofs.lemmas.Option.{slice_get_within}
-use Rattle.std.proofs.lemmas.List.{append-nil}
 use Rattle.smith_types.specs.declared.value_type.HeapType.{HeapType}
 use Rattle.smith_types.specs.declared.value_type.HeapType.TheVariants.{Concrete}
 use Rattle.smith_types.specs.declared.composite_type.SubType.{SubType}
@@ -96,12 +95,3 @@ within_each P types each (suc n) i = each_turn P types n i each (λ s. within_ea
 pub ancestors_each : (P : HeapType → Type 0) (types : List SubType) → ((j s : ℕ) → supertype_at types j ≡ Some s → P (Concrete s)) → (i : ℕ) → ByRecursion P (ancestors types i)
 unfolding ancestors
 ancestors_each P types each i = within_each P types each (length types) i
-
--- one turn of the walk that lists them
-pub walk_up : (types : List SubType) → IsOrderly types → (i s : ℕ) (now more total : List HeapType) → supertype_at types i ≡ Some s → more ≡ now ++ Concrete s ∷ [] → now ++ ancestors types i ≡ total → more ++ ancestors types s ≡ total
-walk_up types orderly i s now more total e longer same =
-    rw (longer, append_assoc now (Concrete s ∷ []) (ancestors types s)) (ap (λ (xs : List HeapType). now ++ xs) (sym (ancestors_up types orderly i s e)) ∙ same)
-
--- and its end
-pub walk_end : (types : List SubType) (i : ℕ) (now total : List HeapType) → supertype_at types i ≡ None → now ++ ancestors types i ≡ total → now ≡ total
-walk_end types i now total e same = sym (append-nil now) ∙ (ap (λ (xs : List HeapType). now ++ xs) (sym (ancestors_none types i e)) ∙ same)

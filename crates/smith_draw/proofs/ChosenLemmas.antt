@@ -1,6 +1,7 @@
 -- The item that is chosen among those that are offered.
 use Rattle.std.proofs.Common.{rules, ◌≡◌, ℕ, ◌-◌, ◌<◌, Bool, false, true, cond, List, [], ◌∷◌, Some, length, refl, sym, ◌∙◌, ap, arith, lit<}
-use Rattle.std.proofs.lemmas.Option.{slice_get-get_or}
+use Rattle.std.specs.Prelude.{slice_get, slice_index_or}
+use Rattle.std.proofs.lemmas.Option.{slice_get-get_or, get_or_from_slice_get}
 use Rattle.smith_types.specs.declared.value_type.HeapType.{HeapType}
 use Rattle.smith_types.specs.declared.composite_type.SubType.{SubType}
 use Rattle.smith_config.specs.declared.config.Config.{Config}
@@ -23,15 +24,22 @@ pub super_without_gc : (config : Config) (types : List SubType) (ty : HeapType) 
 unfolding super_heap_type_at supertypes_offered
 super_without_gc config types ty bytes off = rw off (chosen_alone ty bytes)
 
-pub matching_with_gc : (config : Config) (types seen : List SubType) (ty : HeapType) (bytes : List ℕ) (offered : List HeapType) (drawn : HeapType × List ℕ) → config.gc_enabled ≡ true → seen ≡ types → offered ≡ gc_subtypes config seen ty → chosen_at ty offered bytes ≡ drawn
-    → matching_heap_type_at config types ty bytes ≡ drawn
-unfolding matching_heap_type_at subtypes_offered
-matching_with_gc config types seen ty bytes offered drawn on sees same chosen = rw (on, ← sees) (ap (λ (xs : List HeapType). chosen_at ty xs bytes) (sym same) ∙ chosen)
+-- the item that stands at the place that is drawn is chosen
+placed : {A : Type 0} (other : A) (items : List A) (bytes : List ℕ) (n place : ℕ) (x : A) (after : List ℕ) → n ≡ length items → range_at 0 (n - 1) bytes ≡ (place, after) → slice_get items place ≡ Some x → chosen_at other items bytes ≡ (x, after)
+unfolding chosen_at
+placed {A = A} other items bytes n place x after count drawn at =
+    let same : range_at 0 (length items - 1) bytes ≡ (place, after) = ap (λ (m : ℕ). range_at 0 (m - 1) bytes) (sym count) ∙ drawn in
+    ap (λ (r : ℕ × List ℕ). (slice_index_or items r.0 other, r.1)) same ∙ ap (λ (y : A). (y, after)) (get_or_from_slice_get items place x other at)
 
-pub super_with_gc : (config : Config) (types seen : List SubType) (ty : HeapType) (bytes : List ℕ) (offered : List HeapType) (drawn : HeapType × List ℕ) → config.gc_enabled ≡ true → seen ≡ types → offered ≡ gc_supertypes seen ty → chosen_at ty offered bytes ≡ drawn
-    → super_heap_type_at config types ty bytes ≡ drawn
+pub matching_with_gc : (config : Config) (types : List SubType) (ty : HeapType) (bytes : List ℕ) (n place : ℕ) (x : HeapType) (after : List ℕ) → config.gc_enabled ≡ true → n ≡ length (gc_subtypes config types ty) → range_at 0 (n - 1) bytes ≡ (place, after) → slice_get (gc_subtypes config types ty) place ≡ Some x
+    → matching_heap_type_at config types ty bytes ≡ (x, after)
+unfolding matching_heap_type_at subtypes_offered
+matching_with_gc config types ty bytes n place x after on count drawn at = rw on (placed ty (gc_subtypes config types ty) bytes n place x after count drawn at)
+
+pub super_with_gc : (config : Config) (types : List SubType) (ty : HeapType) (bytes : List ℕ) (n place : ℕ) (x : HeapType) (after : List ℕ) → config.gc_enabled ≡ true → n ≡ length (gc_supertypes types ty) → range_at 0 (n - 1) bytes ≡ (place, after) → slice_get (gc_supertypes types ty) place ≡ Some x
+    → super_heap_type_at config types ty bytes ≡ (x, after)
 unfolding super_heap_type_at supertypes_offered
-super_with_gc config types seen ty bytes offered drawn on sees same chosen = rw (on, ← sees) (ap (λ (xs : List HeapType). chosen_at ty xs bytes) (sym same) ∙ chosen)
+super_with_gc config types ty bytes n place x after on count drawn at = rw on (placed ty (gc_supertypes types ty) bytes n place x after count drawn at)
 
 -- what is drawn at a place of a list that has items is the item there
 chosen_item : {A : Type 0} (other : A) (items : List A) (bytes : List ℕ) (x : A) (after : List ℕ) → 0 < length items → chosen_at other items bytes ≡ (x, after) → choose_at items bytes ≡ (Some x, after)

@@ -31,15 +31,15 @@ use Rattle.smith_draw.specs.Below.{is_val_below}
 use Rattle.smith_draw.specs.ConstScopes.{IsScope, fields_of}
 use Rattle.smith_draw.specs.ConstOffers.{each_from, offered_if, is_defaultable, are_defaultable, is_integer, global_offers, function_offers, struct_ways, array_ways, type_offers, types_offers, conversions, other_offers, created_offers, reference_offers, constant_offers, offers}
 use Rattle.smith_draw.specs.ConstNodes.{field_operands, repeated, is_shared_heap, node_of, node_at}
-use Rattle.smith_draw.specs.ConstBounds.{widest, field_count, IsNonNullable, MayLack}
-use Rattle.smith_draw.specs.ConstSteps.{operand_type, MayRefuseValues, IsNode, IsFit}
+use Rattle.smith_draw.specs.ConstBounds.{widest, field_count, IsNonNullable, MayLack, MayRefuseConstExpr}
+use Rattle.smith_draw.specs.ConstSteps.{operand_type, IsNode, IsFit}
 use Rattle.smith_draw.specs.declared.const_expr.node_choice.Choice.{Choice}
 use Rattle.smith_draw.specs.declared.const_expr.node_choice.Choice.TheVariants as choice
 use Rattle.smith_draw.specs.declared.const_expr.node.Operand.{Operand}
 use Rattle.smith_draw.specs.declared.const_expr.node.Operand.TheVariants.{Value, Length}
 use Rattle.smith_draw.proofs.PuttingLemmas.{below_itself}
 use Rattle.smith_draw.proofs.BelowLemmas.{val_decides}
-use Rattle.smith_draw.proofs.ConstStepLemmas.{length_map, lack_alone}
+use Rattle.smith_draw.proofs.ConstStepLemmas.{length_map}
 use Rattle.std.specs.List.{Any}
 use Rattle.std.proofs.lemmas.Option.{slice_get_within, get_or_from_slice_get}
 
@@ -446,7 +446,7 @@ lacking context (Ref r) before behind none = not_true r.nullable (λ default. le
     not_true false h = refl
 
 -- nothing is offered only for a reference that may not be null
-pub nothing_offered : (context : Context) (wanted : ValType) (fuel : ℕ) (items : List Choice) (e : Error) → items ≡ offers context wanted fuel → length items ≡ 0 → e ≡ EmptyChoose → MayRefuseValues context.types (wanted ∷ []) e
+pub nothing_offered : (context : Context) (wanted : ValType) (fuel : ℕ) (items : List Choice) (e : Error) → items ≡ offers context wanted fuel → length items ≡ 0 → e ≡ EmptyChoose → MayRefuseConstExpr context.types wanted e
 unfolding offers
 nothing_offered context wanted fuel items e is none empty =
-    inr (empty, lack_alone context.types wanted (inl (lacking context wanted (each_from (global_offers context wanted) 0 (take context.visible context.globals)) (reference_offers context wanted fuel) (rw is at none))))
+    inr (empty, inl (lacking context wanted (each_from (global_offers context wanted) 0 (take context.visible context.globals)) (reference_offers context wanted fuel) (rw is at none)))

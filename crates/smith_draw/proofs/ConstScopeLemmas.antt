@@ -1,11 +1,10 @@
 -- What is drawn over, where the spaces are valid.
-use Rattle.std.proofs.Common.{◌≡◌, inl, inr, ℕ, ◌+◌, ◌*◌, ◌<◌, ◌≤◌, ◌^◌, if◌then◌else◌, Bool, true, false, List, [], ◌∷◌, ◌++◌, Some, length, arith}
+use Rattle.std.proofs.Common.{◌≡◌, ℕ, ◌+◌, ◌*◌, ◌<◌, ◌≤◌, ◌^◌, if◌then◌else◌, Bool, true, false, List, [], ◌∷◌, ◌++◌, Some, length, arith}
 use Rattle.std.specs.Prelude.{All, slice_get, ◌&&◌}
 use Rattle.std.specs.List.{AllByRecursion as Each, flat_map}
 use Rattle.std.specs.declared.ops.Range.{Range}
 use Rattle.std.proofs.lemmas.List.Elements.{All-from_recursion, recursion_from_All, All-weaker}
 use Rattle.std.proofs.lemmas.Option.{slice_get_within}
-use Rattle.smith_bytes.specs.declared.error.Error.{Error}
 use Rattle.smith_types.specs.Expressions.{Context, IsConstExpr, unpacked, field_values}
 use Rattle.smith_types.specs.Features.{Features}
 use Rattle.smith_types.specs.Space.{Space}
@@ -27,10 +26,9 @@ use Rattle.smith_config.specs.declared.config.Config.{Config}
 use Rattle.smith_config.specs.Features.{features_of}
 use Rattle.smith_draw.specs.declared.spaces.Spaces.{Spaces}
 use Rattle.smith_draw.specs.ConstScopes.{IsScope, fields_of, seen_by, AreSpacesValid}
-use Rattle.smith_draw.specs.ConstBounds.{widest, MayRefuseConstExpr}
-use Rattle.smith_draw.specs.ConstSteps.{MayRefuseValues, IsDrawn}
+use Rattle.smith_draw.specs.ConstBounds.{widest}
+use Rattle.smith_draw.specs.ConstSteps.{IsDrawn}
 use Rattle.smith_draw.proofs.PuttingLemmas.{expression_of}
-use Rattle.smith_draw.proofs.ConstStepLemmas.{only}
 
 each_pair : {A : Type 0} (P Q : A → Type 0) (xs : List A) → Each P xs → Each Q xs → Each (λ (x : A). P x × Q x) xs
 each_pair P Q [] h k = tt
@@ -95,7 +93,3 @@ whole_typed context wanted fuel left drawn h = expression_of context wanted draw
 
 pub whole_short : (context : Context) (wanted : ValType) (fuel left : ℕ) (drawn : List ConstInstr) → IsDrawn context (wanted ∷ []) [] fuel drawn left → length drawn ≤ 23 * (1 + fuel * widest context.types)
 whole_short context wanted fuel left drawn h = let short = h.short in omega arith
-
-pub whole_refusal : (types : List SubType) (wanted : ValType) (e : Error) → MayRefuseValues types (wanted ∷ []) e → MayRefuseConstExpr types wanted e
-whole_refusal types wanted e (inl memory) = inl memory
-whole_refusal types wanted e (inr (empty, some)) = inr (empty, only types wanted some)

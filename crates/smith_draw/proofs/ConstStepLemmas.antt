@@ -1,8 +1,6 @@
 -- Values one behind another: their instructions, how long they are, what they take of the fuel, and what is refused.
-use Rattle.std.proofs.Common.{◌≡◌, inl, inr, ℕ, ℤ, zero, suc, ◌+◌, ◌-◌, ◌*◌, ◌<◌, ◌≤◌, List, [], ◌∷◌, ◌++◌, Some, length, take, map, get_or, refl, sym, subst, ap, arith, length-append}
-use Rattle.std.specs.Prelude.{slice_get, Result, Ok, Err, OnOk, IfErr, IsErrAnd}
-use Rattle.std.proofs.lemmas.List.{take_more}
-use Rattle.std.proofs.lemmas.Option.{same_Some, slice_get-get_or}
+use Rattle.std.proofs.Common.{◌≡◌, ℕ, ℤ, zero, suc, ◌+◌, ◌-◌, ◌*◌, ◌<◌, ◌≤◌, List, [], ◌∷◌, ◌++◌, length, map, refl, sym, subst, ap, arith, length-append}
+use Rattle.std.specs.Prelude.{Result, Ok, Err, OnOk, IfErr, IsErrAnd}
 use Rattle.smith_bytes.specs.declared.error.Error.{Error}
 use Rattle.smith_types.specs.Expressions.{Context}
 use Rattle.smith_types.specs.declared.value_type.ValType.{ValType}
@@ -11,11 +9,10 @@ use Rattle.smith_types.specs.declared.composite_type.SubType.{SubType}
 use Rattle.smith_types.specs.declared.const_instr.ConstInstr.{ConstInstr}
 use Rattle.smith_types.specs.declared.const_instr.ConstInstr.TheVariants as instr
 use Rattle.smith_draw.specs.Putting.{Puts}
-use Rattle.smith_draw.specs.ConstBounds.{widest, MayLack}
-use Rattle.smith_draw.specs.ConstSteps.{operand_type, SomeMayLack, MayRefuseValues, IsDrawn, IsNode, IsFit}
+use Rattle.smith_draw.specs.ConstBounds.{widest}
+use Rattle.smith_draw.specs.ConstSteps.{operand_type, IsDrawn, IsNode, IsFit}
 use Rattle.smith_draw.specs.ConstNodes.{node_at}
 use Rattle.smith_draw.specs.declared.const_expr.node_choice.Choice.{Choice}
-use Rattle.smith_draw.specs.declared.const_expr.node.Operand.{Operand}
 use Rattle.smith_draw.specs.declared.const_expr.node.Node.{Node}
 use Rattle.smith_draw.proofs.PuttingLemmas.{puts_none, puts_more, puts_by, below_itself}
 
@@ -34,19 +31,9 @@ drawn_more {context = context} {values = values} {more = more} {old = old} {midd
       short = simp length-append (omega arith);
     }
 
-map_push : {A B : Type 0} (f : A → B) (xs : List A) (x : A) → map f (xs ++ x ∷ []) ≡ map f xs ++ f x ∷ []
-map_push f [] x = refl
-map_push f (y ∷ xs) x = ap (λ (ys : List _). f y ∷ ys) (map_push f xs x)
-
 pub length_map : {A B : Type 0} (f : A → B) (xs : List A) → length (map f xs) ≡ length xs
 length_map f [] = refl
 length_map f (x ∷ xs) = ap suc (length_map f xs)
-
--- one turn of the loop over operands
-pub drawn_turn : {context : Context} (operands : List Operand) (n : ℕ) (d : Operand) {old middle new : List ConstInstr} {fuel rest left : ℕ} → n < length operands
-    → IsDrawn context (map operand_type (take n operands)) old fuel middle rest → IsDrawn context (operand_type (get_or operands n d) ∷ []) middle rest new left → IsDrawn context (map operand_type (take (n + 1) operands)) old fuel new left
-drawn_turn {context = context} operands n d inside first second =
-    rw (take_more operands n d inside, map_push operand_type (take n operands) (get_or operands n d)) (drawn_more first second)
 
 spend : (w l g m o n f : ℕ) → l ≤ w → (0 < l → 0 < f) → m + 23 * w * g ≤ o + 23 * l + 23 * w * (f - 1) → n ≡ m + 1 → n + 23 * w * g ≤ o + 23 + 23 * w * f
 spend w zero g m o n zero few paid short longer = omega arith
@@ -87,41 +74,6 @@ pub drawn_extended : {context : Context} {wanted : ValType} {fuel left : ℕ} {o
 drawn_extended {context = context} {fuel = fuel} {left = left} puts short less =
     let cost : 23 * widest context.types * left ≤ 23 * widest context.types * fuel = times_less (23 * widest context.types) fuel left less in
     record { puts = puts; spent = less; short = omega arith }
-
--- a value alone
-pub only : (types : List SubType) (value : ValType) → SomeMayLack types (value ∷ []) → MayLack types value
-only types value some = only_at some.place some.stands
-  where
-    only_at : (place : ℕ) → slice_get (value ∷ []) place ≡ Some some.value → MayLack types value
-    only_at zero at = subst (MayLack types) (sym (same_Some value some.value at)) some.lacks
-    only_at (suc n) at = cc
-
-pub lack_alone : (types : List SubType) (value : ValType) → MayLack types value → SomeMayLack types (value ∷ [])
-lack_alone types value lacks = record { place = 0; value = value; stands = refl; lacks = lacks }
-
-mapped_at : {A B : Type 0} (f : A → B) (xs : List A) (n : ℕ) (x : A) → slice_get xs n ≡ Some x → slice_get (map f xs) n ≡ Some (f x)
-mapped_at f [] n x at = cc
-mapped_at f (y ∷ xs) zero x at = ap (λ (z : _). Some (f z)) (same_Some y x at)
-mapped_at f (y ∷ xs) (suc n) x at = mapped_at f xs n x at
-
-of_mapped : {A B : Type 0} (f : A → B) (xs : List A) (n : ℕ) (y : B) → slice_get (map f xs) n ≡ Some y → (x : A) × (slice_get xs n ≡ Some x) × (f x ≡ y)
-of_mapped f [] n y at = cc
-of_mapped f (x ∷ xs) zero y at = (x, refl, same_Some (f x) y at)
-of_mapped f (x ∷ xs) (suc n) y at = of_mapped f xs n y at
-
--- what refuses an operand refuses all
-pub operand_refuses : (types : List SubType) (operands : List Operand) (n : ℕ) (d : Operand) (e : Error) → n < length operands → MayRefuseValues types (operand_type (get_or operands n d) ∷ []) e → MayRefuseValues types (map operand_type operands) e
-operand_refuses types operands n d e inside (inl memory) = inl memory
-operand_refuses types operands n d e inside (inr (empty, some)) =
-    let each = get_or operands n d in
-    inr (empty, record { place = n; value = operand_type each; stands = mapped_at operand_type operands n each (slice_get-get_or operands n d inside); lacks = only types (operand_type each) some })
-
--- what refuses the operands of a node refuses it
-pub node_refuses : (context : Context) (wanted : ValType) (fuel : ℕ) (node : Node) (e : Error) → IsNode context wanted fuel node → MayRefuseValues context.types (map operand_type node.operands) e → MayRefuseValues context.types (wanted ∷ []) e
-node_refuses context wanted fuel node e fits (inl memory) = inl memory
-node_refuses context wanted fuel node e fits (inr (empty, some)) =
-    let (operand, at, is) = of_mapped operand_type node.operands some.place some.value some.stands in
-    inr (empty, lack_alone context.types wanted (fits.lacks operand some.place at (subst (MayLack context.types) (sym is) some.lacks)))
 
 -- two facts of what is made, together
 pub ok_both : {T E P Q R : Type 0} (r : Result T E) → (P → Q → R) → OnOk r P → OnOk r Q → OnOk r R

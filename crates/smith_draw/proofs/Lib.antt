@@ -4,6 +4,7 @@ pub mod UntilLoop
 pub mod AncestorLemmas
 pub mod EachLoop
 pub mod OfferedLemmas
+pub mod OfferedPlaceLemmas
 pub mod HeapTypeLemmas
 pub mod SharedLemmas
 pub mod StandingLemmas
@@ -46,5 +47,6 @@ pub mod PuttingLemmas
 pub mod ExtendedLemmas
 pub mod ConstStepLemmas
 pub mod ConstExprLemmas
+pub mod ConstTaskLemmas
 pub mod ConstFloatLemmas
 pub mod SpelledConstExprLemmas

@@ -1,4 +1,4 @@
--- What each step of drawing a constant expression adds to the instructions that stand, and when it is refused.
+-- What each step of drawing a constant expression adds to the instructions that stand.
 use Rattle.std.specs.Prelude.{◌≡◌, ◌⊎◌, ℕ, ◌+◌, ◌*◌, ◌≤◌, ◌<◌, Bool, true, IsTrue, Option, List, Some, None, Result, Ok, Err, length, map, slice_get, All}
 use Rattle.smith_types.specs.Expressions.{Context, HasType}
 use Rattle.smith_types.specs.Flags.{IsInstrEnabled}
@@ -6,14 +6,13 @@ use Rattle.smith_types.specs.Subtyping.{IsValBelow}
 use Rattle.smith_types.specs.ValidTypes.{IsValTypeValid}
 use Rattle.smith_types.specs.declared.value_type.ValType.{ValType}
 use Rattle.smith_types.specs.declared.value_type.ValType.TheVariants.{I32, I64}
-use Rattle.smith_types.specs.declared.composite_type.SubType.{SubType}
 use Rattle.smith_types.specs.declared.const_instr.ConstInstr.{ConstInstr}
 use Rattle.smith_bytes.specs.declared.error.Error.{Error}
 use Rattle.smith_bytes.specs.declared.error.Error.TheVariants as errors
 use Rattle.smith_draw.specs.Putting.{Puts}
 use Rattle.smith_draw.specs.ConstBounds.{widest, MayLack}
 use Rattle.smith_draw.specs.ConstNodes.{is_extended, node_at}
-use Rattle.smith_draw.specs.ConstExprs.{State, operand_at, operands_at, expression_at}
+use Rattle.smith_draw.specs.ConstExprs.{State, expression_at}
 use Rattle.smith_draw.specs.declared.const_expr.node_choice.Choice.{Choice}
 use Rattle.smith_draw.specs.declared.const_expr.node.Operand.{Operand}
 use Rattle.smith_draw.specs.declared.const_expr.node.Operand.TheVariants.{Value, Length}
@@ -29,17 +28,6 @@ pub record IsDrawn (context : Context) (values : List ValType) (old : List Const
   pub puts : Puts context values old new
   pub spent : left ≤ fuel
   pub short : length new + 23 * widest context.types * left ≤ length old + 23 * length values + 23 * widest context.types * fuel
-
--- for one of these values there may be nothing to choose from
-pub record SomeMayLack (types : List SubType) (values : List ValType) : Type 0 where
-  pub place : ℕ
-  pub value : ValType
-  pub stands : slice_get values place ≡ Some value
-  pub lacks : MayLack types value
-
--- when values of these types may be refused
-abbrev pub MayRefuseValues : List SubType → List ValType → Error → Type 0
-MayRefuseValues types values e = (e ≡ errors.Memory) ⊎ ((e ≡ errors.EmptyChoose) × SomeMayLack types values)
 
 -- a node gives a value of the wanted type from its operands, which are few, valid and paid for
 pub record IsNode (context : Context) (wanted : ValType) (fuel : ℕ) (node : Node) : Type 0 where
@@ -67,11 +55,3 @@ Reads (Err _) new read = ⊥
 -- a value, by its definition at whatever depth above the fuel
 pub record ReadsValue (context : Context) (limited : Bool) (wanted : ValType) (old new : State) (result : Result (Unit {0}) Error) : Type 0 where
   pub exact : (depth : ℕ) → old.fuel < depth → Reads result new (expression_at context limited depth wanted old)
-
--- an operand
-pub record ReadsOperand (context : Context) (limited : Bool) (operand : Operand) (old new : State) (result : Result (Unit {0}) Error) : Type 0 where
-  pub exact : (depth : ℕ) → old.fuel < depth → Reads result new (operand_at limited (expression_at context limited depth) operand old)
-
--- operands, which without fuel are none
-pub record ReadsOperands (context : Context) (limited : Bool) (operands : List Operand) (old new : State) (result : Result (Unit {0}) Error) : Type 0 where
-  pub exact : (depth : ℕ) → (0 < length operands → old.fuel < depth) → Reads result new (operands_at (operand_at limited (expression_at context limited depth)) operands old)

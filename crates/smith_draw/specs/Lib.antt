@@ -32,6 +32,7 @@ pub mod ConstExprs
 pub mod ConstBounds
 pub mod Putting
 pub mod ConstSteps
+pub mod ConstTasks
 pub mod ConstFloats
 pub mod SpelledConstants
 pub mod SpelledGlobals

@@ -29,9 +29,8 @@ ghost use Rattle.smith_draw.specs.MatchingTypes.{
   matching_func_type_at,
 };
 
-use crate::choice::choose;
 use crate::each::{Replacement, draw_each};
-use crate::offered::gc_subtypes;
+use crate::offered::{count_subtypes, offered_subtype};
 use crate::spaces::{Spaces, orderly};
 use crate::super_type::Above;
 use smith_bytes::{Error, Unstructured};
@@ -40,7 +39,6 @@ use smith_types::{FieldType, FuncType, HeapType, RefType, StorageType, TypeSpace
 use std::alloc::Global;
 
 fn draw_matching_heap_type(
-    alloc: Global,
     config: &Config,
     space: &TypeSpace,
     ty: HeapType,
@@ -51,8 +49,9 @@ fn draw_matching_heap_type(
     if !config.gc_enabled {
         return Ok(ty);
     }
-    let offered = gc_subtypes(alloc, config, space.types(), ty)?;
-    Ok(choose(offered.as_slice(), u))
+    let count = count_subtypes(config, space, ty);
+    let place = u.int_in_range(0..=count - 1);
+    Ok(offered_subtype(config, space, ty, place))
 }
 
 #[tactic(auto, unfolding(crate::specs::MatchingTypes::matching_ref_type_at))]
@@ -65,7 +64,7 @@ fn draw_matching_ref_type(
 ) -> Result<RefType, Error>
     ensures { Draws (matching_ref_type_at config.now space.now.types ty u.old) result u.old u.new }
 {
-    let heap_type = draw_matching_heap_type(alloc, config, space, ty.heap_type, u)?;
+    let heap_type = draw_matching_heap_type(config, space, ty.heap_type, u)?;
     Ok(RefType {
         nullable: ty.nullable,
         heap_type,
@@ -191,7 +190,7 @@ pub fn arbitrary_matching_heap_type(
     ensures stands { IfOk result (λ drawn. IsInRange spaces.now.types.now.types ty → IsInRange spaces.now.types.now.types drawn) }
 {
     orderly(spaces);
-    draw_matching_heap_type(alloc, config, spaces.types, ty, u)
+    draw_matching_heap_type(config, spaces.types, ty, u)
 }
 
 /// Draws a reference type below `ty`, over the types of `spaces`, nullable exactly where `ty` is. The standard's section

@@ -1,15 +1,17 @@
 ghost use Rattle.std.specs.Prelude.{
   ◌≡◌,
+  ◌+◌,
   ◌<◌,
+  ◌≤◌,
   ◌^◌,
   ◌++◌,
   [],
   ◌∷◌,
+  Some,
   map,
   length,
-  OnOk,
-  IfOk,
-  IfErr,
+  slice_get,
+  if◌then◌else◌,
 };
 ghost use Rattle.smith_types.specs.declared.value_type.HeapType.TheVariants.{Abstract, Concrete, Exact};
 ghost use Rattle.smith_types.specs.Types.{IsOrderly};
@@ -19,12 +21,9 @@ ghost use Rattle.smith_draw.specs.Offered.{
   supertypes_of_inner,
   kinds_below,
   kinds_above,
-  is_kind,
   is_declared_below,
-  picked_from,
   of_kinds,
   direct_subtypes,
-  supertype_at,
   ancestors,
   bottom_at,
   kinds_at,
@@ -33,258 +32,294 @@ ghost use Rattle.smith_draw.specs.Offered.{
   gc_supertypes,
 };
 
-use smith_bytes::Error;
 use smith_config::Config;
-use smith_types::{AbstractHeapType, CompositeInnerType, HeapType, Items, SubType};
-use std::alloc::Global;
+use smith_types::{AbstractHeapType, CompositeInnerType, HeapType, SubType, TypeSpace};
 
-/// The subtypes of `ty` that are offered with garbage collection, `ty` itself first.
-pub(crate) fn gc_subtypes(
-    alloc: Global,
-    config: &Config,
-    types: &[SubType],
-    ty: HeapType,
-) -> Result<Items<HeapType>, Error>
-    requires few { length types.now < 2 ^ 32 }
-    ensures exact { IfOk result (λ offered. offered ≡ gc_subtypes config.now types.now ty) }
-    ensures some { IfOk result (λ offered. 0 < length offered) }
-    ensures memory { IfErr result (λ e. e ≡ Error.Memory) }
+/// How many supertypes of `ty` are offered with garbage collection.
+pub(crate) fn count_supertypes(space: &TypeSpace, ty: HeapType) -> usize
+    ensures { result ≡ length (gc_supertypes space.now.types ty) }
 {
     match ty {
-        HeapType::Abstract { shared, ty } => abstract_offered(
-            alloc,
-            types,
-            shared,
-            abstract_subtypes(ty),
-            kinds_below(ty),
-        ),
-        HeapType::Concrete(index) => concrete_subtypes(alloc, config, types, index),
-        HeapType::Exact(_) => itself(alloc, ty),
+        HeapType::Abstract { shared, ty } => {
+            count_abstract(space, shared, abstract_supertypes(ty), kinds_above(ty))
+        }
+        HeapType::Concrete(index) => count_concrete_supertypes(space, index),
+        HeapType::Exact(_) => 1,
     }
 }
 
-/// The supertypes of `ty` that are offered with garbage collection, `ty` itself first.
-pub(crate) fn gc_supertypes(
-    alloc: Global,
-    types: &[SubType],
-    ty: HeapType,
-) -> Result<Items<HeapType>, Error>
-    requires orderly { IsOrderly types.now }
-    requires few { length types.now < 2 ^ 32 }
-    ensures exact { IfOk result (λ offered. offered ≡ gc_supertypes types.now ty) }
-    ensures some { IfOk result (λ offered. 0 < length offered) }
-    ensures memory { IfErr result (λ e. e ≡ Error.Memory) }
+/// The supertype of `ty` that is offered with garbage collection at the place `place`, which is below the number of these.
+pub(crate) fn offered_supertype(space: &TypeSpace, ty: HeapType, place: usize) -> HeapType
+    requires { place < length (gc_supertypes space.now.types ty) }
+    ensures { slice_get (gc_supertypes space.now.types ty) place ≡ Some result }
 {
     match ty {
-        HeapType::Abstract { shared, ty } => abstract_offered(
-            alloc,
-            types,
-            shared,
-            abstract_supertypes(ty),
-            kinds_above(ty),
-        ),
-        HeapType::Concrete(index) => concrete_supertypes(alloc, types, index),
-        HeapType::Exact(_) => itself(alloc, ty),
+        HeapType::Abstract { shared, ty } => {
+            offered_abstract(
+                space,
+                shared,
+                abstract_supertypes(ty),
+                kinds_above(ty),
+                place,
+            )
+        }
+        HeapType::Concrete(index) => offered_concrete_supertype(space, index, place),
+        HeapType::Exact(_) => ty,
     }
 }
 
-fn itself(alloc: Global, ty: HeapType) -> Result<Items<HeapType>, Error>
-    ensures exact { IfOk result (λ offered. offered ≡ ty ∷ []) }
-    ensures memory { IfErr result (λ e. e ≡ Error.Memory) }
-{
-    let mut offered = Items::new(alloc);
-    offered.push(ty)?;
-    Ok(offered)
-}
-
-/// The abstract types `abstracts`, and the concrete types of the kinds `kinds`, all of the sharedness `shared`.
-fn abstract_offered(
-    alloc: Global,
-    types: &[SubType],
+/// How many these are: the abstract types `abstracts`, and the concrete types of the kinds `kinds`, all of the sharedness `shared`.
+fn count_abstract(
+    space: &TypeSpace,
     shared: bool,
     abstracts: &[AbstractHeapType],
     kinds: &[AbstractHeapType],
-) -> Result<Items<HeapType>, Error>
-    requires few { length types.now < 2 ^ 32 }
-    ensures exact { IfOk result (λ offered. offered ≡ map (Abstract shared) abstracts.now ++ of_kinds types.now shared kinds.now) }
-    ensures memory { IfErr result (λ e. e ≡ Error.Memory) }
+) -> usize
+    requires few { length abstracts.now + length kinds.now < 2 ^ 8 }
+    ensures { result ≡ length (map (Abstract shared) abstracts.now ++ of_kinds space.now.types shared kinds.now) }
 {
-    let mut offered = Items::with_capacity(alloc, abstracts.len() + types.len())?;
-    push_abstract(&mut offered, shared, abstracts)?;
-    push_of_kinds(&mut offered, types, shared, kinds)?;
-    Ok(offered)
-}
-
-fn concrete_subtypes(
-    alloc: Global,
-    config: &Config,
-    types: &[SubType],
-    index: u32,
-) -> Result<Items<HeapType>, Error>
-    requires few { length types.now < 2 ^ 32 }
-    ensures exact { IfOk result (λ offered. offered ≡ gc_subtypes config.now types.now (Concrete index)) }
-    ensures memory { IfErr result (λ e. e ≡ Error.Memory) }
-{
-    let mut offered = itself(alloc, HeapType::Concrete(index))?;
-    push_direct(&mut offered, types, index)?;
-    push_exact(&mut offered, config, types, index)?;
-    push_bottom(&mut offered, types, index)?;
-    Ok(offered)
-}
-
-fn concrete_supertypes(
-    alloc: Global,
-    types: &[SubType],
-    index: u32,
-) -> Result<Items<HeapType>, Error>
-    requires orderly { IsOrderly types.now }
-    ensures exact { IfOk result (λ offered. offered ≡ gc_supertypes types.now (Concrete index)) }
-    ensures memory { IfErr result (λ e. e ≡ Error.Memory) }
-{
-    let mut offered = itself(alloc, HeapType::Concrete(index))?;
-    push_kinds(&mut offered, types, index)?;
-    push_ancestors(&mut offered, types, index)?;
-    Ok(offered)
-}
-
-fn push_abstract(
-    offered: &mut Items<HeapType>,
-    shared: bool,
-    abstracts: &[AbstractHeapType],
-) -> Result<(), Error>
-    ensures ok { OnOk result (offered.new ≡ offered.old ++ map (Abstract shared) abstracts.now) }
-    ensures memory { IfErr result (λ e. e ≡ Error.Memory) }
-{
-    for ty in abstracts {
-        offered.push(HeapType::Abstract { shared, ty: *ty })?;
-    }
-    Ok(())
-}
-
-/// Adds the concrete types of each of `kinds`, by index.
-fn push_of_kinds(
-    offered: &mut Items<HeapType>,
-    types: &[SubType],
-    shared: bool,
-    kinds: &[AbstractHeapType],
-) -> Result<(), Error>
-    requires few { length types.now < 2 ^ 32 }
-    ensures ok { OnOk result (offered.new ≡ offered.old ++ of_kinds types.now shared kinds.now) }
-    ensures memory { IfErr result (λ e. e ≡ Error.Memory) }
-{
+    let mut count = abstracts.len();
     for kind in kinds {
-        push_of_kind(offered, types, shared, *kind)?;
+        count += space.count_of_kind(shared, *kind) as usize;
     }
-    Ok(())
+    count
 }
 
-fn push_of_kind(
-    offered: &mut Items<HeapType>,
-    types: &[SubType],
+/// That one of the same, at the place `place`.
+fn offered_abstract(
+    space: &TypeSpace,
     shared: bool,
-    kind: AbstractHeapType,
-) -> Result<(), Error>
-    requires few { length types.now < 2 ^ 32 }
-    ensures ok { OnOk result (offered.new ≡ offered.old ++ picked_from (is_kind shared kind) 0 types.now) }
-    ensures memory { IfErr result (λ e. e ≡ Error.Memory) }
+    abstracts: &[AbstractHeapType],
+    kinds: &[AbstractHeapType],
+    place: usize,
+) -> HeapType
+    requires { place < length (map (Abstract shared) abstracts.now ++ of_kinds space.now.types shared kinds.now) }
+    ensures { slice_get (map (Abstract shared) abstracts.now ++ of_kinds space.now.types shared kinds.now) place ≡ Some result }
 {
-    for index in 0..types.len() {
-        if is_kind(&types[index], shared, kind) {
-            offered.push(HeapType::Concrete(index as u32))?;
-        }
+    if place < abstracts.len() {
+        return HeapType::Abstract {
+            shared,
+            ty: abstracts[place],
+        };
     }
-    Ok(())
+    HeapType::Concrete(offered_of_kinds(space, shared, kinds, place - abstracts.len()))
 }
 
-/// Adds the types that are declared directly below `supertype`, by index.
-fn push_direct(
-    offered: &mut Items<HeapType>,
-    types: &[SubType],
-    supertype: u32,
-) -> Result<(), Error>
-    requires few { length types.now < 2 ^ 32 }
-    ensures ok { OnOk result (offered.new ≡ offered.old ++ direct_subtypes types.now supertype) }
-    ensures memory { IfErr result (λ e. e ≡ Error.Memory) }
+/// The index of that type of each of `kinds`, by kind and by index, which stands at the place `place`.
+fn offered_of_kinds(
+    space: &TypeSpace,
+    shared: bool,
+    kinds: &[AbstractHeapType],
+    place: usize,
+) -> u32
+    requires { place < length (of_kinds space.now.types shared kinds.now) }
+    ensures { slice_get (of_kinds space.now.types shared kinds.now) place ≡ Some (Concrete result) }
 {
-    for index in 0..types.len() {
-        if is_declared_below(&types[index], supertype) {
-            offered.push(HeapType::Concrete(index as u32))?;
+    let mut left = place;
+    for kind in kinds {
+        let count = space.count_of_kind(shared, *kind) as usize;
+        if left < count {
+            return space.index_of_kind(shared, *kind, left as u32);
         }
+        left -= count;
     }
-    Ok(())
+    0
 }
 
-fn push_exact(
-    offered: &mut Items<HeapType>,
+fn count_concrete_supertypes(space: &TypeSpace, index: u32) -> usize
+    ensures { result ≡ length (gc_supertypes space.now.types (Concrete index)) }
+{
+    match space.types().get(index as usize) {
+        Some(ty) => {
+            supertypes_of_inner(&ty.composite_type.inner).len() + space.depth(index) as usize
+        }
+        None => 1,
+    }
+}
+
+fn offered_concrete_supertype(space: &TypeSpace, index: u32, place: usize) -> HeapType
+    requires { place < length (gc_supertypes space.now.types (Concrete index)) }
+    ensures { slice_get (gc_supertypes space.now.types (Concrete index)) place ≡ Some result }
+{
+    if place == 0 {
+        return HeapType::Concrete(index);
+    }
+    match space.types().get(index as usize) {
+        Some(ty) => offered_above(space, index, ty, place - 1),
+        None => HeapType::Concrete(index),
+    }
+}
+
+/// Of what stands above the type `ty` of the index `index`, abstract types and then the types on the way up, nearest first, that at
+/// the place `place`.
+fn offered_above(space: &TypeSpace, index: u32, ty: &SubType, place: usize) -> HeapType
+    requires orderly { IsOrderly space.now.types }
+    requires stands { slice_get space.now.types index ≡ Some ty.now }
+    requires inside { place < length (kinds_at space.now.types index ++ ancestors space.now.types index) }
+    ensures { slice_get (kinds_at space.now.types index ++ ancestors space.now.types index) place ≡ Some result }
+{
+    let depth = space.depth(index);
+    let kinds = supertypes_of_inner(&ty.composite_type.inner);
+    if place < kinds.len() {
+        return HeapType::Abstract {
+            shared: ty.composite_type.shared,
+            ty: kinds[place],
+        };
+    }
+    HeapType::Concrete(space.ancestor(index, depth - 1 - (place - kinds.len()) as u32))
+}
+
+/// How many subtypes of `ty` are offered with garbage collection.
+pub(crate) fn count_subtypes(config: &Config, space: &TypeSpace, ty: HeapType) -> usize
+    ensures { result ≡ length (gc_subtypes config.now space.now.types ty) }
+{
+    match ty {
+        HeapType::Abstract { shared, ty } => {
+            count_abstract(space, shared, abstract_subtypes(ty), kinds_below(ty))
+        }
+        HeapType::Concrete(index) => count_concrete_subtypes(config, space.types(), index),
+        HeapType::Exact(_) => 1,
+    }
+}
+
+/// The subtype of `ty` that is offered with garbage collection at the place `place`, which is below the number of these.
+pub(crate) fn offered_subtype(
+    config: &Config,
+    space: &TypeSpace,
+    ty: HeapType,
+    place: usize,
+) -> HeapType
+    requires { place < length (gc_subtypes config.now space.now.types ty) }
+    ensures { slice_get (gc_subtypes config.now space.now.types ty) place ≡ Some result }
+{
+    match ty {
+        HeapType::Abstract { shared, ty } => {
+            offered_abstract(space, shared, abstract_subtypes(ty), kinds_below(ty), place)
+        }
+        HeapType::Concrete(index) => {
+            offered_concrete_subtype(config, space.types(), index, place)
+        }
+        HeapType::Exact(_) => ty,
+    }
+}
+
+fn count_concrete_subtypes(config: &Config, types: &[SubType], index: u32) -> usize
+    requires few { length types.now < 2 ^ 32 }
+    ensures { result ≡ length (gc_subtypes config.now types.now (Concrete index)) }
+{
+    let direct = count_direct(types, index);
+    1 + direct + count_exact(config, direct) + count_bottom(types, index)
+}
+
+/// How many exact types, and types directly below again, are offered where `direct` types are directly below.
+fn count_exact(config: &Config, direct: usize) -> usize
+    requires { direct < 2 ^ 32 }
+    ensures { result ≡ (if config.now.custom_descriptors_enabled then 1 + direct else 0) }
+{
+    if config.custom_descriptors_enabled {
+        1 + direct
+    } else {
+        0
+    }
+}
+
+fn count_bottom(types: &[SubType], index: u32) -> usize
+    ensures { result ≡ length (bottom_at types.now index) }
+{
+    match types.get(index as usize) {
+        Some(_) => 1,
+        None => 0,
+    }
+}
+
+fn offered_concrete_subtype(
     config: &Config,
     types: &[SubType],
     index: u32,
-) -> Result<(), Error>
+    place: usize,
+) -> HeapType
     requires few { length types.now < 2 ^ 32 }
-    ensures ok { OnOk result (offered.new ≡ offered.old ++ exact_subtypes config.now types.now index) }
-    ensures memory { IfErr result (λ e. e ≡ Error.Memory) }
+    requires inside { place < length (gc_subtypes config.now types.now (Concrete index)) }
+    ensures { slice_get (gc_subtypes config.now types.now (Concrete index)) place ≡ Some result }
+{
+    if place == 0 {
+        return HeapType::Concrete(index);
+    }
+    let direct = count_direct(types, index);
+    if place <= direct {
+        return HeapType::Concrete(offered_direct(types, index, place - 1));
+    }
+    offered_below(config, types, index, direct, place - 1 - direct)
+}
+
+/// Of what is offered below the type `index` behind the types directly below, of which there are `direct`, that at the place `place`.
+fn offered_below(
+    config: &Config,
+    types: &[SubType],
+    index: u32,
+    direct: usize,
+    place: usize,
+) -> HeapType
+    requires few { length types.now < 2 ^ 32 }
+    requires counted { direct ≡ length (direct_subtypes types.now index) }
+    requires inside { place < length (exact_subtypes config.now types.now index ++ bottom_at types.now index) }
+    ensures { slice_get (exact_subtypes config.now types.now index ++ bottom_at types.now index) place ≡ Some result }
 {
     if !config.custom_descriptors_enabled {
-        return Ok(());
+        return offered_bottom(types, index);
     }
-    offered.push(HeapType::Exact(index))?;
-    push_direct(offered, types, index)
+    if place == 0 {
+        return HeapType::Exact(index);
+    }
+    if place <= direct {
+        return HeapType::Concrete(offered_direct(types, index, place - 1));
+    }
+    offered_bottom(types, index)
 }
 
-/// Adds the bottom of the kind of the type `index`, if the type stands.
-fn push_bottom(offered: &mut Items<HeapType>, types: &[SubType], index: u32) -> Result<(), Error>
-    ensures ok { OnOk result (offered.new ≡ offered.old ++ bottom_at types.now index) }
-    ensures memory { IfErr result (λ e. e ≡ Error.Memory) }
+/// The bottom of the kind of the type `index`, which stands.
+fn offered_bottom(types: &[SubType], index: u32) -> HeapType
+    requires { 0 < length (bottom_at types.now index) }
+    ensures { bottom_at types.now index ≡ result ∷ [] }
 {
     match types.get(index as usize) {
-        Some(ty) => offered.push(HeapType::Abstract {
+        Some(ty) => HeapType::Abstract {
             shared: ty.composite_type.shared,
             ty: ty.composite_type.inner.bottom(),
-        }),
-        None => Ok(()),
+        },
+        None => HeapType::Concrete(index),
     }
 }
 
-/// Adds the abstract types above the type `index`, if the type stands.
-fn push_kinds(offered: &mut Items<HeapType>, types: &[SubType], index: u32) -> Result<(), Error>
-    ensures ok { OnOk result (offered.new ≡ offered.old ++ kinds_at types.now index) }
-    ensures memory { IfErr result (λ e. e ≡ Error.Memory) }
+/// How many types are declared directly below the type `supertype`.
+fn count_direct(types: &[SubType], supertype: u32) -> usize
+    ensures { result ≡ length (direct_subtypes types.now supertype) }
 {
-    match types.get(index as usize) {
-        Some(ty) => push_abstract(
-            offered,
-            ty.composite_type.shared,
-            supertypes_of_inner(&ty.composite_type.inner),
-        ),
-        None => Ok(()),
+    let mut count = 0;
+    for ty in types {
+        if is_declared_below(ty, supertype) {
+            count += 1;
+        }
     }
+    count
 }
 
-/// Adds the types on the way up from the type `index`, nearest first.
-fn push_ancestors(offered: &mut Items<HeapType>, types: &[SubType], index: u32) -> Result<(), Error>
-    requires orderly { IsOrderly types.now }
-    ensures ok { OnOk result (offered.new ≡ offered.old ++ ancestors types.now index) }
-    ensures memory { IfErr result (λ e. e ≡ Error.Memory) }
+/// The index of that type directly below the type `supertype` which stands at the place `place` among these.
+fn offered_direct(types: &[SubType], supertype: u32, place: usize) -> u32
+    requires few { length types.now < 2 ^ 32 }
+    requires inside { place < length (direct_subtypes types.now supertype) }
+    ensures { slice_get (direct_subtypes types.now supertype) place ≡ Some (Concrete result) }
 {
-    let mut at = index;
-    while let Some(supertype) = supertype_at(types, at) {
-        offered.push(HeapType::Concrete(supertype))?;
-        at = supertype;
+    let mut left = place;
+    for index in 0..types.len() {
+        if is_declared_below(&types[index], supertype) {
+            if left == 0 {
+                return index as u32;
+            }
+            left -= 1;
+        }
     }
-    Ok(())
-}
-
-fn supertype_at(types: &[SubType], index: u32) -> Option<u32>
-    ensures { result ≡ supertype_at types.now index }
-{
-    types.get(index as usize)?.supertype
-}
-
-/// Whether `ty` is of the kind `kind` and the sharedness `shared`.
-fn is_kind(ty: &SubType, shared: bool, kind: AbstractHeapType) -> bool
-    ensures { result ≡ is_kind shared kind ty.now }
-{
-    ty.composite_type.shared == shared && ty.composite_type.inner.kind() == kind
+    0
 }
 
 fn is_declared_below(ty: &SubType, index: u32) -> bool

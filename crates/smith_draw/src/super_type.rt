@@ -8,9 +8,8 @@ ghost use Rattle.smith_draw.specs.Kept.{StaysValid};
 ghost use Rattle.smith_draw.specs.Offered.{supertypes_offered};
 ghost use Rattle.smith_draw.specs.MatchingTypes.{super_heap_type_at, super_ref_type_at, super_val_type_at};
 
-use crate::choice::choose;
 use crate::each::Replacement;
-use crate::offered::gc_supertypes;
+use crate::offered::{count_supertypes, offered_supertype};
 use crate::spaces::{Spaces, orderly};
 use smith_bytes::{Error, Unstructured};
 use smith_config::Config;
@@ -18,7 +17,6 @@ use smith_types::{HeapType, RefType, TypeSpace, ValType};
 use std::alloc::Global;
 
 fn draw_super_heap_type(
-    alloc: Global,
     config: &Config,
     space: &TypeSpace,
     ty: HeapType,
@@ -29,8 +27,9 @@ fn draw_super_heap_type(
     if !config.gc_enabled {
         return Ok(ty);
     }
-    let offered = gc_supertypes(alloc, space.types(), ty)?;
-    Ok(choose(offered.as_slice(), u))
+    let count = count_supertypes(space, ty);
+    let place = u.int_in_range(0..=count - 1);
+    Ok(offered_supertype(space, ty, place))
 }
 
 #[tactic(auto, unfolding(crate::specs::MatchingTypes::super_ref_type_at))]
@@ -43,7 +42,7 @@ fn draw_super_ref_type(
 ) -> Result<RefType, Error>
     ensures { Draws (super_ref_type_at config.now space.now.types ty u.old) result u.old u.new }
 {
-    let heap_type = draw_super_heap_type(alloc, config, space, ty.heap_type, u)?;
+    let heap_type = draw_super_heap_type(config, space, ty.heap_type, u)?;
     Ok(RefType {
         nullable: true,
         heap_type,
@@ -103,7 +102,7 @@ pub fn arbitrary_super_type_of_heap_type(
     ensures stands { IfOk result (λ drawn. IsInRange spaces.now.types.now.types ty → IsInRange spaces.now.types.now.types drawn) }
 {
     orderly(spaces);
-    draw_super_heap_type(alloc, config, spaces.types, ty, u)
+    draw_super_heap_type(config, spaces.types, ty, u)
 }
 
 /// Draws a nullable reference type above `ty`, over the types of `spaces`. The standard's section Validation, Matching, Reference

@@ -129,7 +129,7 @@ const fn plain(ty: AbstractHeapType) -> HeapType
 }
 
 // An external reference that is not null.
-fn external_under(alloc: Global, config: &Config) -> Result<Answer, Fail>
+fn external_under(alloc: Global, config: &Config, input: &[u8]) -> Result<Answer, Fail>
     requires passes { Passes config.now }
     requires sanitized { IsSanitized config.now }
     requires gc { IsTrue config.now.gc_enabled }
@@ -140,24 +140,44 @@ fn external_under(alloc: Global, config: &Config) -> Result<Answer, Fail>
         nullable: false,
         heap_type: plain(AbstractHeapType::Extern),
     });
-    drawn(alloc, config, &types, wanted, &[])
+    drawn(alloc, config, &types, wanted, input)
 }
 
-fn external(alloc: Global, fuel: u32) -> Result<Answer, Fail> {
+fn external(alloc: Global, fuel: u32, input: &[u8]) -> Result<Answer, Fail> {
     told(
         settled(fuel, false)?,
-        |config| external_under(alloc, config),
+        |config| external_under(alloc, config, input),
     )
 }
 
 // Whether with the fuel `fuel` such a reference is made by the instructions `want`.
 fn is_external(alloc: Global, fuel: u32, want: &[ConstInstr]) -> Result<bool, Fail> {
-    Ok(told(external(alloc, fuel)?, |made| is_of(made, want)))
+    Ok(told(external(alloc, fuel, &[])?, |made| is_of(made, want)))
 }
 
 // Why no such reference is made with the fuel `fuel`, if none is.
 fn external_refusal(alloc: Global, fuel: u32) -> Result<Option<Error>, Fail> {
-    Ok(external(alloc, fuel)?.err())
+    Ok(external(alloc, fuel, &[])?.err())
+}
+
+fn length_of(answer: &Answer) -> usize {
+    match answer {
+        Ok(made) => made.len(),
+        Err(_) => 0,
+    }
+}
+
+// How many instructions make such a reference, of so many bytes 1, each of which asks for a conversion there and back.
+fn conversions(alloc: Global, number: usize) -> Result<usize, Fail> {
+    let input = vec![in alloc; 1u8; number]?;
+    Ok(told(external(alloc, 100_000, input.as_slice())?, length_of))
+}
+
+#[test]
+fn conversions_nest_deeply(rt: HostRuntime) -> Result<(), Fail> {
+    assert_eq!(rt; conversions(rt.alloc(), 2)?, 7);
+    assert_eq!(rt; conversions(rt.alloc(), 40_000)?, 80_003);
+    Ok(())
 }
 
 #[test]

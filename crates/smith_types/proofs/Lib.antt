@@ -12,6 +12,7 @@ pub mod SpaceLemmas
 pub mod ValidityLemmas
 pub mod GroupGrowthLemmas
 pub mod WalkLemmas
+pub mod KindCountLemmas
 pub mod PlaceLemmas
 pub mod FeatureBitLemmas
 pub mod PartLemmas

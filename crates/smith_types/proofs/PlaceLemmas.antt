@@ -1,125 +1,250 @@
--- The places of types, as types are added.
-use Rattle.std.proofs.Common.{◌≡◌, ◌↔◌, ℕ, ◌+◌, ◌^◌, ◌<◌, ◌≤◌, List, [], ◌∷◌, ◌++◌, Some, None, get_or, length, refl, sym, ◌∙◌, subst, inl, inr, arith, ap, add-one}
-use Rattle.std.proofs.lemmas.Option.{slice_get_within, slice_get-get_or, same_Some, none-some}
-use Rattle.std.proofs.lemmas.List.{length-append, length-map, get_or-map}
+-- The places of types and the table of their rows, as types are added.
+use Rattle.std.proofs.Common.{◌≡◌, ◌↔◌, ℕ, suc, ◌+◌, ◌-◌, ◌^◌, ◌<◌, ◌≤◌, List, [], ◌∷◌, ◌++◌, Some, None, Bool, true, IsTrue, get_or, take, length, refl, sym, ◌∙◌, subst, inl, inr, arith, ap, add-one}
+use Rattle.std.specs.Prelude.{nat_eq, nat_lt, slice_index}
+use Rattle.std.proofs.lemmas.Bool.{eqb-true, eq-eqb, ltb-true, cases_lt}
+use Rattle.std.proofs.lemmas.Option.{slice_get_within, slice_get-get_or}
+use Rattle.std.proofs.lemmas.List.{length-append, length-map, take-append-le, take_all, get_or-map, get_or_append_left, get_or-append-add}
+use Rattle.std.proofs.lemmas.Grind.{get_or_default_zero}
 use Rattle.smith_types.specs.declared.composite_type.SubType.{SubType}
 use Rattle.smith_types.specs.declared.place.Place.{Place}
 use Rattle.smith_types.specs.declared.value_type.HeapType.TheVariants.{Concrete}
 use Rattle.smith_types.specs.Types.{IsOrderly}
 use Rattle.smith_types.specs.Space.{MayFollow, HasDepth, root, deeper, AreDepths}
-use Rattle.smith_types.specs.Places.{IsPlace, ArePlaces, depths_in}
+use Rattle.smith_types.specs.declared.kind_counts.KindCounts.{KindCounts}
+use Rattle.smith_types.specs.declared.value_type.AbstractHeapType.{AbstractHeapType}
+use Rattle.smith_types.specs.Kinds.{shared}
+use Rattle.smith_types.specs.KindCounts.{is_of_kind, indices_of_kind, count_where, count_at, counts_with, AreCounts}
+use Rattle.smith_types.proofs.KindCountLemmas.{AreCounts-push, AreCounts-none, count_most, length_indices}
+use Rattle.smith_types.specs.Places.{counts_from, last_counts, IsAncestor, IsPlace, ArePlaces, depths_in, IsBehind, IsRowAtEnd}
 use Rattle.smith_types.specs.Subtyping.{IsBelow, itself}
 use Rattle.smith_types.proofs.GrowthLemmas.{IsBelow-grown, IsBelow-trans}
-use Rattle.smith_types.proofs.ListLemmas.{slice_get-front, slice_get-last, slice_get-push}
+use Rattle.smith_types.proofs.ListLemmas.{slice_get-last, slice_get-push}
 use Rattle.smith_types.proofs.PathLemmas.{below_declared}
-use Rattle.smith_types.proofs.SpaceLemmas.{HasDepth-grown, HasDepth-le}
-use Rattle.smith_types.proofs.WalkLemmas.{below_back, below_on}
+use Rattle.smith_types.proofs.SpaceLemmas.{HasDepth-grown, HasDepth-le, depth_some}
+use Rattle.smith_types.proofs.WalkLemmas.{below_depth, below_level}
+
+abbrev pub no_place : Place
+no_place = record { start = 0; depth = 0; counts = record { arrays = 0; funcs = 0; structs = 0; shared_arrays = 0; shared_funcs = 0; shared_structs = 0 } }
 
 -- a place, read as code reads it
-pub place_read : (types : List SubType) (places : List Place) (i : ℕ) (place d : Place) → ArePlaces types places → i < length types → place ≡ get_or places i d → IsPlace types i place
-place_read types places i place d known inside read =
+pub place_read : (types : List SubType) (table : List ℕ) (places : List Place) (i : ℕ) (place d : Place) → ArePlaces types table places → i < length types → place ≡ get_or places i d → IsPlace types table i place
+place_read types table places i place d known inside read =
     known.each i place (slice_get-get_or places i d (omega (arith, known.long)) ∙ ap Some (sym read))
 
--- a type is below a type exactly where its jump, which leaves it, is, unless the jump has a smaller index than that
-pub below_jump : (types : List SubType) (places : List Place) (i s j : ℕ) (t : SubType) (d : Place) → IsOrderly types → ArePlaces types places → i < length types → (get_or types i t).supertype ≡ Some s → j ≤ (get_or places i d).jump
-    → ((get_or places i d).jump < i) × (IsBelow types (Concrete (get_or places i d).jump) (Concrete j) ↔ IsBelow types (Concrete i) (Concrete j))
-below_jump types places i s j t d orderly known inside sup before =
-    let place = place_read types places i (get_or places i d) d known inside refl in
-    (place.other (get_or types i t) s (slice_get-get_or types i t inside) sup, below_on types orderly i (get_or places i d).jump j place.above before)
+-- how many types of a kind stand up to a type, read as code reads it
+pub count_read : (types now : List SubType) (table : List ℕ) (places : List Place) (i n : ℕ) (place d : Place) (s : Bool) (kind : AbstractHeapType) → types ≡ now → ArePlaces types table places → i < length now → place ≡ get_or places i d → n ≡ count_at place.counts s kind
+    → n ≡ count_where (is_of_kind s kind) (take (suc i) now)
+count_read types now table places i n place d s kind view known inside read is =
+    subst (λ xs. n ≡ count_where (is_of_kind s kind) (take (suc i) xs)) view
+    (is ∙ (place_read types table places i place d known (rw view inside) read).counts.each s kind)
 
 -- the depths of the places are those of the types
-pub depths_known : (types : List SubType) (places : List Place) → ArePlaces types places → AreDepths types (depths_in places)
-depths_known types places known = record {
+pub depths_known : (types : List SubType) (table : List ℕ) (places : List Place) → ArePlaces types table places → AreDepths types (depths_in places)
+depths_known types table places known = record {
   long = length-map places (λ (p : Place). p.depth) ∙ known.long;
   each = λ i inside.
-      let d : Place = record { depth = 0; jump = 0 } in
+      let d : Place = no_place in
       let within : i < length places = omega (arith, known.long) in
       subst (λ n. HasDepth types i n) (sym (get_or-map (λ (p : Place). p.depth) places i d 0 within))
       (known.each i (get_or places i d) (slice_get-get_or places i d within)).depth;
 }
 
--- a place stays as the list grows
-IsPlace-grown : (types more : List SubType) (i : ℕ) (place : Place) → i < length types → IsPlace types i place → IsPlace (types ++ more) i place
-IsPlace-grown types more i place inside h = record {
-  depth = HasDepth-grown types more h.depth;
+-- what stands in the row of a type where a type of the depth of another would, is that one exactly where it is above
+pub row_told : (types : List SubType) (table : List ℕ) (i j : ℕ) (p q : Place) (found : ℕ) → IsOrderly types → IsPlace types table i p → IsPlace types table j q → q.depth < p.depth → found ≡ get_or table (p.start + (q.depth - 1)) found
+    → IsTrue (nat_eq found j) ↔ IsBelow types (Concrete i) (Concrete j)
+row_told types table i j p q found orderly lower upper less read =
+    let some : 1 ≤ q.depth = depth_some types upper.depth in
+    let within : p.start + p.depth ≤ length table + 1 = lower.within in
+    let stands : found ≡ slice_index table (p.start + (q.depth - 1)) = read ∙ get_or_default_zero table (p.start + (q.depth - 1)) found (omega (arith, within, some, less)) in
+    let ancestor = subst (λ n. IsAncestor types i (suc (q.depth - 1)) n) (sym stands) (lower.row (q.depth - 1) (omega (arith, some, less))) in
+    let level : suc (q.depth - 1) ≡ q.depth = omega (arith, some) in
+    let deep : HasDepth types found q.depth = subst (λ n. HasDepth types found n) level ancestor.depth_is in (
+      λ same. subst (λ n. IsBelow types (Concrete i) (Concrete n)) (eqb-true found j same) ancestor.above,
+      λ below. eq-eqb found j (below_level types orderly i found j q.depth ancestor.above below deep upper.depth),
+    )
+
+-- no other type that is as deep, or deeper, is above a type
+pub row_ended : (types : List SubType) (table : List ℕ) (i j : ℕ) (p q : Place) → IsOrderly types → IsPlace types table i p → IsPlace types table j q → (i ≡ j → ⊥) → p.depth ≤ q.depth
+    → IsTrue (nat_lt q.depth p.depth) ↔ IsBelow types (Concrete i) (Concrete j)
+row_ended types table i j p q orderly lower upper other more = (
+  λ yes.
+      let less : q.depth < p.depth = ltb-true q.depth p.depth yes in
+      absurd (omega (arith, less, more)),
+  λ below.
+      let less : q.depth ≤ p.depth = below_depth types orderly i j p.depth q.depth below lower.depth upper.depth in
+      let same : p.depth ≡ q.depth = omega (arith, less, more) in
+      absurd (other (below_level types orderly i i j q.depth itself below (subst (λ n. HasDepth types i n) same lower.depth) upper.depth)),
+)
+
+-- a type is below itself
+pub row_met : (types : List SubType) (i j : ℕ) → i ≡ j → IsTrue true ↔ IsBelow types (Concrete i) (Concrete j)
+row_met types i j same = (λ yes. subst (λ n. IsBelow types (Concrete i) (Concrete n)) same itself, λ below. refl)
+
+-- the ancestor of a depth, read as code reads it
+pub ancestor_read : (types now : List SubType) (table : List ℕ) (places : List Place) (i depth : ℕ) (place d : Place) (found : ℕ) → types ≡ now → ArePlaces types table places → i < length now → place ≡ get_or places i d → 0 < depth → ((own : ℕ) → HasDepth now i own → depth ≤ own) → (depth ≡ place.depth → ⊥)
+    → (place.start + (depth - 1) < length table) × (found ≡ get_or table (place.start + (depth - 1)) found → IsAncestor now i depth found)
+ancestor_read types now table places i depth place d found view known inside read some within other =
+    let row = place_read types table places i place d known (rw view inside) read in
+    let fits : place.start + place.depth ≤ length table + 1 = row.within in
+    let deep : HasDepth now i place.depth = subst (λ xs. HasDepth xs i place.depth) view row.depth in
+    let most : depth ≤ place.depth = within place.depth deep in
+    let less : depth < place.depth = omega (arith, most, other) in
+    let inside_table : place.start + (depth - 1) < length table = omega (arith, fits, less, some) in
+    let level : suc (depth - 1) ≡ depth = omega (arith, some) in (
+      inside_table,
+      λ is.
+          let stands : slice_index table (place.start + (depth - 1)) ≡ found = sym (is ∙ get_or_default_zero table (place.start + (depth - 1)) found inside_table) in
+          let ancestor : IsAncestor types i (suc (depth - 1)) (slice_index table (place.start + (depth - 1))) = row.row (depth - 1) (omega (arith, some, less)) in
+          subst (λ xs. IsAncestor xs i depth found) view (subst (λ n. IsAncestor types i n found) level (subst (λ n. IsAncestor types i (suc (depth - 1)) n) stands ancestor)),
+    )
+
+-- a type is its own ancestor, of its own depth
+pub ancestor_own : (types now : List SubType) (table : List ℕ) (places : List Place) (i depth : ℕ) (place d : Place) → types ≡ now → ArePlaces types table places → i < length now → place ≡ get_or places i d → depth ≡ place.depth → IsAncestor now i depth i
+ancestor_own types now table places i depth place d view known inside read same =
+    let row = place_read types table places i place d known (rw view inside) read in
+    record {
+      depth_is = subst (λ xs. HasDepth xs i depth) view (rw same row.depth);
+      above = itself;
+    }
+
+-- an ancestor stays as the list grows
+IsAncestor-grown : (types more : List SubType) (i depth ancestor : ℕ) → IsAncestor types i depth ancestor → IsAncestor (types ++ more) i depth ancestor
+IsAncestor-grown types more i depth ancestor h = record {
+  depth_is = HasDepth-grown types more h.depth_is;
   above = IsBelow-grown types more h.above;
-  other = λ t s at sup. h.other t s (slice_get-front types more i t inside at) sup;
 }
 
-pub ArePlaces-push : (types : List SubType) (t : SubType) (places : List Place) (place : Place) → ArePlaces types places → IsPlace (types ++ t ∷ []) (length types) place → ArePlaces (types ++ t ∷ []) (places ++ place ∷ [])
-ArePlaces-push types t places place before last = record {
+-- a place stays as the list and the table grow
+IsPlace-grown : (types more : List SubType) (table longer : List ℕ) (i : ℕ) (place : Place) → i < length types → IsBehind table longer → IsPlace types table i place → IsPlace (types ++ more) longer i place
+IsPlace-grown types more table longer i place inside behind h =
+    let within : place.start + place.depth ≤ length table + 1 = h.within in record {
+      depth = HasDepth-grown types more h.depth;
+      within = subst (λ l. place.start + place.depth ≤ length l + 1) (sym behind.joined) (simp length-append (omega (arith, within)));
+      counts = rw (take-append-le (suc i) types more (omega (arith, inside))) h.counts;
+      row = λ k small.
+          let read : slice_index longer (place.start + k) ≡ slice_index table (place.start + k) = ap (λ l. slice_index l (place.start + k)) behind.joined ∙ get_or_append_left table behind.more 0 (place.start + k) (omega (arith, within, small)) in
+          subst (λ n. IsAncestor (types ++ more) i (suc k) n) (sym read) (IsAncestor-grown types more i (suc k) (slice_index table (place.start + k)) (h.row k small));
+    }
+
+-- the places stay as the table grows
+pub ArePlaces-behind : (types : List SubType) (table longer : List ℕ) (places : List Place) → IsBehind table longer → ArePlaces types table places → ArePlaces types longer places
+ArePlaces-behind types table longer places behind before = record {
+  long = before.long;
+  each = λ i place at.
+      let h = before.each i place at in
+      let within : place.start + place.depth ≤ length table + 1 = h.within in record {
+        depth = h.depth;
+        within = subst (λ l. place.start + place.depth ≤ length l + 1) (sym behind.joined) (simp length-append (omega (arith, within)));
+        counts = h.counts;
+        row = λ k small.
+            let read : slice_index longer (place.start + k) ≡ slice_index table (place.start + k) = ap (λ l. slice_index l (place.start + k)) behind.joined ∙ get_or_append_left table behind.more 0 (place.start + k) (omega (arith, within, small)) in
+            subst (λ n. IsAncestor types i (suc k) n) (sym read) (h.row k small);
+      };
+}
+
+pub ArePlaces-push : (types : List SubType) (t : SubType) (table longer : List ℕ) (places : List Place) (place : Place) → ArePlaces types table places → IsBehind table longer → IsPlace (types ++ t ∷ []) longer (length types) place → ArePlaces (types ++ t ∷ []) longer (places ++ place ∷ [])
+ArePlaces-push types t table longer places place before behind last = record {
   long = simp length-append (ap (λ n. n + 1) before.long);
   each = λ i p at. elim (slice_get-push places place i p at) [
     | inl old ↦
         let inside : i < length places = slice_get_within places i p old in
-        IsPlace-grown types (t ∷ []) i p (omega (arith, before.long)) (before.each i p old)
+        IsPlace-grown types (t ∷ []) table longer i p (omega (arith, inside, before.long)) behind (before.each i p old)
     | inr (is, same) ↦
-        subst (λ n. IsPlace (types ++ t ∷ []) n p) (sym (is ∙ before.long))
-        (subst (λ q. IsPlace (types ++ t ∷ []) (length types) q) same last)
+        subst (λ n. IsPlace (types ++ t ∷ []) longer n p) (sym (is ∙ before.long))
+        (subst (λ q. IsPlace (types ++ t ∷ []) longer (length types) q) same last)
   ];
 }
 
--- a type stands at a place, which is not so deep that one more type would not fit
-pub record IsStanding (types : List SubType) (i : ℕ) (place : Place) : Type 0 where
+all_taken : (types : List SubType) (t : SubType) → take (suc (length types)) (types ++ t ∷ []) ≡ types ++ t ∷ []
+all_taken types t = take_all (suc (length types)) (types ++ t ∷ []) (simp length-append (omega arith))
+
+-- the counts up to the last place, read as code reads it
+pub counts_from-last : (counts : KindCounts) (places : List Place) (d : Place) → 1 ≤ length places → (get_or places (length places - 1) d).counts ≡ counts_from counts places
+counts_from-last counts [] d some = absurd (omega arith)
+counts_from-last counts (p ∷ []) d some = refl
+counts_from-last counts (p ∷ q ∷ places) d some =
+    let fewer : length (p ∷ q ∷ places) - 1 ≡ suc (length (q ∷ places) - 1) = omega arith in
+    rw fewer (counts_from-last p.counts (q ∷ places) d (omega arith))
+
+-- the counts up to the last place are those of all types
+pub counts_known : (types : List SubType) (table : List ℕ) (places : List Place) → ArePlaces types table places → AreCounts types (last_counts places)
+counts_known [] table [] known = AreCounts-none
+counts_known (t ∷ types) table [] known = let long : 0 ≡ length (t ∷ types) = known.long in absurd (omega (arith, long))
+counts_known types table (p ∷ places) known =
+    let last : ℕ = length (p ∷ places) - 1 in
+    let end : suc last ≡ length types = omega (arith, known.long) in
+    let place = known.each last (get_or (p ∷ places) last p) (slice_get-get_or (p ∷ places) last p (omega arith)) in
+    let all : take (suc last) types ≡ types = take_all (suc last) types (omega (arith, end)) in
+    subst (λ c. AreCounts types c) (counts_from-last no_place.counts (p ∷ places) p (omega arith)) (rw all at place.counts)
+
+-- how many types of a kind there are, read as code reads it
+pub count_told : (types now : List SubType) (table : List ℕ) (places : List Place) (s : Bool) (kind : AbstractHeapType) (n : ℕ) → types ≡ now → ArePlaces types table places → n ≡ count_at (last_counts places) s kind → n ≡ length (indices_of_kind now s kind)
+count_told types now table places s kind n view known is =
+    subst (λ xs. n ≡ length (indices_of_kind xs s kind)) view
+    (is ∙ (counts_known types table places known).each s kind ∙ sym (length_indices (is_of_kind s kind) 0 types))
+
+-- the counts with a type more
+pub counts_more : (types : List SubType) (table : List ℕ) (places : List Place) (t : SubType) → ArePlaces types table places → AreCounts (types ++ t ∷ []) (counts_with (shared t) t.composite_type.inner (last_counts places))
+counts_more types table places t known = AreCounts-push types t (last_counts places) (counts_known types table places known)
+
+-- no count is at its limit
+pub counts_room : (types : List SubType) (table : List ℕ) (places : List Place) (t : SubType) → ArePlaces types table places → MayFollow types t → (s : Bool) (kind : AbstractHeapType) → count_at (last_counts places) s kind + 1 < 2 ^ 32
+counts_room types table places t known follows s kind =
+    let is = (counts_known types table places known).each s kind in
+    let most = count_most (is_of_kind s kind) types in
+    let few : length types + 1 < 2 ^ 32 = follows.room in
+    omega (arith, is, most, few)
+
+-- the place of the supertype of a type that is to be added
+pub record IsStanding (types : List SubType) (table : List ℕ) (i : ℕ) (place : Place) : Type 0 where
   pub inside : i < length types
-  pub small : i < 2 ^ 32
-  pub known : IsPlace types i place
+  pub known : IsPlace types table i place
   pub shallow : place.depth + 1 < 2 ^ 32
 
-abbrev pub place_at : List Place → ℕ → Place
-place_at places i = get_or places i (record { depth = 0; jump = 0 })
-
-standing_at : (types : List SubType) (places : List Place) (t : SubType) (i : ℕ) → IsOrderly types → ArePlaces types places → MayFollow types t → i < length types → IsStanding types i (place_at places i)
-standing_at types places t i orderly known follows inside =
-    let few : length types + 1 < 2 ^ 32 = follows.room in
-    let place = place_read types places i (place_at places i) (record { depth = 0; jump = 0 }) known inside refl in
-    let least : (place_at places i).depth ≤ i + 1 = HasDepth-le types orderly place.depth in
-    record { inside = inside; small = omega (arith, few, inside); known = place; shallow = omega (arith, few, inside, least) }
-
-standing_jump : (types : List SubType) (places : List Place) (t : SubType) (i : ℕ) (place : Place) → IsOrderly types → ArePlaces types places → MayFollow types t → IsStanding types i place → IsStanding types place.jump (place_at places place.jump)
-standing_jump types places t i place orderly known follows stands =
-    let inside : i < length types = stands.inside in
-    let back : place.jump ≤ i = below_back types orderly i place.jump stands.known.above in
-    standing_at types places t place.jump orderly known follows (omega (arith, inside, back))
-
--- the supertype of a type that is to be added, where its jump leads, and where the jump from there leads
-pub record AreAbove (types : List SubType) (s : ℕ) (p q r : Place) : Type 0 where
-  pub above : IsStanding types s p
-  pub near : IsStanding types p.jump q
-  pub far : IsStanding types q.jump r
-
-pub places_above : (types : List SubType) (places : List Place) (t : SubType) (s : ℕ) → IsOrderly types → ArePlaces types places → MayFollow types t → t.supertype ≡ Some s
-    → AreAbove types s (place_at places s) (place_at places (place_at places s).jump) (place_at places (place_at places (place_at places s).jump).jump)
-places_above types places t s orderly known follows up =
+pub place_above : (types : List SubType) (table : List ℕ) (places : List Place) (t : SubType) (s : ℕ) → IsOrderly types → ArePlaces types table places → MayFollow types t → t.supertype ≡ Some s
+    → IsStanding types table s (get_or places s (no_place))
+place_above types table places t s orderly known follows up =
     let (u, at, alike) = follows.below s up in
-    let above = standing_at types places t s orderly known follows (slice_get_within types s u at) in
-    let near = standing_jump types places t s (place_at places s) orderly known follows above in
-    let far = standing_jump types places t (place_at places s).jump (place_at places (place_at places s).jump) orderly known follows near in
-    record { above = above; near = near; far = far }
+    let inside : s < length types = slice_get_within types s u at in
+    let few : length types + 1 < 2 ^ 32 = follows.room in
+    let place = place_read types table places s (get_or places s (no_place)) (no_place) known inside refl in
+    let least : (get_or places s (no_place)).depth ≤ s + 1 = HasDepth-le types orderly place.depth in
+    record { inside = inside; known = place; shallow = omega (arith, few, inside, least) }
 
--- a type that is added below a supertype, with any jump of the supertype's way up
-place_below : (types : List SubType) (t : SubType) (s jump : ℕ) (above : Place) → IsOrderly types → t.supertype ≡ Some s → IsStanding types s above → IsBelow types (Concrete s) (Concrete jump) → IsPlace (types ++ t ∷ []) (length types) (record { depth = above.depth + 1; jump = jump })
-place_below types t s jump above orderly up stands below = record {
-  depth = rw add-one (deeper {t = t} (slice_get-last types t) up (HasDepth-grown types (t ∷ []) stands.known.depth));
-  above = IsBelow-trans (types ++ t ∷ []) (below_declared (types ++ t ∷ []) (length types) s t (slice_get-last types t) up) (IsBelow-grown types (t ∷ []) below);
-  other = λ u s' at sup.
-      let inside : s < length types = stands.inside in
-      let back : jump ≤ s = below_back types orderly s jump below in
-      omega (arith, inside, back);
-}
+-- the row of a type that is added below a supertype: that of the supertype, and the supertype
+pub place_below : (types : List SubType) (t : SubType) (table ended : List ℕ) (s start : ℕ) (above : Place) (counts : KindCounts) → AreCounts (types ++ t ∷ []) counts → IsPlace types table s above → t.supertype ≡ Some s → IsRowAtEnd table above ended start
+    → IsPlace (types ++ t ∷ []) (ended ++ s ∷ []) (length types) (record { start = start; depth = above.depth + 1; counts = counts })
+place_below types t table ended s start above counts count known up row =
+    let ends : start + above.depth ≡ length ended + 1 = row.ends in
+    let deep : HasDepth (types ++ t ∷ []) (length types) (suc above.depth) = deeper {t = t} (slice_get-last types t) up (HasDepth-grown types (t ∷ []) known.depth) in
+    let one_up = below_declared (types ++ t ∷ []) (length types) s t (slice_get-last types t) up in record {
+      depth = rw add-one deep;
+      counts = rw (all_taken types t) count;
+      within = simp length-append (omega (arith, ends));
+      row = λ k small. elim (cases_lt (suc k) above.depth) [
+        | inl less ↦
+            let read : slice_index (ended ++ s ∷ []) (start + k) ≡ slice_index table (above.start + k) = get_or_append_left ended (s ∷ []) 0 (start + k) (omega (arith, ends, less)) ∙ row.same k less in
+            let old = IsAncestor-grown types (t ∷ []) s (suc k) (slice_index table (above.start + k)) (known.row k less) in
+            subst (λ n. IsAncestor (types ++ t ∷ []) (length types) (suc k) n) (sym read) (record {
+              depth_is = old.depth_is;
+              above = IsBelow-trans (types ++ t ∷ []) one_up old.above;
+            })
+        | inr more ↦
+            let is : suc k ≡ above.depth = omega (arith, small, more) in
+            let at : start + k ≡ length ended + 0 = omega (arith, is, ends) in
+            let read : slice_index (ended ++ s ∷ []) (start + k) ≡ s = ap (λ n. slice_index (ended ++ s ∷ []) n) at ∙ get_or-append-add ended (s ∷ []) 0 0 in
+            subst (λ n. IsAncestor (types ++ t ∷ []) (length types) (suc k) n) (sym read) (record {
+              depth_is = subst (λ n. HasDepth (types ++ t ∷ []) s n) (sym is) (HasDepth-grown types (t ∷ []) known.depth);
+              above = one_up;
+            })
+      ];
+    }
 
-pub place_near : (types : List SubType) (t : SubType) (s : ℕ) (above near far : Place) → IsOrderly types → t.supertype ≡ Some s → AreAbove types s above near far → IsPlace (types ++ t ∷ []) (length types) (record { depth = above.depth + 1; jump = s })
-place_near types t s above near far orderly up stand = place_below types t s s above orderly up stand.above itself
-
-pub place_far : (types : List SubType) (t : SubType) (s : ℕ) (above near far : Place) → IsOrderly types → t.supertype ≡ Some s → AreAbove types s above near far → IsPlace (types ++ t ∷ []) (length types) (record { depth = above.depth + 1; jump = near.jump })
-place_far types t s above near far orderly up stand = place_below types t s near.jump above orderly up stand.above (IsBelow-trans types stand.above.known.above stand.near.known.above)
-
--- a type that is added without a supertype
-pub place_alone : (types : List SubType) (t : SubType) → t.supertype ≡ None → IsPlace (types ++ t ∷ []) (length types) (record { depth = 1; jump = length types })
-place_alone types t none = record {
+-- a type that is added without a supertype has no row
+pub place_alone : (types : List SubType) (t : SubType) (table : List ℕ) (counts : KindCounts) → AreCounts (types ++ t ∷ []) counts → t.supertype ≡ None → IsPlace (types ++ t ∷ []) table (length types) (record { start = 0; depth = 1; counts = counts })
+place_alone types t table counts count none = record {
   depth = root {t = t} (slice_get-last types t) none;
-  above = itself;
-  other = λ u s at sup.
-      let same : t ≡ u = same_Some t u (sym (slice_get-last types t) ∙ at) in
-      absurd (none-some s (sym none ∙ ap (λ x. x.supertype) same ∙ sup));
+  counts = rw (all_taken types t) count;
+  within = omega arith;
+  row = λ k small. absurd (omega (arith, small));
 }

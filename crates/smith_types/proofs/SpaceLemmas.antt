@@ -36,6 +36,23 @@ pub HasDepth-grown : (types more : List SubType) {i d : ℕ} → HasDepth types 
 HasDepth-grown types more (root {i = i} {t = t} at none) = root (slice_get-grown types more i t at) none
 HasDepth-grown types more (deeper {i = i} {t = t} at up above) = deeper (slice_get-grown types more i t at) up (HasDepth-grown types more above)
 
+-- a type has one depth
+pub depth_alone : (types : List SubType) {i d e : ℕ} → HasDepth types i d → HasDepth types i e → d ≡ e
+depth_alone types (root {i = i} {t = t} at none) (root {t = u} at' none') = refl
+depth_alone types (root {i = i} {t = t} at none) (deeper {s = s} {t = u} at' up above) =
+    let same : t ≡ u = same_Some t u (sym at ∙ at') in cc
+depth_alone types (deeper {i = i} {s = s} {t = t} at up above) (root {t = u} at' none) =
+    let same : t ≡ u = same_Some t u (sym at ∙ at') in cc
+depth_alone types (deeper {i = i} {s = s} {t = t} at up above) (deeper {s = r} {d = e} {t = u} at' up' above') =
+    let same : t ≡ u = same_Some t u (sym at ∙ at') in
+    let one : s ≡ r = same_Some s r (sym up ∙ ap (λ (t : SubType). t.supertype) same ∙ up') in
+    ap suc (depth_alone types above (subst (λ (n : ℕ). HasDepth types n e) (sym one) above'))
+
+-- a type is itself on its way up
+pub depth_some : (types : List SubType) {i d : ℕ} → HasDepth types i d → 1 ≤ d
+depth_some types (root at none) = omega arith
+depth_some types (deeper at up above) = omega arith
+
 -- a type's depth is at most the number of types up to it
 pub HasDepth-le : (types : List SubType) → IsOrderly types → {i d : ℕ} → HasDepth types i d → d ≤ i + 1
 HasDepth-le types orderly (root at none) = omega arith

@@ -1,7 +1,6 @@
 -- Subtyping of heap types by cases, as the test goes about it, and why it is the closure of the steps.
 use Rattle.std.proofs.Common.{rules, ◌≡◌, ◌<◌, ◌≤◌, ℕ, Bool, List, Some, None, IsTrue, ◌↔◌, get_or, length, refl, sym, ◌∙◌, ap, subst, arith}
-use Rattle.std.specs.Prelude.{slice_get, nat_eq}
-use Rattle.std.proofs.lemmas.Bool.{eqb-true, eq-eqb}
+use Rattle.std.specs.Prelude.{slice_get}
 use Rattle.std.proofs.lemmas.Option.{same_Some, none-some, slice_get_within, slice_get-get_or, slice_get_read}
 use Rattle.smith_types.specs.declared.value_type.AbstractHeapType.{AbstractHeapType}
 use Rattle.smith_types.specs.declared.value_type.HeapType.{HeapType}
@@ -10,8 +9,10 @@ use Rattle.smith_types.specs.declared.composite_type.CompositeInnerType.{Composi
 use Rattle.smith_types.specs.declared.composite_type.SubType.{SubType}
 use Rattle.smith_types.specs.Kinds.{kind, bottom, shared, kind_of, bottom_of}
 use Rattle.smith_types.specs.Types.{IsOrderly}
+use Rattle.smith_types.specs.Space.{HasDepth, root, deeper}
 use Rattle.smith_types.specs.Subtyping.{IsStep, is_abstract_step, is_abstract_below, IsBelow, itself, by_step, IsInRange}
 use Rattle.smith_types.proofs.GrowthLemmas.{IsBelow-trans}
+use Rattle.smith_types.proofs.SpaceLemmas.{depth_alone}
 use Rattle.smith_types.proofs.PathLemmas.{below_abstract, below_declared, below_kind, above_bottom, exact_above_bottom, exact_below}
 
 -- a type is reached from another by going from type to declared supertype
@@ -191,62 +192,62 @@ reaches_alone types i j t at none other (up {s = s'} {t = t'} at' sup' reach) =
     let same : t ≡ t' = same_Some t t' (sym at ∙ at') in
     none-some s' (sym none ∙ ap (λ x. x.supertype) same ∙ sup')
 
--- what is reached has no greater index
-reaches_back : (types : List SubType) → IsOrderly types → (i j : ℕ) → Reaches types i j → j ≤ i
-reaches_back types o i j here = omega arith
-reaches_back types o i j (up {s = s} {t = t} at sup reach) =
-    let before : s < i = (o.under i s t at sup).0 in
-    let back : j ≤ s = reaches_back types o s j reach in
-    omega (arith, before, back)
+-- what is reached from a type is no deeper
+reaches_depth : (types : List SubType) (i j d e : ℕ) → Reaches types i j → HasDepth types i d → HasDepth types j e → e ≤ d
+reaches_depth types i j d e here deep end =
+    let same : d ≡ e = depth_alone types deep end in
+    omega (arith, same)
+reaches_depth types i j d e (up {s = s} {t = t} at sup reach) (root {t = u} at' none) end =
+    let same : t ≡ u = same_Some t u (sym at ∙ at') in
+    absurd (none-some s (sym none ∙ sym (ap (λ x. x.supertype) same) ∙ sup))
+reaches_depth types i j d e (up {s = s} {t = t} at sup reach) (deeper {s = r} {d = f} {t = u} at' up' above) end =
+    let same : t ≡ u = same_Some t u (sym at ∙ at') in
+    let one : r ≡ s = same_Some r s (sym up' ∙ sym (ap (λ x. x.supertype) same) ∙ sup) in
+    let less : e ≤ f = reaches_depth types s j f e reach (subst (λ n. HasDepth types n f) one above) end in
+    omega (arith, less)
 
--- of two types that are reached from one, that of the smaller index is reached from the other
-reaches_on : (types : List SubType) → IsOrderly types → (i j k : ℕ) → Reaches types i j → Reaches types i k → k ≤ j → Reaches types j k
-reaches_on types o i j k here on before = on
-reaches_on types o i j k (up {s = s} {t = t} at sup reach) here before =
-    let less : s < i = (o.under i s t at sup).0 in
-    let back : j ≤ s = reaches_back types o s j reach in
-    absurd (omega (arith, less, back, before))
-reaches_on types o i j k (up {s = s} {t = t} at sup reach) (up {s = s'} {t = t'} at' sup' on) before =
+-- what is reached from a declared supertype is less deep
+reaches_less : (types : List SubType) (i s j d e : ℕ) (t : SubType) → slice_get types i ≡ Some t → t.supertype ≡ Some s → Reaches types s j → HasDepth types i d → HasDepth types j e → e < d
+reaches_less types i s j d e t at sup reach (root {t = u} at' none) end =
+    let same : t ≡ u = same_Some t u (sym at ∙ at') in
+    absurd (none-some s (sym none ∙ sym (ap (λ x. x.supertype) same) ∙ sup))
+reaches_less types i s j d e t at sup reach (deeper {s = r} {d = f} {t = u} at' up' above) end =
+    let same : t ≡ u = same_Some t u (sym at ∙ at') in
+    let one : r ≡ s = same_Some r s (sym up' ∙ sym (ap (λ x. x.supertype) same) ∙ sup) in
+    let less : e ≤ f = reaches_depth types s j f e reach (subst (λ n. HasDepth types n f) one above) end in
+    omega (arith, less)
+
+-- from a type one type of a depth is reached
+reaches_level : (types : List SubType) (i j k d : ℕ) → Reaches types i j → Reaches types i k → HasDepth types j d → HasDepth types k d → j ≡ k
+reaches_level types i j k d here here deep end = refl
+reaches_level types i j k d here (up {s = s} {t = t} at sup reach) deep end =
+    let less : d < d = reaches_less types i s k d d t at sup reach deep end in
+    absurd (omega (arith, less))
+reaches_level types i j k d (up {s = s} {t = t} at sup reach) here deep end =
+    let less : d < d = reaches_less types i s j d d t at sup reach end deep in
+    absurd (omega (arith, less))
+reaches_level types i j k d (up {s = s} {t = t} at sup reach) (up {s = s'} {t = t'} at' sup' on) deep end =
     let same : t ≡ t' = same_Some t t' (sym at ∙ at') in
     let to : s' ≡ s = same_Some s' s (sym sup' ∙ sym (ap (λ x. x.supertype) same) ∙ sup) in
-    reaches_on types o s j k reach (subst (λ n. Reaches types n k) to on) before
+    reaches_level types s j k d reach (subst (λ n. Reaches types n k) to on) deep end
 
--- a type has no greater index than one that is below it
-pub below_back : (types : List SubType) → IsOrderly types → (i j : ℕ) → IsBelow types (Concrete i) (Concrete j) → j ≤ i
-below_back types o i j below = reaches_back types o i j (by_cases_from_below types o (Concrete i) (Concrete j) below)
+-- a type is no deeper than one that is below it
+pub below_depth : (types : List SubType) → IsOrderly types → (i j d e : ℕ) → IsBelow types (Concrete i) (Concrete j) → HasDepth types i d → HasDepth types j e → e ≤ d
+below_depth types o i j d e below deep end = reaches_depth types i j d e (by_cases_from_below types o (Concrete i) (Concrete j) below) deep end
 
--- a type is below a type exactly where a type above it is, which has no smaller index than that
-pub below_on : (types : List SubType) → IsOrderly types → (i j k : ℕ) → IsBelow types (Concrete i) (Concrete j) → k ≤ j → IsBelow types (Concrete j) (Concrete k) ↔ IsBelow types (Concrete i) (Concrete k)
-below_on types o i j k above before = (
-  λ below. IsBelow-trans types above below,
-  λ below. path_along types (reaches_on types o i j k (by_cases_from_below types o (Concrete i) (Concrete j) above) (by_cases_from_below types o (Concrete i) (Concrete k) below) before),
-)
+-- a type is below one type of a depth
+pub below_level : (types : List SubType) → IsOrderly types → (i j k d : ℕ) → IsBelow types (Concrete i) (Concrete j) → IsBelow types (Concrete i) (Concrete k) → HasDepth types j d → HasDepth types k d → j ≡ k
+below_level types o i j k d below on deep end =
+    reaches_level types i j k d (by_cases_from_below types o (Concrete i) (Concrete j) below) (by_cases_from_below types o (Concrete i) (Concrete k) on) deep end
 
--- a type is below a type of a smaller index exactly where its supertype, which stands, is
-pub below_above : (types : List SubType) → IsOrderly types → (i s j : ℕ) (d : SubType) → i < length types → (get_or types i d).supertype ≡ Some s → j < i → (s < i) × (IsBelow types (Concrete s) (Concrete j) ↔ IsBelow types (Concrete i) (Concrete j))
-below_above types o i s j d inside sup before =
-    let t = get_or types i d in
-    let at = slice_get-get_or types i d inside in (
-      (o.under i s t at sup).0,
-      (
-        λ below. IsBelow-trans types (below_declared types i s t at sup) below,
-        λ below. path_along types (reaches_above types i s j t at sup (λ same. omega arith) (by_cases_from_below types o (Concrete i) (Concrete j) below)),
-      ),
-    )
+-- what another type is above, its declared supertype is below
+pub below_above : (types : List SubType) → IsOrderly types → (i s j : ℕ) (t : SubType) → slice_get types i ≡ Some t → t.supertype ≡ Some s → (i ≡ j → ⊥) → IsBelow types (Concrete i) (Concrete j) → IsBelow types (Concrete s) (Concrete j)
+below_above types o i s j t at sup other below = path_along types (reaches_above types i s j t at sup other (by_cases_from_below types o (Concrete i) (Concrete j) below))
 
 -- a type without supertype is below no other
 pub below_alone : (types : List SubType) → IsOrderly types → (i j : ℕ) (d : SubType) → i < length types → (get_or types i d).supertype ≡ None → (i ≡ j → ⊥) → IsBelow types (Concrete i) (Concrete j) → ⊥
 below_alone types o i j d inside none other below =
     reaches_alone types i j (get_or types i d) (slice_get-get_or types i d inside) none other (by_cases_from_below types o (Concrete i) (Concrete j) below)
-
--- where a walk up ends, at an index that is no greater, it is met or not
-pub below_met : (types : List SubType) → IsOrderly types → (i at j : ℕ) → at ≤ j → IsBelow types (Concrete at) (Concrete j) ↔ IsBelow types (Concrete i) (Concrete j) → IsTrue (nat_eq at j) ↔ IsBelow types (Concrete i) (Concrete j)
-below_met types o i at j last same = (
-  λ met. same.0 (subst (λ n. IsBelow types (Concrete at) (Concrete n)) (eqb-true at j met) itself),
-  λ below.
-      let back : j ≤ at = below_back types o at j (same.1 below) in
-      eq-eqb at j (omega (arith, back, last)),
-)
 
 -- neither exact nor a bottom
 abbrev IsOverExact : HeapType → Type 0

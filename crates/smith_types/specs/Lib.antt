@@ -4,6 +4,7 @@ pub mod Kinds
 pub mod Types
 pub mod Space
 pub mod Subtyping
+pub mod KindCounts
 pub mod Places
 pub mod Matching
 pub mod Flags

@@ -14,6 +14,7 @@ mod held_values;
 mod imports;
 mod index_spaces;
 mod instruction_kind;
+mod kind_counts;
 /// Laws: functions that do nothing, whose clauses say what holds.
 pub mod laws;
 mod list;

@@ -1,8 +1,6 @@
 ghost use Rattle.std.specs.Prelude.{◌≡◌, ◌<◌, length, IsTrue, ◌↔◌};
 ghost use Rattle.smith_types.specs.declared.value_type.HeapType.TheVariants.{Abstract, Concrete};
 ghost use Rattle.smith_types.specs.Kinds.{kind, bottom, shared};
-ghost use Rattle.smith_types.specs.Types.{IsOrderly};
-ghost use Rattle.smith_types.specs.Places.{ArePlaces};
 ghost use Rattle.smith_types.specs.Subtyping.{
   is_abstract_below,
   IsBelow,
@@ -13,7 +11,6 @@ ghost use Rattle.smith_types.specs.Subtyping.{
 };
 
 use crate::composite_type::SubType;
-use crate::place::Place;
 use crate::type_space::TypeSpace;
 use crate::value_type::{AbstractHeapType, HeapType, RefType, ValType};
 
@@ -63,36 +60,15 @@ pub(crate) fn heap_type_is_below(space: &TypeSpace, a: HeapType, b: HeapType) ->
         },
         HeapType::Concrete(i) => match b {
             HeapType::Abstract { shared, ty } => is_under(&types[i as usize], shared, ty),
-            HeapType::Concrete(j) => reaches(types, space.places(), i, j),
+            HeapType::Concrete(j) => space.reaches(i, j),
             HeapType::Exact(_) => false,
         },
         HeapType::Exact(own) => match b {
             HeapType::Abstract { shared, ty } => is_under(&types[own as usize], shared, ty),
-            HeapType::Concrete(j) => reaches(types, space.places(), own, j),
+            HeapType::Concrete(j) => space.reaches(own, j),
             HeapType::Exact(j) => own == j,
         },
     }
-}
-
-// Whether the type `from` is the type `to`, or some declared supertype of `from` is. A supertype has a smaller index, so no jump
-// that ends at `to` or behind `to` passes `to`.
-fn reaches(types: &[SubType], places: &[Place], from: u32, to: u32) -> bool
-    requires orderly { IsOrderly types.now }
-    requires places { ArePlaces types.now places.now }
-    requires lower { from < length types.now }
-    ensures { IsTrue result ↔ IsBelow types.now (Concrete from) (Concrete to) }
-{
-    let mut at = from;
-    while to < at {
-        match types[at as usize].supertype {
-            Some(supertype) => {
-                let jump = places[at as usize].jump;
-                at = if to <= jump { jump } else { supertype };
-            }
-            None => return false,
-        }
-    }
-    at == to
 }
 
 // Whether the type `ty` is below the abstract type `upper`, which is shared or not as `is_shared` says.

@@ -25,16 +25,18 @@ ghost use Rattle.std.specs.Prelude.{
 ghost use Rattle.std.specs.declared.ops.Range.{Range};
 ghost use Rattle.smith_types.specs.Types.{IsAlike, next_start, next_group};
 ghost use Rattle.smith_types.specs.Space.{AreExtensible, HasDepth, MayFollow};
+ghost use Rattle.smith_types.specs.KindCounts.{indices_of_kind};
 ghost use Rattle.smith_types.specs.Sizes.{value_count};
 ghost use Rattle.smith_types.specs.Matching.{IsCompositeMatch, IsInnerInRange};
+ghost use Rattle.smith_types.specs.declared.value_type.HeapType.TheVariants.{Concrete};
 ghost use Rattle.smith_types.specs.Subtyping.{IsBelow, IsRefBelow, IsValBelow, IsInRange, IsValInRange};
 
 use crate::composite_type::{CompositeInnerType, CompositeType, SubType};
 use crate::entity_type::EntityType;
 use crate::matching::composite_type_is_match;
-use crate::place::{Place, place_after};
+use crate::place::{Place, last_counts, push_row};
 use crate::subtyping::{heap_type_is_below, ref_type_is_below, val_type_is_below};
-use crate::value_type::{HeapType, RefType, ValType};
+use crate::value_type::{AbstractHeapType, HeapType, RefType, ValType};
 use smith_bytes::Error;
 use std::alloc::Global;
 use std::fmt;
@@ -50,6 +52,8 @@ const DEPTH_LIMIT: u32 = 60;
 pub struct TypeSpace {
     types: Vec<SubType>,
     places: Vec<Place>,
+    // The rows of the types: the row of each, and maybe what a type that was refused left behind.
+    rows: Vec<u32>,
     extensible: Vec<u32>,
     groups: Vec<Range<usize>>,
 }
@@ -64,7 +68,7 @@ impl Model for TypeSpace {
     ghost view = { λ a. record { types = a.types.items; groups = a.groups.items } };
 
     ghost invariant = { λ a. IsSound (record { types = a.types.items; groups = a.groups.items })
-        × ArePlaces a.types.items a.places.items
+        × ArePlaces a.types.items a.rows.items a.places.items
         × (a.extensible.items ≡ extensible_from 0 a.types.items (depths_in a.places.items)) };
 }
 
@@ -91,6 +95,7 @@ impl TypeSpace {
         TypeSpace {
             types: Vec::new(alloc),
             places: Vec::new(alloc),
+            rows: Vec::new(alloc),
             extensible: Vec::new(alloc),
             groups: Vec::new(alloc),
         }
@@ -105,6 +110,7 @@ impl TypeSpace {
         Ok(TypeSpace {
             types: Vec::with_capacity(alloc, types)?,
             places,
+            rows: Vec::new(alloc),
             extensible: Vec::new(alloc),
             groups: Vec::with_capacity(alloc, types)?,
         })
@@ -116,13 +122,6 @@ impl TypeSpace {
         ensures sound { IsSound self.now }
     {
         self.types.as_slice()
-    }
-
-    // The places of the types, in the order of their indices.
-    pub(crate) fn places(&self) -> &[Place]
-        ensures { ArePlaces self.now.types result.now }
-    {
-        self.places.as_slice()
     }
 
     /// The groups so far, each as the range of the indices of its types. Types behind the last group belong to no group until
@@ -140,6 +139,62 @@ impl TypeSpace {
         ensures { HasDepth self.now.types index result }
     {
         self.places[index as usize].depth
+    }
+
+    /// The type of the depth `depth` on the way up from the type `index`, which stands: of the depth 1 a type without a supertype, and
+    /// of the depth of `index` that type itself.
+    pub fn ancestor(&self, index: u32, depth: u32) -> u32
+        requires stands { index < length self.now.types }
+        requires some { 0 < depth }
+        requires within { (own : ℕ) → HasDepth self.now.types index own → depth ≤ own }
+        ensures deep { HasDepth self.now.types result depth }
+        ensures above { IsBelow self.now.types (Concrete index) (Concrete result) }
+    {
+        let place = self.places[index as usize];
+        if depth == place.depth {
+            return index;
+        }
+        self.rows[place.start + (depth as usize - 1)]
+    }
+
+    /// The number of the types of the kind `kind`, shared or not as `shared` says.
+    pub fn count_of_kind(&self, shared: bool, kind: AbstractHeapType) -> u32
+        ensures { result ≡ length (indices_of_kind self.now.types shared kind) }
+    {
+        last_counts(self.places.as_slice()).count(shared, kind)
+    }
+
+    /// The index of that type of the kind `kind`, shared or not as `shared` says, which stands behind `place` others of these.
+    pub fn index_of_kind(&self, shared: bool, kind: AbstractHeapType, place: u32) -> u32
+        requires { place < length (indices_of_kind self.now.types shared kind) }
+        ensures { slice_get (indices_of_kind self.now.types shared kind) place ≡ Some result }
+    {
+        let mut low = 0;
+        let mut high = self.places.len() - 1;
+        while low < high {
+            let middle = low + (high - low) / 2;
+            if place < self.places[middle].counts.count(shared, kind) {
+                high = middle;
+            } else {
+                low = middle + 1;
+            }
+        }
+        low as u32
+    }
+
+    // Whether the type `from` is the type `to`, or some declared supertype of `from` is: whether `to` stands in the row of `from`
+    // where a type of its depth would.
+    pub(crate) fn reaches(&self, from: u32, to: u32) -> bool
+        requires lower { from < length self.now.types }
+        requires upper { to < length self.now.types }
+        ensures { IsTrue result ↔ IsBelow self.now.types (Concrete from) (Concrete to) }
+    {
+        if from == to {
+            return true;
+        }
+        let lower = self.places[from as usize];
+        let upper = self.places[to as usize];
+        upper.depth < lower.depth && self.rows[lower.start + (upper.depth as usize - 1)] == to
     }
 
     /// The indices of the types that may have drawn subtypes, in order: of the types that are not final, and of a depth below 60.
@@ -172,7 +227,12 @@ impl TypeSpace {
         ensures memory { IfErr result (λ e. e ≡ Error.Memory) }
     {
         let index = self.types.len() as u32;
-        let place = place_after(self.types.as_slice(), self.places.as_slice(), &added);
+        let place = push_row(
+            self.types.as_slice(),
+            self.places.as_slice(),
+            &mut self.rows,
+            &added,
+        )?;
         let count = self.extensible.len();
         let is_extensible = may_have_subtypes(&added, place.depth);
         self.places.push(place)?;

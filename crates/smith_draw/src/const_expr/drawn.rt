@@ -1,116 +1,25 @@
-ghost use Rattle.std.specs.Prelude.{◌≡◌, ◌≤◌, ◌<◌, ◌++◌, ◌+◌, ◌*◌, ◌-◌, ◌⊎◌, Some, None, [], ◌∷◌, map, length, All, IsTrue, IfOk, IfErr, OnOk};
+ghost use Rattle.std.specs.Prelude.{◌≡◌, ◌≤◌, ◌<◌, ◌++◌, ◌+◌, ◌*◌, ◌-◌, Some, None, [], ◌∷◌, reverse, length, IfOk, IfErr, OnOk};
 ghost use Rattle.smith_bytes.specs.Source.{KeepsPieces};
 ghost use Rattle.smith_types.specs.ValidTypes.{IsValTypeValid};
-ghost use Rattle.smith_types.specs.declared.value_type.ValType.TheVariants.{I32, I64};
+ghost use Rattle.smith_types.specs.declared.value_type.ValType.TheVariants.{I32};
 ghost use Rattle.smith_types.specs.Expressions.{Context, IsConstExpr};
-ghost use Rattle.smith_draw.specs.Constants.{extended_at};
 ghost use Rattle.smith_draw.specs.ConstScopes.{context_of, IsScope};
 ghost use Rattle.smith_draw.specs.ConstExprs.{state_of, length_at, expression_alone_at};
 ghost use Rattle.smith_draw.specs.ConstBounds.{most_instructions, MayRefuseConstExpr};
-ghost use Rattle.smith_draw.specs.ConstSteps.{operand_type, MayRefuseValues, IsDrawn, ReadsValue, ReadsOperand, ReadsOperands};
+ghost use Rattle.smith_draw.specs.ConstSteps.{IsDrawn, ReadsValue};
+ghost use Rattle.smith_draw.specs.ConstTasks.{IsTaskValid, IsStep, MayRefuseTask};
+ghost use Rattle.smith_draw.specs.declared.const_expr.task.Task.TheVariants.{Draw};
+ghost use Rattle.smith_draw.specs.declared.const_expr.node.Operand.TheVariants.{Value};
 
 use super::extended::draw_extended_constant;
 use super::found::choose_offer;
 use super::node::{Operand, draw_node};
 use super::node_choice::{Choice, is_extended};
 use super::scope::Scope;
+use super::task::{Task, push_node};
 use smith_bytes::{Error, Unstructured};
 use smith_types::{ConstInstr, Items, ValType};
 use std::alloc::Global;
-
-/// Draws a value of the type `wanted` behind the instructions of `out`.
-#[cycle(expression)]
-fn draw_expression(
-    alloc: Global,
-    scope: &Scope<'_>,
-    wanted: ValType,
-    fuel: &mut u32,
-    out: &mut Items<ConstInstr>,
-    u: &mut Unstructured<'_>,
-) -> Result<(), Error>
-    requires scope { IsScope (context_of scope.now) }
-    requires wanted { IsValTypeValid (context_of scope.now).features (length (context_of scope.now).types) wanted }
-    ensures exact { ReadsValue (context_of scope.now) scope.now.config.now.limit_arrays_in_const_exprs wanted (state_of out.old fuel.old u.old) (state_of out.new fuel.new u.new) result }
-    ensures drawn { OnOk result (IsDrawn (context_of scope.now) (wanted ∷ []) out.old fuel.old out.new fuel.new) }
-    ensures refusal { IfErr result (MayRefuseValues (context_of scope.now).types (wanted ∷ [])) }
-    ensures left { KeepsPieces u.old u.new }
-{
-    let choice = choose_offer(scope, wanted, *fuel, u)?;
-    *fuel = fuel.saturating_sub(1);
-    if is_extended(choice) {
-        return draw_extended_constant(alloc, wanted, out, u);
-    }
-    let node = draw_node(alloc, scope.spaces.types.types(), wanted, choice, u)?;
-    draw_operands(alloc, scope, node.operands.as_slice(), fuel, out, u)?;
-    out.push(node.instruction)
-}
-
-/// Draws `operands` in order.
-#[cycle(expression)]
-fn draw_operands(
-    alloc: Global,
-    scope: &Scope<'_>,
-    operands: &[Operand],
-    fuel: &mut u32,
-    out: &mut Items<ConstInstr>,
-    u: &mut Unstructured<'_>,
-) -> Result<(), Error>
-    requires scope { IsScope (context_of scope.now) }
-    requires valid { All (λ operand. IsValTypeValid (context_of scope.now).features (length (context_of scope.now).types) (operand_type operand)) operands.now }
-    ensures exact { ReadsOperands (context_of scope.now) scope.now.config.now.limit_arrays_in_const_exprs operands.now (state_of out.old fuel.old u.old) (state_of out.new fuel.new u.new) result }
-    ensures drawn { OnOk result (IsDrawn (context_of scope.now) (map operand_type operands.now) out.old fuel.old out.new fuel.new) }
-    ensures refusal { IfErr result (MayRefuseValues (context_of scope.now).types (map operand_type operands.now)) }
-    ensures left { KeepsPieces u.old u.new }
-{
-    for each in operands {
-        draw_operand(alloc, scope, *each, fuel, out, u)?;
-    }
-    Ok(())
-}
-
-/// Draws `operand`: a value, or a length.
-#[cycle(expression)]
-fn draw_operand(
-    alloc: Global,
-    scope: &Scope<'_>,
-    operand: Operand,
-    fuel: &mut u32,
-    out: &mut Items<ConstInstr>,
-    u: &mut Unstructured<'_>,
-) -> Result<(), Error>
-    requires scope { IsScope (context_of scope.now) }
-    requires valid { IsValTypeValid (context_of scope.now).features (length (context_of scope.now).types) (operand_type operand) }
-    ensures exact { ReadsOperand (context_of scope.now) scope.now.config.now.limit_arrays_in_const_exprs operand (state_of out.old fuel.old u.old) (state_of out.new fuel.new u.new) result }
-    ensures drawn { OnOk result (IsDrawn (context_of scope.now) (operand_type operand ∷ []) out.old fuel.old out.new fuel.new) }
-    ensures refusal { IfErr result (MayRefuseValues (context_of scope.now).types (operand_type operand ∷ [])) }
-    ensures left { KeepsPieces u.old u.new }
-{
-    match operand {
-        Operand::Value(value) => draw_expression(alloc, scope, value, fuel, out, u),
-        Operand::Length => {
-            if scope.config.limit_arrays_in_const_exprs {
-                return draw_length(fuel, out, u);
-            }
-            draw_expression(alloc, scope, ValType::I32, fuel, out, u)
-        }
-    }
-}
-
-/// Draws a length of at most `fuel`, and takes the length from `fuel`.
-fn draw_length(
-    fuel: &mut u32,
-    out: &mut Items<ConstInstr>,
-    u: &mut Unstructured<'_>,
-) -> Result<(), Error>
-    ensures exact { OnOk result (state_of out.new fuel.new u.new ≡ length_at (state_of out.old fuel.old u.old)) }
-    ensures drawn { (context : Context) → OnOk result (IsDrawn context (I32 ∷ []) out.old fuel.old out.new fuel.new) }
-    ensures memory { IfErr result (λ e. e ≡ Error.Memory) }
-    ensures left { KeepsPieces u.old u.new }
-{
-    let length = u.int_in_range(0..=*fuel);
-    *fuel -= length;
-    out.push(ConstInstr::I32Const(length.cast_signed()))
-}
 
 /// Draws an expression of the type `wanted`, with all of the configured fuel.
 pub(super) fn draw_whole_expression(
@@ -132,4 +41,103 @@ pub(super) fn draw_whole_expression(
     let mut fuel = scope.config.const_expr_fuel;
     draw_expression(alloc, scope, wanted, &mut fuel, &mut drawn, u)?;
     Ok(drawn)
+}
+
+/// Draws a value of the type `wanted` behind the instructions of `out`, by a list of tasks whose last one is the next.
+fn draw_expression(
+    alloc: Global,
+    scope: &Scope<'_>,
+    wanted: ValType,
+    fuel: &mut u32,
+    out: &mut Items<ConstInstr>,
+    u: &mut Unstructured<'_>,
+) -> Result<(), Error>
+    requires scope { IsScope (context_of scope.now) }
+    requires wanted { IsValTypeValid (context_of scope.now).features (length (context_of scope.now).types) wanted }
+    ensures exact { ReadsValue (context_of scope.now) scope.now.config.now.limit_arrays_in_const_exprs wanted (state_of out.old fuel.old u.old) (state_of out.new fuel.new u.new) result }
+    ensures drawn { OnOk result (IsDrawn (context_of scope.now) (wanted ∷ []) out.old fuel.old out.new fuel.new) }
+    ensures refusal { IfErr result (MayRefuseConstExpr (context_of scope.now).types wanted) }
+    ensures left { KeepsPieces u.old u.new }
+{
+    let mut tasks = Vec::new(alloc);
+    tasks.push(Task::Draw(Operand::Value(wanted)))?;
+    while let Some(task) = tasks.pop() {
+        carry_out(alloc, scope, task, &mut tasks, fuel, out, u)?;
+    }
+    Ok(())
+}
+
+/// Carries out `task`, and puts on `tasks` what it leaves to do.
+fn carry_out(
+    alloc: Global,
+    scope: &Scope<'_>,
+    task: Task,
+    tasks: &mut Vec<Task>,
+    fuel: &mut u32,
+    out: &mut Items<ConstInstr>,
+    u: &mut Unstructured<'_>,
+) -> Result<(), Error>
+    requires scope { IsScope (context_of scope.now) }
+    requires valid { IsTaskValid (context_of scope.now) task }
+    ensures step { OnOk result (IsStep (context_of scope.now) scope.now.config.now.limit_arrays_in_const_exprs task (reverse tasks.old.items) (state_of out.old fuel.old u.old) (reverse tasks.new.items) (state_of out.new fuel.new u.new)) }
+    ensures refusal { IfErr result (MayRefuseTask (context_of scope.now) scope.now.config.now.limit_arrays_in_const_exprs task (state_of out.old fuel.old u.old)) }
+    ensures left { KeepsPieces u.old u.new }
+{
+    match task {
+        Task::Write(instruction) => out.push(instruction),
+        Task::Draw(Operand::Value(wanted)) => {
+            draw_choice(alloc, scope, wanted, tasks, fuel, out, u)
+        }
+        Task::Draw(Operand::Length) => {
+            if scope.config.limit_arrays_in_const_exprs {
+                return draw_length(fuel, out, u);
+            }
+            draw_choice(alloc, scope, ValType::I32, tasks, fuel, out, u)
+        }
+    }
+}
+
+/// Chooses what gives a value of the type `wanted`. An extended constant and an instruction without operands are written behind
+/// the instructions of `out`. What another choice asks for is put on `tasks`, and has spent fuel.
+fn draw_choice(
+    alloc: Global,
+    scope: &Scope<'_>,
+    wanted: ValType,
+    tasks: &mut Vec<Task>,
+    fuel: &mut u32,
+    out: &mut Items<ConstInstr>,
+    u: &mut Unstructured<'_>,
+) -> Result<(), Error>
+    requires scope { IsScope (context_of scope.now) }
+    requires wanted { IsValTypeValid (context_of scope.now).features (length (context_of scope.now).types) wanted }
+    ensures step { OnOk result (IsStep (context_of scope.now) scope.now.config.now.limit_arrays_in_const_exprs (Draw (Value wanted)) (reverse tasks.old.items) (state_of out.old fuel.old u.old) (reverse tasks.new.items) (state_of out.new fuel.new u.new)) }
+    ensures refusal { IfErr result (MayRefuseTask (context_of scope.now) scope.now.config.now.limit_arrays_in_const_exprs (Draw (Value wanted)) (state_of out.old fuel.old u.old)) }
+    ensures left { KeepsPieces u.old u.new }
+{
+    let choice = choose_offer(scope, wanted, *fuel, u)?;
+    *fuel = fuel.saturating_sub(1);
+    if is_extended(choice) {
+        return draw_extended_constant(alloc, wanted, out, u);
+    }
+    let node = draw_node(alloc, scope.spaces.types.types(), wanted, choice, u)?;
+    if node.operands.is_empty() {
+        return out.push(node.instruction);
+    }
+    push_node(&node, tasks)
+}
+
+/// Draws a length of at most `fuel`, and takes the length from `fuel`.
+fn draw_length(
+    fuel: &mut u32,
+    out: &mut Items<ConstInstr>,
+    u: &mut Unstructured<'_>,
+) -> Result<(), Error>
+    ensures exact { OnOk result (state_of out.new fuel.new u.new ≡ length_at (state_of out.old fuel.old u.old)) }
+    ensures drawn { (context : Context) → OnOk result (IsDrawn context (I32 ∷ []) out.old fuel.old out.new fuel.new) }
+    ensures memory { IfErr result (λ e. e ≡ Error.Memory) }
+    ensures left { KeepsPieces u.old u.new }
+{
+    let length = u.int_in_range(0..=*fuel);
+    *fuel -= length;
+    out.push(ConstInstr::I32Const(length.cast_signed()))
 }

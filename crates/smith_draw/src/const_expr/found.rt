@@ -5,7 +5,8 @@ ghost use Rattle.smith_types.specs.Subtyping.{IsValInRange};
 ghost use Rattle.smith_types.specs.ValidTypes.{IsValTypeValid};
 ghost use Rattle.smith_draw.specs.ConstScopes.{context_of, IsScope};
 ghost use Rattle.smith_draw.specs.ConstOffers.{offers};
-ghost use Rattle.smith_draw.specs.ConstSteps.{MayRefuseValues, IsFit};
+ghost use Rattle.smith_draw.specs.ConstBounds.{MayRefuseConstExpr};
+ghost use Rattle.smith_draw.specs.ConstSteps.{IsFit};
 
 use super::node_choice::Choice;
 use super::offers::past_offers;
@@ -37,7 +38,7 @@ pub(super) fn choose_offer(
     ensures exact { IfOk result (λ choice. choose_at (offers (context_of scope.now) wanted fuel) u.old ≡ (Some choice, u.new)) }
     ensures none { IfErr result (λ e. (e ≡ Error.EmptyChoose) × ((choose_at (offers (context_of scope.now) wanted fuel) u.old).0 ≡ None)) }
     ensures fits { IfOk result (IsFit (context_of scope.now) wanted fuel) }
-    ensures refusal { IfErr result (MayRefuseValues (context_of scope.now).types (wanted ∷ [])) }
+    ensures refusal { IfErr result (MayRefuseConstExpr (context_of scope.now).types wanted) }
     ensures left { KeepsPieces u.old u.new }
 {
     let count = count_offers(scope, wanted, fuel);

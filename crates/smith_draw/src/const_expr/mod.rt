@@ -1,4 +1,4 @@
-//! Drawn constant expressions, by recursion under fuel.
+//! Drawn constant expressions, by a list of tasks under fuel.
 
 ghost use Rattle.std.specs.Prelude.{◌≡◌, ◌≤◌, ◌↔◌, ℕ, Some, None, [], length, IsTrue, IfOk, IfErr, IfSome, IsSome, false, All};
 ghost use Rattle.std.specs.List.{Contains};
@@ -26,6 +26,7 @@ mod node_choice;
 mod offers;
 mod references;
 mod scope;
+mod task;
 
 use crate::spaces::Spaces;
 use drawn::draw_whole_expression;

@@ -24,7 +24,7 @@ pub returns-in-Abstract-b-3 : goal.returns-in-Abstract-b-3
 returns-in-Abstract-b-3 c = decides_at _ c.types-types.ensures.sound.orderly _ _ _ _ c.in-Exact.is c.in-Abstract-b-3.is c.requires.lower c.requires.upper _ (λ inside _. under_read _ _ _ _ _ _ inside (rw c.types-types.ensures.value at c.index-types-own.is) c.is_under-in-Abstract-b-3.ensures)
 
 pub returns-in-Concrete-b-3 : goal.returns-in-Concrete-b-3
-returns-in-Concrete-b-3 c = decides_at _ c.types-types.ensures.sound.orderly _ _ _ _ c.in-Exact.is c.in-Concrete-b-3.is c.requires.lower c.requires.upper _ (λ _ _. reaches_read _ c.types-types.ensures.sound.orderly _ _ _ (rw c.types-types.ensures.value at c.reaches-in-Concrete-b-3.ensures))
+returns-in-Concrete-b-3 c = decides_at _ c.types-types.ensures.sound.orderly _ _ _ _ c.in-Exact.is c.in-Concrete-b-3.is c.requires.lower c.requires.upper _ (λ _ _. reaches_read _ c.types-types.ensures.sound.orderly _ _ _ c.reaches-in-Concrete-b-3.ensures)
 
 pub returns-in-Exact-b-3 : goal.returns-in-Exact-b-3
 returns-in-Exact-b-3 c = decides_at _ c.types-types.ensures.sound.orderly _ _ _ _ c.in-Exact.is c.in-Exact-b-3.is c.requires.lower c.requires.upper _ (λ _ _. search rules)

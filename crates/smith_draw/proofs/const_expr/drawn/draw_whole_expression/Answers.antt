@@ -1,6 +1,6 @@
 use Rattle.smith_draw.specs.ConstScopes.{context_of}
 use Rattle.smith_draw.proofs.ConstStepLemmas.{passed_on}
-use Rattle.smith_draw.proofs.ConstScopeLemmas.{whole_typed, whole_short, whole_refusal}
+use Rattle.smith_draw.proofs.ConstScopeLemmas.{whole_typed, whole_short}
 use Rattle.smith_draw.proofs.ConstExprLemmas.{whole_read, whole_refused}
 use Rattle.smith_draw.proofs.const_expr.drawn.draw_whole_expression.Goals as goal
 
@@ -12,7 +12,7 @@ returns-clause-short c = whole_short (context_of c.args.scope.now) _ _ _ _ (rw c
 
 pub returns-in_err-draw_expression-clause-refusal : goal.returns-in_err-draw_expression-clause-refusal
 returns-in_err-draw_expression-clause-refusal c =
-    passed_on _ c.from_residual.result c.in_err-draw_expression.field-0.0 c.from_residual.ensures.1 (whole_refusal _ _ _ c.in_err-draw_expression.ensures.refusal)
+    passed_on _ c.from_residual.result c.in_err-draw_expression.field-0.0 c.from_residual.ensures.1 c.in_err-draw_expression.ensures.refusal
 
 pub returns-clause-exact : goal.returns-clause-exact
 returns-clause-exact c = whole_read _ _ _ _ _ _ _ c.draw_expression.new.fuel (rw c.new-drawn.ensures at c.in_ok-draw_expression.ensures.exact)

@@ -1,0 +1,205 @@
+-- How many heap types are offered in place of one, and which of them stands at a place.
+use Rattle.std.proofs.Common.{rules, ◌≡◌, ℕ, zero, suc, ◌+◌, ◌-◌, ◌<◌, ◌≤◌, Bool, true, false, not, ◌&&◌, List, [], ◌∷◌, ◌++◌, map, Option, Some, None, length, get_or, drop, refl, sym, ◌∙◌, ap, subst, arith, drop-cons}
+use Rattle.std.specs.Prelude.{slice_get, if◌then◌else◌}
+use Rattle.std.proofs.lemmas.Option.{slice_get-map}
+use Rattle.std.specs.Option.{option_map}
+use Rattle.std.proofs.lemmas.List.{length-append, length-map}
+use Rattle.std.proofs.lemmas.List.Concat.{flat_map-cons}
+use Rattle.smith_types.specs.declared.value_type.AbstractHeapType.{AbstractHeapType}
+use Rattle.smith_types.specs.declared.value_type.HeapType.{HeapType}
+use Rattle.smith_types.specs.declared.value_type.HeapType.TheVariants.{Abstract, Concrete}
+use Rattle.smith_types.specs.declared.composite_type.CompositeInnerType.{CompositeInnerType}
+use Rattle.smith_types.specs.declared.composite_type.SubType.{SubType}
+use Rattle.smith_types.specs.Kinds.{shared, bottom}
+use Rattle.smith_types.specs.Types.{IsOrderly}
+use Rattle.smith_types.specs.Space.{HasDepth, root, deeper}
+use Rattle.smith_types.specs.Subtyping.{IsBelow}
+use Rattle.smith_types.specs.KindCounts.{is_of, indices_from, indices_of_kind}
+use Rattle.smith_types.specs.KindCounts as kinds
+use Rattle.smith_types.proofs.ListLemmas.{slice_get-grown}
+use Rattle.smith_types.proofs.PathLemmas.{below_declared}
+use Rattle.smith_types.proofs.SpaceLemmas.{depth_alone, depth_some}
+use Rattle.smith_types.proofs.WalkLemmas.{below_level, below_above}
+use Rattle.smith_draw.specs.Offered.{is_of_kind, is_kind, picked_from, of_kinds, supertype_of, ancestors, supertypes_of_inner, kinds_at, of_standing, bottom_at, gc_supertypes}
+use Rattle.smith_draw.proofs.AncestorLemmas.{ancestors_up, ancestors_none}
+
+-- what stands in the second of two lists stands behind the first in both
+pub slice_get-behind : {A : Type 0} (xs ys : List A) (n k : ℕ) (x : A) → n ≡ length xs + k → slice_get ys k ≡ Some x → slice_get (xs ++ ys) n ≡ Some x
+slice_get-behind [] ys n k x is at = let same : n ≡ k = omega (arith, is) in rw same at
+slice_get-behind (y ∷ xs) ys zero k x is at = absurd (omega (arith, is))
+slice_get-behind (y ∷ xs) ys (suc n) k x is at = slice_get-behind xs ys n k x (omega (arith, is)) at
+
+-- the tests of a kind are one
+same_shared : (kind : AbstractHeapType) (is_shared : Bool) (inner : CompositeInnerType) → (is_shared && is_of_kind kind inner) ≡ is_of true kind is_shared inner
+same_shared kind is_shared inner = search rules
+
+same_unshared : (kind : AbstractHeapType) (is_shared : Bool) (inner : CompositeInnerType) → (not is_shared && is_of_kind kind inner) ≡ is_of false kind is_shared inner
+same_unshared kind is_shared inner = search rules
+
+same_kind : (s : Bool) (kind : AbstractHeapType) (t : SubType) → is_kind s kind t ≡ kinds.is_of_kind s kind t
+same_kind true kind t = same_shared kind (shared t) t.composite_type.inner
+same_kind false kind t = same_unshared kind (shared t) t.composite_type.inner
+
+pick_turn : (b c : Bool) (start : ℕ) (xs : List HeapType) (ys : List ℕ) → b ≡ c → xs ≡ map Concrete ys → (if b then Concrete start ∷ xs else xs) ≡ map Concrete (if c then start ∷ ys else ys)
+pick_turn true true start xs ys e same = ap (λ (l : List HeapType). Concrete start ∷ l) same
+pick_turn false false start xs ys e same = same
+pick_turn true false start xs ys e same = cc
+pick_turn false true start xs ys e same = cc
+
+-- the types that a test picks, by their indices
+picked_indices : (f g : SubType → Bool) → ((t : SubType) → f t ≡ g t) → (start : ℕ) (types : List SubType) → picked_from f start types ≡ map Concrete (indices_from g start types)
+picked_indices f g one start [] = refl
+picked_indices f g one start (t ∷ types) = pick_turn (f t) (g t) start _ _ (one t) (picked_indices f g one (start + 1) types)
+
+kind_indices : (types : List SubType) (s : Bool) (kind : AbstractHeapType) → picked_from (is_kind s kind) 0 types ≡ map Concrete (indices_of_kind types s kind)
+kind_indices types s kind = picked_indices (is_kind s kind) (kinds.is_of_kind s kind) (same_kind s kind) 0 types
+
+-- one kind more
+kinds_turn : (types : List SubType) (s : Bool) (ks : List AbstractHeapType) (i : ℕ) (d : AbstractHeapType) → i < length ks → of_kinds types s (drop i ks) ≡ map Concrete (indices_of_kind types s (get_or ks i d)) ++ of_kinds types s (drop (i + 1) ks)
+kinds_turn types s ks i d inside =
+    let next : suc i ≡ i + 1 = omega arith in
+    ap (of_kinds types s) (drop-cons ks i d inside)
+    ∙ flat_map-cons (λ kind. picked_from (is_kind s kind) 0 types) (get_or ks i d) (drop (suc i) ks)
+    ∙ ap (λ (l : List HeapType). l ++ of_kinds types s (drop (suc i) ks)) (kind_indices types s (get_or ks i d))
+    ∙ ap (λ (n : ℕ). map Concrete (indices_of_kind types s (get_or ks i d)) ++ of_kinds types s (drop n ks)) next
+
+pub kinds_counted : (types : List SubType) (s : Bool) (ks : List AbstractHeapType) (i n : ℕ) (kind d : AbstractHeapType) → i < length ks → kind ≡ get_or ks i d → n ≡ length (indices_of_kind types s kind) → length (of_kinds types s (drop i ks)) ≡ n + length (of_kinds types s (drop (i + 1) ks))
+kinds_counted types s ks i n kind d inside is count =
+    ap length (kinds_turn types s ks i d inside)
+    ∙ length-append (map Concrete (indices_of_kind types s (get_or ks i d))) (of_kinds types s (drop (i + 1) ks))
+    ∙ ap (λ (m : ℕ). m + length (of_kinds types s (drop (i + 1) ks))) (length-map (indices_of_kind types s (get_or ks i d)) Concrete ∙ ap (λ k. length (indices_of_kind types s k)) (sym is) ∙ sym count)
+
+-- the place is within the next kind
+pub kinds_here : (types : List SubType) (s : Bool) (ks : List AbstractHeapType) (i place found : ℕ) (kind d : AbstractHeapType) → i < length ks → kind ≡ get_or ks i d → slice_get (indices_of_kind types s kind) place ≡ Some found
+    → slice_get (of_kinds types s (drop i ks)) place ≡ Some (Concrete found)
+kinds_here types s ks i place found kind d inside is at =
+    let here : slice_get (indices_of_kind types s (get_or ks i d)) place ≡ Some found = ap (λ k. slice_get (indices_of_kind types s k) place) (sym is) ∙ at in
+    rw (kinds_turn types s ks i d inside)
+    (slice_get-grown (map Concrete (indices_of_kind types s (get_or ks i d))) (of_kinds types s (drop (i + 1) ks)) place (Concrete found)
+    (slice_get-map Concrete (indices_of_kind types s (get_or ks i d)) place ∙ ap (λ o. option_map Concrete o) here))
+
+-- or behind it
+pub kinds_later : (types : List SubType) (s : Bool) (ks : List AbstractHeapType) (i n place : ℕ) (kind d : AbstractHeapType) (x : HeapType) → i < length ks → kind ≡ get_or ks i d → n ≡ length (indices_of_kind types s kind) → n ≤ place
+    → slice_get (of_kinds types s (drop (i + 1) ks)) (place - n) ≡ Some x → slice_get (of_kinds types s (drop i ks)) place ≡ Some x
+kinds_later types s ks i n place kind d x inside is count past at =
+    let long : length (map Concrete (indices_of_kind types s (get_or ks i d))) ≡ n = length-map (indices_of_kind types s (get_or ks i d)) Concrete ∙ ap (λ k. length (indices_of_kind types s k)) (sym is) ∙ sym count in
+    rw (kinds_turn types s ks i d inside)
+    (slice_get-behind (map Concrete (indices_of_kind types s (get_or ks i d))) (of_kinds types s (drop (i + 1) ks)) place (place - n) x (omega (arith, long, past)) at)
+
+-- the types on the way up: one for each smaller depth
+pub ancestors_long : (types : List SubType) → IsOrderly types → {i d : ℕ} → HasDepth types i d → length (ancestors types i) + 1 ≡ d
+ancestors_long types o (root {i = i} {t = t} at none) = rw (ancestors_none types i (ap supertype_of at ∙ none)) refl
+ancestors_long types o (deeper {i = i} {s = s} {d = d} {t = t} at up above) =
+    let rest = ancestors_long types o above in
+    rw (ancestors_up types o i s (ap supertype_of at ∙ up)) (omega (arith, rest))
+
+-- and each stands where its depth says
+pub ancestor_at : (types : List SubType) → IsOrderly types → (i d k a e : ℕ) → HasDepth types i d → HasDepth types a e → IsBelow types (Concrete i) (Concrete a) → e + suc k ≡ d → slice_get (ancestors types i) k ≡ Some (Concrete a)
+ancestor_at types o i d k a e (root at none) high below far = let some : 1 ≤ e = depth_some types high in absurd (omega (arith, some, far))
+ancestor_at types o i d zero a e (deeper {s = s} {d = f} {t = t} at up above) high below far =
+    let level : e ≡ f = omega (arith, far) in
+    let same : a ≡ s = below_level types o i a s f below (below_declared types i s t at up) (subst (λ n. HasDepth types a n) level high) above in
+    rw (ancestors_up types o i s (ap supertype_of at ∙ up)) (ap (λ n. Some (Concrete n)) (sym same))
+ancestor_at types o i d (suc k) a e (deeper {s = s} {d = f} {t = t} at up above) high below far =
+    let other = λ (same : i ≡ a). let one = depth_alone types (deeper {t = t} at up above) (subst (λ n. HasDepth types n e) (sym same) high) in absurd {A = ⊥} (omega (arith, one, far)) in
+    rw (ancestors_up types o i s (ap supertype_of at ∙ up))
+    (ancestor_at types o s f k a e above high (below_above types o i s a t at up other below) (omega (arith, far)))
+
+kinds_long : (types : List SubType) (i : ℕ) (t : SubType) → slice_get types i ≡ Some t → length (kinds_at types i) ≡ length (supertypes_of_inner t.composite_type.inner)
+kinds_long types i t at =
+    ap (λ o. length (of_standing (λ (u : SubType). map (Abstract (shared u)) (supertypes_of_inner u.composite_type.inner)) o)) at
+    ∙ length-map (supertypes_of_inner t.composite_type.inner) (Abstract (shared t))
+
+-- how many supertypes of a concrete type are offered
+pub supertypes_long : (types : List SubType) → IsOrderly types → (i d : ℕ) (t : SubType) (ks : List AbstractHeapType) → slice_get types i ≡ Some t → HasDepth types i d → ks ≡ supertypes_of_inner t.composite_type.inner
+    → length ks + d ≡ length (gc_supertypes types (Concrete i))
+supertypes_long types o i d t ks at deep is =
+    let kinds = kinds_long types i t at in
+    let up = ancestors_long types o deep in
+    let both = length-append (kinds_at types i) (ancestors types i) in
+    let same : length ks ≡ length (supertypes_of_inner t.composite_type.inner) = ap length is in
+    omega (arith, kinds, up, both, same)
+
+pub supertypes_alone : (types : List SubType) (i : ℕ) → slice_get types i ≡ None → 1 ≡ length (gc_supertypes types (Concrete i))
+supertypes_alone types i gone =
+    let none = ap length (ancestors_none types i (ap supertype_of gone)) in
+    let kinds : length (kinds_at types i) ≡ 0 = ap (λ o. length (of_standing (λ (u : SubType). map (Abstract (shared u)) (supertypes_of_inner u.composite_type.inner)) o)) gone in
+    let both = length-append (kinds_at types i) (ancestors types i) in
+    omega (arith, none, kinds, both)
+
+-- a place among the types on the way up
+pub record IsUp (types : List SubType) (i d n place : ℕ) : Type 0 where
+  pub kinds : length (kinds_at types i) ≡ n
+  pub near : place - n + 2 ≤ d
+
+pub is_up : (types : List SubType) → IsOrderly types → (i d place : ℕ) (t : SubType) (ks : List AbstractHeapType) → slice_get types i ≡ Some t → HasDepth types i d → ks ≡ supertypes_of_inner t.composite_type.inner
+    → place < length (kinds_at types i ++ ancestors types i) → length ks ≤ place → IsUp types i d (length ks) place
+is_up types o i d place t ks at deep is inside past =
+    let kinds = kinds_long types i t at in
+    let up = ancestors_long types o deep in
+    let both = length-append (kinds_at types i) (ancestors types i) in
+    let same : length ks ≡ length (supertypes_of_inner t.composite_type.inner) = ap length is in
+    record { kinds = omega (arith, kinds, same); near = omega (arith, kinds, up, both, same, inside, past) }
+
+pub up_found : (types : List SubType) → IsOrderly types → (i d n place a : ℕ) → HasDepth types i d → IsUp types i d n place → n ≤ place → HasDepth types a (d - 1 - (place - n)) → IsBelow types (Concrete i) (Concrete a)
+    → slice_get (kinds_at types i ++ ancestors types i) place ≡ Some (Concrete a)
+up_found types o i d n place a deep up past high below =
+    let kinds : length (kinds_at types i) ≡ n = up.kinds in
+    let near : place - n + 2 ≤ d = up.near in
+    slice_get-behind (kinds_at types i) (ancestors types i) place (place - n) (Concrete a) (omega (arith, kinds, past))
+    (ancestor_at types o i d (place - n) a (d - 1 - (place - n)) deep high below (omega (arith, near)))
+
+-- types that a test picks
+most_turn : (b : Bool) (first n : ℕ) (rest : List HeapType) → length rest ≤ n → length (if b then Concrete first ∷ rest else rest) ≤ suc n
+most_turn true first n rest le = omega arith
+most_turn false first n rest le = omega arith
+
+pub picked_most : (test : SubType → Bool) (start : ℕ) (types : List SubType) → length (picked_from test start types) ≤ length types
+picked_most test start [] = omega arith
+picked_most test start (t ∷ types) = most_turn (test t) start (length types) (picked_from test (start + 1) types) (picked_most test (start + 1) types)
+
+picked_turn : (test : SubType → Bool) (types : List SubType) (i : ℕ) (t : SubType) (b : Bool) → i < length types → t ≡ get_or types i t → b ≡ test t
+    → picked_from test i (drop i types) ≡ (if b then Concrete i ∷ picked_from test (i + 1) (drop (i + 1) types) else picked_from test (i + 1) (drop (i + 1) types))
+picked_turn test types i t b inside read is =
+    let next : suc i ≡ i + 1 = omega arith in
+    let head : drop i types ≡ t ∷ drop (i + 1) types = drop-cons types i t inside ∙ ap (λ (u : SubType). u ∷ drop (suc i) types) (sym read) ∙ ap (λ (n : ℕ). t ∷ drop n types) next in
+    ap (picked_from test i) head ∙ ap (λ (c : Bool). if c then Concrete i ∷ picked_from test (i + 1) (drop (i + 1) types) else picked_from test (i + 1) (drop (i + 1) types)) (sym is)
+
+past_one : (b : Bool) (first left : ℕ) (rest : List HeapType) → b ≡ true → (left ≡ 0 → ⊥) → left < length (if b then Concrete first ∷ rest else rest)
+    → (left - 1 < length rest) × ((x : HeapType) → slice_get rest (left - 1) ≡ Some x → slice_get (if b then Concrete first ∷ rest else rest) left ≡ Some x)
+past_one true first left rest on some inside = (omega (arith, some, inside), λ x at. slice_get-behind (Concrete first ∷ []) rest left (left - 1) x (omega (arith, some)) at)
+past_one false first left rest on some inside = cc
+
+past_none : (b : Bool) (first left : ℕ) (rest : List HeapType) → b ≡ false → left < length (if b then Concrete first ∷ rest else rest)
+    → (left < length rest) × ((x : HeapType) → slice_get rest left ≡ Some x → slice_get (if b then Concrete first ∷ rest else rest) left ≡ Some x)
+past_none true first left rest off inside = cc
+past_none false first left rest off inside = (inside, λ x at. at)
+
+-- one that is picked is passed
+pub picked_past : (test : SubType → Bool) (types : List SubType) (i left next : ℕ) (t : SubType) (b : Bool) → i < length types → t ≡ get_or types i t → b ≡ test t → b ≡ true → (left ≡ 0 → ⊥) → next ≡ left - 1 → left < length (picked_from test i (drop i types))
+    → (next < length (picked_from test (i + 1) (drop (i + 1) types))) × ((x : HeapType) → slice_get (picked_from test (i + 1) (drop (i + 1) types)) next ≡ Some x → slice_get (picked_from test i (drop i types)) left ≡ Some x)
+picked_past test types i left next t b inside read is on some steps within =
+    let turn = picked_turn test types i t b inside read is in
+    rw (turn, steps) (past_one b i left (picked_from test (i + 1) (drop (i + 1) types)) on some (rw turn at within))
+
+-- or one that is not
+pub picked_over : (test : SubType → Bool) (types : List SubType) (i left next : ℕ) (t : SubType) (b : Bool) → i < length types → t ≡ get_or types i t → b ≡ test t → b ≡ false → next ≡ left → left < length (picked_from test i (drop i types))
+    → (next < length (picked_from test (i + 1) (drop (i + 1) types))) × ((x : HeapType) → slice_get (picked_from test (i + 1) (drop (i + 1) types)) next ≡ Some x → slice_get (picked_from test i (drop i types)) left ≡ Some x)
+picked_over test types i left next t b inside read is off steps within =
+    let turn = picked_turn test types i t b inside read is in
+    rw (turn, steps) (past_none b i left (picked_from test (i + 1) (drop (i + 1) types)) off (rw turn at within))
+
+-- behind itself and the types directly below
+pub behind_direct : (own : HeapType) (direct more : List HeapType) (place n : ℕ) (x : HeapType) → n ≡ length direct → n < place → slice_get more (place - 1 - n) ≡ Some x → slice_get (own ∷ direct ++ more) place ≡ Some x
+behind_direct own direct more place n x count past at = slice_get-behind (own ∷ direct) more place (place - 1 - n) x (omega (arith, count, past)) at
+
+pub exact_most : (b : Bool) (n : ℕ) → (if b then 1 + n else 0) ≤ 1 + n
+exact_most true n = omega arith
+exact_most false n = omega arith
+
+pub bottom_most : (types : List SubType) (i : ℕ) → length (bottom_at types i) ≤ 1
+bottom_most types i = at_most (slice_get types i)
+  where
+    at_most : (o : Option SubType) → length (of_standing (λ t. Abstract (shared t) (bottom t) ∷ []) o) ≤ 1
+    at_most None = omega arith
+    at_most (Some t) = omega arith

@@ -1,0 +1,60 @@
+-- The types of a kind and a sharedness among the types of a space.
+use Rattle.std.specs.Prelude.{◌≡◌, ℕ, ◌+◌, Bool, true, false, not, List, [], ◌∷◌, if◌then◌else◌}
+use Rattle.smith_types.specs.declared.value_type.AbstractHeapType.{AbstractHeapType}
+use Rattle.smith_types.specs.declared.value_type.AbstractHeapType.TheVariants as heap
+use Rattle.smith_types.specs.declared.composite_type.CompositeInnerType.{CompositeInnerType}
+use Rattle.smith_types.specs.declared.composite_type.CompositeInnerType.TheVariants.{Array, Func, Struct}
+use Rattle.smith_types.specs.declared.composite_type.SubType.{SubType}
+use Rattle.smith_types.specs.declared.kind_counts.KindCounts.{KindCounts}
+use Rattle.smith_types.specs.Kinds.{shared}
+
+-- a composite type, shared or not as the third argument says, is of a kind, and shared or not as the first says
+abbrev pub is_of : Bool → AbstractHeapType → Bool → CompositeInnerType → Bool
+is_of false heap.Array is_shared (Array a) = not is_shared
+is_of true heap.Array is_shared (Array a) = is_shared
+is_of false heap.Func is_shared (Func f) = not is_shared
+is_of true heap.Func is_shared (Func f) = is_shared
+is_of false heap.Struct is_shared (Struct s) = not is_shared
+is_of true heap.Struct is_shared (Struct s) = is_shared
+is_of _ _ is_shared _ = false
+
+-- a type is of a kind, and shared or not
+abbrev pub is_of_kind : Bool → AbstractHeapType → SubType → Bool
+is_of_kind is_shared kind t = is_of is_shared kind (shared t) t.composite_type.inner
+
+-- the indices of the types that a test picks, in order; the first type has the index `first`
+abbrev pub indices_from : (SubType → Bool) → ℕ → List SubType → List ℕ
+indices_from test first [] = []
+indices_from test first (t ∷ types) = if test t then first ∷ indices_from test (first + 1) types else indices_from test (first + 1) types
+
+-- the indices of the types of a kind that are shared or not, in order
+abbrev pub indices_of_kind : List SubType → Bool → AbstractHeapType → List ℕ
+indices_of_kind types is_shared kind = indices_from (is_of_kind is_shared kind) 0 types
+
+-- how many types a test picks
+abbrev pub count_where : (SubType → Bool) → List SubType → ℕ
+count_where test [] = 0
+count_where test (t ∷ types) = if test t then count_where test types + 1 else count_where test types
+
+-- the count of a kind and a sharedness
+abbrev pub count_at : KindCounts → Bool → AbstractHeapType → ℕ
+count_at counts false heap.Array = counts.arrays
+count_at counts true heap.Array = counts.shared_arrays
+count_at counts false heap.Func = counts.funcs
+count_at counts true heap.Func = counts.shared_funcs
+count_at counts false heap.Struct = counts.structs
+count_at counts true heap.Struct = counts.shared_structs
+count_at counts _ _ = 0
+
+-- one type more is counted
+abbrev pub counts_with : Bool → CompositeInnerType → KindCounts → KindCounts
+counts_with false (Array a) counts = record counts { arrays = counts.arrays + 1 }
+counts_with true (Array a) counts = record counts { shared_arrays = counts.shared_arrays + 1 }
+counts_with false (Func f) counts = record counts { funcs = counts.funcs + 1 }
+counts_with true (Func f) counts = record counts { shared_funcs = counts.shared_funcs + 1 }
+counts_with false (Struct s) counts = record counts { structs = counts.structs + 1 }
+counts_with true (Struct s) counts = record counts { shared_structs = counts.shared_structs + 1 }
+
+-- what counts each kind and sharedness among these types
+pub record AreCounts (types : List SubType) (counts : KindCounts) : Type 0 where
+  pub each : (is_shared : Bool) (kind : AbstractHeapType) → count_at counts is_shared kind ≡ count_where (is_of_kind is_shared kind) types
