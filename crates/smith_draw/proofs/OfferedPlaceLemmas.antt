@@ -14,7 +14,7 @@ use Rattle.smith_types.specs.Kinds.{shared, bottom}
 use Rattle.smith_types.specs.Types.{IsOrderly}
 use Rattle.smith_types.specs.Space.{HasDepth, root, deeper}
 use Rattle.smith_types.specs.Subtyping.{IsBelow}
-use Rattle.smith_types.specs.KindCounts.{is_of, indices_from, indices_of_kind}
+use Rattle.smith_types.specs.KindCounts.{is_inner_of_kind, indices_from, indices_of_kind}
 use Rattle.smith_types.specs.KindCounts as kinds
 use Rattle.smith_types.proofs.ListLemmas.{slice_get-grown}
 use Rattle.smith_types.proofs.PathLemmas.{below_declared}
@@ -30,10 +30,10 @@ slice_get-behind (y ∷ xs) ys zero k x is at = absurd (omega (arith, is))
 slice_get-behind (y ∷ xs) ys (suc n) k x is at = slice_get-behind xs ys n k x (omega (arith, is)) at
 
 -- the tests of a kind are one
-same_shared : (kind : AbstractHeapType) (is_shared : Bool) (inner : CompositeInnerType) → (is_shared && is_of_kind kind inner) ≡ is_of true kind is_shared inner
+same_shared : (kind : AbstractHeapType) (is_shared : Bool) (inner : CompositeInnerType) → (is_shared && is_of_kind kind inner) ≡ is_inner_of_kind true kind is_shared inner
 same_shared kind is_shared inner = search rules
 
-same_unshared : (kind : AbstractHeapType) (is_shared : Bool) (inner : CompositeInnerType) → (not is_shared && is_of_kind kind inner) ≡ is_of false kind is_shared inner
+same_unshared : (kind : AbstractHeapType) (is_shared : Bool) (inner : CompositeInnerType) → (not is_shared && is_of_kind kind inner) ≡ is_inner_of_kind false kind is_shared inner
 same_unshared kind is_shared inner = search rules
 
 same_kind : (s : Bool) (kind : AbstractHeapType) (t : SubType) → is_kind s kind t ≡ kinds.is_of_kind s kind t

@@ -35,7 +35,7 @@ ghost use Rattle.smith_draw.specs.Offered.{
 use smith_config::Config;
 use smith_types::{AbstractHeapType, CompositeInnerType, HeapType, SubType, TypeSpace};
 
-/// How many supertypes of `ty` are offered with garbage collection.
+/// Returns the number of supertypes of `ty` that are offered with garbage collection.
 pub(crate) fn count_supertypes(space: &TypeSpace, ty: HeapType) -> usize
     ensures { result ≡ length (gc_supertypes space.now.types ty) }
 {
@@ -48,7 +48,7 @@ pub(crate) fn count_supertypes(space: &TypeSpace, ty: HeapType) -> usize
     }
 }
 
-/// The supertype of `ty` that is offered with garbage collection at the place `place`, which is below the number of these.
+/// Returns the supertype of `ty` that is offered with garbage collection at the place `place`, which is below [`count_supertypes`].
 pub(crate) fn offered_supertype(space: &TypeSpace, ty: HeapType, place: usize) -> HeapType
     requires { place < length (gc_supertypes space.now.types ty) }
     ensures { slice_get (gc_supertypes space.now.types ty) place ≡ Some result }
@@ -68,7 +68,8 @@ pub(crate) fn offered_supertype(space: &TypeSpace, ty: HeapType, place: usize) -
     }
 }
 
-/// How many these are: the abstract types `abstracts`, and the concrete types of the kinds `kinds`, all of the sharedness `shared`.
+/// Returns the number of the abstract types `abstracts` and of the concrete types of the kinds `kinds`, all of them shared, or all of
+/// them not, as `shared` says.
 fn count_abstract(
     space: &TypeSpace,
     shared: bool,
@@ -85,7 +86,7 @@ fn count_abstract(
     count
 }
 
-/// That one of the same, at the place `place`.
+/// Returns the type at the place `place` among those that [`count_abstract`] counts, the abstract types first.
 fn offered_abstract(
     space: &TypeSpace,
     shared: bool,
@@ -105,7 +106,8 @@ fn offered_abstract(
     HeapType::Concrete(offered_of_kinds(space, shared, kinds, place - abstracts.len()))
 }
 
-/// The index of that type of each of `kinds`, by kind and by index, which stands at the place `place`.
+/// Returns the index of the type at the place `place` among the types of the kinds `kinds`, kind by kind, each in the order of the
+/// indices.
 fn offered_of_kinds(
     space: &TypeSpace,
     shared: bool,
@@ -126,6 +128,7 @@ fn offered_of_kinds(
     0
 }
 
+/// Returns the number of supertypes that are offered of the type of the index `index`, itself among them.
 fn count_concrete_supertypes(space: &TypeSpace, index: u32) -> usize
     ensures { result ≡ length (gc_supertypes space.now.types (Concrete index)) }
 {
@@ -137,6 +140,7 @@ fn count_concrete_supertypes(space: &TypeSpace, index: u32) -> usize
     }
 }
 
+/// Returns the one of these at the place `place`, the type itself first.
 fn offered_concrete_supertype(space: &TypeSpace, index: u32, place: usize) -> HeapType
     requires { place < length (gc_supertypes space.now.types (Concrete index)) }
     ensures { slice_get (gc_supertypes space.now.types (Concrete index)) place ≡ Some result }
@@ -150,8 +154,8 @@ fn offered_concrete_supertype(space: &TypeSpace, index: u32, place: usize) -> He
     }
 }
 
-/// Of what stands above the type `ty` of the index `index`, abstract types and then the types on the way up, nearest first, that at
-/// the place `place`.
+/// Returns the type at the place `place` above the type `ty` of the index `index`: abstract types, and then the types on the way up,
+/// nearest first.
 fn offered_above(space: &TypeSpace, index: u32, ty: &SubType, place: usize) -> HeapType
     requires orderly { IsOrderly space.now.types }
     requires stands { slice_get space.now.types index ≡ Some ty.now }
@@ -169,7 +173,7 @@ fn offered_above(space: &TypeSpace, index: u32, ty: &SubType, place: usize) -> H
     HeapType::Concrete(space.ancestor(index, depth - 1 - (place - kinds.len()) as u32))
 }
 
-/// How many subtypes of `ty` are offered with garbage collection.
+/// Returns the number of subtypes of `ty` that are offered with garbage collection.
 pub(crate) fn count_subtypes(config: &Config, space: &TypeSpace, ty: HeapType) -> usize
     ensures { result ≡ length (gc_subtypes config.now space.now.types ty) }
 {
@@ -182,7 +186,7 @@ pub(crate) fn count_subtypes(config: &Config, space: &TypeSpace, ty: HeapType) -
     }
 }
 
-/// The subtype of `ty` that is offered with garbage collection at the place `place`, which is below the number of these.
+/// Returns the subtype of `ty` that is offered with garbage collection at the place `place`, which is below [`count_subtypes`].
 pub(crate) fn offered_subtype(
     config: &Config,
     space: &TypeSpace,
@@ -203,6 +207,7 @@ pub(crate) fn offered_subtype(
     }
 }
 
+/// Returns the number of subtypes that are offered of the type of the index `index`, itself among them.
 fn count_concrete_subtypes(config: &Config, types: &[SubType], index: u32) -> usize
     requires few { length types.now < 2 ^ 32 }
     ensures { result ≡ length (gc_subtypes config.now types.now (Concrete index)) }
@@ -211,7 +216,8 @@ fn count_concrete_subtypes(config: &Config, types: &[SubType], index: u32) -> us
     1 + direct + count_exact(config, direct) + count_bottom(types, index)
 }
 
-/// How many exact types, and types directly below again, are offered where `direct` types are directly below.
+/// Returns the number of types that are offered with custom descriptors alone: the exact type, and the `direct` types directly below
+/// once more.
 fn count_exact(config: &Config, direct: usize) -> usize
     requires { direct < 2 ^ 32 }
     ensures { result ≡ (if config.now.custom_descriptors_enabled then 1 + direct else 0) }
@@ -223,6 +229,7 @@ fn count_exact(config: &Config, direct: usize) -> usize
     }
 }
 
+/// Returns the number of bottoms of the kind of the type of the index `index`: one where that type exists.
 fn count_bottom(types: &[SubType], index: u32) -> usize
     ensures { result ≡ length (bottom_at types.now index) }
 {
@@ -232,6 +239,7 @@ fn count_bottom(types: &[SubType], index: u32) -> usize
     }
 }
 
+/// Returns the one of the subtypes of the type of the index `index` at the place `place`, the type itself first.
 fn offered_concrete_subtype(
     config: &Config,
     types: &[SubType],
@@ -252,7 +260,8 @@ fn offered_concrete_subtype(
     offered_below(config, types, index, direct, place - 1 - direct)
 }
 
-/// Of what is offered below the type `index` behind the types directly below, of which there are `direct`, that at the place `place`.
+/// Returns the type at the place `place` among those that are offered below the type of the index `index` after the `direct` types
+/// directly below.
 fn offered_below(
     config: &Config,
     types: &[SubType],
@@ -277,7 +286,7 @@ fn offered_below(
     offered_bottom(types, index)
 }
 
-/// The bottom of the kind of the type `index`, which stands.
+/// Returns the bottom of the kind of the type of the index `index`, which exists.
 fn offered_bottom(types: &[SubType], index: u32) -> HeapType
     requires { 0 < length (bottom_at types.now index) }
     ensures { bottom_at types.now index ≡ result ∷ [] }
@@ -291,7 +300,7 @@ fn offered_bottom(types: &[SubType], index: u32) -> HeapType
     }
 }
 
-/// How many types are declared directly below the type `supertype`.
+/// Returns the number of types that are declared directly below the type of the index `supertype`.
 fn count_direct(types: &[SubType], supertype: u32) -> usize
     ensures { result ≡ length (direct_subtypes types.now supertype) }
 {
@@ -304,7 +313,7 @@ fn count_direct(types: &[SubType], supertype: u32) -> usize
     count
 }
 
-/// The index of that type directly below the type `supertype` which stands at the place `place` among these.
+/// Returns the index of the one of these at the place `place`, in the order of their indices.
 fn offered_direct(types: &[SubType], supertype: u32, place: usize) -> u32
     requires few { length types.now < 2 ^ 32 }
     requires inside { place < length (direct_subtypes types.now supertype) }
