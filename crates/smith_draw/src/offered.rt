@@ -21,7 +21,6 @@ ghost use Rattle.smith_draw.specs.Offered.{
   supertypes_of_inner,
   kinds_below,
   kinds_above,
-  is_declared_below,
   of_kinds,
   direct_subtypes,
   ancestors,
@@ -181,7 +180,7 @@ pub(crate) fn count_subtypes(config: &Config, space: &TypeSpace, ty: HeapType) -
         HeapType::Abstract { shared, ty } => {
             count_abstract(space, shared, abstract_subtypes(ty), kinds_below(ty))
         }
-        HeapType::Concrete(index) => count_concrete_subtypes(config, space.types(), index),
+        HeapType::Concrete(index) => count_concrete_subtypes(config, space, index),
         HeapType::Exact(_) => 1,
     }
 }
@@ -200,20 +199,17 @@ pub(crate) fn offered_subtype(
         HeapType::Abstract { shared, ty } => {
             offered_abstract(space, shared, abstract_subtypes(ty), kinds_below(ty), place)
         }
-        HeapType::Concrete(index) => {
-            offered_concrete_subtype(config, space.types(), index, place)
-        }
+        HeapType::Concrete(index) => { offered_concrete_subtype(config, space, index, place) }
         HeapType::Exact(_) => ty,
     }
 }
 
 /// Returns the number of subtypes that are offered of the type of the index `index`, itself among them.
-fn count_concrete_subtypes(config: &Config, types: &[SubType], index: u32) -> usize
-    requires few { length types.now < 2 ^ 32 }
-    ensures { result ≡ length (gc_subtypes config.now types.now (Concrete index)) }
+fn count_concrete_subtypes(config: &Config, space: &TypeSpace, index: u32) -> usize
+    ensures { result ≡ length (gc_subtypes config.now space.now.types (Concrete index)) }
 {
-    let direct = count_direct(types, index);
-    1 + direct + count_exact(config, direct) + count_bottom(types, index)
+    let direct = count_direct(space, index);
+    1 + direct + count_exact(config, direct) + count_bottom(space.types(), index)
 }
 
 /// Returns the number of types that are offered with custom descriptors alone: the exact type, and the `direct` types directly below
@@ -242,48 +238,47 @@ fn count_bottom(types: &[SubType], index: u32) -> usize
 /// Returns the one of the subtypes of the type of the index `index` at the place `place`, the type itself first.
 fn offered_concrete_subtype(
     config: &Config,
-    types: &[SubType],
+    space: &TypeSpace,
     index: u32,
     place: usize,
 ) -> HeapType
-    requires few { length types.now < 2 ^ 32 }
-    requires inside { place < length (gc_subtypes config.now types.now (Concrete index)) }
-    ensures { slice_get (gc_subtypes config.now types.now (Concrete index)) place ≡ Some result }
+    requires { place < length (gc_subtypes config.now space.now.types (Concrete index)) }
+    ensures { slice_get (gc_subtypes config.now space.now.types (Concrete index)) place ≡ Some result }
 {
     if place == 0 {
         return HeapType::Concrete(index);
     }
-    let direct = count_direct(types, index);
+    let direct = count_direct(space, index);
     if place <= direct {
-        return HeapType::Concrete(offered_direct(types, index, place - 1));
+        return HeapType::Concrete(offered_direct(space, index, place - 1));
     }
-    offered_below(config, types, index, direct, place - 1 - direct)
+    offered_below(config, space, index, direct, place - 1 - direct)
 }
 
 /// Returns the type at the place `place` among those that are offered below the type of the index `index` after the `direct` types
 /// directly below.
 fn offered_below(
     config: &Config,
-    types: &[SubType],
+    space: &TypeSpace,
     index: u32,
     direct: usize,
     place: usize,
 ) -> HeapType
-    requires few { length types.now < 2 ^ 32 }
-    requires counted { direct ≡ length (direct_subtypes types.now index) }
-    requires inside { place < length (exact_subtypes config.now types.now index ++ bottom_at types.now index) }
-    ensures { slice_get (exact_subtypes config.now types.now index ++ bottom_at types.now index) place ≡ Some result }
+    requires few { direct < 2 ^ 32 }
+    requires counted { direct ≡ length (direct_subtypes space.now.types index) }
+    requires inside { place < length (exact_subtypes config.now space.now.types index ++ bottom_at space.now.types index) }
+    ensures { slice_get (exact_subtypes config.now space.now.types index ++ bottom_at space.now.types index) place ≡ Some result }
 {
     if !config.custom_descriptors_enabled {
-        return offered_bottom(types, index);
+        return offered_bottom(space.types(), index);
     }
     if place == 0 {
         return HeapType::Exact(index);
     }
     if place <= direct {
-        return HeapType::Concrete(offered_direct(types, index, place - 1));
+        return HeapType::Concrete(offered_direct(space, index, place - 1));
     }
-    offered_bottom(types, index)
+    offered_bottom(space.types(), index)
 }
 
 /// Returns the bottom of the kind of the type of the index `index`, which exists.
@@ -301,43 +296,20 @@ fn offered_bottom(types: &[SubType], index: u32) -> HeapType
 }
 
 /// Returns the number of types that are declared directly below the type of the index `supertype`.
-fn count_direct(types: &[SubType], supertype: u32) -> usize
-    ensures { result ≡ length (direct_subtypes types.now supertype) }
+fn count_direct(space: &TypeSpace, supertype: u32) -> usize
+    ensures count { result ≡ length (direct_subtypes space.now.types supertype) }
+    ensures few { result < 2 ^ 32 }
 {
-    let mut count = 0;
-    for ty in types {
-        if is_declared_below(ty, supertype) {
-            count += 1;
-        }
-    }
-    count
+    space.count_of_direct_subtypes(supertype) as usize
 }
 
 /// Returns the index of the one of these at the place `place`, in the order of their indices.
-fn offered_direct(types: &[SubType], supertype: u32, place: usize) -> u32
-    requires few { length types.now < 2 ^ 32 }
-    requires inside { place < length (direct_subtypes types.now supertype) }
-    ensures { slice_get (direct_subtypes types.now supertype) place ≡ Some (Concrete result) }
+fn offered_direct(space: &TypeSpace, supertype: u32, place: usize) -> u32
+    requires few { place < 2 ^ 32 }
+    requires inside { place < length (direct_subtypes space.now.types supertype) }
+    ensures { slice_get (direct_subtypes space.now.types supertype) place ≡ Some (Concrete result) }
 {
-    let mut left = place;
-    for index in 0..types.len() {
-        if is_declared_below(&types[index], supertype) {
-            if left == 0 {
-                return index as u32;
-            }
-            left -= 1;
-        }
-    }
-    0
-}
-
-fn is_declared_below(ty: &SubType, index: u32) -> bool
-    ensures { result ≡ is_declared_below index ty.now }
-{
-    match ty.supertype {
-        Some(supertype) => supertype == index,
-        None => false,
-    }
+    space.direct_subtype(supertype, place as u32)
 }
 
 /// The abstract types that are offered above `inner`, widest first.

@@ -28,13 +28,16 @@ slice_get-front [] more i x inside at = absurd (omega arith)
 slice_get-front (y ∷ xs) more zero x inside at = at
 slice_get-front (y ∷ xs) more (suc i) x inside at = slice_get-front xs more i x (omega arith) at
 
--- a list with an item more is its front and its last item, read as code reads them
+-- the front of a list with an item more, read as code reads it
+pub push_front : {A : Type 0} (xs : List A) (x : A) (seen all : List A) (n : ℕ) → seen ≡ all → all ≡ xs ++ x ∷ [] → n ≡ length xs → take n seen ≡ xs
+push_front xs x seen all n same is count = rw (same, is, count) (take-append-le (length xs) xs (x ∷ []) (omega arith) ∙ take_all (length xs) xs (omega arith))
+
+-- and the whole of it
 pub push_whole : {A : Type 0} (xs : List A) (x : A) (seen all : List A) (n : ℕ) (last d : A) → seen ≡ all → all ≡ xs ++ x ∷ [] → n ≡ length xs → last ≡ get_or all n d → take n seen ++ last ∷ [] ≡ all
 push_whole xs x seen all n last d same is count read =
-    let front : take n seen ≡ xs = rw (same, is, count) (take-append-le (length xs) xs (x ∷ []) (omega arith) ∙ take_all (length xs) xs (omega arith)) in
     let end : n ≡ length xs + 0 = omega (arith, count) in
     let item : last ≡ x = read ∙ ap (λ l. get_or l n d) is ∙ ap (λ m. get_or (xs ++ x ∷ []) m d) end ∙ get_or-append-add xs (x ∷ []) 0 d in
-    rw (front, item) (sym is)
+    rw (push_front xs x seen all n same is count, item) (sym is)
 
 -- what relates two lists place by place does so in a weaker way
 pub AllZip-weaker : {A B : Type 0} (R S : A → B → Type 0) → ((x : A) (y : B) → R x y → S x y) → (xs : List A) (ys : List B) → AllZip R xs ys → AllZip S xs ys

@@ -26,6 +26,7 @@ ghost use Rattle.std.specs.declared.ops.Range.{Range};
 ghost use Rattle.smith_types.specs.Types.{IsAlike, IsOrderly, next_start, next_group};
 ghost use Rattle.smith_types.specs.Space.{AreExtensible, HasDepth, MayFollow, extensible_from};
 ghost use Rattle.smith_types.specs.Places.{ArePlaces, IsLonger, depths_in};
+ghost use Rattle.smith_types.specs.Families.{direct_subtypes, AreFamilies};
 ghost use Rattle.smith_types.specs.KindCounts.{indices_of_kind};
 ghost use Rattle.smith_types.specs.Sizes.{value_count};
 ghost use Rattle.smith_types.specs.Matching.{IsCompositeMatch, IsInnerInRange};
@@ -34,6 +35,7 @@ ghost use Rattle.smith_types.specs.Subtyping.{IsBelow, IsRefBelow, IsValBelow, I
 
 use crate::composite_type::{CompositeInnerType, CompositeType, SubType};
 use crate::entity_type::EntityType;
+use crate::family::{Family, extend_families, join_family};
 use crate::matching::composite_type_is_match;
 use crate::place::{Place, last_counts, push_row};
 use crate::subtyping::{heap_type_is_below, ref_type_is_below, val_type_is_below};
@@ -55,6 +57,8 @@ pub struct TypeSpace {
     places: Vec<Place>,
     // The table of the rows of all places. It may have entries that no place uses: those of a type that was refused.
     rows: Vec<u32>,
+    // The families of the first types: at least up to the last type that has a supertype.
+    families: Vec<Family>,
     extensible: Vec<u32>,
     groups: Vec<Range<usize>>,
 }
@@ -63,6 +67,7 @@ impl Model for TypeSpace {
     ghost use Rattle.std.specs.Prelude.{◌≡◌};
     ghost use Rattle.smith_types.specs.Space.{Space, IsSound, extensible_from};
     ghost use Rattle.smith_types.specs.Places.{ArePlaces, depths_in};
+    ghost use Rattle.smith_types.specs.Families.{AreFamilies};
 
     ghost Value = { Space };
 
@@ -70,7 +75,8 @@ impl Model for TypeSpace {
 
     ghost invariant = { λ a. IsSound (record { types = a.types.items; groups = a.groups.items })
         × ArePlaces a.types.items a.rows.items a.places.items
-        × (a.extensible.items ≡ extensible_from 0 a.types.items (depths_in a.places.items)) };
+        × (a.extensible.items ≡ extensible_from 0 a.types.items (depths_in a.places.items))
+        × AreFamilies a.types.items a.families.items };
 }
 
 /// Prints the types and the groups.
@@ -97,6 +103,7 @@ impl TypeSpace {
             types: Vec::new(alloc),
             places: Vec::new(alloc),
             rows: Vec::new(alloc),
+            families: Vec::new(alloc),
             extensible: Vec::new(alloc),
             groups: Vec::new(alloc),
         }
@@ -112,6 +119,7 @@ impl TypeSpace {
             types: Vec::with_capacity(alloc, types)?,
             places,
             rows: Vec::new(alloc),
+            families: Vec::new(alloc),
             extensible: Vec::new(alloc),
             groups: Vec::with_capacity(alloc, types)?,
         })
@@ -188,6 +196,32 @@ impl TypeSpace {
         low as u32
     }
 
+    /// Returns the number of types that are declared directly below the type of the index `index`: 0 where no type has this index.
+    pub fn count_of_direct_subtypes(&self, index: u32) -> u32
+        ensures { result ≡ length (direct_subtypes self.now.types index) }
+    {
+        match self.families.get(index as usize) {
+            Some(family) => family.count,
+            None => 0,
+        }
+    }
+
+    /// Returns the index of the type at the place `place`, from 0, among the types that [`TypeSpace::count_of_direct_subtypes`] counts,
+    /// in the order of their indices. The place is below their number. Takes a step for each of them after that place.
+    pub fn direct_subtype(&self, index: u32, place: u32) -> u32
+        requires { place < length (direct_subtypes self.now.types index) }
+        ensures { slice_get (direct_subtypes self.now.types index) place ≡ Some result }
+    {
+        let family = self.families[index as usize];
+        let mut at = family.count - 1;
+        let mut found = family.last;
+        while place < at {
+            found = self.families[found as usize].previous;
+            at -= 1;
+        }
+        found
+    }
+
     // Whether the type `from` is the type `to`, or `to` is on the way up from `from`: then `to` is in the row of `from` at its depth.
     pub(crate) fn reaches(&self, from: u32, to: u32) -> bool
         requires lower { from < length self.now.types }
@@ -239,6 +273,7 @@ impl TypeSpace {
             &mut self.places,
             &mut self.rows,
             &mut self.extensible,
+            &mut self.families,
         )
         .is_err()
         {
@@ -329,23 +364,28 @@ impl TypeSpace {
 }
 
 // Adds the place of the type `added`, the next one after `types`, with its row, and its index where it may have subtypes. After
-// want of memory `places` and `extensible` are unchanged, and `rows` may be longer.
+// want of memory `places` and `extensible` are unchanged, and `rows` and `families` may be longer.
 fn push_place(
     types: &[SubType],
     added: &SubType,
     places: &mut Vec<Place>,
     rows: &mut Vec<u32>,
     extensible: &mut Vec<u32>,
+    families: &mut Vec<Family>,
 ) -> Result<(), Error>
     requires orderly { IsOrderly types.now }
     requires follows { MayFollow types.now added.now }
     requires places { ArePlaces types.now rows.old.items places.old.items }
     requires extensible { extensible.old.items ≡ extensible_from 0 types.now (depths_in places.old.items) }
+    requires families { AreFamilies types.now families.old.items }
     ensures places { OnOk result (ArePlaces (types.now ++ added.now ∷ []) rows.new.items places.new.items) }
     ensures extensible { OnOk result (extensible.new.items ≡ extensible_from 0 (types.now ++ added.now ∷ []) (depths_in places.new.items)) }
+    ensures families { OnOk result (AreFamilies (types.now ++ added.now ∷ []) families.new.items) }
     ensures rows { IsLonger rows.old.items rows.new.items }
     ensures err { OnErr result ((places.new.items ≡ places.old.items) × (extensible.new.items ≡ extensible.old.items)) }
+    ensures known { OnErr result (AreFamilies types.now families.new.items) }
 {
+    extend_families(types, added, families)?;
     let place = push_row(types, places.as_slice(), rows, added)?;
     let is_extensible = may_have_subtypes(added, place.depth);
     places.push(place)?;
@@ -353,6 +393,7 @@ fn push_place(
         places.pop();
         return Err(Error::Memory);
     }
+    join_family(types, added, families);
     Ok(())
 }
 
