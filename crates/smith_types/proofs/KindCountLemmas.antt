@@ -1,6 +1,5 @@
 -- Types of a kind: their counts as types are added, and the index of one of them.
 use Rattle.std.proofs.Common.{rules, ◌≡◌, ℕ, zero, suc, ◌+◌, ◌-◌, ◌<◌, ◌≤◌, Bool, true, false, List, [], ◌∷◌, ◌++◌, Some, length, take, refl, sym, ◌∙◌, ap, subst, arith}
-use Rattle.std.proofs.lemmas.List.{take_all}
 use Rattle.std.specs.Prelude.{slice_get, if◌then◌else◌}
 use Rattle.smith_types.specs.declared.value_type.AbstractHeapType.{AbstractHeapType}
 use Rattle.smith_types.specs.declared.composite_type.CompositeInnerType.{CompositeInnerType}
@@ -79,19 +78,3 @@ index_found test first (t ∷ types) (suc i) place inside least most =
 pub index_of_kind_found : (types : List SubType) (s : Bool) (kind : AbstractHeapType) (i place : ℕ) → i < length types → count_where (is_of_kind s kind) (take i types) ≤ place → place < count_where (is_of_kind s kind) (take (suc i) types)
     → slice_get (indices_of_kind types s kind) place ≡ Some i
 index_of_kind_found types s kind i place inside least most = index_found (is_of_kind s kind) 0 types i place inside least most ∙ ap Some (omega arith)
-
--- the search for a type of a kind begins with all types
-pub search_begins : (types : List SubType) (s : Bool) (kind : AbstractHeapType) (place long : ℕ) → long ≡ length types → place < length (indices_of_kind types s kind)
-    → (long - 1 < length types) × (place < count_where (is_of_kind s kind) (take (suc (long - 1)) types))
-search_begins types s kind place long is less =
-    let picked = length_indices (is_of_kind s kind) 0 types in
-    let most = count_most (is_of_kind s kind) types in
-    let all : take (suc (long - 1)) types ≡ types = take_all (suc (long - 1)) types (omega (arith, is)) in
-    (omega (arith, is, picked, most, less), rw all (omega (arith, picked, less)))
-
--- and ends with one
-pub search_ends : (types : List SubType) (s : Bool) (kind : AbstractHeapType) (place low high : ℕ) → high ≤ low → low ≤ high → high < length types → count_where (is_of_kind s kind) (take low types) ≤ place → place < count_where (is_of_kind s kind) (take (suc high) types)
-    → slice_get (indices_of_kind types s kind) place ≡ Some low
-search_ends types s kind place low high met ordered inside least most =
-    let same : high ≡ low = omega (arith, met, ordered) in
-    index_of_kind_found types s kind low place (omega (arith, same, inside)) least (subst (λ n. place < count_where (is_of_kind s kind) (take (suc n) types)) same most)

@@ -13,6 +13,7 @@ pub mod ValidityLemmas
 pub mod GroupGrowthLemmas
 pub mod WalkLemmas
 pub mod KindCountLemmas
+pub mod KindMarkLemmas
 pub mod PlaceLemmas
 pub mod FamilyLemmas
 pub mod FeatureBitLemmas

@@ -3,19 +3,14 @@ use Rattle.std.proofs.Common.{◌≡◌, ◌↔◌, ℕ, suc, ◌+◌, ◌-◌, 
 use Rattle.std.specs.Prelude.{nat_eq, nat_lt, slice_index}
 use Rattle.std.proofs.lemmas.Bool.{eqb-true, eq-eqb, ltb-true, cases_lt}
 use Rattle.std.proofs.lemmas.Option.{slice_get_within, slice_get-get_or}
-use Rattle.std.proofs.lemmas.List.{length-append, length-map, take-append-le, take_all, get_or-map, get_or_append_left, get_or-append-add}
+use Rattle.std.proofs.lemmas.List.{length-append, length-map, get_or-map, get_or_append_left, get_or-append-add}
 use Rattle.std.proofs.lemmas.Grind.{get_or_default_zero}
 use Rattle.smith_types.specs.declared.composite_type.SubType.{SubType}
 use Rattle.smith_types.specs.declared.place.Place.{Place}
 use Rattle.smith_types.specs.declared.value_type.HeapType.TheVariants.{Concrete}
 use Rattle.smith_types.specs.Types.{IsOrderly}
 use Rattle.smith_types.specs.Space.{MayFollow, HasDepth, root, deeper, AreDepths}
-use Rattle.smith_types.specs.declared.kind_counts.KindCounts.{KindCounts}
-use Rattle.smith_types.specs.declared.value_type.AbstractHeapType.{AbstractHeapType}
-use Rattle.smith_types.specs.Kinds.{shared}
-use Rattle.smith_types.specs.KindCounts.{is_of_kind, indices_of_kind, count_where, count_at, counts_with, AreCounts}
-use Rattle.smith_types.proofs.KindCountLemmas.{AreCounts-push, AreCounts-none, count_most, length_indices}
-use Rattle.smith_types.specs.Places.{last_counts_from, last_counts, IsAncestor, IsPlace, ArePlaces, depths_in, IsLonger, IsRowAtEnd}
+use Rattle.smith_types.specs.Places.{IsAncestor, IsPlace, ArePlaces, depths_in, IsLonger, IsRowAtEnd}
 use Rattle.smith_types.specs.Subtyping.{IsBelow, itself}
 use Rattle.smith_types.proofs.GrowthLemmas.{IsBelow-grown, IsBelow-trans}
 use Rattle.smith_types.proofs.ListLemmas.{slice_get-last, slice_get-push}
@@ -24,19 +19,12 @@ use Rattle.smith_types.proofs.SpaceLemmas.{HasDepth-grown, HasDepth-le, depth_so
 use Rattle.smith_types.proofs.WalkLemmas.{below_depth, below_level}
 
 abbrev pub no_place : Place
-no_place = record { start = 0; depth = 0; counts = record { arrays = 0; funcs = 0; structs = 0; shared_arrays = 0; shared_funcs = 0; shared_structs = 0 } }
+no_place = record { start = 0; depth = 0 }
 
 -- a place, read as code reads it
 pub place_read : (types : List SubType) (table : List ℕ) (places : List Place) (i : ℕ) (place d : Place) → ArePlaces types table places → i < length types → place ≡ get_or places i d → IsPlace types table i place
 place_read types table places i place d known inside read =
     known.each i place (slice_get-get_or places i d (omega (arith, known.long)) ∙ ap Some (sym read))
-
--- the number of types of a kind up to a type, read as code reads it
-pub count_read : (types now : List SubType) (table : List ℕ) (places : List Place) (i n : ℕ) (place d : Place) (s : Bool) (kind : AbstractHeapType) → types ≡ now → ArePlaces types table places → i < length now → place ≡ get_or places i d → n ≡ count_at place.counts s kind
-    → n ≡ count_where (is_of_kind s kind) (take (suc i) now)
-count_read types now table places i n place d s kind view known inside read is =
-    subst (λ xs. n ≡ count_where (is_of_kind s kind) (take (suc i) xs)) view
-    (is ∙ (place_read types table places i place d known (rw view inside) read).counts.each s kind)
 
 -- the depths of the places are those of the types
 pub depths_known : (types : List SubType) (table : List ℕ) (places : List Place) → ArePlaces types table places → AreDepths types (depths_in places)
@@ -120,7 +108,6 @@ IsPlace-grown types more table longer i place inside behind h =
     let within : place.start + place.depth ≤ length table + 1 = h.within in record {
       depth = HasDepth-grown types more h.depth;
       within = subst (λ l. place.start + place.depth ≤ length l + 1) (sym behind.joined) (simp length-append (omega (arith, within)));
-      counts = rw (take-append-le (suc i) types more (omega (arith, inside))) h.counts;
       row = λ k small.
           let read : slice_index longer (place.start + k) ≡ slice_index table (place.start + k) = ap (λ l. slice_index l (place.start + k)) behind.joined ∙ get_or_append_left table behind.more 0 (place.start + k) (omega (arith, within, small)) in
           subst (λ n. IsAncestor (types ++ more) i (suc k) n) (sym read) (IsAncestor-grown types more i (suc k) (slice_index table (place.start + k)) (h.row k small));
@@ -135,7 +122,6 @@ ArePlaces-longer types table longer places behind before = record {
       let within : place.start + place.depth ≤ length table + 1 = h.within in record {
         depth = h.depth;
         within = subst (λ l. place.start + place.depth ≤ length l + 1) (sym behind.joined) (simp length-append (omega (arith, within)));
-        counts = h.counts;
         row = λ k small.
             let read : slice_index longer (place.start + k) ≡ slice_index table (place.start + k) = ap (λ l. slice_index l (place.start + k)) behind.joined ∙ get_or_append_left table behind.more 0 (place.start + k) (omega (arith, within, small)) in
             subst (λ n. IsAncestor types i (suc k) n) (sym read) (h.row k small);
@@ -155,46 +141,6 @@ ArePlaces-push types t table longer places place before behind last = record {
   ];
 }
 
-all_taken : (types : List SubType) (t : SubType) → take (suc (length types)) (types ++ t ∷ []) ≡ types ++ t ∷ []
-all_taken types t = take_all (suc (length types)) (types ++ t ∷ []) (simp length-append (omega arith))
-
--- the counts up to the last place, read as code reads it
-pub last_counts-last : (counts : KindCounts) (places : List Place) (d : Place) → 1 ≤ length places → (get_or places (length places - 1) d).counts ≡ last_counts_from counts places
-last_counts-last counts [] d some = absurd (omega arith)
-last_counts-last counts (p ∷ []) d some = refl
-last_counts-last counts (p ∷ q ∷ places) d some =
-    let fewer : length (p ∷ q ∷ places) - 1 ≡ suc (length (q ∷ places) - 1) = omega arith in
-    rw fewer (last_counts-last p.counts (q ∷ places) d (omega arith))
-
--- the counts up to the last place are those of all types
-pub counts_known : (types : List SubType) (table : List ℕ) (places : List Place) → ArePlaces types table places → AreCounts types (last_counts places)
-counts_known [] table [] known = AreCounts-none
-counts_known (t ∷ types) table [] known = let long : 0 ≡ length (t ∷ types) = known.long in absurd (omega (arith, long))
-counts_known types table (p ∷ places) known =
-    let last : ℕ = length (p ∷ places) - 1 in
-    let end : suc last ≡ length types = omega (arith, known.long) in
-    let place = known.each last (get_or (p ∷ places) last p) (slice_get-get_or (p ∷ places) last p (omega arith)) in
-    let all : take (suc last) types ≡ types = take_all (suc last) types (omega (arith, end)) in
-    subst (λ c. AreCounts types c) (last_counts-last no_place.counts (p ∷ places) p (omega arith)) (rw all at place.counts)
-
--- how many types of a kind there are, read as code reads it
-pub count_of_all : (types now : List SubType) (table : List ℕ) (places : List Place) (s : Bool) (kind : AbstractHeapType) (n : ℕ) → types ≡ now → ArePlaces types table places → n ≡ count_at (last_counts places) s kind → n ≡ length (indices_of_kind now s kind)
-count_of_all types now table places s kind n view known is =
-    subst (λ xs. n ≡ length (indices_of_kind xs s kind)) view
-    (is ∙ (counts_known types table places known).each s kind ∙ sym (length_indices (is_of_kind s kind) 0 types))
-
--- the counts with a type more
-pub counts_more : (types : List SubType) (table : List ℕ) (places : List Place) (t : SubType) → ArePlaces types table places → AreCounts (types ++ t ∷ []) (counts_with (shared t) t.composite_type.inner (last_counts places))
-counts_more types table places t known = AreCounts-push types t (last_counts places) (counts_known types table places known)
-
--- no count is at its limit
-pub counts_room : (types : List SubType) (table : List ℕ) (places : List Place) (t : SubType) → ArePlaces types table places → MayFollow types t → (s : Bool) (kind : AbstractHeapType) → count_at (last_counts places) s kind + 1 < 2 ^ 32
-counts_room types table places t known follows s kind =
-    let is = (counts_known types table places known).each s kind in
-    let most = count_most (is_of_kind s kind) types in
-    let few : length types + 1 < 2 ^ 32 = follows.room in
-    omega (arith, is, most, few)
-
 -- the place of the supertype of a type that is to be added
 pub record IsStanding (types : List SubType) (table : List ℕ) (i : ℕ) (place : Place) : Type 0 where
   pub inside : i < length types
@@ -212,14 +158,13 @@ place_above types table places t s orderly known follows up =
     record { inside = inside; known = place; shallow = omega (arith, few, inside, least) }
 
 -- the row of a type that is added below a supertype: that of the supertype, and the supertype
-pub place_below : (types : List SubType) (t : SubType) (table ended : List ℕ) (s start : ℕ) (above : Place) (counts : KindCounts) → AreCounts (types ++ t ∷ []) counts → IsPlace types table s above → t.supertype ≡ Some s → IsRowAtEnd table above ended start
-    → IsPlace (types ++ t ∷ []) (ended ++ s ∷ []) (length types) (record { start = start; depth = above.depth + 1; counts = counts })
-place_below types t table ended s start above counts count known up row =
+pub place_below : (types : List SubType) (t : SubType) (table ended : List ℕ) (s start : ℕ) (above : Place) → IsPlace types table s above → t.supertype ≡ Some s → IsRowAtEnd table above ended start
+    → IsPlace (types ++ t ∷ []) (ended ++ s ∷ []) (length types) (record { start = start; depth = above.depth + 1 })
+place_below types t table ended s start above known up row =
     let ends : start + above.depth ≡ length ended + 1 = row.ends in
     let deep : HasDepth (types ++ t ∷ []) (length types) (suc above.depth) = deeper {t = t} (slice_get-last types t) up (HasDepth-grown types (t ∷ []) known.depth) in
     let one_up = below_declared (types ++ t ∷ []) (length types) s t (slice_get-last types t) up in record {
       depth = rw add-one deep;
-      counts = rw (all_taken types t) count;
       within = simp length-append (omega (arith, ends));
       row = λ k small. elim (cases_lt (suc k) above.depth) [
         | inl less ↦
@@ -241,10 +186,9 @@ place_below types t table ended s start above counts count known up row =
     }
 
 -- a type that is added without a supertype has no row
-pub place_alone : (types : List SubType) (t : SubType) (table : List ℕ) (counts : KindCounts) → AreCounts (types ++ t ∷ []) counts → t.supertype ≡ None → IsPlace (types ++ t ∷ []) table (length types) (record { start = 0; depth = 1; counts = counts })
-place_alone types t table counts count none = record {
+pub place_alone : (types : List SubType) (t : SubType) (table : List ℕ) → t.supertype ≡ None → IsPlace (types ++ t ∷ []) table (length types) (record { start = 0; depth = 1 })
+place_alone types t table none = record {
   depth = root {t = t} (slice_get-last types t) none;
-  counts = rw (all_taken types t) count;
   within = omega arith;
   row = λ k small. absurd (omega (arith, small));
 }

@@ -5,6 +5,7 @@ pub mod Types
 pub mod Space
 pub mod Subtyping
 pub mod KindCounts
+pub mod KindMarks
 pub mod Places
 pub mod Families
 pub mod Matching

@@ -1,12 +1,10 @@
--- What a type space keeps of each type beside it: its depth, the counts up to it, and its row, a part of one table of rows. A row
--- has the types on the way up by their depth, the type itself left out.
-use Rattle.std.specs.Prelude.{◌≡◌, ℕ, suc, ◌+◌, ◌<◌, ◌≤◌, List, [], ◌∷◌, ◌++◌, Some, length, map, take, slice_get, slice_index}
+-- What a type space keeps of each type beside it: its depth, and its row, a part of one table of rows. A row has the types on the
+-- way up by their depth, the type itself left out.
+use Rattle.std.specs.Prelude.{◌≡◌, ℕ, suc, ◌+◌, ◌<◌, ◌≤◌, List, [], ◌∷◌, ◌++◌, Some, length, map, slice_get, slice_index}
 use Rattle.smith_types.specs.declared.composite_type.SubType.{SubType}
 use Rattle.smith_types.specs.declared.place.Place.{Place}
 use Rattle.smith_types.specs.declared.value_type.HeapType.TheVariants.{Concrete}
 use Rattle.smith_types.specs.Space.{HasDepth}
-use Rattle.smith_types.specs.declared.kind_counts.KindCounts.{KindCounts}
-use Rattle.smith_types.specs.KindCounts.{AreCounts}
 use Rattle.smith_types.specs.Subtyping.{IsBelow}
 
 -- a type of this depth is on the way up from the type of an index, or is it
@@ -14,26 +12,16 @@ pub record IsAncestor (types : List SubType) (i depth ancestor : ℕ) : Type 0 w
   pub depth_is : HasDepth types ancestor depth
   pub above : IsBelow types (Concrete i) (Concrete ancestor)
 
--- the depth of a type, the counts of the types up to it, and its row in the table: an ancestor of each smaller depth
+-- the depth of a type, and its row in the table: an ancestor of each smaller depth
 pub record IsPlace (types : List SubType) (table : List ℕ) (i : ℕ) (place : Place) : Type 0 where
   pub depth : HasDepth types i place.depth
   pub within : place.start + place.depth ≤ length table + 1
-  pub counts : AreCounts (take (suc i) types) place.counts
   pub row : (k : ℕ) → suc k < place.depth → IsAncestor types i (suc k) (slice_index table (place.start + k))
 
 -- the place of each type, by its index
 pub record ArePlaces (types : List SubType) (table : List ℕ) (places : List Place) : Type 0 where
   pub long : length places ≡ length types
   pub each : (i : ℕ) (place : Place) → slice_get places i ≡ Some place → IsPlace types table i place
-
--- the counts of the last of these places, and `counts` where there is none
-abbrev pub last_counts_from : KindCounts → List Place → KindCounts
-last_counts_from counts [] = counts
-last_counts_from counts (place ∷ places) = last_counts_from place.counts places
-
--- the counts of the last of these places, those of all types
-abbrev pub last_counts : List Place → KindCounts
-last_counts places = last_counts_from (record { arrays = 0; funcs = 0; structs = 0; shared_arrays = 0; shared_funcs = 0; shared_structs = 0 }) places
 
 -- the depths alone
 abbrev pub depths_in : List Place → List ℕ

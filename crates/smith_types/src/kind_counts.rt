@@ -5,7 +5,7 @@ ghost use Rattle.smith_types.specs.KindCounts.{count_at, counts_with};
 use crate::composite_type::{CompositeInnerType, CompositeType};
 use crate::value_type::AbstractHeapType;
 
-// The number of types of each kind and sharedness among some types.
+// The number of types of each kind and sharedness among the first types of a space.
 #[derive(Clone, Copy)]
 pub(crate) struct KindCounts {
     pub(crate) arrays: u32,

@@ -16,6 +16,7 @@ mod imports;
 mod index_spaces;
 mod instruction_kind;
 mod kind_counts;
+mod kind_marks;
 /// Laws: functions that do nothing, whose clauses say what holds.
 pub mod laws;
 mod list;

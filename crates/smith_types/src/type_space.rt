@@ -36,8 +36,10 @@ ghost use Rattle.smith_types.specs.Subtyping.{IsBelow, IsRefBelow, IsValBelow, I
 use crate::composite_type::{CompositeInnerType, CompositeType, SubType};
 use crate::entity_type::EntityType;
 use crate::family::{Family, extend_families, join_family};
+use crate::kind_counts::{KindCounts, no_counts};
+use crate::kind_marks::{nth_of_kind, push_mark};
 use crate::matching::composite_type_is_match;
-use crate::place::{Place, last_counts, push_row};
+use crate::place::{Place, push_row};
 use crate::subtyping::{heap_type_is_below, ref_type_is_below, val_type_is_below};
 use crate::value_type::{AbstractHeapType, HeapType, RefType, ValType};
 use smith_bytes::Error;
@@ -57,6 +59,9 @@ pub struct TypeSpace {
     places: Vec<Place>,
     // The table of the rows of all places. It may have entries that no place uses: those of a type that was refused.
     rows: Vec<u32>,
+    counts: KindCounts,
+    // The counts of the first types, at each multiple of a fixed number of types.
+    marks: Vec<KindCounts>,
     // The families of the first types: at least up to the last type that has a supertype.
     families: Vec<Family>,
     extensible: Vec<u32>,
@@ -68,6 +73,7 @@ impl Model for TypeSpace {
     ghost use Rattle.smith_types.specs.Space.{Space, IsSound, extensible_from};
     ghost use Rattle.smith_types.specs.Places.{ArePlaces, depths_in};
     ghost use Rattle.smith_types.specs.Families.{AreFamilies};
+    ghost use Rattle.smith_types.specs.KindMarks.{AreKindsCounted};
 
     ghost Value = { Space };
 
@@ -76,7 +82,8 @@ impl Model for TypeSpace {
     ghost invariant = { λ a. IsSound (record { types = a.types.items; groups = a.groups.items })
         × ArePlaces a.types.items a.rows.items a.places.items
         × (a.extensible.items ≡ extensible_from 0 a.types.items (depths_in a.places.items))
-        × AreFamilies a.types.items a.families.items };
+        × AreFamilies a.types.items a.families.items
+        × AreKindsCounted a.types.items a.counts a.marks.items };
 }
 
 /// Prints the types and the groups.
@@ -103,6 +110,8 @@ impl TypeSpace {
             types: Vec::new(alloc),
             places: Vec::new(alloc),
             rows: Vec::new(alloc),
+            counts: no_counts(),
+            marks: Vec::new(alloc),
             families: Vec::new(alloc),
             extensible: Vec::new(alloc),
             groups: Vec::new(alloc),
@@ -119,6 +128,8 @@ impl TypeSpace {
             types: Vec::with_capacity(alloc, types)?,
             places,
             rows: Vec::new(alloc),
+            counts: no_counts(),
+            marks: Vec::new(alloc),
             families: Vec::new(alloc),
             extensible: Vec::new(alloc),
             groups: Vec::with_capacity(alloc, types)?,
@@ -165,7 +176,7 @@ impl TypeSpace {
         if depth == place.depth {
             return index;
         }
-        self.rows[place.start + (depth as usize - 1)]
+        self.rows[place.start as usize + (depth as usize - 1)]
     }
 
     /// Returns the number of types of the kind `kind` that are shared, or that are not, as `shared` says.
@@ -174,7 +185,7 @@ impl TypeSpace {
     pub fn count_of_kind(&self, shared: bool, kind: AbstractHeapType) -> u32
         ensures { result ≡ length (indices_of_kind self.now.types shared kind) }
     {
-        last_counts(self.places.as_slice()).count(shared, kind)
+        self.counts.count(shared, kind)
     }
 
     /// Returns the index of the type at the place `place`, from 0, among the types that [`TypeSpace::count_of_kind`] counts, in the
@@ -183,17 +194,13 @@ impl TypeSpace {
         requires { place < length (indices_of_kind self.now.types shared kind) }
         ensures { slice_get (indices_of_kind self.now.types shared kind) place ≡ Some result }
     {
-        let mut low = 0;
-        let mut high = self.places.len() - 1;
-        while low < high {
-            let middle = low + (high - low) / 2;
-            if place < self.places[middle].counts.count(shared, kind) {
-                high = middle;
-            } else {
-                low = middle + 1;
-            }
-        }
-        low as u32
+        nth_of_kind(
+            self.types.as_slice(),
+            self.marks.as_slice(),
+            shared,
+            kind,
+            place,
+        )
     }
 
     /// Returns the number of types that are declared directly below the type of the index `index`: 0 where no type has this index.
@@ -233,7 +240,8 @@ impl TypeSpace {
         }
         let lower = self.places[from as usize];
         let upper = self.places[to as usize];
-        upper.depth < lower.depth && self.rows[lower.start + (upper.depth as usize - 1)] == to
+        upper.depth < lower.depth
+            && self.rows[lower.start as usize + (upper.depth as usize - 1)] == to
     }
 
     /// The indices of the types that may have drawn subtypes, in order: of the types that are not final, and of a depth below 60.
@@ -266,6 +274,8 @@ impl TypeSpace {
         ensures memory { IfErr result (λ e. e ≡ Error.Memory) }
     {
         let count = self.types.len();
+        push_mark(count, self.counts, &mut self.marks)?;
+        let counts = self.counts.with(&added.composite_type);
         self.types.push(added)?;
         if push_place(
             &self.types[..count],
@@ -280,6 +290,7 @@ impl TypeSpace {
             self.types.pop();
             return Err(Error::Memory);
         }
+        self.counts = counts;
         Ok(count as u32)
     }
 

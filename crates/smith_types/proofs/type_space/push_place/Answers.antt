@@ -1,5 +1,5 @@
-use Rattle.std.proofs.Common.{◌≡◌, ◌∙◌, sym, false, Result, Ok, Err, ap, arith, ◌++◌, ◌∷◌, [], length}
-use Rattle.std.specs.Prelude.{is_err, OnOk}
+use Rattle.std.proofs.Common.{◌≡◌, ◌∙◌, sym, false, true, Result, Ok, Err, ap, arith, ◌++◌, ◌∷◌, [], length}
+use Rattle.std.specs.Prelude.{is_err, OnOk, OnErr}
 use Rattle.std.proofs.lemmas.List.{map-append}
 use Rattle.smith_types.specs.Space.{extensible_from}
 use Rattle.smith_types.specs.Places.{depths_in}

@@ -5,6 +5,9 @@ use Rattle.smith_types.specs.declared.composite_type.SubType.{SubType}
 use Rattle.smith_types.specs.Space.{MayFollow, IsSound, extensible_from}
 use Rattle.smith_types.specs.Places.{ArePlaces, depths_in}
 use Rattle.smith_types.specs.Families.{AreFamilies}
+use Rattle.smith_types.specs.KindMarks.{AreKindsCounted}
+use Rattle.smith_types.specs.declared.kind_counts.KindCounts.{KindCounts}
+use Rattle.smith_types.proofs.KindMarkLemmas.{kinds_added, counts_room}
 use Rattle.smith_types.proofs.ListLemmas.{slice_get-last, push_front, push_whole}
 use Rattle.smith_types.proofs.SpaceLemmas.{IsSound-type}
 use Rattle.smith_types.proofs.PlaceLemmas.{ArePlaces-longer}
@@ -18,14 +21,16 @@ err_of : {A E P : Type 0} (r : Result A E) → is_err r ≡ true → OnErr r P �
 err_of (Ok x) some h = cc
 err_of (Err e) some h = h
 
-pub invariant_of-self-else-is_err : goal.invariant_of-self-else-is_err
-invariant_of-self-else-is_err c =
+pub invariant_of-self-2 : goal.invariant_of-self-2
+invariant_of-self-2 c =
     let types = c.self.inside.types.items in
     let added : List SubType = types ++ c.args.added ∷ [] in
     let follows : MayFollow types c.args.added = rw (ap (λ s. s.types) c.self.view_is) c.requires in
     let pushed : c.push.new.self.items ≡ added = c.in_ok-push.ensures.items in
     let count : c.len-count.result ≡ length types = c.len-count.ensures ∙ c.self.inside.types.ok.0 in
     let whole : take c.len-count.result c.deref.result.now ++ c.index.result.now ∷ [] ≡ c.push.new.self.items = push_whole types c.args.added c.deref.result.now c.push.new.self.items c.len-count.result c.index.result.now _ c.deref.ensures.value pushed count c.index.ensures in
+    let marked = c.push_mark.ensures.kept types (sym count) c.self.invariant.4 in
+    let counted = kinds_added types c.args.added c.self.inside.counts c.push_mark.new.marks.items marked in
     let placed = ok_of c.push_place.result (sym c.is_err.ensures.value ∙ c.if-is_err.false) c.push_place.ensures.places in
     let extended = ok_of c.push_place.result (sym c.is_err.ensures.value ∙ c.if-is_err.false) c.push_place.ensures.extensible in
     let joined = ok_of c.push_place.result (sym c.is_err.ensures.value ∙ c.if-is_err.false) c.push_place.ensures.families in (
@@ -33,6 +38,8 @@ invariant_of-self-else-is_err c =
       subst (λ (all : List SubType). ArePlaces all c.push_place.new.rows.items c.push_place.new.places.items) whole placed,
       subst (λ (all : List SubType). c.push_place.new.extensible.items ≡ extensible_from 0 all (depths_in c.push_place.new.places.items)) whole extended,
       subst (λ (all : List SubType). AreFamilies all c.push_place.new.families.items) whole joined,
+      subst (λ (all : List SubType). AreKindsCounted all c.with-counts.result c.push_mark.new.marks.items) (sym pushed)
+          (subst (λ (counts : KindCounts). AreKindsCounted added counts c.push_mark.new.marks.items) (sym c.with-counts.ensures) counted),
     )
 
 pub invariant_of-self-then-is_err : goal.invariant_of-self-then-is_err
@@ -42,8 +49,14 @@ invariant_of-self-then-is_err c =
     let known = err_of c.push_place.result (sym c.is_err.ensures.value ∙ c.if-is_err.true) c.push_place.ensures.known in
     let count : c.len-count.result ≡ length c.self.inside.types.items = c.len-count.ensures ∙ c.self.inside.types.ok.0 in
     let front : take c.len-count.result c.deref.result.now ≡ c.self.inside.types.items = push_front c.self.inside.types.items c.args.added c.deref.result.now c.push.new.self.items c.len-count.result c.deref.ensures.value c.in_ok-push.ensures.items count in
+    let marked = c.push_mark.ensures.kept c.self.inside.types.items (sym count) c.self.invariant.4 in
     rw (types, kept.0, kept.1)
-    (c.self.invariant.0, ArePlaces-longer _ _ _ _ c.push_place.ensures.rows c.self.invariant.1, c.self.invariant.2, subst (λ (all : List SubType). AreFamilies all c.push_place.new.families.items) front known)
+    (c.self.invariant.0, ArePlaces-longer _ _ _ _ c.push_place.ensures.rows c.self.invariant.1, c.self.invariant.2, subst (λ (all : List SubType). AreFamilies all c.push_place.new.families.items) front known, marked)
 
 pub returns-clause-stands : goal.returns-clause-stands
 returns-clause-stands c = rw (c.in_ok-push.ensures.items, c.len-count.ensures, c.self.inside.types.ok.0) (slice_get-last c.self.inside.types.items c.args.added)
+
+pub with-counts-requires : goal.with-counts-requires
+with-counts-requires c =
+    let follows : MayFollow c.self.inside.types.items c.args.added = rw (ap (λ s. s.types) c.self.view_is) c.requires in
+    record { room = counts_room c.self.inside.types.items c.args.added c.self.inside.counts c.self.invariant.4.all follows }
