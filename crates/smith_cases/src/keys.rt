@@ -59,9 +59,13 @@ fn keys_of(call: Call) -> Keys {
             ..NONE
         },
         Call::Parser(_) => Keys { args: true, ..NONE },
-        Call::Subtype(_) => Keys {
+        Call::Subtype(_) | Call::Space(_) => Keys {
             types: true,
             args: true,
+            ..NONE
+        },
+        Call::Copies => Keys {
+            shape: true,
             ..NONE
         },
         Call::Recorded => Keys {

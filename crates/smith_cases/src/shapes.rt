@@ -1,3 +1,4 @@
+use crate::checked_shapes::CHECKED_SHAPES;
 use crate::fault::Fault;
 use crate::shape_parts::add_part;
 use smith_config::Shape;
@@ -145,13 +146,24 @@ const SHAPES: [(&str, &[&str]); 30] = [
     ),
 ];
 
+// The parts of the shape of the name `name` among `shapes`.
+fn parts_in(
+    shapes: &[(&'static str, &'static [&'static str])],
+    name: &str,
+) -> Option<&'static [&'static str]> {
+    shapes
+        .iter()
+        .find(|(other, _)| *other == name)
+        .map(|(_, parts)| *parts)
+}
+
 /// The shape of the name `name`.
 pub(crate) fn shape_named(alloc: Global, name: &str) -> Result<Shape, Fault> {
     let mut shape = nothing(alloc);
-    let Some((_, parts)) = SHAPES.iter().find(|(other, _)| *other == name) else {
+    let Some(parts) = parts_in(&SHAPES, name).or_else(|| parts_in(&CHECKED_SHAPES, name)) else {
         return Err(Fault::UnknownShape);
     };
-    for part in *parts {
+    for part in parts {
         add_part(alloc, part, &mut shape)?;
     }
     Ok(shape)

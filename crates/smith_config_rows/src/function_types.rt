@@ -1,7 +1,7 @@
 use smith_types::{CompositeInnerType, FuncType, SubType, ValType};
 
-/// Whether `function` takes `params` and gives `results`.
-pub fn takes_and_gives(function: &FuncType, params: &[ValType], results: &[ValType]) -> bool {
+// Whether `function` takes `params` and gives `results`.
+fn takes_and_gives(function: &FuncType, params: &[ValType], results: &[ValType]) -> bool {
     function.params.as_slice() == params && function.results.as_slice() == results
 }
 

@@ -112,8 +112,8 @@ pub fn add_export(
         .push((Name::from_text(alloc, name)?, kind, index))
 }
 
-/// Makes a compact group of imports from `module` by the names `texts`, each a memory of one page with a type of its own.
-pub fn items_of(alloc: Global, module: &str, texts: &[&str]) -> Result<Imports, Error> {
+// A compact group of imports from `module` by the names `texts`, each a memory of one page with a type of its own.
+fn items_of(alloc: Global, module: &str, texts: &[&str]) -> Result<Imports, Error> {
     let mut items = Items::new(alloc);
     for text in texts {
         items.push(ImportItem {
@@ -127,8 +127,8 @@ pub fn items_of(alloc: Global, module: &str, texts: &[&str]) -> Result<Imports, 
     })
 }
 
-/// Makes a compact group of imports from `module` by the names `texts`, which share the type `entity_type`.
-pub fn names_of(
+// A compact group of imports from `module` by the names `texts`, which share the type `entity_type`.
+fn names_of(
     alloc: Global,
     module: &str,
     entity_type: EntityType,

@@ -1,6 +1,6 @@
 use smith_bytes::Error;
 use smith_types::{
-    CompositeInnerType, CompositeType, FuncType, Items, StructType, SubType, TypeSpace, ValType,
+    CompositeInnerType, CompositeType, FuncType, Items, StructType, SubType, ValType,
 };
 use std::alloc::Global;
 
@@ -36,20 +36,4 @@ pub fn function(
             shared: false,
         },
     })
-}
-
-fn add(types: &mut TypeSpace, added: SubType) -> Result<(), Error> {
-    if types.may_follow(&added) {
-        let _ = types.push_type(added)?;
-    }
-    Ok(())
-}
-
-/// Makes a space of a struct type, and of a struct type below.
-pub fn two_structs(alloc: Global) -> Result<TypeSpace, Error> {
-    let mut types = TypeSpace::new(alloc);
-    add(&mut types, empty_struct(alloc, false, None))?;
-    add(&mut types, empty_struct(alloc, false, Some(0)))?;
-    types.push_group()?;
-    Ok(types)
 }

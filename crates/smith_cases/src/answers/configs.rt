@@ -76,8 +76,8 @@ fn tell_features(features: WasmFeatures, answer: &mut String) -> Result<(), Faul
     Ok(())
 }
 
-// The shape under the key `shape`.
-fn shape_of(alloc: Global, case: &Case) -> Result<Shape, Fault> {
+/// The shape under the key `shape` of `case`.
+pub(crate) fn shape_of(alloc: Global, case: &Case) -> Result<Shape, Fault> {
     match &case.shape {
         Some(name) => shape_named(alloc, name.as_str()),
         None => Err(Fault::UnknownShape),

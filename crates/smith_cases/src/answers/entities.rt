@@ -3,16 +3,16 @@ ghost use Rattle.smith_config.specs.Sanitized.{IsSanitized};
 
 use crate::answers::spaces::{Over, spaces_of};
 use crate::answers::told::{tell_drawn, tell_refusal, tell_values};
-use crate::arguments::at_most;
+use crate::arguments::{at_most, word};
 use crate::call::EntityCall;
 use crate::fault::Fault;
 use smith_bytes::Unstructured;
 use smith_draw::{
     TypeUse, arbitrary_global_type, arbitrary_locals, arbitrary_memtype, arbitrary_table_type,
-    arbitrary_tag_type, count_types,
+    arbitrary_tag_type, count_types, list_types,
 };
 
-/// Appends the type of an entity that `call` draws, or the locals.
+/// Appends the type of an entity that `call` draws, the locals, or the types that may be used.
 pub(crate) fn answer_entity(
     over: &Over<'_>,
     call: EntityCall,
@@ -22,7 +22,7 @@ pub(crate) fn answer_entity(
     requires passes { Passes over.now.config.now }
     requires sanitized { IsSanitized over.now.config.now }
 {
-    at_most(over.case, 0)?;
+    at_most(over.case, if call == EntityCall::UsedTypes { 1 } else { 0 })?;
     let spaces = spaces_of(over.types);
     match call {
         EntityCall::Global => tell_drawn(
@@ -36,6 +36,7 @@ pub(crate) fn answer_entity(
         EntityCall::Mem => tell_drawn(arbitrary_memtype(over.config, u), answer),
         EntityCall::Tag => answer_tag(over, u, answer),
         EntityCall::Locals => answer_locals(over, u, answer),
+        EntityCall::UsedTypes => answer_used(over, answer),
     }
 }
 
@@ -60,6 +61,20 @@ fn answer_locals(
     let spaces = spaces_of(over.types);
     match arbitrary_locals(over.alloc, over.config, &spaces, u) {
         Ok(locals) => tell_values(locals.as_slice(), answer),
+        Err(refusal) => tell_refusal(refusal, answer),
+    }
+}
+
+// The types of the case that are right for the use that the argument names.
+fn answer_used(over: &Over<'_>, answer: &mut String) -> Result<(), Fault> {
+    let for_use = match word(over.case, 0)? {
+        "Tag" => TypeUse::Tag,
+        "ImportedFunc" => TypeUse::ImportedFunc,
+        "DefinedFunc" => TypeUse::DefinedFunc,
+        _ => return Err(Fault::Argument(0)),
+    };
+    match list_types(over.alloc, for_use, over.types.types()) {
+        Ok(indices) => tell_values(indices.as_slice(), answer),
         Err(refusal) => tell_refusal(refusal, answer),
     }
 }

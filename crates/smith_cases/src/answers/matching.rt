@@ -2,9 +2,10 @@ ghost use Rattle.smith_config.specs.Sanitized.{IsSanitized};
 
 use crate::answers::spaces::{Over, spaces_of};
 use crate::answers::told::tell_drawn;
-use crate::arguments::{at_most, number, read};
+use crate::arguments::{at_most, number, read, word};
 use crate::call::MatchingCall;
 use crate::fault::Fault;
+use crate::shape_parts::function_of;
 use crate::type_names::{field_type_of, heap_type_of, ref_type_of, storage_type_of, val_type_of};
 use smith_bytes::Unstructured;
 use smith_draw::{
@@ -113,15 +114,7 @@ fn answer_above(
     }
 }
 
-// The type whose index is the argument.
-fn type_of<'a>(over: &Over<'a>) -> Result<&'a CompositeInnerType, Fault> {
-    match over.types.types().get(number::<usize>(over.case, 0)?) {
-        Some(ty) => Ok(&ty.composite_type.inner),
-        None => Err(Fault::Argument(0)),
-    }
-}
-
-// A struct type that matches one of the case.
+// A struct type that matches the type of the case whose index is the argument.
 fn answer_structure(
     over: &Over<'_>,
     u: &mut Unstructured<'_>,
@@ -129,7 +122,10 @@ fn answer_structure(
 ) -> Result<(), Fault>
     requires { IsSanitized over.now.config.now }
 {
-    let CompositeInnerType::Struct(structure) = type_of(over)? else {
+    let Some(ty) = over.types.types().get(number::<usize>(over.case, 0)?) else {
+        return Err(Fault::Argument(0));
+    };
+    let CompositeInnerType::Struct(structure) = &ty.composite_type.inner else {
         return Err(Fault::Argument(0));
     };
     let Over { alloc, config, .. } = *over;
@@ -141,18 +137,19 @@ fn answer_structure(
     )
 }
 
-// A function type that matches one of the case.
+// A function type that matches the argument, which is written as in shapes: `func i32 -> i64`.
 fn answer_function(
     over: &Over<'_>,
     u: &mut Unstructured<'_>,
     answer: &mut String,
 ) -> Result<(), Fault> {
-    let CompositeInnerType::Func(function) = type_of(over)? else {
+    let Some(text) = word(over.case, 0)?.strip_prefix("func ") else {
         return Err(Fault::Argument(0));
     };
+    let function = function_of(over.alloc, text)?;
     let spaces = spaces_of(over.types);
     tell_drawn(
-        arbitrary_matching_func_type(over.alloc, over.config, &spaces, function, u),
+        arbitrary_matching_func_type(over.alloc, over.config, &spaces, &function, u),
         answer,
     )
 }
