@@ -1,5 +1,5 @@
 /// A call of a case.
-#[derive(Clone, Copy, Debug, PartialEq)]
+#[derive(Clone, Copy)]
 pub(crate) enum Call {
     /// A module, told by its text.
     Module(ModuleCall),
@@ -24,7 +24,7 @@ pub(crate) enum Call {
 }
 
 /// How a module is made.
-#[derive(Clone, Copy, Debug, PartialEq)]
+#[derive(Clone, Copy, PartialEq)]
 pub(crate) enum ModuleCall {
     New,
     NewInternal,
@@ -34,7 +34,7 @@ pub(crate) enum ModuleCall {
 }
 
 /// What is asked of a configuration, or under it.
-#[derive(Clone, Copy, Debug, PartialEq)]
+#[derive(Clone, Copy, PartialEq)]
 pub(crate) enum ConfigCall {
     Arbitrary,
     Sanitize,
@@ -45,7 +45,7 @@ pub(crate) enum ConfigCall {
 }
 
 /// What is drawn over a type space.
-#[derive(Clone, Copy, Debug, PartialEq)]
+#[derive(Clone, Copy)]
 pub(crate) enum DrawCall {
     Free(FreeCall),
     Matching(MatchingCall),
@@ -55,7 +55,7 @@ pub(crate) enum DrawCall {
 }
 
 /// What type is drawn.
-#[derive(Clone, Copy, Debug, PartialEq)]
+#[derive(Clone, Copy)]
 pub(crate) enum FreeCall {
     Types,
     RecGroup,
@@ -73,7 +73,7 @@ pub(crate) enum FreeCall {
 }
 
 /// What type is drawn below or above another.
-#[derive(Clone, Copy, Debug, PartialEq)]
+#[derive(Clone, Copy)]
 pub(crate) enum MatchingCall {
     Func,
     Struct,
@@ -88,7 +88,7 @@ pub(crate) enum MatchingCall {
 }
 
 /// What the drawn type is of.
-#[derive(Clone, Copy, Debug, PartialEq)]
+#[derive(Clone, Copy)]
 pub(crate) enum EntityCall {
     Global,
     Tag,
@@ -99,7 +99,7 @@ pub(crate) enum EntityCall {
 }
 
 /// What the drawn expression is for.
-#[derive(Clone, Copy, Debug, PartialEq)]
+#[derive(Clone, Copy)]
 pub(crate) enum ConstantCall {
     Expression,
     TableInit,
@@ -107,7 +107,7 @@ pub(crate) enum ConstantCall {
 }
 
 /// What numbers are drawn.
-#[derive(Clone, Copy, Debug, PartialEq)]
+#[derive(Clone, Copy)]
 pub(crate) enum NumberCall {
     GraduallyGrow,
     Limits64,
@@ -115,7 +115,7 @@ pub(crate) enum NumberCall {
 }
 
 /// What is drawn of the byte source.
-#[derive(Clone, Copy, Debug, PartialEq)]
+#[derive(Clone, Copy)]
 pub(crate) enum SourceCall {
     Arbitrary,
     IntInRange,
@@ -128,7 +128,7 @@ pub(crate) enum SourceCall {
 }
 
 /// What name is drawn.
-#[derive(Clone, Copy, Debug, PartialEq)]
+#[derive(Clone, Copy, PartialEq)]
 pub(crate) enum NameCall {
     LimitedStr,
     LimitedString,
@@ -138,7 +138,7 @@ pub(crate) enum NameCall {
 }
 
 /// What is read from a text.
-#[derive(Clone, Copy, Debug, PartialEq)]
+#[derive(Clone, Copy)]
 pub(crate) enum ParserCall {
     OffsetChoices,
     Kind,
@@ -151,7 +151,7 @@ pub(crate) enum ParserCall {
 }
 
 /// What is below what.
-#[derive(Clone, Copy, Debug, PartialEq)]
+#[derive(Clone, Copy)]
 pub(crate) enum SubtypeCall {
     HeapType,
     RefType,
