@@ -1,0 +1,12 @@
+//! Numbers, names, lists and sections in the binary format of the WebAssembly Core Specification 3.0.
+#![tactic(auto)]
+
+mod error;
+/// Laws: functions that do nothing, whose clauses say what holds.
+pub mod laws;
+mod numbers;
+mod pieces;
+mod sink;
+
+pub use error::EncodeError;
+pub use sink::Sink;

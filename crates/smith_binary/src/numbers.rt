@@ -1,0 +1,138 @@
+ghost use Rattle.std.specs.Prelude.{◌≡◌, ℕ, ◌<◌, ◌^◌, pos, negsuc, OnOk, IfErr};
+ghost use Rattle.smith_binary.specs.declared.error.EncodeError.TheVariants.{Memory};
+ghost use Rattle.smith_binary.specs.Numbers.{IsUnsigned, IsSigned, FitsBits, IsLittleEndian, IsVector};
+ghost use Rattle.smith_binary.specs.Pieces.{Writes, Shortest};
+
+use crate::error::EncodeError;
+use crate::sink::Sink;
+
+// Writes the signed integer `value`, which is not negative.
+fn write_positive(value: u64, sink: &mut Sink) -> Result<(), EncodeError>
+    ensures writes { OnOk result ((bits : ℕ) → FitsBits bits (pos value) → Writes (Shortest (IsSigned bits (pos value))) sink.old sink.new) }
+    ensures memory { IfErr result (λ e. e ≡ Memory) }
+{
+    if value < 64 {
+        return sink.push(value as u8);
+    }
+    sink.push((value % 128 + 128) as u8)?;
+    write_positive(value / 128, sink)
+}
+
+// Writes the signed integer `-1 - value`.
+fn write_negative(value: u64, sink: &mut Sink) -> Result<(), EncodeError>
+    ensures writes { OnOk result ((bits : ℕ) → FitsBits bits (negsuc value) → Writes (Shortest (IsSigned bits (negsuc value))) sink.old sink.new) }
+    ensures memory { IfErr result (λ e. e ≡ Memory) }
+{
+    if value < 64 {
+        return sink.push((127 - value) as u8);
+    }
+    sink.push((255 - value % 128) as u8)?;
+    write_negative(value / 128, sink)
+}
+
+// Writes `value` in `count` bytes, the lowest first.
+fn write_little_endian(value: u128, count: usize, sink: &mut Sink) -> Result<(), EncodeError>
+    requires { value < 256 ^ count }
+    ensures writes { OnOk result (Writes (IsLittleEndian count value) sink.old sink.new) }
+    ensures memory { IfErr result (λ e. e ≡ Memory) }
+{
+    if count == 0 {
+        return Ok(());
+    }
+    sink.push((value % 256) as u8)?;
+    write_little_endian(value / 256, count - 1, sink)
+}
+
+impl Sink {
+    /// Writes `value` without sign in LEB128, as an integer of any number of bits that it fits, in as few bytes as there are for it.
+    pub fn write_unsigned(&mut self, value: u64) -> Result<(), EncodeError>
+        ensures writes { OnOk result ((bits : ℕ) → value < 2 ^ bits → Writes (Shortest (IsUnsigned bits value)) self.old self.new) }
+        ensures memory { IfErr result (λ e. e ≡ Memory) }
+    {
+        if value < 128 {
+            return self.push(value as u8);
+        }
+        self.push((value % 128 + 128) as u8)?;
+        self.write_unsigned(value / 128)
+    }
+
+    /// Writes `value` with its sign in LEB128, as an integer of any number of bits that it fits, in as few bytes as there are for it.
+    pub fn write_signed(&mut self, value: i64) -> Result<(), EncodeError>
+        ensures writes { OnOk result ((bits : ℕ) → FitsBits bits value → Writes (Shortest (IsSigned bits value)) self.old self.new) }
+        ensures memory { IfErr result (λ e. e ≡ Memory) }
+    {
+        if value >= 0 {
+            write_positive(value as u64, self)
+        } else {
+            write_negative((-1 - value) as u64, self)
+        }
+    }
+
+    /// Writes `value` as an unsigned integer of 32 bits.
+    pub fn write_u32(&mut self, value: u32) -> Result<(), EncodeError>
+        ensures writes { OnOk result (Writes (IsUnsigned 32 value) self.old self.new) }
+        ensures memory { IfErr result (λ e. e ≡ Memory) }
+    {
+        self.write_unsigned(u64::from(value))
+    }
+
+    /// Writes `value` as an unsigned integer of 64 bits.
+    pub fn write_u64(&mut self, value: u64) -> Result<(), EncodeError>
+        ensures writes { OnOk result (Writes (IsUnsigned 64 value) self.old self.new) }
+        ensures memory { IfErr result (λ e. e ≡ Memory) }
+    {
+        self.write_unsigned(value)
+    }
+
+    /// Writes the index `value` as a signed integer of 33 bits, as heap types have it.
+    pub fn write_s33(&mut self, value: u32) -> Result<(), EncodeError>
+        ensures writes { OnOk result (Writes (IsSigned 33 (pos value)) self.old self.new) }
+        ensures memory { IfErr result (λ e. e ≡ Memory) }
+    {
+        write_positive(u64::from(value), self)
+    }
+
+    /// Writes `value` as a signed integer of 32 bits.
+    pub fn write_s32(&mut self, value: i32) -> Result<(), EncodeError>
+        ensures writes { OnOk result (Writes (IsSigned 32 value) self.old self.new) }
+        ensures memory { IfErr result (λ e. e ≡ Memory) }
+    {
+        self.write_signed(i64::from(value))
+    }
+
+    /// Writes `value` as a signed integer of 64 bits.
+    pub fn write_s64(&mut self, value: i64) -> Result<(), EncodeError>
+        ensures writes { OnOk result (Writes (IsSigned 64 value) self.old self.new) }
+        ensures memory { IfErr result (λ e. e ≡ Memory) }
+    {
+        self.write_signed(value)
+    }
+
+    /// Writes a float of 32 bits, by its bits.
+    pub fn write_f32(&mut self, bits: u32) -> Result<(), EncodeError>
+        ensures writes { OnOk result (Writes (IsLittleEndian 4 bits) self.old self.new) }
+        ensures memory { IfErr result (λ e. e ≡ Memory) }
+    {
+        write_little_endian(u128::from(bits), 4, self)
+    }
+
+    /// Writes a float of 64 bits, by its bits.
+    pub fn write_f64(&mut self, bits: u64) -> Result<(), EncodeError>
+        ensures writes { OnOk result (Writes (IsLittleEndian 8 bits) self.old self.new) }
+        ensures memory { IfErr result (λ e. e ≡ Memory) }
+    {
+        write_little_endian(u128::from(bits), 8, self)
+    }
+
+    /// Writes a vector of 128 bits, by its bits.
+    pub fn write_vector(&mut self, bits: i128) -> Result<(), EncodeError>
+        ensures writes { OnOk result (Writes (IsVector bits) self.old self.new) }
+        ensures memory { IfErr result (λ e. e ≡ Memory) }
+    {
+        if bits >= 0 {
+            write_little_endian(bits as u128, 16, self)
+        } else {
+            write_little_endian(u128::MAX - (-1 - bits) as u128, 16, self)
+        }
+    }
+}

@@ -1,0 +1,63 @@
+ghost use Rattle.std.specs.Prelude.{◌≤◌, ◌^◌, OnOk, IfErr, length};
+ghost use Rattle.smith_binary.specs.Faults.{IsFault};
+ghost use Rattle.smith_binary.specs.Numbers.{IsUnsigned};
+ghost use Rattle.smith_binary.specs.Pieces.{Is, IsName, IsSized, IsSection, Writes};
+
+use crate::error::EncodeError;
+use crate::sink::Sink;
+
+impl Sink {
+    /// Writes the number of items of a list, or of bytes of a content.
+    ///
+    /// # Errors
+    ///
+    /// `TooLong` where `count` is 2^32 or more.
+    pub fn write_length(&mut self, count: usize) -> Result<(), EncodeError>
+        ensures writes { OnOk result (Writes (IsUnsigned 32 count) self.old self.new) }
+        ensures fault { IfErr result (IsFault (2 ^ 32 ≤ count)) }
+    {
+        if count > u32::MAX as usize {
+            return Err(EncodeError::TooLong);
+        }
+        self.write_unsigned(count as u64)
+    }
+
+    /// Writes `text` as a name: the number of its bytes, then the bytes.
+    ///
+    /// # Errors
+    ///
+    /// `TooLong` where `text` has 2^32 bytes or more.
+    pub fn write_name(&mut self, text: &str) -> Result<(), EncodeError>
+        ensures writes { OnOk result (Writes (IsName text.now) self.old self.new) }
+        ensures fault { IfErr result (IsFault (2 ^ 32 ≤ length text.now)) }
+    {
+        self.write_length(text.len())?;
+        self.write_bytes(text.as_bytes())
+    }
+
+    /// Writes the number of the bytes `content`, then the bytes.
+    ///
+    /// # Errors
+    ///
+    /// `TooLong` where `content` has 2^32 bytes or more.
+    pub fn write_sized(&mut self, content: &[u8]) -> Result<(), EncodeError>
+        ensures writes { OnOk result (Writes (IsSized (Is content.now)) self.old self.new) }
+        ensures fault { IfErr result (IsFault (2 ^ 32 ≤ length content.now)) }
+    {
+        self.write_length(content.len())?;
+        self.write_bytes(content)
+    }
+
+    /// Writes the section `id` with the bytes `content`.
+    ///
+    /// # Errors
+    ///
+    /// `TooLong` where `content` has 2^32 bytes or more.
+    pub fn write_section(&mut self, id: u8, content: &[u8]) -> Result<(), EncodeError>
+        ensures writes { OnOk result (Writes (IsSection id (Is content.now)) self.old self.new) }
+        ensures fault { IfErr result (IsFault (2 ^ 32 ≤ length content.now)) }
+    {
+        self.write_byte(id)?;
+        self.write_sized(content)
+    }
+}
