@@ -1,3 +1,4 @@
 pub mod NumberLemmas
 pub mod WrittenLemmas
 pub mod UnambiguousLemmas
+pub mod ShortestLemmas

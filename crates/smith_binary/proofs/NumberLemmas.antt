@@ -37,7 +37,7 @@ unfolding IsUnsigned
 unsigned_last bits n low fits = record { spelled = (refl, low, fits); least = unsigned_has bits n }
 
 -- a byte before others
-unsigned_front : (bits n : ℕ) (piece : List ℕ) → 128 ≤ n → n < 2 ^ bits → IsUnsigned (bits - 7) (n / 128) piece → IsUnsigned bits n ((n % 128 + 128) ∷ piece)
+pub unsigned_front : (bits n : ℕ) (piece : List ℕ) → 128 ≤ n → n < 2 ^ bits → IsUnsigned (bits - 7) (n / 128) piece → IsUnsigned bits n ((n % 128 + 128) ∷ piece)
 unfolding IsUnsigned
 unsigned_front bits n [] low fits h = absurd h
 unsigned_front bits n (byte ∷ piece) low fits h = (n / 128, h, omega arith, omega arith, omega arith, (bits_left bits n low fits).0)

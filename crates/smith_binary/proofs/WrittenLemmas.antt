@@ -63,11 +63,18 @@ unfolding Each
 each_byte [] = refl
 each_byte (byte ∷ bytes) = record { first = byte ∷ []; second = bytes; is_first = refl; is_second = each_byte bytes; whole = refl }
 
+-- bytes after their number, as a list
+pub bytes_written : {old between new : List ℕ} (bytes : List ℕ) → Writes (IsUnsigned 32 (length bytes)) old between → Writes (Is bytes) between new → Writes (IsList IsByte bytes) old new
+bytes_written bytes count rest = joined_written count (written_as (λ piece h. subst (Each IsByte bytes) (sym h) (each_byte bytes)) rest)
+
+-- certain bytes, then others
+pub is_joined : {a b old between new : List ℕ} → Writes (Is a) old between → Writes (Is b) between new → Writes (Is (a ++ b)) old new
+is_joined {a = a} {b = b} one other =
+    written_as (λ piece h. h.whole ∙ ap (λ (bytes : List ℕ). bytes ++ h.second) h.is_first ∙ ap (λ (bytes : List ℕ). a ++ bytes) h.is_second) (joined_written one other)
+
 -- a text after its length
 pub name_written : {old between new : List ℕ} (name : List ℕ) → IsUtf8 name → Writes (IsUnsigned 32 (length name)) old between → Writes (Is name) between new → Writes (IsName name) old new
-name_written name text count bytes =
-    written_as (λ piece h. record { text = text; form = h })
-    (joined_written count (written_as (λ piece h. subst (Each IsByte name) (sym h) (each_byte name)) bytes))
+name_written name text count bytes = written_as (λ piece h. record { text = text; form = h }) (bytes_written name count bytes)
 
 -- an empty list
 pub none_written : {A : Type 0} (Item : A → List ℕ → Type 0) {old new : List ℕ} → Writes (IsUnsigned 32 0) old new → Writes (IsList Item []) old new

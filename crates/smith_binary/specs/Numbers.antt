@@ -1,6 +1,6 @@
 -- Numbers: the sections Binary Format, Values, Integers and Floating-Point, of the WebAssembly Core Specification 3.0. A number
 -- may have several spellings.
-use Rattle.std.specs.Prelude.{◌≡◌, ℕ, zero, suc, ◌+◌, ◌-◌, ◌*◌, ◌^◌, ◌<◌, ◌≤◌, ◌⊎◌, List, [], ◌∷◌, ℤ, pos, negsuc, ◌+ℤ◌, ◌*ℤ◌}
+use Rattle.std.specs.Prelude.{◌≡◌, ℕ, zero, suc, ◌+◌, ◌-◌, ◌*◌, ◌/◌, ◌%◌, ◌^◌, ◌<◌, ◌≤◌, ◌⊎◌, List, [], ◌∷◌, nat_lt, if◌then◌else◌, ℤ, pos, negsuc, ◌+ℤ◌, ◌*ℤ◌}
 
 -- an unsigned integer uN of N bits in LEB128: a byte below 2^7 is the integer; a byte from 2^7 on holds its seven lowest bits,
 -- and the bytes after it spell the others, an integer of N - 7 bits
@@ -9,6 +9,11 @@ IsUnsigned bits n [] = ⊥
 IsUnsigned bits n (byte ∷ []) = (n ≡ byte) × (byte < 2 ^ 7) × (byte < 2 ^ bits)
 IsUnsigned bits n (byte ∷ next ∷ piece) =
     (m : ℕ) × IsUnsigned (bits - 7) m (next ∷ piece) × (n + 2 ^ 7 ≡ 2 ^ 7 * m + byte) × (2 ^ 7 ≤ byte) × (byte < 2 ^ 8) × (7 < bits)
+
+-- the bytes of an unsigned integer in LEB128, as few as there are for it, where a number of bytes is enough
+unfoldable pub shortest_bytes : ℕ → ℕ → List ℕ
+shortest_bytes zero n = []
+shortest_bytes (suc most) n = if nat_lt n (2 ^ 7) then n ∷ [] else (n % 2 ^ 7 + 2 ^ 7) ∷ shortest_bytes most (n / 2 ^ 7)
 
 -- the last byte of a signed integer that is not negative
 pub record IsLastPositive (bits : ℕ) (z : ℤ) (byte : ℕ) : Type 0 where

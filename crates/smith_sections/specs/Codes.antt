@@ -1,0 +1,58 @@
+-- Bodies: the section Binary Format, Modules, Code Section, of the WebAssembly Core Specification 3.0.
+use Rattle.std.specs.Prelude.{◌≡◌, ℕ, zero, suc, ◌+◌, ◌/◌, ◌%◌, nat_lt, if◌then◌else◌, List, [], ◌∷◌, ◌++◌, replicate}
+use Rattle.std.specs.List.{flat_map}
+use Rattle.smith_binary.specs.Numbers.{IsUnsigned}
+use Rattle.smith_binary.specs.Pieces.{Is, Joined, IsList, IsSized}
+use Rattle.smith_types.specs.declared.value_type.ValType.{ValType}
+use Rattle.smith_types.specs.declared.code.Code.{Code}
+use Rattle.smith_types.specs.declared.code.Instructions.{Instructions}
+use Rattle.smith_types.specs.declared.code.Instructions.TheVariants.{Unreachable, Arbitrary}
+use Rattle.smith_sections.specs.Types.{IsValType}
+
+-- a run of locals of one type: their number, then the type
+abbrev pub IsRun : ℕ × ValType → List ℕ → Type 0
+IsRun run = Joined (IsUnsigned 32 run.0) (IsValType run.1)
+
+-- the locals of runs
+abbrev pub locals_of : List (ℕ × ValType) → List ValType
+locals_of runs = flat_map (λ (run : ℕ × ValType). replicate run.0 run.1) runs
+
+-- locals: a list of runs, in any runs
+pub record IsLocals (locals : List ValType) (piece : List ℕ) : Type 0 where
+  pub runs : List (ℕ × ValType)
+  pub cut : locals ≡ locals_of runs
+  pub form : IsList IsRun runs piece
+
+-- a body after its size: its locals, then the bytes of its expression
+abbrev pub IsBody : List ValType × List ℕ → List ℕ → Type 0
+IsBody body = IsSized (Joined (IsLocals body.0) (Is body.1))
+
+-- the shortest spelling of an integer, in at most a number of bytes
+unfoldable pub shortest_bytes : ℕ → ℕ → List ℕ
+shortest_bytes zero n = []
+shortest_bytes (suc most) n = if nat_lt n 128 then n ∷ [] else (n % 128 + 128) ∷ shortest_bytes most (n / 128)
+
+-- an index of 32 bits takes at most five bytes
+abbrev pub index_bytes : ℕ → List ℕ
+index_bytes index = shortest_bytes 5 index
+
+-- the check of a counter of fuel: `global.get`, `i32.eqz`, `if`, `unreachable`, `end`, `global.get`, `i32.const 1`, `i32.sub`,
+-- `global.set`
+abbrev pub check_bytes : ℕ → List ℕ
+check_bytes counter =
+    (0x23 ∷ index_bytes counter) ++ (0x45 ∷ 0x04 ∷ 0x40 ∷ 0x00 ∷ 0x0B ∷ []) ++ (0x23 ∷ index_bytes counter)
+    ++ (0x41 ∷ 0x01 ∷ 0x6B ∷ []) ++ (0x24 ∷ index_bytes counter)
+
+-- the checks of counters, the last one first
+abbrev pub checks_bytes : List ℕ → List ℕ
+checks_bytes [] = []
+checks_bytes (counter ∷ counters) = checks_bytes counters ++ check_bytes counter
+
+-- the bytes of a body's expression: the checks of the counters, `unreachable` and the end; or the raw bytes as they are
+abbrev pub body_bytes : List ℕ → Instructions → List ℕ
+body_bytes counters Unreachable = checks_bytes counters ++ (0x00 ∷ 0x0B ∷ [])
+body_bytes counters (Arbitrary bytes) = bytes
+
+-- a body in a module with these counters of fuel: its locals, and the bytes of its expression
+abbrev pub body_of : List ℕ → Code → List ValType × List ℕ
+body_of counters code = (code.locals, body_bytes counters code.instructions)

@@ -1,0 +1,107 @@
+-- Element segments: the section Binary Format, Modules, Element Section, of the WebAssembly Core Specification 3.0.
+use Rattle.std.specs.Prelude.{◌≡◌, ℕ, Bool, true, false, Option, Some, None, List, [], ◌∷◌, map, unwrap_or}
+use Rattle.smith_binary.specs.Numbers.{IsUnsigned}
+use Rattle.smith_binary.specs.Pieces.{IsByte, Joined, IsList}
+use Rattle.smith_types.specs.declared.value_type.AbstractHeapType.TheVariants as abstract
+use Rattle.smith_types.specs.declared.value_type.HeapType.TheVariants.{Abstract}
+use Rattle.smith_types.specs.declared.value_type.RefType.{RefType}
+use Rattle.smith_types.specs.declared.const_instr.ConstInstr.{ConstInstr}
+use Rattle.smith_types.specs.declared.const_instr.ConstInstr.TheVariants.{RefFunc}
+use Rattle.smith_types.specs.declared.segments.ElementSegment.{ElementSegment}
+use Rattle.smith_types.specs.declared.segments.ElementKind.{ElementKind}
+use Rattle.smith_types.specs.declared.segments.ElementKind.TheVariants.{Passive, Declared, Active}
+use Rattle.smith_types.specs.declared.segments.Elements.{Elements}
+use Rattle.smith_types.specs.declared.segments.Elements.TheVariants.{Functions, Expressions}
+use Rattle.smith_sections.specs.Types.{IsRefType}
+use Rattle.smith_sections.specs.Instructions.{IsIndex, IsExpression, offset_of}
+
+-- the mode of a segment (Structure, Element Segments)
+pub data Mode : Type 0 where
+  passive : Mode
+  declared : Mode
+  active : ℕ → List ConstInstr → Mode
+
+-- a segment in the abstract syntax, where functions are expressions too (Structure, Element Segments)
+pub record Element : Type 0 where
+  pub ty : RefType
+  pub items : List (List ConstInstr)
+  pub mode : Mode
+
+-- the type of references to functions, which may be null or not
+abbrev pub func_ref : Bool → RefType
+func_ref nullable = record { nullable = nullable; heap_type = Abstract false abstract.Func }
+
+-- functions as expressions
+abbrev pub func_items : List ℕ → List (List ConstInstr)
+func_items funcs = map (λ (index : ℕ). RefFunc index ∷ []) funcs
+
+-- the eight forms of a segment
+pub data Form : Type 0 where
+  first_funcs : Form
+  passive_funcs : Form
+  table_funcs : Form
+  declared_funcs : Form
+  first_items : Form
+  passive_items : Form
+  table_items : Form
+  declared_items : Form
+
+abbrev pub form_number : Form → ℕ
+form_number first_funcs = 0
+form_number passive_funcs = 1
+form_number table_funcs = 2
+form_number declared_funcs = 3
+form_number first_items = 4
+form_number passive_items = 5
+form_number table_items = 6
+form_number declared_items = 7
+
+-- lists of functions, and of expressions
+abbrev pub IsFuncs : List ℕ → List ℕ → Type 0
+IsFuncs = IsList IsIndex
+
+abbrev pub IsItems : List (List ConstInstr) → List ℕ → Type 0
+IsItems = IsList IsExpression
+
+-- functions after the byte of their kind
+abbrev pub IsKindFuncs : List ℕ → List ℕ → Type 0
+IsKindFuncs funcs = Joined (IsByte 0x00) (IsFuncs funcs)
+
+-- a segment in a form, after the number of the form
+abbrev pub IsInForm : Form → Element → List ℕ → Type 0
+IsInForm first_funcs e piece = (offset : List ConstInstr) × (funcs : List ℕ) × (e ≡ record { ty = func_ref false; items = func_items funcs; mode = active 0 offset }) × Joined (IsExpression offset) (IsFuncs funcs) piece
+IsInForm passive_funcs e piece = (funcs : List ℕ) × (e ≡ record { ty = func_ref false; items = func_items funcs; mode = passive }) × IsKindFuncs funcs piece
+IsInForm table_funcs e piece = (table : ℕ) × (offset : List ConstInstr) × (funcs : List ℕ) × (e ≡ record { ty = func_ref false; items = func_items funcs; mode = active table offset }) × Joined (IsIndex table) (Joined (IsExpression offset) (IsKindFuncs funcs)) piece
+IsInForm declared_funcs e piece = (funcs : List ℕ) × (e ≡ record { ty = func_ref false; items = func_items funcs; mode = declared }) × IsKindFuncs funcs piece
+IsInForm first_items e piece = (offset : List ConstInstr) × (items : List (List ConstInstr)) × (e ≡ record { ty = func_ref true; items = items; mode = active 0 offset }) × Joined (IsExpression offset) (IsItems items) piece
+IsInForm passive_items e piece = (ty : RefType) × (items : List (List ConstInstr)) × (e ≡ record { ty = ty; items = items; mode = passive }) × Joined (IsRefType ty) (IsItems items) piece
+IsInForm table_items e piece = (table : ℕ) × (offset : List ConstInstr) × (ty : RefType) × (items : List (List ConstInstr)) × (e ≡ record { ty = ty; items = items; mode = active table offset }) × Joined (IsIndex table) (Joined (IsExpression offset) (Joined (IsRefType ty) (IsItems items))) piece
+IsInForm declared_items e piece = (ty : RefType) × (items : List (List ConstInstr)) × (e ≡ record { ty = ty; items = items; mode = declared }) × Joined (IsRefType ty) (IsItems items) piece
+
+-- an element segment: the number of a form, then the segment in it
+pub record IsElement (e : Element) (piece : List ℕ) : Type 0 where
+  pub form : Form
+  pub spelled : Joined (IsUnsigned 32 (form_number form)) (IsInForm form e) piece
+
+-- the parts of an element segment in the abstract syntax: functions are of the type `(ref func)`, and a segment that names no table
+-- is over table 0
+abbrev pub element_type : Elements → RefType → RefType
+element_type (Functions funcs) ty = func_ref false
+element_type (Expressions items) ty = ty
+
+abbrev pub element_items : Elements → List (List ConstInstr)
+element_items (Functions funcs) = func_items funcs
+element_items (Expressions items) = items
+
+abbrev pub element_mode : ElementKind → Mode
+element_mode Passive = passive
+element_mode Declared = declared
+element_mode (Active table offset) = active (unwrap_or table 0) (offset_of offset)
+
+-- an element segment in the abstract syntax
+abbrev pub element_of : ElementSegment → Element
+element_of segment = record {
+  ty = element_type segment.items segment.ty;
+  items = element_items segment.items;
+  mode = element_mode segment.kind;
+}

@@ -1,0 +1,12 @@
+pub mod Types
+pub mod Instructions
+pub mod Entities
+pub mod Imports
+pub mod Definitions
+pub mod Exports
+pub mod Elements
+pub mod Codes
+pub mod Data
+pub mod Sections
+pub mod Modules
+pub mod Long

@@ -1,0 +1,18 @@
+-- Sections: the section Binary Format, Modules, Sections, of the WebAssembly Core Specification 3.0.
+use Rattle.std.specs.Prelude.{◌≡◌, ℕ, Bool, true, false, Option, Some, None, List, [], length}
+use Rattle.smith_binary.specs.Numbers.{IsUnsigned}
+use Rattle.smith_binary.specs.Pieces.{Is, IsList, IsSection}
+
+-- a section, which may be left out where it says nothing
+pub data IsOptionalSection (id : ℕ) (SaysNothing : Type 0) (Content : List ℕ → Type 0) (piece : List ℕ) : Type 0 where
+  present : IsSection id Content piece → IsOptionalSection id SaysNothing Content piece
+  absent : SaysNothing → piece ≡ [] → IsOptionalSection id SaysNothing Content piece
+
+-- the section of a list
+abbrev pub IsListSection : {A : Type 0} → ℕ → (A → List ℕ → Type 0) → List A → List ℕ → Type 0
+IsListSection id Item xs = IsOptionalSection id (xs ≡ []) (IsList Item xs)
+
+-- a section where it is to be written, and no byte elsewhere
+abbrev pub IsSectionIf : Bool → ℕ → (List ℕ → Type 0) → List ℕ → Type 0
+IsSectionIf true id Content = IsSection id Content
+IsSectionIf false id Content = Is []

@@ -1,0 +1,147 @@
+ghost use Rattle.std.specs.Prelude.{◌≡◌, true, false, IsTrue, ℕ, List, OnOk, IfErr};
+ghost use Rattle.smith_binary.specs.Faults.{IsFault};
+ghost use Rattle.smith_binary.specs.Pieces.{Writes};
+ghost use Rattle.smith_sections.specs.Instructions.{offset_of};
+ghost use Rattle.smith_sections.specs.Elements.{IsElement, IsKindFuncs, element_of, element_mode, func_ref, func_items};
+ghost use Rattle.smith_sections.specs.Elements.Mode.{active as at_table};
+ghost use Rattle.smith_sections.specs.Long.{IsLongList, IsNeverLong, IsLongElement};
+
+use crate::lists::{Encode, write_list};
+use smith_binary::{EncodeError, Sink};
+use smith_types::{
+    AbstractHeapType, ConstInstr, ElementKind, ElementSegment, Elements, HeapType, Items, Offset,
+    RefType,
+};
+
+// Writes the functions `funcs` after the byte of their kind.
+fn write_kind_funcs(funcs: &[u32], sink: &mut Sink) -> Result<(), EncodeError>
+    ensures writes { OnOk result (Writes (IsKindFuncs funcs.now) sink.old sink.new) }
+    ensures fault { IfErr result (IsFault (IsLongList IsNeverLong funcs.now)) }
+{
+    sink.write_byte(0x00)?;
+    write_list(funcs, sink)
+}
+
+// Writes a segment that copies the functions `funcs` into a table. The form that names the table is for other tables than the
+// first.
+fn write_active_funcs(
+    table: u32,
+    offset: Offset,
+    funcs: &[u32],
+    sink: &mut Sink,
+) -> Result<(), EncodeError>
+    ensures writes { OnOk result (Writes (IsElement (record { ty = func_ref false; items = func_items funcs.now; mode = at_table table (offset_of offset) })) sink.old sink.new) }
+    ensures fault { IfErr result (IsFault (IsLongList IsNeverLong funcs.now)) }
+{
+    if table == 0 {
+        sink.write_u32(0)?;
+        offset.encode(sink)?;
+        return write_list(funcs, sink);
+    }
+    sink.write_u32(2)?;
+    sink.write_u32(table)?;
+    offset.encode(sink)?;
+    write_kind_funcs(funcs, sink)
+}
+
+// Writes a segment of the functions `funcs`.
+fn write_funcs(kind: ElementKind, funcs: &[u32], sink: &mut Sink) -> Result<(), EncodeError>
+    ensures writes { OnOk result (Writes (IsElement (record { ty = func_ref false; items = func_items funcs.now; mode = element_mode kind })) sink.old sink.new) }
+    ensures fault { IfErr result (IsFault (IsLongList IsNeverLong funcs.now)) }
+{
+    match kind {
+        ElementKind::Passive => {
+            sink.write_u32(1)?;
+            write_kind_funcs(funcs, sink)
+        }
+        ElementKind::Declared => {
+            sink.write_u32(3)?;
+            write_kind_funcs(funcs, sink)
+        }
+        ElementKind::Active { table, offset } => {
+            write_active_funcs(table.unwrap_or(0), offset, funcs, sink)
+        }
+    }
+}
+
+// Whether `ty` is the type of references to functions that may be null.
+fn is_func_ref(ty: RefType) -> bool
+    ensures { IsTrue result → ty ≡ func_ref true }
+{
+    match (ty.nullable, ty.heap_type) {
+        (
+            true,
+            HeapType::Abstract {
+                shared: false,
+                ty: AbstractHeapType::Func,
+            },
+        ) => true,
+        _ => false,
+    }
+}
+
+// Writes a segment that copies `items` of the type `ty` into a table. The form that names the table is for other tables than the
+// first, and for types that the short form can't state.
+fn write_active_items(
+    table: u32,
+    offset: Offset,
+    ty: RefType,
+    items: &[Items<ConstInstr>],
+    sink: &mut Sink,
+) -> Result<(), EncodeError>
+    ensures writes { OnOk result (Writes (IsElement (record { ty = ty; items = items.now; mode = at_table table (offset_of offset) })) sink.old sink.new) }
+    ensures fault { IfErr result (IsFault (IsLongList IsNeverLong items.now)) }
+{
+    if table == 0 && is_func_ref(ty) {
+        sink.write_u32(4)?;
+        offset.encode(sink)?;
+        return write_list(items, sink);
+    }
+    sink.write_u32(6)?;
+    sink.write_u32(table)?;
+    offset.encode(sink)?;
+    ty.encode(sink)?;
+    write_list(items, sink)
+}
+
+// Writes a segment of `items`, expressions of the type `ty`.
+fn write_items(
+    kind: ElementKind,
+    ty: RefType,
+    items: &[Items<ConstInstr>],
+    sink: &mut Sink,
+) -> Result<(), EncodeError>
+    ensures writes { OnOk result (Writes (IsElement (record { ty = ty; items = items.now; mode = element_mode kind })) sink.old sink.new) }
+    ensures fault { IfErr result (IsFault (IsLongList IsNeverLong items.now)) }
+{
+    match kind {
+        ElementKind::Passive => {
+            sink.write_u32(5)?;
+            ty.encode(sink)?;
+            write_list(items, sink)
+        }
+        ElementKind::Declared => {
+            sink.write_u32(7)?;
+            ty.encode(sink)?;
+            write_list(items, sink)
+        }
+        ElementKind::Active { table, offset } => {
+            write_active_items(table.unwrap_or(0), offset, ty, items, sink)
+        }
+    }
+}
+
+impl Encode for ElementSegment {
+    ghost spells = { λ segment. IsElement (element_of segment) };
+
+    ghost is_long = { λ segment. IsLongElement (element_of segment) };
+
+    fn encode(&self, sink: &mut Sink) -> Result<(), EncodeError> {
+        match &self.items {
+            Elements::Functions(funcs) => write_funcs(self.kind, funcs.as_slice(), sink),
+            Elements::Expressions(items) => {
+                write_items(self.kind, self.ty, items.as_slice(), sink)
+            }
+        }
+    }
+}
