@@ -1,7 +1,7 @@
 -- Bodies: the section Binary Format, Modules, Code Section, of the WebAssembly Core Specification 3.0.
-use Rattle.std.specs.Prelude.{◌≡◌, ℕ, zero, suc, ◌+◌, ◌/◌, ◌%◌, nat_lt, if◌then◌else◌, List, [], ◌∷◌, ◌++◌, replicate}
+use Rattle.std.specs.Prelude.{◌≡◌, ℕ, List, [], ◌∷◌, ◌++◌, replicate}
 use Rattle.std.specs.List.{flat_map}
-use Rattle.smith_binary.specs.Numbers.{IsUnsigned}
+use Rattle.smith_binary.specs.Numbers.{IsUnsigned, shortest_bytes}
 use Rattle.smith_binary.specs.Pieces.{Is, Joined, IsList, IsSized}
 use Rattle.smith_types.specs.declared.value_type.ValType.{ValType}
 use Rattle.smith_types.specs.declared.code.Code.{Code}
@@ -27,12 +27,7 @@ pub record IsLocals (locals : List ValType) (piece : List ℕ) : Type 0 where
 abbrev pub IsBody : List ValType × List ℕ → List ℕ → Type 0
 IsBody body = IsSized (Joined (IsLocals body.0) (Is body.1))
 
--- the shortest spelling of an integer, in at most a number of bytes
-unfoldable pub shortest_bytes : ℕ → ℕ → List ℕ
-shortest_bytes zero n = []
-shortest_bytes (suc most) n = if nat_lt n 128 then n ∷ [] else (n % 128 + 128) ∷ shortest_bytes most (n / 128)
-
--- an index of 32 bits takes at most five bytes
+-- the shortest spelling of an index, of which there are five bytes at most
 abbrev pub index_bytes : ℕ → List ℕ
 index_bytes index = shortest_bytes 5 index
 
