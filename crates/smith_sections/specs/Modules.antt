@@ -50,15 +50,6 @@ IsStartSection None piece = piece ≡ []
 abbrev pub IsDataCount : List Data → List ℕ → Type 0
 IsDataCount segments = IsOptionalSection 12 (Unit {0}) (IsUnsigned 32 (length segments))
 
--- the sections from the exports on, in order
-abbrev pub IsBack : Contents → List ℕ → Type 0
-IsBack m =
-    Joined (IsListSection 7 IsExport m.exports)
-    (Joined (IsStartSection m.start)
-    (Joined (IsListSection 9 IsElement m.elements)
-    (Joined (IsDataCount m.segments)
-    (Joined (IsListSection 10 IsBody m.bodies) (IsListSection 11 IsData m.segments)))))
-
 -- a module: the preamble, then its sections in order, and no byte after them (Modules)
 abbrev pub IsModule : Contents → List ℕ → Type 0
 IsModule m =
@@ -68,4 +59,9 @@ IsModule m =
     (Joined (IsListSection 3 IsIndex m.functions)
     (Joined (IsListSection 4 IsTable m.tables)
     (Joined (IsListSection 5 IsMemoryType m.memories)
-    (Joined (IsListSection 13 IsTagType m.tags) (Joined (IsListSection 6 IsGlobal m.globals) (IsBack m))))))))
+    (Joined (IsListSection 13 IsTagType m.tags)
+    (Joined (IsListSection 6 IsGlobal m.globals)
+    (Joined (IsListSection 7 IsExport m.exports)
+    (Joined (IsStartSection m.start)
+    (Joined (IsListSection 9 IsElement m.elements)
+    (Joined (IsDataCount m.segments) (Joined (IsListSection 10 IsBody m.bodies) (IsListSection 11 IsData m.segments)))))))))))))

@@ -31,7 +31,10 @@ impl Encode for GlobalType {
 fn limits_byte(maximum: Option<u64>, shared: bool, wide: bool, page: Option<u32>) -> u8
     ensures { result ≡ limits_byte maximum shared wide page }
 {
-    flag(maximum.is_some(), 0x01) + flag(shared, 0x02) + flag(wide, 0x04) + flag(page.is_some(), 0x08)
+    flag(maximum.is_some(), 0x01)
+        + flag(shared, 0x02)
+        + flag(wide, 0x04)
+        + flag(page.is_some(), 0x08)
 }
 
 // Writes the numbers of limits.
@@ -63,7 +66,12 @@ impl Encode for MemoryType {
     ghost is_long = { IsNeverLong };
 
     fn encode(&self, sink: &mut Sink) -> Result<(), EncodeError> {
-        let flags = limits_byte(self.maximum, self.shared, self.memory64, self.page_size_log2);
+        let flags = limits_byte(
+            self.maximum,
+            self.shared,
+            self.memory64,
+            self.page_size_log2,
+        );
         sink.write_byte(flags)?;
         write_range(self.minimum, self.maximum, sink)?;
         write_page_size(self.page_size_log2, sink)

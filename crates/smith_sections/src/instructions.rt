@@ -1,4 +1,5 @@
 ghost use Rattle.std.specs.Prelude.{◌≡◌, OnOk, IfErr};
+ghost use Rattle.smith_binary.specs.Numbers.{IsVector};
 ghost use Rattle.smith_binary.specs.Pieces.{IsByte, Joined, Writes};
 ghost use Rattle.smith_sections.specs.Instructions.{IsPrefixed, IsIndex, IsInstr, IsExpression, offset_of};
 ghost use Rattle.smith_binary.specs.declared.error.EncodeError.TheVariants.{Memory};
@@ -30,6 +31,15 @@ fn write_prefixed_index(
 {
     write_prefixed(prefix, number, sink)?;
     sink.write_u32(index)
+}
+
+// Writes the constant `value`.
+fn write_vector_const(value: i128, sink: &mut Sink) -> Result<(), EncodeError>
+    ensures writes { OnOk result (Writes (Joined (IsPrefixed 0xFD 12) (IsVector value)) sink.old sink.new) }
+    ensures memory { IfErr result (λ e. e ≡ Memory) }
+{
+    write_prefixed(0xFD, 12, sink)?;
+    sink.write_vector(value)
 }
 
 // Writes the instruction of the byte `byte`, then the index `index`.
@@ -64,10 +74,7 @@ impl Encode for ConstInstr {
                 sink.write_byte(0x44)?;
                 sink.write_f64(*bits)
             }
-            ConstInstr::V128Const(value) => {
-                write_prefixed(0xFD, 12, sink)?;
-                sink.write_vector(*value)
-            }
+            ConstInstr::V128Const(value) => write_vector_const(*value, sink),
             ConstInstr::GlobalGet(index) => write_indexed(0x23, *index, sink),
             ConstInstr::RefNull(heap_type) => {
                 sink.write_byte(0xD0)?;

@@ -1,0 +1,13 @@
+use Rattle.std.proofs.lemmas.Result.{on_ok_weaker}
+use Rattle.smith_binary.proofs.WrittenLemmas.{written_as}
+use Rattle.smith_sections.specs.Codes.{IsBody, body_of}
+use Rattle.smith_sections.specs.Long.{IsLongBody}
+use Rattle.smith_encode.specs.TooLong.{IsTooLong}
+use Rattle.smith_encode.proofs.MappedLemmas.{section_mapped, fault_weaker, long_mapped}
+use Rattle.smith_encode.proofs.sections.write_bodies.Goals as goal
+
+pub returns-clause-writes : goal.returns-clause-writes
+returns-clause-writes c = on_ok_weaker c.write_section_if.result (written_as (section_mapped _ 10 IsBody (body_of c.args.module.now.fuel_globals) (c.args.module.now.code))) (rw (c.is_filled.ensures, c.fuel_globals.ensures, c.code.ensures) at c.write_section_if.ensures.writes)
+
+pub returns-clause-fault : goal.returns-clause-fault
+returns-clause-fault c = fault_weaker c.write_section_if.result (λ long. IsTooLong.bodies (long_mapped IsBody IsLongBody (body_of c.args.module.now.fuel_globals) (c.args.module.now.code) long.1)) (rw (c.is_filled.ensures, c.fuel_globals.ensures, c.code.ensures) at c.write_section_if.ensures.fault)

@@ -1,0 +1,4 @@
+pub mod Contents
+pub mod Layout
+pub mod TooLong
+pub mod Written

@@ -1,0 +1,27 @@
+-- What makes a module too long for the binary format.
+use Rattle.smith_definitions.specs.Module.{Parts}
+use Rattle.smith_sections.specs.Types.{IsRecGroup}
+use Rattle.smith_sections.specs.Instructions.{IsIndex}
+use Rattle.smith_sections.specs.Entities.{IsMemoryType, IsTagType}
+use Rattle.smith_sections.specs.Imports.{IsImportGroup}
+use Rattle.smith_sections.specs.Definitions.{IsTable, IsGlobal}
+use Rattle.smith_sections.specs.Exports.{IsExport}
+use Rattle.smith_sections.specs.Elements.{IsElement}
+use Rattle.smith_sections.specs.Codes.{IsBody}
+use Rattle.smith_sections.specs.Data.{IsData}
+use Rattle.smith_sections.specs.Long.{IsLongSection, IsNeverLong, IsLongGroup, IsLongImportGroup, IsLongExport, IsLongElement, IsLongBody, IsLongData}
+use Rattle.smith_encode.specs.Contents.{contents_of}
+
+-- a section is too long: a list in it has 2^32 items or more, or it or a body of it has a spelling of 2^32 bytes or more
+pub data IsTooLong (m : Parts) : Type 0 where
+  types : IsLongSection IsRecGroup IsLongGroup (contents_of m).types → IsTooLong m
+  imports : IsLongSection IsImportGroup IsLongImportGroup m.imports → IsTooLong m
+  functions : IsLongSection IsIndex IsNeverLong (contents_of m).functions → IsTooLong m
+  tables : IsLongSection IsTable IsNeverLong (contents_of m).tables → IsTooLong m
+  memories : IsLongSection IsMemoryType IsNeverLong (contents_of m).memories → IsTooLong m
+  tags : IsLongSection IsTagType IsNeverLong (contents_of m).tags → IsTooLong m
+  globals : IsLongSection IsGlobal IsNeverLong (contents_of m).globals → IsTooLong m
+  exports : IsLongSection IsExport IsLongExport m.exports → IsTooLong m
+  elements : IsLongSection IsElement IsLongElement (contents_of m).elements → IsTooLong m
+  bodies : IsLongSection IsBody IsLongBody (contents_of m).bodies → IsTooLong m
+  segments : IsLongSection IsData IsLongData (contents_of m).segments → IsTooLong m

@@ -1,0 +1,14 @@
+//! Modules in the binary format of the WebAssembly Core Specification 3.0 (chapter Binary Format).
+//!
+//! [`encode`] writes no custom sections. What proposals outside the standard add is written in the encoding of the proposal:
+//! compact groups of imports (compact imports), page sizes (custom page sizes), shared entities and types (threads,
+//! shared-everything-threads), and exact references (custom descriptors).
+#![tactic(auto)]
+
+mod modules;
+mod sections;
+#[cfg(test)]
+mod tests;
+
+pub use modules::encode;
+pub use smith_binary::EncodeError;

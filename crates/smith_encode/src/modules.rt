@@ -1,0 +1,78 @@
+ghost use Rattle.std.specs.Prelude.{IfOk, IfErr, OnOk};
+ghost use Rattle.smith_binary.specs.Faults.{IsFault};
+ghost use Rattle.smith_binary.specs.Pieces.{Writes};
+ghost use Rattle.smith_sections.specs.Modules.{IsModule};
+ghost use Rattle.smith_encode.specs.Contents.{contents_of};
+ghost use Rattle.smith_encode.specs.Layout.{section_ids, HasSections};
+ghost use Rattle.smith_encode.specs.Written.{IsFront, IsMiddle, IsBack};
+ghost use Rattle.smith_encode.specs.TooLong.{IsTooLong};
+
+use crate::sections::{
+    write_bodies, write_data_count, write_elements, write_exports, write_functions, write_globals,
+    write_imports, write_memories, write_segments, write_start, write_tables, write_tags,
+    write_types,
+};
+use smith_binary::{EncodeError, Sink};
+use smith_sections::write_preamble;
+use std::alloc::Global;
+use wasm_smith::Module;
+
+// Writes the sections up to that of the tables.
+fn write_front(module: &Module, sink: &mut Sink) -> Result<(), EncodeError>
+    ensures writes { OnOk result (Writes (IsFront module.now) sink.old sink.new) }
+    ensures fault { IfErr result (IsFault (IsTooLong module.now)) }
+{
+    write_types(module, sink)?;
+    write_imports(module, sink)?;
+    write_functions(module, sink)?;
+    write_tables(module, sink)
+}
+
+// Writes the sections from that of the memories to that of the exports.
+fn write_middle(module: &Module, sink: &mut Sink) -> Result<(), EncodeError>
+    ensures writes { OnOk result (Writes (IsMiddle module.now) sink.old sink.new) }
+    ensures fault { IfErr result (IsFault (IsTooLong module.now)) }
+{
+    write_memories(module, sink)?;
+    write_tags(module, sink)?;
+    write_globals(module, sink)?;
+    write_exports(module, sink)
+}
+
+// Writes the sections from that of the start function on.
+fn write_back(module: &Module, sink: &mut Sink) -> Result<(), EncodeError>
+    ensures writes { OnOk result (Writes (IsBack module.now) sink.old sink.new) }
+    ensures fault { IfErr result (IsFault (IsTooLong module.now)) }
+{
+    write_start(module, sink)?;
+    write_elements(module, sink)?;
+    write_data_count(module, sink)?;
+    write_bodies(module, sink)?;
+    write_segments(module, sink)
+}
+
+/// Encodes `module` in the binary format of the WebAssembly Core Specification 3.0 (chapter Binary Format), in fresh memory of
+/// `alloc`.
+///
+/// A type or import section is written where the module's flag says so. The number of data segments is stated before the bodies
+/// where the configuration of the module enables bulk memory. Other sections are written where they aren't empty.
+///
+/// An active segment names its table or memory only where that is not the first, or where its items are of a type that the short
+/// form can't state, so that tools without bulk memory read as many modules as possible. A body that is not raw begins with the
+/// check of each counter of fuel, the last one first.
+///
+/// # Errors
+///
+/// `TooLong` where a list has 2^32 items or more, or a section or a body 2^32 bytes or more; `Memory` for want of memory.
+pub fn encode(alloc: Global, module: &Module) -> Result<Vec<u8>, EncodeError>
+    ensures spelled { IfOk result (λ bytes. IsModule (contents_of module.now) bytes.items) }
+    ensures sections { IfOk result (λ bytes. HasSections (section_ids module.now) bytes.items) }
+    ensures fault { IfErr result (IsFault (IsTooLong module.now)) }
+{
+    let mut sink = Sink::new(alloc);
+    write_preamble(&mut sink)?;
+    write_front(module, &mut sink)?;
+    write_middle(module, &mut sink)?;
+    write_back(module, &mut sink)?;
+    Ok(sink.into_vec())
+}

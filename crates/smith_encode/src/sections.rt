@@ -1,0 +1,219 @@
+ghost use Rattle.std.specs.Prelude.{◌≡◌, length, OnOk, IfErr};
+ghost use Rattle.smith_binary.specs.Faults.{IsFault};
+ghost use Rattle.smith_binary.specs.Numbers.{IsUnsigned};
+ghost use Rattle.smith_binary.specs.Pieces.{IsList, Writes};
+ghost use Rattle.smith_sections.specs.Types.{IsRecGroup};
+ghost use Rattle.smith_sections.specs.Instructions.{IsIndex};
+ghost use Rattle.smith_sections.specs.Entities.{IsMemoryType, IsTagType};
+ghost use Rattle.smith_sections.specs.Imports.{IsImportGroup};
+ghost use Rattle.smith_sections.specs.Definitions.{IsTable, IsGlobal};
+ghost use Rattle.smith_sections.specs.Exports.{IsExport};
+ghost use Rattle.smith_sections.specs.Elements.{IsElement};
+ghost use Rattle.smith_sections.specs.Codes.{IsBody};
+ghost use Rattle.smith_sections.specs.Data.{IsData};
+ghost use Rattle.smith_sections.specs.Sections.{IsSectionIf};
+ghost use Rattle.smith_sections.specs.Modules.{IsStartSection};
+ghost use Rattle.smith_encode.specs.Contents.{defined, contents_of};
+ghost use Rattle.smith_encode.specs.Layout.{is_filled, writes_types, writes_imports, writes_data_count};
+ghost use Rattle.smith_encode.specs.TooLong.{IsTooLong};
+
+use smith_binary::{EncodeError, Sink};
+use smith_sections::{
+    Bodies, Count, Globals, Groups, Listed, Plain, Tables, Tags, Zipped, write_section_if,
+};
+use wasm_smith::Module;
+
+// Whether there is an item.
+fn is_filled<T>(items: &[T]) -> bool
+    ensures { result ≡ is_filled items.now }
+{
+    !items.is_empty()
+}
+
+// The last `count` items of an index space, which are those that are defined.
+fn defined<T>(space: &[T], count: usize) -> &[T]
+    ensures { result.now ≡ defined count space.now }
+{
+    &space[space.len().saturating_sub(count)..]
+}
+
+// Whether the type section is written.
+fn writes_types(module: &Module) -> bool
+    ensures { result ≡ writes_types module.now }
+{
+    module.should_encode_types() || is_filled(module.rec_groups())
+}
+
+// Whether the import section is written.
+fn writes_imports(module: &Module) -> bool
+    ensures { result ≡ writes_imports module.now }
+{
+    module.should_encode_imports() || is_filled(module.imports())
+}
+
+// Whether the data count section is written.
+fn writes_data_count(module: &Module) -> bool
+    ensures { result ≡ writes_data_count module.now }
+{
+    module.config().bulk_memory_enabled && is_filled(module.data())
+}
+
+/// Writes the type section.
+pub(crate) fn write_types(module: &Module, sink: &mut Sink) -> Result<(), EncodeError>
+    ensures writes { OnOk result (Writes (IsSectionIf (writes_types module.now) 1 (IsList IsRecGroup (contents_of module.now).types)) sink.old sink.new) }
+    ensures fault { IfErr result (IsFault (IsTooLong module.now)) }
+{
+    let groups = Listed {
+        writer: Groups {
+            types: module.types(),
+        },
+        items: module.rec_groups(),
+    };
+    write_section_if(writes_types(module), 1, &groups, sink)
+}
+
+/// Writes the import section.
+pub(crate) fn write_imports(module: &Module, sink: &mut Sink) -> Result<(), EncodeError>
+    ensures writes { OnOk result (Writes (IsSectionIf (writes_imports module.now) 2 (IsList IsImportGroup module.now.imports)) sink.old sink.new) }
+    ensures fault { IfErr result (IsFault (IsTooLong module.now)) }
+{
+    let imports = Listed {
+        writer: Plain,
+        items: module.imports(),
+    };
+    write_section_if(writes_imports(module), 2, &imports, sink)
+}
+
+/// Writes the function section.
+pub(crate) fn write_functions(module: &Module, sink: &mut Sink) -> Result<(), EncodeError>
+    ensures writes { OnOk result (Writes (IsSectionIf (is_filled (defined module.now.num_defined_funcs module.now.funcs)) 3 (IsList IsIndex (contents_of module.now).functions)) sink.old sink.new) }
+    ensures fault { IfErr result (IsFault (IsTooLong module.now)) }
+{
+    let functions = Listed {
+        writer: Plain,
+        items: defined(module.funcs(), module.num_defined_funcs()),
+    };
+    write_section_if(is_filled(functions.items), 3, &functions, sink)
+}
+
+/// Writes the table section.
+pub(crate) fn write_tables(module: &Module, sink: &mut Sink) -> Result<(), EncodeError>
+    ensures writes { OnOk result (Writes (IsSectionIf (is_filled module.now.defined_tables) 4 (IsList IsTable (contents_of module.now).tables)) sink.old sink.new) }
+    ensures fault { IfErr result (IsFault (IsTooLong module.now)) }
+{
+    let initialisers = module.defined_tables();
+    let tables = Zipped {
+        writer: Tables,
+        firsts: defined(module.tables(), initialisers.len()),
+        seconds: initialisers,
+    };
+    write_section_if(is_filled(initialisers), 4, &tables, sink)
+}
+
+/// Writes the memory section.
+pub(crate) fn write_memories(module: &Module, sink: &mut Sink) -> Result<(), EncodeError>
+    ensures writes { OnOk result (Writes (IsSectionIf (is_filled (defined module.now.num_defined_memories module.now.memories)) 5 (IsList IsMemoryType (contents_of module.now).memories)) sink.old sink.new) }
+    ensures fault { IfErr result (IsFault (IsTooLong module.now)) }
+{
+    let memories = Listed {
+        writer: Plain,
+        items: defined(module.memories(), module.num_defined_memories()),
+    };
+    write_section_if(is_filled(memories.items), 5, &memories, sink)
+}
+
+/// Writes the tag section.
+pub(crate) fn write_tags(module: &Module, sink: &mut Sink) -> Result<(), EncodeError>
+    ensures writes { OnOk result (Writes (IsSectionIf (is_filled (defined module.now.num_defined_tags module.now.tags)) 13 (IsList IsTagType (contents_of module.now).tags)) sink.old sink.new) }
+    ensures fault { IfErr result (IsFault (IsTooLong module.now)) }
+{
+    let tags = Listed {
+        writer: Tags,
+        items: defined(module.tags(), module.num_defined_tags()),
+    };
+    write_section_if(is_filled(tags.items), 13, &tags, sink)
+}
+
+/// Writes the global section.
+pub(crate) fn write_globals(module: &Module, sink: &mut Sink) -> Result<(), EncodeError>
+    ensures writes { OnOk result (Writes (IsSectionIf (is_filled module.now.defined_globals) 6 (IsList IsGlobal (contents_of module.now).globals)) sink.old sink.new) }
+    ensures fault { IfErr result (IsFault (IsTooLong module.now)) }
+{
+    let definitions = module.defined_globals();
+    let globals = Zipped {
+        writer: Globals,
+        firsts: defined(module.globals(), definitions.len()),
+        seconds: definitions,
+    };
+    write_section_if(is_filled(definitions), 6, &globals, sink)
+}
+
+/// Writes the export section.
+pub(crate) fn write_exports(module: &Module, sink: &mut Sink) -> Result<(), EncodeError>
+    ensures writes { OnOk result (Writes (IsSectionIf (is_filled module.now.exports) 7 (IsList IsExport module.now.exports)) sink.old sink.new) }
+    ensures fault { IfErr result (IsFault (IsTooLong module.now)) }
+{
+    let exports = Listed {
+        writer: Plain,
+        items: module.exports(),
+    };
+    write_section_if(is_filled(exports.items), 7, &exports, sink)
+}
+
+/// Writes the start section.
+pub(crate) fn write_start(module: &Module, sink: &mut Sink) -> Result<(), EncodeError>
+    ensures writes { OnOk result (Writes (IsStartSection module.now.start) sink.old sink.new) }
+    ensures fault { IfErr result (IsFault (IsTooLong module.now)) }
+{
+    match module.start() {
+        Some(index) => write_section_if(true, 8, &index, sink),
+        None => Ok(()),
+    }
+}
+
+/// Writes the element section.
+pub(crate) fn write_elements(module: &Module, sink: &mut Sink) -> Result<(), EncodeError>
+    ensures writes { OnOk result (Writes (IsSectionIf (is_filled module.now.elems) 9 (IsList IsElement (contents_of module.now).elements)) sink.old sink.new) }
+    ensures fault { IfErr result (IsFault (IsTooLong module.now)) }
+{
+    let elements = Listed {
+        writer: Plain,
+        items: module.elems(),
+    };
+    write_section_if(is_filled(elements.items), 9, &elements, sink)
+}
+
+/// Writes the data count section.
+pub(crate) fn write_data_count(module: &Module, sink: &mut Sink) -> Result<(), EncodeError>
+    ensures writes { OnOk result (Writes (IsSectionIf (writes_data_count module.now) 12 (IsUnsigned 32 (length module.now.segments))) sink.old sink.new) }
+    ensures fault { IfErr result (IsFault (IsTooLong module.now)) }
+{
+    let count = Count(module.data().len());
+    write_section_if(writes_data_count(module), 12, &count, sink)
+}
+
+/// Writes the code section.
+pub(crate) fn write_bodies(module: &Module, sink: &mut Sink) -> Result<(), EncodeError>
+    ensures writes { OnOk result (Writes (IsSectionIf (is_filled module.now.code) 10 (IsList IsBody (contents_of module.now).bodies)) sink.old sink.new) }
+    ensures fault { IfErr result (IsFault (IsTooLong module.now)) }
+{
+    let bodies = Listed {
+        writer: Bodies {
+            counters: module.fuel_globals(),
+        },
+        items: module.code(),
+    };
+    write_section_if(is_filled(bodies.items), 10, &bodies, sink)
+}
+
+/// Writes the data section.
+pub(crate) fn write_segments(module: &Module, sink: &mut Sink) -> Result<(), EncodeError>
+    ensures writes { OnOk result (Writes (IsSectionIf (is_filled module.now.segments) 11 (IsList IsData (contents_of module.now).segments)) sink.old sink.new) }
+    ensures fault { IfErr result (IsFault (IsTooLong module.now)) }
+{
+    let segments = Listed {
+        writer: Plain,
+        items: module.data(),
+    };
+    write_section_if(is_filled(segments.items), 11, &segments, sink)
+}

@@ -1,0 +1,9 @@
+pub mod DataLemmas
+pub mod ElementLemmas
+pub mod EntityLemmas
+pub mod HeadLemmas
+pub mod ImportLemmas
+pub mod InstructionLemmas
+pub mod ModuleLemmas
+pub mod PartLemmas
+pub mod TypeLemmas
