@@ -34,7 +34,8 @@ fn is_filled<T>(items: &[T]) -> bool
 fn defined<T>(space: &[T], count: usize) -> &[T]
     ensures { result.now ≡ defined count space.now }
 {
-    &space[space.len().saturating_sub(count)..]
+    let (_, defined) = space.split_at(space.len().saturating_sub(count));
+    defined
 }
 
 // Whether the type section is written.

@@ -27,8 +27,10 @@ form_back table_items = refl
 form_back declared_items = refl
 
 kind_funcs_is_unambiguous : IsUnambiguous IsKindFuncs
-kind_funcs_is_unambiguous = record { one = λ x y piece more rest other h k e.
-    let one = joined_same {x = 0x00} {y = 0x00} byte_is_unambiguous (list_is_unambiguous (unsigned_is_unambiguous 32)) h k e in record { item = one.second; after = one.after } }
+kind_funcs_is_unambiguous = record {
+  one = λ x y piece more rest other h k e.
+      let one = joined_same {x = 0x00} {y = 0x00} byte_is_unambiguous (list_is_unambiguous (unsigned_is_unambiguous 32)) h k e in record { item = one.second; after = one.after };
+}
 
 items_is_unambiguous : IsUnambiguous IsItems
 items_is_unambiguous = list_is_unambiguous expression_is_unambiguous
@@ -75,7 +77,9 @@ form_same declared_items x y piece more rest other h k e =
 
 -- all forms
 pub element_is_unambiguous : IsUnambiguous IsElement
-element_is_unambiguous = record { one = λ x y piece more rest other h k e.
-    let number = first_same rest other (unsigned_is_unambiguous 32) h.spelled k.spelled e in
-    let same : h.form ≡ k.form = sym (form_back h.form) ∙ ap form_of number.item ∙ form_back k.form in
-    form_same k.form x y h.spelled.second k.spelled.second rest other (subst (λ (form : Form). IsInForm form x h.spelled.second) same h.spelled.is_second) k.spelled.is_second number.after }
+element_is_unambiguous = record {
+  one = λ x y piece more rest other h k e.
+      let number = first_same rest other (unsigned_is_unambiguous 32) h.spelled k.spelled e in
+      let same : h.form ≡ k.form = sym (form_back h.form) ∙ ap form_of number.item ∙ form_back k.form in
+      form_same k.form x y h.spelled.second k.spelled.second rest other (subst (λ (form : Form). IsInForm form x h.spelled.second) same h.spelled.is_second) k.spelled.is_second number.after;
+}

@@ -92,7 +92,7 @@ flags_of : ℕ → Flags
 flags_of b = record { maximum = b % 2 == 1; shared = (b / 2) % 2 == 1; wide = (b / 4) % 2 == 1; page = (b / 8) % 2 == 1 }
 
 flags_back : (a b c d : Bool) → flags_of (flags_byte (record { maximum = a; shared = b; wide = c; page = d })) ≡ record { maximum = a; shared = b; wide = c; page = d }
-unfolding flags_of, flags_byte
+unfolding flags_of flags_byte
 flags_back true true true true = refl
 flags_back true true true false = refl
 flags_back true true false true = refl

@@ -1,3 +1,4 @@
+pub mod CheckLemmas
 pub mod DataLemmas
 pub mod ElementLemmas
 pub mod EntityLemmas
