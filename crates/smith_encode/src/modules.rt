@@ -19,8 +19,8 @@ use wasm_smith::Module;
 
 // Writes the sections up to that of the tables.
 fn write_front(module: &Module, sink: &mut Sink) -> Result<(), EncodeError>
-    ensures writes { OnOk result (Writes (IsFront module.now) sink.old sink.new) }
-    ensures fault { IfErr result (IsFault (IsTooLong module.now)) }
+    ensures writes { OnOk result (Writes (IsFront «module».now) sink.old sink.new) }
+    ensures fault { IfErr result (IsFault (IsTooLong «module».now)) }
 {
     write_types(module, sink)?;
     write_imports(module, sink)?;
@@ -30,8 +30,8 @@ fn write_front(module: &Module, sink: &mut Sink) -> Result<(), EncodeError>
 
 // Writes the sections from that of the memories to that of the exports.
 fn write_middle(module: &Module, sink: &mut Sink) -> Result<(), EncodeError>
-    ensures writes { OnOk result (Writes (IsMiddle module.now) sink.old sink.new) }
-    ensures fault { IfErr result (IsFault (IsTooLong module.now)) }
+    ensures writes { OnOk result (Writes (IsMiddle «module».now) sink.old sink.new) }
+    ensures fault { IfErr result (IsFault (IsTooLong «module».now)) }
 {
     write_memories(module, sink)?;
     write_tags(module, sink)?;
@@ -41,8 +41,8 @@ fn write_middle(module: &Module, sink: &mut Sink) -> Result<(), EncodeError>
 
 // Writes the sections from that of the start function on.
 fn write_back(module: &Module, sink: &mut Sink) -> Result<(), EncodeError>
-    ensures writes { OnOk result (Writes (IsBack module.now) sink.old sink.new) }
-    ensures fault { IfErr result (IsFault (IsTooLong module.now)) }
+    ensures writes { OnOk result (Writes (IsBack «module».now) sink.old sink.new) }
+    ensures fault { IfErr result (IsFault (IsTooLong «module».now)) }
 {
     write_start(module, sink)?;
     write_elements(module, sink)?;
@@ -65,9 +65,9 @@ fn write_back(module: &Module, sink: &mut Sink) -> Result<(), EncodeError>
 ///
 /// `TooLong` where a list has 2^32 items or more, or a section or a body 2^32 bytes or more; `Memory` for want of memory.
 pub fn encode(alloc: Global, module: &Module) -> Result<Vec<u8>, EncodeError>
-    ensures spelled { IfOk result (λ bytes. IsModule (contents_of module.now) bytes.items) }
-    ensures sections { IfOk result (λ bytes. HasSections (section_ids module.now) bytes.items) }
-    ensures fault { IfErr result (IsFault (IsTooLong module.now)) }
+    ensures spelled { IfOk result (λ bytes. IsModule (contents_of «module».now) bytes.items) }
+    ensures sections { IfOk result (λ bytes. HasSections (section_ids «module».now) bytes.items) }
+    ensures fault { IfErr result (IsFault (IsTooLong «module».now)) }
 {
     let mut sink = Sink::new(alloc);
     write_preamble(&mut sink)?;

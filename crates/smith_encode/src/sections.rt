@@ -40,29 +40,29 @@ fn defined<T>(space: &[T], count: usize) -> &[T]
 
 // Whether the type section is written.
 fn writes_types(module: &Module) -> bool
-    ensures { result ≡ writes_types module.now }
+    ensures { result ≡ writes_types «module».now }
 {
     module.should_encode_types() || is_filled(module.rec_groups())
 }
 
 // Whether the import section is written.
 fn writes_imports(module: &Module) -> bool
-    ensures { result ≡ writes_imports module.now }
+    ensures { result ≡ writes_imports «module».now }
 {
     module.should_encode_imports() || is_filled(module.imports())
 }
 
 // Whether the data count section is written.
 fn writes_data_count(module: &Module) -> bool
-    ensures { result ≡ writes_data_count module.now }
+    ensures { result ≡ writes_data_count «module».now }
 {
     module.config().bulk_memory_enabled && is_filled(module.data())
 }
 
 /// Writes the type section.
 pub(crate) fn write_types(module: &Module, sink: &mut Sink) -> Result<(), EncodeError>
-    ensures writes { OnOk result (Writes (IsSectionIf (writes_types module.now) 1 (IsList IsRecGroup (contents_of module.now).types)) sink.old sink.new) }
-    ensures fault { IfErr result (IsFault (IsTooLong module.now)) }
+    ensures writes { OnOk result (Writes (IsSectionIf (writes_types «module».now) 1 (IsList IsRecGroup (contents_of «module».now).types)) sink.old sink.new) }
+    ensures fault { IfErr result (IsFault (IsTooLong «module».now)) }
 {
     let groups = Listed {
         writer: Groups {
@@ -75,8 +75,8 @@ pub(crate) fn write_types(module: &Module, sink: &mut Sink) -> Result<(), Encode
 
 /// Writes the import section.
 pub(crate) fn write_imports(module: &Module, sink: &mut Sink) -> Result<(), EncodeError>
-    ensures writes { OnOk result (Writes (IsSectionIf (writes_imports module.now) 2 (IsList IsImportGroup module.now.imports)) sink.old sink.new) }
-    ensures fault { IfErr result (IsFault (IsTooLong module.now)) }
+    ensures writes { OnOk result (Writes (IsSectionIf (writes_imports «module».now) 2 (IsList IsImportGroup «module».now.imports)) sink.old sink.new) }
+    ensures fault { IfErr result (IsFault (IsTooLong «module».now)) }
 {
     let imports = Listed {
         writer: Plain,
@@ -87,8 +87,8 @@ pub(crate) fn write_imports(module: &Module, sink: &mut Sink) -> Result<(), Enco
 
 /// Writes the function section.
 pub(crate) fn write_functions(module: &Module, sink: &mut Sink) -> Result<(), EncodeError>
-    ensures writes { OnOk result (Writes (IsSectionIf (is_filled (defined module.now.num_defined_funcs module.now.funcs)) 3 (IsList IsIndex (contents_of module.now).functions)) sink.old sink.new) }
-    ensures fault { IfErr result (IsFault (IsTooLong module.now)) }
+    ensures writes { OnOk result (Writes (IsSectionIf (is_filled (defined «module».now.num_defined_funcs «module».now.funcs)) 3 (IsList IsIndex (contents_of «module».now).functions)) sink.old sink.new) }
+    ensures fault { IfErr result (IsFault (IsTooLong «module».now)) }
 {
     let functions = Listed {
         writer: Plain,
@@ -99,8 +99,8 @@ pub(crate) fn write_functions(module: &Module, sink: &mut Sink) -> Result<(), En
 
 /// Writes the table section.
 pub(crate) fn write_tables(module: &Module, sink: &mut Sink) -> Result<(), EncodeError>
-    ensures writes { OnOk result (Writes (IsSectionIf (is_filled module.now.defined_tables) 4 (IsList IsTable (contents_of module.now).tables)) sink.old sink.new) }
-    ensures fault { IfErr result (IsFault (IsTooLong module.now)) }
+    ensures writes { OnOk result (Writes (IsSectionIf (is_filled «module».now.defined_tables) 4 (IsList IsTable (contents_of «module».now).tables)) sink.old sink.new) }
+    ensures fault { IfErr result (IsFault (IsTooLong «module».now)) }
 {
     let initialisers = module.defined_tables();
     let tables = Zipped {
@@ -113,8 +113,8 @@ pub(crate) fn write_tables(module: &Module, sink: &mut Sink) -> Result<(), Encod
 
 /// Writes the memory section.
 pub(crate) fn write_memories(module: &Module, sink: &mut Sink) -> Result<(), EncodeError>
-    ensures writes { OnOk result (Writes (IsSectionIf (is_filled (defined module.now.num_defined_memories module.now.memories)) 5 (IsList IsMemoryType (contents_of module.now).memories)) sink.old sink.new) }
-    ensures fault { IfErr result (IsFault (IsTooLong module.now)) }
+    ensures writes { OnOk result (Writes (IsSectionIf (is_filled (defined «module».now.num_defined_memories «module».now.memories)) 5 (IsList IsMemoryType (contents_of «module».now).memories)) sink.old sink.new) }
+    ensures fault { IfErr result (IsFault (IsTooLong «module».now)) }
 {
     let memories = Listed {
         writer: Plain,
@@ -125,8 +125,8 @@ pub(crate) fn write_memories(module: &Module, sink: &mut Sink) -> Result<(), Enc
 
 /// Writes the tag section.
 pub(crate) fn write_tags(module: &Module, sink: &mut Sink) -> Result<(), EncodeError>
-    ensures writes { OnOk result (Writes (IsSectionIf (is_filled (defined module.now.num_defined_tags module.now.tags)) 13 (IsList IsTagType (contents_of module.now).tags)) sink.old sink.new) }
-    ensures fault { IfErr result (IsFault (IsTooLong module.now)) }
+    ensures writes { OnOk result (Writes (IsSectionIf (is_filled (defined «module».now.num_defined_tags «module».now.tags)) 13 (IsList IsTagType (contents_of «module».now).tags)) sink.old sink.new) }
+    ensures fault { IfErr result (IsFault (IsTooLong «module».now)) }
 {
     let tags = Listed {
         writer: Tags,
@@ -137,8 +137,8 @@ pub(crate) fn write_tags(module: &Module, sink: &mut Sink) -> Result<(), EncodeE
 
 /// Writes the global section.
 pub(crate) fn write_globals(module: &Module, sink: &mut Sink) -> Result<(), EncodeError>
-    ensures writes { OnOk result (Writes (IsSectionIf (is_filled module.now.defined_globals) 6 (IsList IsGlobal (contents_of module.now).globals)) sink.old sink.new) }
-    ensures fault { IfErr result (IsFault (IsTooLong module.now)) }
+    ensures writes { OnOk result (Writes (IsSectionIf (is_filled «module».now.defined_globals) 6 (IsList IsGlobal (contents_of «module».now).globals)) sink.old sink.new) }
+    ensures fault { IfErr result (IsFault (IsTooLong «module».now)) }
 {
     let definitions = module.defined_globals();
     let globals = Zipped {
@@ -151,8 +151,8 @@ pub(crate) fn write_globals(module: &Module, sink: &mut Sink) -> Result<(), Enco
 
 /// Writes the export section.
 pub(crate) fn write_exports(module: &Module, sink: &mut Sink) -> Result<(), EncodeError>
-    ensures writes { OnOk result (Writes (IsSectionIf (is_filled module.now.exports) 7 (IsList IsExport module.now.exports)) sink.old sink.new) }
-    ensures fault { IfErr result (IsFault (IsTooLong module.now)) }
+    ensures writes { OnOk result (Writes (IsSectionIf (is_filled «module».now.exports) 7 (IsList IsExport «module».now.exports)) sink.old sink.new) }
+    ensures fault { IfErr result (IsFault (IsTooLong «module».now)) }
 {
     let exports = Listed {
         writer: Plain,
@@ -163,8 +163,8 @@ pub(crate) fn write_exports(module: &Module, sink: &mut Sink) -> Result<(), Enco
 
 /// Writes the start section.
 pub(crate) fn write_start(module: &Module, sink: &mut Sink) -> Result<(), EncodeError>
-    ensures writes { OnOk result (Writes (IsStartSection module.now.start) sink.old sink.new) }
-    ensures fault { IfErr result (IsFault (IsTooLong module.now)) }
+    ensures writes { OnOk result (Writes (IsStartSection «module».now.start) sink.old sink.new) }
+    ensures fault { IfErr result (IsFault (IsTooLong «module».now)) }
 {
     match module.start() {
         Some(index) => write_section_if(true, 8, &index, sink),
@@ -174,8 +174,8 @@ pub(crate) fn write_start(module: &Module, sink: &mut Sink) -> Result<(), Encode
 
 /// Writes the element section.
 pub(crate) fn write_elements(module: &Module, sink: &mut Sink) -> Result<(), EncodeError>
-    ensures writes { OnOk result (Writes (IsSectionIf (is_filled module.now.elems) 9 (IsList IsElement (contents_of module.now).elements)) sink.old sink.new) }
-    ensures fault { IfErr result (IsFault (IsTooLong module.now)) }
+    ensures writes { OnOk result (Writes (IsSectionIf (is_filled «module».now.elems) 9 (IsList IsElement (contents_of «module».now).elements)) sink.old sink.new) }
+    ensures fault { IfErr result (IsFault (IsTooLong «module».now)) }
 {
     let elements = Listed {
         writer: Plain,
@@ -186,8 +186,8 @@ pub(crate) fn write_elements(module: &Module, sink: &mut Sink) -> Result<(), Enc
 
 /// Writes the data count section.
 pub(crate) fn write_data_count(module: &Module, sink: &mut Sink) -> Result<(), EncodeError>
-    ensures writes { OnOk result (Writes (IsSectionIf (writes_data_count module.now) 12 (IsUnsigned 32 (length module.now.segments))) sink.old sink.new) }
-    ensures fault { IfErr result (IsFault (IsTooLong module.now)) }
+    ensures writes { OnOk result (Writes (IsSectionIf (writes_data_count «module».now) 12 (IsUnsigned 32 (length «module».now.segments))) sink.old sink.new) }
+    ensures fault { IfErr result (IsFault (IsTooLong «module».now)) }
 {
     let count = Count(module.data().len());
     write_section_if(writes_data_count(module), 12, &count, sink)
@@ -195,8 +195,8 @@ pub(crate) fn write_data_count(module: &Module, sink: &mut Sink) -> Result<(), E
 
 /// Writes the code section.
 pub(crate) fn write_bodies(module: &Module, sink: &mut Sink) -> Result<(), EncodeError>
-    ensures writes { OnOk result (Writes (IsSectionIf (is_filled module.now.code) 10 (IsList IsBody (contents_of module.now).bodies)) sink.old sink.new) }
-    ensures fault { IfErr result (IsFault (IsTooLong module.now)) }
+    ensures writes { OnOk result (Writes (IsSectionIf (is_filled «module».now.code) 10 (IsList IsBody (contents_of «module».now).bodies)) sink.old sink.new) }
+    ensures fault { IfErr result (IsFault (IsTooLong «module».now)) }
 {
     let bodies = Listed {
         writer: Bodies {
@@ -209,8 +209,8 @@ pub(crate) fn write_bodies(module: &Module, sink: &mut Sink) -> Result<(), Encod
 
 /// Writes the data section.
 pub(crate) fn write_segments(module: &Module, sink: &mut Sink) -> Result<(), EncodeError>
-    ensures writes { OnOk result (Writes (IsSectionIf (is_filled module.now.segments) 11 (IsList IsData (contents_of module.now).segments)) sink.old sink.new) }
-    ensures fault { IfErr result (IsFault (IsTooLong module.now)) }
+    ensures writes { OnOk result (Writes (IsSectionIf (is_filled «module».now.segments) 11 (IsList IsData (contents_of «module».now).segments)) sink.old sink.new) }
+    ensures fault { IfErr result (IsFault (IsTooLong «module».now)) }
 {
     let segments = Listed {
         writer: Plain,

@@ -155,7 +155,7 @@ ref_same x y piece more rest other (IsRefType.short m h) (IsRefType.short n k) e
 pub ref_is_unambiguous : IsUnambiguous IsRefType
 ref_is_unambiguous = record { one = ref_same }
 
-ref_begins : (reference : RefType) (piece : List ℕ) → IsRefType reference piece → Begins (λ (b : ℕ). (0x63 ≤ b) × (b ≤ 0x74)) piece
+pub ref_begins : (reference : RefType) (piece : List ℕ) → IsRefType reference piece → Begins (λ (b : ℕ). (0x63 ≤ b) × (b ≤ 0x74)) piece
 ref_begins reference piece (IsRefType.full h) = begins_as _ _ piece (λ b t. (omega arith, omega arith)) (full_ref_begins reference piece h)
 ref_begins reference piece (IsRefType.short n h) = begins_as _ _ piece (λ b t. (omega arith, omega arith)) (alone_begins reference.heap_type piece h)
 
