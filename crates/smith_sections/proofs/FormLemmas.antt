@@ -1,5 +1,5 @@
 -- Segments in the forms in which they are written.
-use Rattle.std.proofs.Common.{◌≡◌, ℕ, Bool, true, false, List, refl, ap}
+use Rattle.std.proofs.Common.{◌≡◌, ℕ, true, false, List, refl, ap}
 use Rattle.smith_binary.specs.Numbers.{IsUnsigned}
 use Rattle.smith_binary.specs.Pieces.{IsByte, IsList, Writes}
 use Rattle.smith_binary.proofs.WrittenLemmas.{joined_written, written_as}

@@ -1,5 +1,5 @@
 -- Element segments: the section Binary Format, Modules, Element Section, of the WebAssembly Core Specification 3.0.
-use Rattle.std.specs.Prelude.{◌≡◌, ℕ, Bool, true, false, Option, Some, None, List, [], ◌∷◌, map, unwrap_or}
+use Rattle.std.specs.Prelude.{◌≡◌, ℕ, Bool, true, false, List, [], ◌∷◌, map, unwrap_or}
 use Rattle.smith_binary.specs.Numbers.{IsUnsigned}
 use Rattle.smith_binary.specs.Pieces.{IsByte, Joined, IsList}
 use Rattle.smith_types.specs.declared.value_type.AbstractHeapType.TheVariants as abstract

@@ -1,6 +1,6 @@
 -- Types of entities: the section Binary Format, Types, of the WebAssembly Core Specification 3.0. Shared entities are those of the
 -- threads and shared-everything-threads proposals, page sizes those of the custom page sizes proposal.
-use Rattle.std.specs.Prelude.{◌≡◌, ℕ, ◌+◌, ◌*◌, Bool, true, false, Option, Some, None, List, []}
+use Rattle.std.specs.Prelude.{ℕ, ◌+◌, Bool, true, false, Option, Some, None, List, []}
 use Rattle.smith_binary.specs.Numbers.{IsUnsigned}
 use Rattle.smith_binary.specs.Pieces.{Is, IsByte, Joined}
 use Rattle.smith_types.specs.declared.entity_type.GlobalType.{GlobalType}

@@ -1,6 +1,5 @@
 -- What the numbers of the format are too short for: a list of 2^32 items or more, or a content of 2^32 bytes or more.
 use Rattle.std.specs.Prelude.{ℕ, ◌^◌, ◌≤◌, List, length, Any, ◌⊎◌}
-use Rattle.std.specs.declared.ops.Range.{Range}
 use Rattle.smith_binary.specs.Pieces.{Is, Joined, IsList}
 use Rattle.smith_types.specs.declared.value_type.ValType.{ValType}
 use Rattle.smith_types.specs.declared.composite_type.CompositeInnerType.{CompositeInnerType}

@@ -1,7 +1,7 @@
 -- Modules: the section Binary Format, Modules, of the WebAssembly Core Specification 3.0. Custom sections are left out.
 use Rattle.std.specs.Prelude.{◌≡◌, ℕ, Option, Some, None, List, [], ◌∷◌, length}
 use Rattle.smith_binary.specs.Numbers.{IsUnsigned}
-use Rattle.smith_binary.specs.Pieces.{Is, IsByte, Joined, IsSection}
+use Rattle.smith_binary.specs.Pieces.{Is, Joined, IsSection}
 use Rattle.smith_types.specs.declared.value_type.ValType.{ValType}
 use Rattle.smith_types.specs.declared.composite_type.SubType.{SubType}
 use Rattle.smith_types.specs.declared.entity_type.ExportKind.{ExportKind}

@@ -1,6 +1,5 @@
 -- Sections: the section Binary Format, Modules, Sections, of the WebAssembly Core Specification 3.0.
-use Rattle.std.specs.Prelude.{◌≡◌, ℕ, Bool, true, false, Option, Some, None, List, [], length}
-use Rattle.smith_binary.specs.Numbers.{IsUnsigned}
+use Rattle.std.specs.Prelude.{◌≡◌, ℕ, Bool, true, false, List, []}
 use Rattle.smith_binary.specs.Pieces.{Is, IsList, IsSection}
 
 -- a section, which may be left out where it says nothing

@@ -84,6 +84,7 @@ pub(crate) fn write_each<T, W: EncodeItem<T>>(
 }
 
 /// A list, whose items `writer` writes.
+#[derive(Drop)]
 pub struct Listed<'a, T, W> {
     /// The way to write an item.
     pub writer: W,
@@ -112,6 +113,7 @@ pub(crate) fn write_list<T: Encode>(items: &[T], sink: &mut Sink) -> Result<(), 
 }
 
 /// A list of items in two lists, which `writer` writes. An item that one of the lists lacks is left out.
+#[derive(Drop)]
 pub struct Zipped<'a, A, B, W> {
     /// The way to write an item.
     pub writer: W,
