@@ -1,5 +1,5 @@
 -- Sections by what their items mean in a module.
-use Rattle.std.proofs.Common.{◌≡◌, ℕ, ◌+◌, ◌-◌, ◌*◌, [], ◌∷◌, ◌<◌, ◌≤◌, ◌^◌, ◌⊎◌, Bool, true, false, List, length, Result, Ok, Err, sym, subst, ap, ◌∙◌, arith, inl, inr}
+use Rattle.std.proofs.Common.{ℕ, ◌+◌, ◌-◌, ◌*◌, [], ◌∷◌, ◌<◌, ◌≤◌, ◌^◌, ◌⊎◌, Bool, true, false, List, length, Result, Ok, Err, sym, subst, ap, ◌∙◌, arith, inl, inr}
 use Rattle.std.specs.Prelude.{map, Any, IfErr}
 use Rattle.std.proofs.lemmas.List.{length-map, get_or-map}
 use Rattle.smith_binary.specs.declared.error.EncodeError.{EncodeError}

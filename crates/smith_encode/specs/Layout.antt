@@ -1,6 +1,5 @@
 -- Which sections of a module are written.
 use Rattle.std.specs.Prelude.{ℕ, Bool, true, false, ◌&&◌, ◌||◌, nat_lt, is_some, List, [], ◌∷◌, ◌++◌, length}
-use Rattle.std.specs.List.{zip}
 use Rattle.smith_binary.specs.Pieces.{Joined, Each, IsSection}
 use Rattle.smith_definitions.specs.Module.{Parts}
 use Rattle.smith_sections.specs.Modules.{IsPreamble}
