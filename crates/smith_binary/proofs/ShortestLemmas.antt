@@ -31,10 +31,10 @@ shortest_spelled zero bits n fits room =
     subst (IsUnsigned bits n) (sym (small_bytes 0 n small)) (unsigned_last bits n small room).spelled
 shortest_spelled (suc most) bits n fits room =
     elim (cases_lt n 128) [
-      inl small ↦ subst (IsUnsigned bits n) (sym (small_bytes (suc most) n small)) (unsigned_last bits n small room).spelled
-    | inr large ↦
-      subst (IsUnsigned bits n) (sym (large_bytes (suc most) n large))
-      (unsigned_front bits n (shortest_bytes (suc most) (n / 128)) large room (shortest_spelled most (bits - 7) (n / 128) (byte_less most n fits) (bits_left bits n large room).1))
+      | inl small ↦ subst (IsUnsigned bits n) (sym (small_bytes (suc most) n small)) (unsigned_last bits n small room).spelled
+      | inr large ↦
+          subst (IsUnsigned bits n) (sym (large_bytes (suc most) n large))
+          (unsigned_front bits n (shortest_bytes (suc most) (n / 128)) large room (shortest_spelled most (bits - 7) (n / 128) (byte_less most n fits) (bits_left bits n large room).1))
     ]
 
 -- the parts of a spelling of a large integer
@@ -53,22 +53,22 @@ shortest_or_longer zero bits n (byte ∷ next ∷ piece) fits h =
     inr (rw (small_bytes 0 n small) (omega arith))
 shortest_or_longer (suc most) bits n (byte ∷ next ∷ piece) fits h =
     elim (cases_lt n 128) [
-      inl small ↦ inr (rw (small_bytes (suc most) n small) (omega arith))
-    | inr large ↦
-      let parts = large_parts n h.0 byte large h.2 h.3 h.4 in
-      let left : IsUnsigned (bits - 7) (n / 128) (next ∷ piece) = subst (λ (m : ℕ). IsUnsigned (bits - 7) m (next ∷ piece)) parts.0 h.1 in
-      elim (shortest_or_longer most (bits - 7) (n / 128) (next ∷ piece) (byte_less most n fits) left) [
-        inl same ↦ inl (ap (λ (b : ℕ). b ∷ next ∷ piece) parts.1 ∙ ap (λ (bytes : List ℕ). (n % 128 + 128) ∷ bytes) same ∙ sym (large_bytes (suc most) n large))
-      | inr longer ↦ inr (rw (large_bytes (suc most) n large) (omega arith))
-      ]
+      | inl small ↦ inr (rw (small_bytes (suc most) n small) (omega arith))
+      | inr large ↦
+          let parts = large_parts n h.0 byte large h.2 h.3 h.4 in
+          let left : IsUnsigned (bits - 7) (n / 128) (next ∷ piece) = subst (λ (m : ℕ). IsUnsigned (bits - 7) m (next ∷ piece)) parts.0 h.1 in
+          elim (shortest_or_longer most (bits - 7) (n / 128) (next ∷ piece) (byte_less most n fits) left) [
+            | inl same ↦ inl (ap (λ (b : ℕ). b ∷ next ∷ piece) parts.1 ∙ ap (λ (bytes : List ℕ). (n % 128 + 128) ∷ bytes) same ∙ sym (large_bytes (suc most) n large))
+            | inr longer ↦ inr (rw (large_bytes (suc most) n large) (omega arith))
+          ]
     ]
 
 -- a shortest spelling is the shortest bytes
 pub shortest_is : (most bits n : ℕ) (piece : List ℕ) → n < 128 ^ suc most → n < 2 ^ bits → Shortest (IsUnsigned bits n) piece → piece ≡ shortest_bytes (suc most) n
 shortest_is most bits n piece fits room h =
     elim (shortest_or_longer most bits n piece fits h.spelled) [
-      inl same ↦ same
-    | inr longer ↦ absurd (let least : length piece ≤ length (shortest_bytes (suc most) n) = h.least _ (shortest_spelled most bits n fits room) in omega arith)
+      | inl same ↦ same
+      | inr longer ↦ absurd (let least : length piece ≤ length (shortest_bytes (suc most) n) = h.least _ (shortest_spelled most bits n fits room) in omega arith)
     ]
 
 -- what is written in the shortest spelling is the shortest bytes

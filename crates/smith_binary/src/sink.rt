@@ -1,4 +1,4 @@
-ghost use Rattle.std.specs.Prelude.{◌≡◌, ◌++◌, [], ◌∷◌, ℕ, List, OnOk, IfErr, length};
+ghost use Rattle.std.specs.Prelude.{◌≡◌, ◌++◌, [], ◌∷◌, ℕ, List, OnOk, IfErr};
 ghost use Rattle.smith_binary.specs.declared.error.EncodeError.TheVariants.{Memory};
 ghost use Rattle.smith_binary.specs.Pieces.{Is, IsByte, Writes};
 
@@ -35,13 +35,6 @@ impl Sink {
         ensures { result ≡ [] }
     {
         Sink::new(self.alloc)
-    }
-
-    /// The number of bytes so far.
-    pub fn len(&self) -> usize
-        ensures { result ≡ length self.now }
-    {
-        self.bytes.len()
     }
 
     /// Lends the bytes so far.

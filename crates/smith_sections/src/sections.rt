@@ -18,7 +18,7 @@ pub fn write_preamble(sink: &mut Sink) -> Result<(), EncodeError>
     sink.write_bytes(&[0x00, 0x61, 0x73, 0x6D, 0x01, 0x00, 0x00, 0x00])
 }
 
-/// Writes the section `id` with `content` where `is_written` says so, and no byte elsewhere.
+/// Writes the section `id` with `content` where `is_written` is true, and no byte elsewhere.
 ///
 /// # Errors
 ///
