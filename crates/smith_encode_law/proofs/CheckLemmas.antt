@@ -1,5 +1,5 @@
 -- The bytes of checks are their instructions.
-use Rattle.std.proofs.Common.{◌≡◌, ℕ, suc, length, ◌<◌, ◌^◌, List, [], ◌∷◌, ◌++◌, refl, sym, subst, ap, ◌∙◌, arith, append_assoc}
+use Rattle.std.proofs.Common.{◌≡◌, ℕ, suc, ◌<◌, ◌^◌, List, [], ◌∷◌, ◌++◌, refl, sym, subst, ◌∙◌, arith, append_assoc}
 use Rattle.std.specs.List.{All}
 use Rattle.smith_binary.specs.Pieces.{Joined}
 use Rattle.smith_binary.proofs.NumberLemmas.{positive_last}
@@ -8,7 +8,7 @@ use Rattle.smith_sections.specs.Codes.{index_bytes, check_bytes, checks_bytes, b
 use Rattle.smith_types.specs.declared.code.Instructions.TheVariants.{Unreachable}
 use Rattle.smith_encode_law.specs.Checks.{IsGlobalGet, IsGlobalSet, IsTrapIf, IsOne, IsCheck, IsChecks, IsChecked}
 
-both : {A B : List ℕ → Type 0} (one other : List ℕ) → A one → B other → Joined A B (one ++ other)
+pub both : {A B : List ℕ → Type 0} (one other : List ℕ) → A one → B other → Joined A B (one ++ other)
 both one other a b = record { first = one; second = other; is_first = a; is_second = b; whole = refl }
 
 one_spelled : IsOne (0x41 ∷ 0x01 ∷ [])

@@ -1,5 +1,5 @@
 -- Types of entities, definitions and exports have one meaning.
-use Rattle.std.proofs.Common.{◌≡◌, ℕ, ◌+◌, ◌≤◌, length, append_assoc, Bool, true, false, Option, Some, None, List, [], ◌∷◌, ◌++◌, refl, sym, subst, ap, ◌∙◌, arith}
+use Rattle.std.proofs.Common.{◌≡◌, ℕ, ◌+◌, ◌≤◌, length, append_assoc, Bool, true, false, Option, Some, None, List, [], ◌∷◌, ◌++◌, refl, sym, ap, ◌∙◌, arith}
 use Rattle.std.specs.Prelude.{◌==◌, ◌/◌, ◌%◌, if◌then◌else◌}
 use Rattle.smith_binary.specs.Pieces.{Is, IsByte, Joined}
 use Rattle.smith_binary.specs.Unambiguous.{Same, IsUnambiguous}
@@ -14,7 +14,6 @@ use Rattle.smith_types.specs.declared.entity_type.EntityType.{EntityType}
 use Rattle.smith_types.specs.declared.entity_type.EntityType.TheVariants as entity
 use Rattle.smith_types.specs.declared.entity_type.ExportKind.{ExportKind}
 use Rattle.smith_types.specs.declared.entity_type.ExportKind.TheVariants.{Func, Table, Memory, Global, Tag}
-use Rattle.smith_sections.specs.Types.{IsRefType}
 use Rattle.smith_sections.specs.Entities.{flag, is_there, IsMaximum, IsPageSize, IsRange, global_byte, limits_byte, IsGlobalType, IsMemoryType, IsTableType, IsTagType, IsExternType}
 use Rattle.smith_sections.specs.Definitions.{null_of, IsTable, IsGlobal}
 use Rattle.smith_sections.specs.Exports.{kind_byte, IsExport}

@@ -1,17 +1,16 @@
 -- Imports have one meaning.
-use Rattle.std.proofs.Common.{◌≡◌, ℕ, ◌≤◌, List, [], ◌∷◌, ◌++◌, refl, sym, ap, ◌∙◌, arith, append_assoc}
-use Rattle.smith_binary.specs.Pieces.{IsByte, Joined, IsList, IsName}
+use Rattle.std.proofs.Common.{◌≡◌, ℕ, ◌≤◌, List, [], ◌++◌, refl, sym, ap, ◌∙◌, arith, append_assoc}
+use Rattle.smith_binary.specs.Pieces.{Joined, IsList, IsName}
 use Rattle.smith_binary.specs.Unambiguous.{Same, IsUnambiguous, IsUnambiguousWhole}
 use Rattle.smith_binary.proofs.UnambiguousLemmas.{byte_is_unambiguous, name_is_unambiguous, list_is_unambiguous, unambiguous_whole, first_same, joined_same}
 use Rattle.smith_types.specs.declared.entity_type.EntityType.{EntityType}
 use Rattle.smith_types.specs.declared.imports.Import.{Import}
-use Rattle.smith_types.specs.declared.imports.ImportItem.{ImportItem}
 use Rattle.smith_types.specs.declared.imports.Imports.{Imports}
 use Rattle.smith_types.specs.declared.imports.Imports.TheVariants.{Single, Compact1, Compact2}
 use Rattle.smith_types.specs.Imports.{flattened}
 use Rattle.smith_sections.specs.Entities.{IsExternType}
 use Rattle.smith_sections.specs.Imports.{IsImport, IsImportItem, IsGroupHead, IsImportGroup, IsImports}
-use Rattle.smith_encode_law.proofs.HeadLemmas.{Begins, byte_begins, joined_begins, apart}
+use Rattle.smith_encode_law.proofs.HeadLemmas.{byte_begins, joined_begins, apart}
 use Rattle.smith_encode_law.proofs.EntityLemmas.{extern_is_unambiguous, extern_begins}
 
 import_made : (x y : Import) → x.«module» ≡ y.«module» → x.name ≡ y.name → x.entity_type ≡ y.entity_type → x ≡ y
