@@ -10,6 +10,7 @@ abbrev pub with_field : {A : Type 0} → Option (Setter A) → Setter A
 with_field None config x = config
 with_field (Some set) config x = set config x
 
+-- a configuration that lends a field ends with the last value in it, and one that lends none ends as it was
 abbrev pub LendsMinimum : List ℕ → MutBor Config → Option (MutBor ℕ) → Fml
 LendsMinimum name config r = LendsIf the_row usize config r (with_field (named name minimums) config.now) config.now
 

@@ -18,6 +18,7 @@ use Rattle.smith_json.specs.Values.{map_ok, first, unwanted, whole_value, truth_
 abbrev pub Outcome : Type 0
 Outcome = Result (Config × List Token) Fault
 
+-- what stands after a value that was taken or refused
 abbrev pub outcome : Result (Unit {0}) Fault → Config → List Token → Outcome
 outcome (Ok u) config rest = Ok (config, rest)
 outcome (Err fault) config rest = Err fault
@@ -28,6 +29,7 @@ set_to set config rest (Ok None) = Ok (config, rest)
 set_to set config rest (Ok (Some x)) = Ok (set config x, rest)
 set_to set config rest (Err fault) = Err fault
 
+-- the same for the value that begins with a token: null, or a list of three weights
 abbrev pub set_choices : Setter MemoryOffsetChoices → Config → Token → List Token → Outcome
 set_choices set config null rest = Ok (config, rest)
 set_choices set config begin_array rest = set_to set config (drop 4 rest) (map_ok Some (weights rest))
@@ -42,6 +44,7 @@ Sets (Some (kinds set)) config ts r = (v : Result (Option InstructionKinds) Faul
 Sets (Some (choices set)) config ts r = r ≡ set_choices set config (first ts) (drop 1 ts)
 Sets (Some file) config ts r = r ≡ outcome (file_value (first ts)) config (drop 1 ts)
 
+-- whether a member before has the name
 abbrev pub is_given : List (List ℕ) → List ℕ → Bool
 is_given given name = list_any (λ other. bytes_eq other name) given
 

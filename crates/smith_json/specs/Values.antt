@@ -19,7 +19,7 @@ abbrev pub and_then : {A B E : Type 0} → Result A E → (A → Result B E) →
 and_then (Ok x) f = f x
 and_then (Err e) f = Err e
 
--- the first token, where none is the text has ended too early
+-- the first token; the end of the tokens counts as a bad one
 abbrev pub first : List Token → Token
 first [] = bad
 first (t ∷ ts) = t
@@ -37,20 +37,21 @@ unwanted (boolean b) = WrongType
 unwanted null = WrongType
 unwanted bad = NotAnObject
 
--- a digit, and digits alone
+-- whether a text has a digit, and digits alone
 abbrev pub are_digits : List ℕ → Bool
 are_digits text = if length text == 0 then false else list_all is_ascii_digit text
 
--- the number that digits alone write, up to a most
+-- the number that digits alone write, where it is at most `most`
 abbrev pub number_of : ℕ → List ℕ → Result ℕ Fault
 number_of most text = if are_digits text then (if nat_lt most (digits_value 10 text) then Err OutOfRange else Ok (digits_value 10 text)) else Err WrongType
 
--- a whole number up to a most, or none at null
+-- a whole number of at most `most`, or none at null
 abbrev pub whole_value : ℕ → Token → Result (Option ℕ) Fault
 whole_value most null = Ok None
 whole_value most (number text) = map_ok Some (number_of most text)
 whole_value most t = Err (unwanted t)
 
+-- true or false, or none at null
 abbrev pub truth_value : Token → Result (Option Bool) Fault
 truth_value null = Ok None
 truth_value (boolean b) = Ok (Some b)
