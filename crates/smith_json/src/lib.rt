@@ -1,0 +1,17 @@
+//! Reads a configuration from a JSON object whose members are named after the fields of `Config`.
+//!
+//! A name has hyphens where the field has underscores, as in `max-types`. A field that no member
+//! names keeps its default, and so does a field whose member is `null`.
+#![tactic(auto)]
+
+mod by_name;
+mod field;
+mod read;
+mod refusal;
+#[cfg(test)]
+mod tests;
+mod value;
+
+pub use field::{FIELDS, Field, FieldKind};
+pub use read::{config, read_config};
+pub use refusal::{ConfigRefusal, Fault, Refusal};

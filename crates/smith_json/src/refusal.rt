@@ -1,0 +1,103 @@
+use crate::field::Field;
+use std::error::Error;
+use std::fmt;
+
+/// What is wrong with the text of a configuration.
+#[derive(Clone, Copy, Debug, PartialEq, Eq)]
+pub enum Fault {
+    /// No JSON object stands there, or the text stops being JSON.
+    NotAnObject,
+    /// No field has the name.
+    UnknownField,
+    /// A member before has the same name.
+    RepeatedField,
+    /// The value is of another type than the field takes.
+    WrongType,
+    /// The value is of the field's type, and none that the field takes.
+    OutOfRange,
+    /// Something follows the object.
+    TextAfter,
+    /// There is no memory left.
+    OutOfMemory,
+}
+
+/// Why an object that stands in a longer text is no configuration, and where.
+#[derive(Debug, Drop)]
+pub struct Refusal {
+    /// What is wrong.
+    pub fault: Fault,
+    /// The name of the member at fault, empty where no member is.
+    pub field: String,
+    /// The offset in bytes of the name or the value at fault.
+    pub offset: usize,
+}
+
+/// Why a text is no configuration, and where.
+#[derive(Debug, Drop)]
+pub struct ConfigRefusal {
+    /// What is wrong.
+    pub fault: Fault,
+    /// The name of the member at fault, empty where no member is.
+    pub field: String,
+    /// The line of the name or the value at fault, from 1.
+    pub line: usize,
+    /// The column in that line, in characters from 1.
+    pub column: usize,
+}
+
+impl Refusal {
+    /// Gives the refusal its line and column in `text`, which the reader has read.
+    pub fn in_text(self, text: &str) -> ConfigRefusal {
+        let Refusal {
+            fault,
+            field,
+            offset,
+        } = self;
+        let (line, column) = place(text.as_bytes(), offset);
+        ConfigRefusal {
+            fault,
+            field,
+            line,
+            column,
+        }
+    }
+}
+
+/// The line and the column, both from 1, of the byte at `offset`. A column is a character.
+fn place(text: &[u8], offset: usize) -> (usize, usize) {
+    let mut line = 1;
+    let mut column = 1;
+    for byte in text.iter().take(offset) {
+        if *byte == b'\n' {
+            line += 1;
+            column = 1;
+        } else if *byte & 0xC0 != 0x80 {
+            column += 1;
+        }
+    }
+    (line, column)
+}
+
+impl fmt::Display for ConfigRefusal {
+    fn fmt<W: fmt::Write>(&self, f: &mut fmt::Formatter<W>) -> fmt::Result {
+        let field = self.field.as_str();
+        write!(f, "line {}, column {}: ", self.line, self.column)?;
+        match self.fault {
+            Fault::NotAnObject => f.write_str("this is no JSON object")?,
+            Fault::UnknownField => write!(f, "there is no field `{field}`")?,
+            Fault::RepeatedField => write!(f, "the field `{field}` stands twice")?,
+            Fault::WrongType => write!(f, "the value of `{field}` has the wrong type")?,
+            Fault::OutOfRange => write!(f, "the value of `{field}` is out of range")?,
+            Fault::TextAfter => f.write_str("text follows the object")?,
+            Fault::OutOfMemory => f.write_str("out of memory")?,
+        }
+        match (self.fault, Field::named(field)) {
+            (Fault::WrongType | Fault::OutOfRange, Some(named)) => {
+                write!(f, "; it takes {}", named.kind)
+            }
+            _ => Ok(()),
+        }
+    }
+}
+
+impl Error for ConfigRefusal {}
