@@ -1,0 +1,104 @@
+ghost use Rattle.std.specs.Prelude.{◌≡◌, false, is_err};
+
+use crate::floats::{write_f32, write_f64};
+use crate::sink::Sink;
+use crate::text_form::TextForm;
+use smith_types::ConstInstr;
+use std::fmt;
+
+fn keyword_of(instruction: &ConstInstr) -> &'static str {
+    match instruction {
+        ConstInstr::I32Const(_) => "i32.const",
+        ConstInstr::I64Const(_) => "i64.const",
+        ConstInstr::F32Const(_) => "f32.const",
+        ConstInstr::F64Const(_) => "f64.const",
+        ConstInstr::V128Const(_) => "v128.const",
+        ConstInstr::GlobalGet(_) => "global.get",
+        ConstInstr::RefNull(_) => "ref.null",
+        ConstInstr::RefFunc(_) => "ref.func",
+        ConstInstr::I32Add => "i32.add",
+        ConstInstr::I32Sub => "i32.sub",
+        ConstInstr::I32Mul => "i32.mul",
+        ConstInstr::I64Add => "i64.add",
+        ConstInstr::I64Sub => "i64.sub",
+        ConstInstr::I64Mul => "i64.mul",
+        ConstInstr::RefI31 => "ref.i31",
+        ConstInstr::RefI31Shared => "ref.i31_shared",
+        ConstInstr::StructNew(_) => "struct.new",
+        ConstInstr::StructNewDefault(_) => "struct.new_default",
+        ConstInstr::ArrayNew(_) => "array.new",
+        ConstInstr::ArrayNewDefault(_) => "array.new_default",
+        ConstInstr::ArrayNewFixed { .. } => "array.new_fixed",
+        ConstInstr::AnyConvertExtern => "any.convert_extern",
+        ConstInstr::ExternConvertAny => "extern.convert_any",
+    }
+}
+
+// Writes the lanes of 32 bits of the vector `value`, the lowest first.
+fn write_lanes<S: Sink>(value: i128, sink: &mut S) -> fmt::Result
+    requires open { S.failed sink.old ≡ false }
+    ensures fault { S.failed sink.new ≡ is_err result }
+{
+    let bits = value.cast_unsigned();
+    write!(sink, "i32x4")?;
+    for lane in 0..4u32 {
+        let low = ((bits >> (32 * lane)) & 0xffff_ffff) as u32;
+        write!(sink, " {low:#010x}")?;
+    }
+    Ok(())
+}
+
+// Writes the immediate arguments of an instruction that has some.
+fn write_arguments<S: Sink>(instruction: &ConstInstr, sink: &mut S) -> fmt::Result
+    requires open { S.failed sink.old ≡ false }
+    ensures fault { S.failed sink.new ≡ is_err result }
+{
+    match instruction {
+        ConstInstr::I32Const(value) => write!(sink, "{value}"),
+        ConstInstr::I64Const(value) => write!(sink, "{value}"),
+        ConstInstr::F32Const(bits) => write_f32(*bits, sink),
+        ConstInstr::F64Const(bits) => write_f64(*bits, sink),
+        ConstInstr::V128Const(bits) => write_lanes(*bits, sink),
+        ConstInstr::RefNull(heap_type) => heap_type.write_text(sink),
+        ConstInstr::GlobalGet(index)
+        | ConstInstr::RefFunc(index)
+        | ConstInstr::StructNew(index)
+        | ConstInstr::StructNewDefault(index)
+        | ConstInstr::ArrayNew(index)
+        | ConstInstr::ArrayNewDefault(index) => write!(sink, "{index}"),
+        ConstInstr::ArrayNewFixed {
+            array_type_index,
+            array_size,
+        } => write!(sink, "{array_type_index} {array_size}"),
+        _ => Ok(()),
+    }
+}
+
+fn has_arguments(instruction: &ConstInstr) -> bool {
+    !matches!(
+        instruction,
+        ConstInstr::I32Add
+            | ConstInstr::I32Sub
+            | ConstInstr::I32Mul
+            | ConstInstr::I64Add
+            | ConstInstr::I64Sub
+            | ConstInstr::I64Mul
+            | ConstInstr::RefI31
+            | ConstInstr::RefI31Shared
+            | ConstInstr::AnyConvertExtern
+            | ConstInstr::ExternConvertAny
+    )
+}
+
+/// The sections Text Format, Numeric, Vector, Reference, Aggregate and Variable Instructions; `ref.i31_shared` as the
+/// shared-everything-threads proposal writes it. Integers are written in decimal, with their sign.
+impl TextForm for ConstInstr {
+    fn write_text<S: Sink>(&self, sink: &mut S) -> fmt::Result {
+        write!(sink, "{}", keyword_of(self))?;
+        if !has_arguments(self) {
+            return Ok(());
+        }
+        write!(sink, " ")?;
+        write_arguments(self, sink)
+    }
+}

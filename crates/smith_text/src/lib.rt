@@ -1,0 +1,23 @@
+//! Modules in the text format of the WebAssembly Core Specification 3.0, chapter Text Format. What proposals add is written in
+//! their own text forms.
+#![tactic(auto)]
+
+mod constants;
+mod entities;
+mod floats;
+mod functions;
+mod imports;
+mod module;
+mod notes;
+mod segments;
+mod sink;
+mod strings;
+#[cfg(test)]
+mod tests;
+mod text_form;
+mod types;
+mod values;
+
+pub use module::text;
+pub use sink::{FromFmt, Sink};
+pub use text_form::TextForm;

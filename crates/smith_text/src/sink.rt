@@ -1,0 +1,50 @@
+ghost use Rattle.std.specs.Prelude.{◌≡◌, Bool, false, is_err};
+
+use std::fmt;
+use std::fmt::Display;
+
+/// A destination of text that is written to until a write fails.
+pub trait Sink {
+    // Whether a write has failed.
+    ghost failed: { Self → Bool };
+
+    /// Writes what `text` prints. The macros `write!` and `writeln!` call it.
+    ///
+    /// No write of the sink has failed so far.
+    ///
+    /// # Errors
+    ///
+    /// The error of the destination.
+    fn write_fmt<D: Display + Drop>(&mut self, text: D) -> fmt::Result
+        requires open { failed self.old ≡ false }
+        ensures fault { failed self.new ≡ is_err result };
+}
+
+/// A sink that writes to any writer of text.
+#[derive(Drop)]
+pub struct FromFmt<W> {
+    writer: W,
+    failed: bool,
+}
+
+impl<W: fmt::Write> FromFmt<W> {
+    /// Makes a sink that adds to what `writer` holds. Takes no memory.
+    pub fn new(writer: W) -> Self
+        ensures open { ⟦<FromFmt<W> as Sink>⟧.failed result ≡ false }
+    {
+        FromFmt {
+            writer,
+            failed: false,
+        }
+    }
+}
+
+impl<W: fmt::Write> Sink for FromFmt<W> {
+    ghost failed = { λ sink. sink.failed };
+
+    fn write_fmt<D: Display + Drop>(&mut self, text: D) -> fmt::Result {
+        let written = self.writer.write_fmt(text);
+        self.failed = written.is_err();
+        written
+    }
+}

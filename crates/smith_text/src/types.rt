@@ -1,0 +1,149 @@
+ghost use Rattle.std.specs.Prelude.{◌≡◌, false, is_err};
+
+use crate::sink::Sink;
+use crate::text_form::{TextForm, write_list};
+use smith_types::{
+    ArrayType, CompositeInnerType, CompositeType, FieldType, FuncType, StorageType, StructType,
+    SubType,
+};
+use std::fmt;
+use std::ops::Range;
+
+/// The section Text Format, Composite Types: a storage type.
+impl TextForm for StorageType {
+    fn write_text<S: Sink>(&self, sink: &mut S) -> fmt::Result {
+        match self {
+            StorageType::I8 => write!(sink, "i8"),
+            StorageType::I16 => write!(sink, "i16"),
+            StorageType::Val(ty) => ty.write_text(sink),
+        }
+    }
+}
+
+/// The section Text Format, Composite Types: a field type.
+impl TextForm for FieldType {
+    fn write_text<S: Sink>(&self, sink: &mut S) -> fmt::Result {
+        if !self.mutable {
+            return self.element_type.write_text(sink);
+        }
+        write!(sink, "(mut ")?;
+        self.element_type.write_text(sink)?;
+        write!(sink, ")")
+    }
+}
+
+/// The section Text Format, Composite Types: an array type.
+impl TextForm for ArrayType {
+    fn write_text<S: Sink>(&self, sink: &mut S) -> fmt::Result {
+        write!(sink, "(array ")?;
+        self.0.write_text(sink)?;
+        write!(sink, ")")
+    }
+}
+
+/// The section Text Format, Composite Types: a struct type, with the abbreviation that lists its fields in one pair of
+/// parentheses.
+impl TextForm for StructType {
+    fn write_text<S: Sink>(&self, sink: &mut S) -> fmt::Result {
+        write!(sink, "(struct")?;
+        write_list("field", self.fields.as_slice(), sink)?;
+        write!(sink, ")")
+    }
+}
+
+/// The section Text Format, Composite Types: a function type, with the abbreviations that list its parameters and its results.
+impl TextForm for FuncType {
+    fn write_text<S: Sink>(&self, sink: &mut S) -> fmt::Result {
+        write!(sink, "(func")?;
+        write_list("param", self.params.as_slice(), sink)?;
+        write_list("result", self.results.as_slice(), sink)?;
+        write!(sink, ")")
+    }
+}
+
+/// The section Text Format, Composite Types.
+impl TextForm for CompositeInnerType {
+    fn write_text<S: Sink>(&self, sink: &mut S) -> fmt::Result {
+        match self {
+            CompositeInnerType::Array(array) => array.write_text(sink),
+            CompositeInnerType::Func(function) => function.write_text(sink),
+            CompositeInnerType::Struct(structure) => structure.write_text(sink),
+        }
+    }
+}
+
+/// The section Text Format, Composite Types; shared types as the shared-everything-threads proposal writes them.
+impl TextForm for CompositeType {
+    fn write_text<S: Sink>(&self, sink: &mut S) -> fmt::Result {
+        if !self.shared {
+            return self.inner.write_text(sink);
+        }
+        write!(sink, "(shared ")?;
+        self.inner.write_text(sink)?;
+        write!(sink, ")")
+    }
+}
+
+/// The section Text Format, Recursive Types: a sub type. A final type without a supertype is abbreviated to its composite type.
+impl TextForm for SubType {
+    fn write_text<S: Sink>(&self, sink: &mut S) -> fmt::Result {
+        if self.is_final && self.supertype.is_none() {
+            return self.composite_type.write_text(sink);
+        }
+        let keyword = if self.is_final { "sub final" } else { "sub" };
+        write!(sink, "({keyword} ")?;
+        if let Some(index) = self.supertype {
+            write!(sink, "{index} ")?;
+        }
+        self.composite_type.write_text(sink)?;
+        write!(sink, ")")
+    }
+}
+
+// Writes the type `ty` of the index `index` on a line, after `indent`.
+fn write_type<S: Sink>(indent: &str, index: usize, ty: &SubType, sink: &mut S) -> fmt::Result
+    requires open { S.failed sink.old ≡ false }
+    ensures fault { S.failed sink.new ≡ is_err result }
+{
+    write!(sink, "{indent}(type (;{index};) ")?;
+    ty.write_text(sink)?;
+    writeln!(sink, ")")
+}
+
+// Writes the types of a group of other than one type, of which the first has the index `start`.
+fn write_several<S: Sink>(start: usize, members: &[SubType], sink: &mut S) -> fmt::Result
+    requires open { S.failed sink.old ≡ false }
+    ensures fault { S.failed sink.new ≡ is_err result }
+{
+    writeln!(sink, "  (rec")?;
+    for (place, ty) in members.iter().enumerate() {
+        write_type("    ", start.saturating_add(place), ty, sink)?;
+    }
+    writeln!(sink, "  )")
+}
+
+// Writes a recursive group. The section Text Format, Recursive Types, with its abbreviation for a group of one type.
+fn write_group<S: Sink>(types: &[SubType], group: &Range<usize>, sink: &mut S) -> fmt::Result
+    requires open { S.failed sink.old ≡ false }
+    ensures fault { S.failed sink.new ≡ is_err result }
+{
+    match types.get(group.start..group.end).unwrap_or(&[]) {
+        [only] => write_type("  ", group.start, only, sink),
+        members => write_several(group.start, members, sink),
+    }
+}
+
+/// Writes the types of a module, `types`, in their groups.
+pub(crate) fn write_types<S: Sink>(
+    types: &[SubType],
+    groups: &[Range<usize>],
+    sink: &mut S,
+) -> fmt::Result
+    requires open { S.failed sink.old ≡ false }
+    ensures fault { S.failed sink.new ≡ is_err result }
+{
+    for group in groups {
+        write_group(types, group, sink)?;
+    }
+    Ok(())
+}

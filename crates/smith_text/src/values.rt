@@ -1,0 +1,90 @@
+use crate::sink::Sink;
+use crate::text_form::TextForm;
+use smith_types::{AbstractHeapType, HeapType, RefType, ValType};
+use std::fmt;
+
+fn keyword_of(ty: AbstractHeapType) -> &'static str {
+    match ty {
+        AbstractHeapType::Func => "func",
+        AbstractHeapType::Extern => "extern",
+        AbstractHeapType::Any => "any",
+        AbstractHeapType::None => "none",
+        AbstractHeapType::NoExtern => "noextern",
+        AbstractHeapType::NoFunc => "nofunc",
+        AbstractHeapType::Eq => "eq",
+        AbstractHeapType::Struct => "struct",
+        AbstractHeapType::Array => "array",
+        AbstractHeapType::I31 => "i31",
+        AbstractHeapType::Exn => "exn",
+        AbstractHeapType::NoExn => "noexn",
+    }
+}
+
+// The abbreviation of the nullable references to `ty`, which is not shared.
+fn abbreviation_of(ty: AbstractHeapType) -> &'static str {
+    match ty {
+        AbstractHeapType::Func => "funcref",
+        AbstractHeapType::Extern => "externref",
+        AbstractHeapType::Any => "anyref",
+        AbstractHeapType::None => "nullref",
+        AbstractHeapType::NoExtern => "nullexternref",
+        AbstractHeapType::NoFunc => "nullfuncref",
+        AbstractHeapType::Eq => "eqref",
+        AbstractHeapType::Struct => "structref",
+        AbstractHeapType::Array => "arrayref",
+        AbstractHeapType::I31 => "i31ref",
+        AbstractHeapType::Exn => "exnref",
+        AbstractHeapType::NoExn => "nullexnref",
+    }
+}
+
+/// The section Text Format, Heap Types.
+impl TextForm for AbstractHeapType {
+    fn write_text<S: Sink>(&self, sink: &mut S) -> fmt::Result {
+        write!(sink, "{}", keyword_of(*self))
+    }
+}
+
+/// The section Text Format, Heap Types; shared types as the shared-everything-threads proposal, exact types as the custom
+/// descriptors proposal writes them.
+impl TextForm for HeapType {
+    fn write_text<S: Sink>(&self, sink: &mut S) -> fmt::Result {
+        match self {
+            HeapType::Abstract { shared: false, ty } => ty.write_text(sink),
+            HeapType::Abstract { shared: true, ty } => {
+                write!(sink, "(shared {})", keyword_of(*ty))
+            }
+            HeapType::Concrete(index) => write!(sink, "{index}"),
+            HeapType::Exact(index) => write!(sink, "(exact {index})"),
+        }
+    }
+}
+
+/// The section Text Format, Reference Types, with its abbreviations.
+impl TextForm for RefType {
+    fn write_text<S: Sink>(&self, sink: &mut S) -> fmt::Result {
+        if self.nullable
+            && let HeapType::Abstract { shared: false, ty } = self.heap_type
+        {
+            return write!(sink, "{}", abbreviation_of(ty));
+        }
+        let null = if self.nullable { "null " } else { "" };
+        write!(sink, "(ref {null}")?;
+        self.heap_type.write_text(sink)?;
+        write!(sink, ")")
+    }
+}
+
+/// The section Text Format, Value Types.
+impl TextForm for ValType {
+    fn write_text<S: Sink>(&self, sink: &mut S) -> fmt::Result {
+        match self {
+            ValType::I32 => write!(sink, "i32"),
+            ValType::I64 => write!(sink, "i64"),
+            ValType::F32 => write!(sink, "f32"),
+            ValType::F64 => write!(sink, "f64"),
+            ValType::V128 => write!(sink, "v128"),
+            ValType::Ref(reference) => reference.write_text(sink),
+        }
+    }
+}
