@@ -1,9 +1,9 @@
-use smith_bytes::Error as Refusal;
+use smith_bytes::Error;
+use smith_json::ConfigRefusal;
 use std::alloc::{AllocError, AllocFailed};
-use thiserror::Error;
 
 /// Why a case can't be answered.
-#[derive(Clone, Copy, Debug, PartialEq, Eq, Error)]
+#[derive(Debug, Drop, thiserror::Error)]
 pub(crate) enum Fault {
     /// The line is no JSON object of strings and lists of strings, from this byte on.
     #[error("no object of a case, from byte {0} on")]
@@ -53,13 +53,22 @@ pub(crate) enum Fault {
     /// The call may not be made: the configuration, or what it is made over, isn't as the call asks.
     #[error("the call may not be made: {0}")]
     NotCallable(&'static str),
-    /// Memory was refused.
+    /// The configuration doesn't read.
+    #[error("the configuration, {0}")]
+    Config(ConfigRefusal),
+    /// Memory was refused, which is all that plain data is refused for.
     #[error("out of memory")]
     Memory,
 }
 
 impl From<AllocError> for Fault {
     fn from(_refused: AllocError) -> Fault {
+        Fault::Memory
+    }
+}
+
+impl From<Error> for Fault {
+    fn from(_refused: Error) -> Fault {
         Fault::Memory
     }
 }

@@ -11,7 +11,7 @@ pub(crate) fn judge(alloc: Global, line: &str, report: &mut String) -> Result<bo
     let mut case = Case::default();
     let judged = judged(alloc, line, &mut case);
     let name = case.name.as_ref().map_or("", |name| name.as_str());
-    match judged {
+    match &judged {
         Ok(None) => writeln!(report, "ok {name}")?,
         Ok(Some(difference)) => writeln!(report, "not ok {name}: {difference}")?,
         Err(fault) => writeln!(report, "not ok {name}: {fault}")?,
@@ -37,12 +37,7 @@ fn judged(alloc: Global, line: &str, case: &mut Case) -> Result<Option<String>, 
 }
 
 // The first difference of the answer to `case`, which stands in `line`, over `input`.
-fn of_input(
-    alloc: Global,
-    line: &str,
-    case: &Case,
-    input: &[u8],
-) -> Result<Option<String>, Fault> {
+fn of_input(alloc: Global, line: &str, case: &Case, input: &[u8]) -> Result<Option<String>, Fault> {
     let first = answer(alloc, line, case, input)?;
     let second = answer(alloc, line, case, input)?;
     if first != second {

@@ -122,8 +122,7 @@ fn missing_line<'a>(answer: &'a str, wanted: &'a [String]) -> Option<Difference<
             left = others;
         }
     }
-    left.first()
-        .map(|line| Difference::NoLine(line.as_str()))
+    left.first().map(|line| Difference::NoLine(line.as_str()))
 }
 
 fn missing_piece<'a>(answer: &'a str, wanted: &'a [String]) -> Option<Difference<'a>> {

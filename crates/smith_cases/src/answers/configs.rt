@@ -1,0 +1,124 @@
+use crate::answers::configured::config_of;
+use crate::answers::told::{tell_bytes, tell_refusal};
+use crate::arguments::{at_most, word};
+use crate::call::ConfigCall;
+use crate::case::Case;
+use crate::fault::Fault;
+use crate::shapes::shape_named;
+use smith_bytes::{Error, Unstructured, Which};
+use smith_config::{Config, Shape};
+use smith_spell::spell;
+use smith_types::WasmFeatures;
+use std::alloc::Global;
+
+/// Appends what `call` gives of the configuration of `case`, or under it.
+pub(crate) fn answer_config(
+    alloc: Global,
+    line: &str,
+    case: &Case,
+    call: ConfigCall,
+    input: &[u8],
+    answer: &mut String,
+) -> Result<(), Fault> {
+    if call == ConfigCall::Arbitrary {
+        return tell_drawn(input, answer);
+    }
+    let mut config = config_of(alloc, line, case)?;
+    match call {
+        ConfigCall::ShapeCheck => checked_shape(alloc, case, &config, answer),
+        ConfigCall::Spell => spelled(alloc, case, &config, answer),
+        _ => told(call, &mut config, answer),
+    }
+}
+
+fn told(call: ConfigCall, config: &mut Config, answer: &mut String) -> Result<(), Fault> {
+    match call {
+        ConfigCall::Check => checked(config, answer),
+        ConfigCall::Features => tell_features(config.features(), answer),
+        _ => {
+            config.sanitize();
+            tell_config(config, answer)
+        }
+    }
+}
+
+fn tell_drawn(input: &[u8], answer: &mut String) -> Result<(), Fault> {
+    match Config::arbitrary(&mut Unstructured::new(input)) {
+        Ok(config) => {
+            tell_config(&config, answer)?;
+            tell_features(config.features(), answer)
+        }
+        Err(refusal) => tell_refusal(refusal, answer),
+    }
+}
+
+// Appends a line `FIELD: VALUE,` for each field.
+fn tell_config(config: &Config, answer: &mut String) -> Result<(), Fault> {
+    writeln!(answer, "{config:#?}")?;
+    Ok(())
+}
+
+fn checked(config: &Config, answer: &mut String) -> Result<(), Fault> {
+    match config.check() {
+        Ok(()) => writeln!(answer, "passes")?,
+        Err(fault) => writeln!(answer, "refused: {fault:?}")?,
+    }
+    Ok(())
+}
+
+// Appends a line for each feature that is on.
+fn tell_features(features: WasmFeatures, answer: &mut String) -> Result<(), Fault> {
+    for flag in WasmFeatures::FLAGS {
+        if features.contains(*flag.value()) {
+            writeln!(answer, "{}", flag.name())?;
+        }
+    }
+    Ok(())
+}
+
+// The shape under the key `shape`.
+fn shape_of(alloc: Global, case: &Case) -> Result<Shape, Fault> {
+    match &case.shape {
+        Some(name) => shape_named(alloc, name.as_str()),
+        None => Err(Fault::UnknownShape),
+    }
+}
+
+// The use of a shape that the first argument names.
+fn which_of(case: &Case) -> Result<Which, Fault> {
+    at_most(case, 1)?;
+    match word(case, 0)? {
+        "AvailableImports" => Ok(Which::AvailableImports),
+        "Exports" => Ok(Which::Exports),
+        "ModuleShape" => Ok(Which::ModuleShape),
+        _ => Err(Fault::Argument(0)),
+    }
+}
+
+fn checked_shape(
+    alloc: Global,
+    case: &Case,
+    config: &Config,
+    answer: &mut String,
+) -> Result<(), Fault> {
+    let which = which_of(case)?;
+    match shape_of(alloc, case)?.check(alloc, which, config) {
+        Ok(()) => Ok(writeln!(answer, "passes")?),
+        Err(refusal) => tell_refusal(refusal, answer),
+    }
+}
+
+// The bytes that spell the groups and the functions of a shape.
+fn spelled(alloc: Global, case: &Case, config: &Config, answer: &mut String) -> Result<(), Fault> {
+    let shape = shape_of(alloc, case)?;
+    match spell(
+        alloc,
+        config,
+        shape.groups.as_slice(),
+        shape.funcs.as_slice(),
+    ) {
+        Ok(Some(bytes)) => tell_bytes("spelled", bytes.as_slice(), answer),
+        Ok(None) => Ok(writeln!(answer, "none")?),
+        Err(refusal) => tell_refusal(refusal, answer),
+    }
+}

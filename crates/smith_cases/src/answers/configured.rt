@@ -1,0 +1,43 @@
+use crate::case::{Case, goes_to_config};
+use crate::fault::Fault;
+use crate::shapes::shape_named;
+use json::{Reader, Scratch};
+use smith_config::{Config, Shape};
+use smith_json::read_config;
+use std::alloc::Global;
+
+/// The configuration of `case`, which stands in `line`: the default where none is given.
+pub(crate) fn config_of(alloc: Global, line: &str, case: &Case) -> Result<Config, Fault> {
+    let mut config = Config::default();
+    set_fields(alloc, line, &mut config)?;
+    set_shapes(alloc, case, &mut config)?;
+    Ok(config)
+}
+
+// Sets the fields that the case of `line` gives.
+fn set_fields(alloc: Global, line: &str, config: &mut Config) -> Result<(), Fault> {
+    let mut scratch = Scratch::new(alloc);
+    let mut reader = Reader::new(line, &mut scratch)?;
+    if !goes_to_config(&mut reader, line.len()) {
+        return Ok(());
+    }
+    match read_config(alloc, &mut reader, config) {
+        Ok(()) => Ok(()),
+        Err(refusal) => Err(Fault::Config(refusal.in_text(line))),
+    }
+}
+
+// Sets the shapes that `case` names.
+fn set_shapes(alloc: Global, case: &Case, config: &mut Config) -> Result<(), Fault> {
+    config.available_imports = shape_under(alloc, &case.available_imports)?;
+    config.exports = shape_under(alloc, &case.exports)?;
+    config.module_shape = shape_under(alloc, &case.module_shape)?;
+    Ok(())
+}
+
+fn shape_under(alloc: Global, name: &Option<String>) -> Result<Option<Shape>, Fault> {
+    match name {
+        Some(name) => Ok(Some(shape_named(alloc, name.as_str())?)),
+        None => Ok(None),
+    }
+}

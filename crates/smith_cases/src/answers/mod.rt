@@ -1,0 +1,74 @@
+//! The answers to calls, each as text.
+
+mod configs;
+mod configured;
+mod constants;
+mod draws;
+mod entities;
+mod free_types;
+mod matching;
+mod modules;
+mod names;
+mod numbers;
+mod parsers;
+mod sources;
+mod spaces;
+mod subtypes;
+mod told;
+
+use crate::answers::configs::answer_config;
+use crate::answers::draws::answer_draw;
+use crate::answers::modules::answer_module;
+use crate::answers::names::answer_name;
+use crate::answers::parsers::answer_parser;
+use crate::answers::sources::answer_source;
+use crate::answers::subtypes::answer_subtype;
+use crate::arguments::word;
+use crate::call::{Call, call_named};
+use crate::case::Case;
+use crate::fault::Fault;
+use crate::recorded::append_recorded;
+use std::alloc::Global;
+
+/// The answer to the call of `case`, which stands in `line`, over the bytes `input`.
+pub(crate) fn answer(
+    alloc: Global,
+    line: &str,
+    case: &Case,
+    input: &[u8],
+) -> Result<String, Fault> {
+    let name = case.call.as_ref().map_or("", |call| call.as_str());
+    let Some(call) = call_named(name) else {
+        return Err(Fault::UnknownCall);
+    };
+    let mut answer = String::new(alloc);
+    append_answer(alloc, line, case, call, input, &mut answer)?;
+    Ok(answer)
+}
+
+fn append_answer(
+    alloc: Global,
+    line: &str,
+    case: &Case,
+    call: Call,
+    input: &[u8],
+    answer: &mut String,
+) -> Result<(), Fault> {
+    match call {
+        Call::Module(call) => answer_module(alloc, line, case, call, input, answer),
+        Call::Config(call) => answer_config(alloc, line, case, call, input, answer),
+        Call::Draw(call) => answer_draw(alloc, line, case, call, input, answer),
+        Call::Source(call) => answer_source(alloc, case, call, input, answer),
+        Call::Name(call) => answer_name(alloc, case, call, input, answer),
+        Call::Parser(call) => answer_parser(case, call, answer),
+        Call::Subtype(call) => answer_subtype(alloc, case, call, answer),
+        Call::Recorded => answer_recorded(alloc, case, answer),
+    }
+}
+
+fn answer_recorded(alloc: Global, case: &Case, answer: &mut String) -> Result<(), Fault> {
+    if append_recorded(alloc, word(case, 0)?, answer)? {
+        return Ok(());
+    }
+    Err(Fault::Argument(0))
+}

@@ -1,0 +1,113 @@
+use crate::answers::configured::config_of;
+use crate::answers::told::tell_refusal;
+use crate::arguments::{at_most, number, word};
+use crate::call::ModuleCall;
+use crate::case::Case;
+use crate::fault::Fault;
+use crate::text::text;
+use smith_bytes::{Error, Unstructured};
+use smith_config::Config;
+use std::alloc::Global;
+use wasm_smith::{DuplicateImportsBehavior, Module};
+
+/// Appends the text of the module that `call` makes, or its refusal.
+pub(crate) fn answer_module(
+    alloc: Global,
+    line: &str,
+    case: &Case,
+    call: ModuleCall,
+    input: &[u8],
+    answer: &mut String,
+) -> Result<(), Fault> {
+    let mut u = Unstructured::new(input);
+    match made(alloc, line, case, call, &mut u)? {
+        Ok(module) => told(alloc, case, call, module, answer),
+        Err(refusal) => tell_refusal(refusal, answer),
+    }
+}
+
+// The module that `call` makes, before it is made to terminate.
+fn made(
+    alloc: Global,
+    line: &str,
+    case: &Case,
+    call: ModuleCall,
+    u: &mut Unstructured<'_>,
+) -> Result<Result<Module, Error>, Fault> {
+    if call == ModuleCall::Arbitrary {
+        return Ok(Module::arbitrary(alloc, u));
+    }
+    if call == ModuleCall::NewOfDrawn {
+        return Ok(of_drawn(alloc, u));
+    }
+    let behavior = behavior_of(case, call)?;
+    let config = config_of(alloc, line, case)?;
+    Ok(Module::new_internal(alloc, config, u, behavior))
+}
+
+// The rule of duplicate imports: that of the first argument for the internal call, else the rule of `Module::new`.
+fn behavior_of(case: &Case, call: ModuleCall) -> Result<DuplicateImportsBehavior, Fault> {
+    if call != ModuleCall::NewInternal {
+        return Ok(DuplicateImportsBehavior::Allowed);
+    }
+    at_most(case, 1)?;
+    match word(case, 0)? {
+        "Allowed" => Ok(DuplicateImportsBehavior::Allowed),
+        "Disallowed" => Ok(DuplicateImportsBehavior::Disallowed),
+        _ => Err(Fault::Argument(0)),
+    }
+}
+
+// A configuration that the first bytes draw, and a module of the others.
+fn of_drawn(alloc: Global, u: &mut Unstructured<'_>) -> Result<Module, Error> {
+    let config = Config::arbitrary(u)?;
+    Module::new(alloc, config, u)
+}
+
+fn told(
+    alloc: Global,
+    case: &Case,
+    call: ModuleCall,
+    mut module: Module,
+    answer: &mut String,
+) -> Result<(), Fault> {
+    if call == ModuleCall::EnsureTermination {
+        terminate(alloc, case, &mut module, answer)?;
+    }
+    tell_module(alloc, &module, answer)
+}
+
+fn tell_module(alloc: Global, module: &Module, answer: &mut String) -> Result<(), Fault> {
+    match text(alloc, module) {
+        Ok(text) => Ok(answer.push_str(text.as_str())?),
+        Err(refusal) => tell_refusal(refusal, answer),
+    }
+}
+
+// Adds fuel to `module` for each argument in turn, and tells each answer.
+fn terminate(
+    alloc: Global,
+    case: &Case,
+    module: &mut Module,
+    answer: &mut String,
+) -> Result<(), Fault> {
+    for place in 0..case.args().len() {
+        add_fuel(alloc, module, number(case, place)?, answer)?;
+    }
+    Ok(())
+}
+
+fn add_fuel(
+    alloc: Global,
+    module: &mut Module,
+    fuel: u32,
+    answer: &mut String,
+) -> Result<(), Fault> {
+    if module.globals().len() >= u32::MAX as usize {
+        return Err(Fault::NotCallable("there are too many globals"));
+    }
+    match module.ensure_termination(alloc, fuel) {
+        Ok(index) => Ok(writeln!(answer, "fuel global {index}")?),
+        Err(refusal) => tell_refusal(refusal, answer),
+    }
+}

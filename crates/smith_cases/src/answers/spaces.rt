@@ -1,0 +1,48 @@
+ghost use Rattle.std.specs.Prelude.{◌≡◌, []};
+
+use crate::case::Case;
+use crate::fault::Fault;
+use crate::shapes::shape_named;
+use smith_config::Config;
+use smith_draw::{Entities, Spaces};
+use smith_types::{TypeSpace, type_space_of};
+use std::alloc::Global;
+
+/// What a call of a case draws over.
+#[derive(Clone, Copy)]
+pub(crate) struct Over<'a> {
+    /// The allocator.
+    pub(crate) alloc: Global,
+    /// The case.
+    pub(crate) case: &'a Case,
+    /// The configuration.
+    pub(crate) config: &'a Config,
+    /// The types.
+    pub(crate) types: &'a TypeSpace,
+}
+
+/// The types `types`, without entities.
+pub(crate) fn spaces_of<'a>(types: &'a TypeSpace) -> Spaces<'a>
+    ensures types { result.types.now ≡ types.now }
+    ensures functions { result.entities.funcs.now ≡ [] }
+    ensures globals { result.entities.globals.now ≡ [] }
+    ensures imported { result.entities.imported_globals ≡ 0 }
+{
+    Spaces {
+        types,
+        entities: Entities::none(),
+    }
+}
+
+/// The types under the key `types` of `case`: those of a shape, none where the key isn't given.
+pub(crate) fn types_of(alloc: Global, case: &Case) -> Result<TypeSpace, Fault> {
+    let Some(name) = &case.types else {
+        return Ok(TypeSpace::new(alloc));
+    };
+    let shape = shape_named(alloc, name.as_str())?;
+    match type_space_of(alloc, shape.groups.as_slice()) {
+        Ok(Some(types)) => Ok(types),
+        Ok(None) => Err(Fault::UnknownTypes),
+        Err(_) => Err(Fault::Memory),
+    }
+}

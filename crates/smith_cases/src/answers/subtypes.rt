@@ -1,0 +1,68 @@
+use crate::answers::spaces::types_of;
+use crate::arguments::{at_most, read};
+use crate::call::SubtypeCall;
+use crate::case::Case;
+use crate::fault::Fault;
+use crate::type_names::{heap_type_of, ref_type_of, val_type_of};
+use smith_types::{HeapType, Predicate, RefType, StandingValue, TypeSpace, ValType};
+use std::alloc::Global;
+
+/// Appends `yes` where the first argument is below the second, else `no`.
+pub(crate) fn answer_subtype(
+    alloc: Global,
+    case: &Case,
+    call: SubtypeCall,
+    answer: &mut String,
+) -> Result<(), Fault> {
+    at_most(case, 2)?;
+    let types = types_of(alloc, case)?;
+    let is_below = match call {
+        SubtypeCall::HeapType => is_heap_below(&types, case)?,
+        SubtypeCall::RefType => is_ref_below(&types, case)?,
+        SubtypeCall::ValType => is_val_below(&types, case)?,
+    };
+    writeln!(answer, "{}", if is_below { "yes" } else { "no" })?;
+    Ok(())
+}
+
+// Whether the types that `value` refers to stand.
+fn is_standing(types: &TypeSpace, value: ValType) -> bool {
+    StandingValue {
+        types: types.types(),
+    }
+    .holds(&value)
+}
+
+const MISSING: Fault = Fault::NotCallable("a type doesn't stand");
+
+fn is_heap_below(types: &TypeSpace, case: &Case) -> Result<bool, Fault> {
+    let (a, b): (HeapType, HeapType) = (read(case, 0, heap_type_of)?, read(case, 1, heap_type_of)?);
+    let (lower, upper) = (nullable(a), nullable(b));
+    if !is_standing(types, lower) || !is_standing(types, upper) {
+        return Err(MISSING);
+    }
+    Ok(types.heap_type_is_sub_type(a, b))
+}
+
+fn nullable(heap_type: HeapType) -> ValType {
+    ValType::Ref(RefType {
+        nullable: true,
+        heap_type,
+    })
+}
+
+fn is_ref_below(types: &TypeSpace, case: &Case) -> Result<bool, Fault> {
+    let (a, b): (RefType, RefType) = (read(case, 0, ref_type_of)?, read(case, 1, ref_type_of)?);
+    if !is_standing(types, ValType::Ref(a)) || !is_standing(types, ValType::Ref(b)) {
+        return Err(MISSING);
+    }
+    Ok(types.ref_type_is_sub_type(a, b))
+}
+
+fn is_val_below(types: &TypeSpace, case: &Case) -> Result<bool, Fault> {
+    let (a, b) = (read(case, 0, val_type_of)?, read(case, 1, val_type_of)?);
+    if !is_standing(types, a) || !is_standing(types, b) {
+        return Err(MISSING);
+    }
+    Ok(types.val_type_is_sub_type(a, b))
+}
