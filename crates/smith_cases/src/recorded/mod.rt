@@ -3,52 +3,66 @@
 mod answer_kinds;
 mod formula;
 
+use crate::arguments::{at_most, number, read};
+use crate::case::Case;
+use crate::fault::Fault;
 use crate::recorded::answer_kinds::AnswerKinds;
-pub(crate) use crate::recorded::formula::{Formula, formula_named};
+use crate::recorded::formula::{Formula, formula_named};
 use sha2::{Digest, Sha256};
 use smith_bytes::{Error, Unstructured};
 use smith_config::Config;
 use smith_text::text;
 use std::alloc::Global;
+use std::ops::Range;
 use wasm_smith::Module;
 
 // The number of inputs that a line tells.
 const INPUTS_A_LINE: u32 = 64;
 
-/// Appends to `answer` what the first `count` inputs of `formula` give under `config`: for each 64 inputs a line of the numbers of the
-/// first and the last, how many answers there are of each kind, and the checksum of the answers.
-pub(crate) fn append_recorded(
+/// Appends what generated inputs give under `config`. The arguments of `case` are the formula of the inputs, the first of their numbers
+/// and how many they are. For each 64 inputs there is a line: the first and the last number, how many answers there are of each kind,
+/// and the checksum of the answers.
+pub(crate) fn answer_recorded(
+    alloc: Global,
+    case: &Case,
+    config: &Config,
+    answer: &mut String,
+) -> Result<(), Fault> {
+    at_most(case, 3)?;
+    let formula = read(case, 0, formula_named)?;
+    let mut first = u32::from(number::<u16>(case, 1)?);
+    let end = first.saturating_add(u32::from(number::<u16>(case, 2)?));
+    for _ in 0..(end - first).div_ceil(INPUTS_A_LINE) {
+        let next = first.saturating_add(INPUTS_A_LINE).min(end);
+        append_line(alloc, config, formula, first..next, answer)?;
+        first = next;
+    }
+    Ok(())
+}
+
+// Appends the line of the inputs `numbers`.
+fn append_line(
     alloc: Global,
     config: &Config,
     formula: Formula,
-    count: u16,
+    numbers: Range<u32>,
     answer: &mut String,
 ) -> Result<(), Error> {
-    let count = u32::from(count);
-    for line in 0..count.div_ceil(INPUTS_A_LINE) {
-        let first = line.saturating_mul(INPUTS_A_LINE);
-        let end = first.saturating_add(INPUTS_A_LINE).min(count);
-        let mut hasher = Sha256::new();
-        let mut kinds = AnswerKinds::new(alloc);
-        for number in first..end {
-            let input = formula.input(alloc, number)?;
-            let kind = feed(alloc, config.clone(alloc)?, &input, &mut hasher)?;
-            kinds.count(kind)?;
-        }
-        let checksum = hex::encode(alloc, hasher.finalize())?;
-        writeln!(answer, "{first} to {}: {kinds}SHA-256 {checksum}", end.saturating_sub(1))?;
+    let (first, last) = (numbers.start, numbers.end.saturating_sub(1));
+    let mut hasher = Sha256::new();
+    let mut kinds = AnswerKinds::new(alloc);
+    for number in numbers {
+        let input = formula.input(alloc, number)?;
+        kinds.count(feed(alloc, config.clone(alloc)?, &input, &mut hasher)?)?;
     }
+    let checksum = hex::encode(alloc, hasher.finalize())?;
+    writeln!(answer, "{first} to {last}: {kinds}SHA-256 {checksum}")?;
     Ok(())
 }
 
 // Feeds `hasher` with the answer to `input` and with what is left of it: the text of the module, or a line of the refusal; then a
 // line that says how many bytes are left, and these bytes. Gives the kind of the answer.
-fn feed(
-    alloc: Global,
-    config: Config,
-    input: &[u8],
-    hasher: &mut Sha256,
-) -> Result<String, Error> {
+fn feed(alloc: Global, config: Config, input: &[u8], hasher: &mut Sha256) -> Result<String, Error> {
     let mut u = Unstructured::new(input);
     let kind = match Module::new(alloc, config, &mut u) {
         Ok(module) => {
