@@ -11,7 +11,6 @@ mod judged;
 mod recorded;
 mod shape_parts;
 mod shapes;
-mod text;
 mod type_names;
 mod wanted;
 

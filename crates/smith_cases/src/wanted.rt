@@ -88,12 +88,18 @@ pub(crate) fn kind_of(answer: &str) -> &str {
     }
 }
 
+// The line that stands for all lines that follow.
+const ANYTHING: &str = "...";
+
 // The first line of `answer` that isn't the line of its place in `wanted`.
 fn other_line<'a>(answer: &'a str, wanted: &'a [String]) -> Option<Difference<'a>> {
     let mut place: usize = 0;
     for line in answer.lines() {
         let given = line.trim();
         let line = wanted.get(place).map_or("", |line| line.as_str().trim());
+        if line == ANYTHING {
+            return None;
+        }
         place = place.saturating_add(1);
         if given != line {
             return Some(Difference::Line {

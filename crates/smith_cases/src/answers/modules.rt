@@ -4,9 +4,9 @@ use crate::arguments::{at_most, number, word};
 use crate::call::ModuleCall;
 use crate::case::Case;
 use crate::fault::Fault;
-use crate::text::text;
 use smith_bytes::{Error, Unstructured};
 use smith_config::Config;
+use smith_text::text;
 use std::alloc::Global;
 use wasm_smith::{DuplicateImportsBehavior, Module};
 

@@ -1,16 +1,19 @@
 use crate::fault::Fault;
 use smith_bytes::{Error, Unstructured};
+use smith_text::{FromFmt, TextForm};
 use smith_types::TypeSpace;
-use std::fmt::Debug;
 
 /// Appends a line of `value` in the text format.
-pub(crate) fn tell<T: Debug>(value: &T, answer: &mut String) -> Result<(), Fault> {
-    writeln!(answer, "{value:?}")?;
+pub(crate) fn tell<T: TextForm>(value: &T, answer: &mut String) -> Result<(), Fault> {
+    if value.write_text(&mut FromFmt::new(&mut *answer)).is_err() {
+        return Err(Fault::Memory);
+    }
+    answer.push_str("\n")?;
     Ok(())
 }
 
 /// Appends a line of what is drawn, or the refusal.
-pub(crate) fn tell_drawn<T: Debug + Drop>(
+pub(crate) fn tell_drawn<T: TextForm + Drop>(
     drawn: Result<T, Error>,
     answer: &mut String,
 ) -> Result<(), Fault> {
@@ -21,7 +24,7 @@ pub(crate) fn tell_drawn<T: Debug + Drop>(
 }
 
 /// Appends a line for each of `values`.
-pub(crate) fn tell_values<T: Debug>(values: &[T], answer: &mut String) -> Result<(), Fault> {
+pub(crate) fn tell_values<T: TextForm>(values: &[T], answer: &mut String) -> Result<(), Fault> {
     for value in values {
         tell(value, answer)?;
     }
