@@ -31,8 +31,9 @@ pub(crate) fn answer_recorded(
     at_most(case, 3)?;
     let formula = read(case, 0, formula_named)?;
     let mut first = u32::from(number::<u16>(case, 1)?);
-    let end = first.saturating_add(u32::from(number::<u16>(case, 2)?));
-    for _ in 0..(end - first).div_ceil(INPUTS_A_LINE) {
+    let count = u32::from(number::<u16>(case, 2)?);
+    let end = first.saturating_add(count);
+    for _ in 0..count.div_ceil(INPUTS_A_LINE) {
         let next = first.saturating_add(INPUTS_A_LINE).min(end);
         append_line(alloc, config, formula, first..next, answer)?;
         first = next;
@@ -51,8 +52,8 @@ fn append_line(
     let (first, last) = (numbers.start, numbers.end.saturating_sub(1));
     let mut hasher = Sha256::new();
     let mut kinds = AnswerKinds::new(alloc);
-    for number in numbers {
-        let input = formula.input(alloc, number)?;
+    for index in numbers {
+        let input = formula.input(alloc, index)?;
         kinds.count(feed(alloc, config.clone(alloc)?, &input, &mut hasher)?)?;
     }
     let checksum = hex::encode(alloc, hasher.finalize())?;
