@@ -144,6 +144,9 @@ pub(crate) enum SubtypeCall {
     ValType,
 }
 
+/// The name of the call that recorded answers are made by.
+pub(crate) const RECORDED: &str = "recorded";
+
 // Each call by its name.
 const CALLS: [(&str, Call); 61] = [
     ("Module::new", Call::Module(ModuleCall::New)),
@@ -338,7 +341,7 @@ const CALLS: [(&str, Call); 61] = [
         "TypeSpace::val_type_is_sub_type",
         Call::Subtype(SubtypeCall::ValType),
     ),
-    ("recorded", Call::Recorded),
+    (RECORDED, Call::Recorded),
 ];
 
 /// The call of the name `name`, where there is one.

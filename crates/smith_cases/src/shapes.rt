@@ -5,7 +5,7 @@ use smith_types::Items;
 use std::alloc::Global;
 
 // Each shape by its name, with its parts in the form that `add_part` reads.
-const SHAPES: [(&str, &[&str]); 28] = [
+const SHAPES: [(&str, &[&str]); 30] = [
     ("nothing", &[]),
     (
         "a function without parameters and results",
@@ -103,6 +103,45 @@ const SHAPES: [(&str, &[&str]); 28] = [
     (
         "a constant reference to no function",
         &["global (ref nofunc)", "export g global 0"],
+    ),
+    (
+        "each kind to import",
+        &[
+            "group func i32 -> i64",
+            "group func f32 ->",
+            "import env function func 0",
+            "items env global global i32; table table i64 5 (ref null extern)",
+            "names env memory,second memory 1 10",
+            "import env tag tag 1",
+        ],
+    ),
+    (
+        "each kind to import and to export",
+        &[
+            "group func i32 -> i64",
+            "group func f32 ->",
+            "group struct i8,(mut (ref null 3)); array (mut i16)",
+            "import env function func 0",
+            "items env global global i32; table table i64 5 (ref null extern)",
+            "names env memory,second memory 1 10",
+            "import env tag tag 1",
+            "func 0",
+            "tag 1",
+            "global mut f64",
+            "memory 1 10",
+            "table 5 10 (ref null extern)",
+            "export function func 0",
+            "export table table 0",
+            "export memory memory 0",
+            "export second memory 1",
+            "export global global 0",
+            "export tag tag 0",
+            "export own-function func 1",
+            "export own-table table 1",
+            "export own-memory memory 2",
+            "export own-global global 1",
+            "export own-tag tag 1",
+        ],
     ),
 ];
 

@@ -17,17 +17,18 @@ mod subtypes;
 mod told;
 
 use crate::answers::configs::answer_config;
+use crate::answers::configured::config_of;
 use crate::answers::draws::answer_draw;
 use crate::answers::modules::answer_module;
 use crate::answers::names::answer_name;
 use crate::answers::parsers::answer_parser;
 use crate::answers::sources::answer_source;
 use crate::answers::subtypes::answer_subtype;
-use crate::arguments::word;
 use crate::call::{Call, call_named};
 use crate::case::Case;
 use crate::fault::Fault;
-use crate::recorded::append_recorded;
+use crate::keys::check_keys;
+use crate::recorded::answer_recorded;
 use std::alloc::Global;
 
 /// The answer to the call of `case`, which stands in `line`, over the bytes `input`.
@@ -41,6 +42,7 @@ pub(crate) fn answer(
     let Some(call) = call_named(name) else {
         return Err(Fault::UnknownCall);
     };
+    check_keys(case, call)?;
     let mut answer = String::new(alloc);
     append_answer(alloc, line, case, call, input, &mut answer)?;
     Ok(answer)
@@ -62,13 +64,6 @@ fn append_answer(
         Call::Name(call) => answer_name(alloc, case, call, input, answer),
         Call::Parser(call) => answer_parser(case, call, answer),
         Call::Subtype(call) => answer_subtype(alloc, case, call, answer),
-        Call::Recorded => answer_recorded(alloc, case, answer),
+        Call::Recorded => answer_recorded(alloc, case, &config_of(alloc, line, case)?, answer),
     }
-}
-
-fn answer_recorded(alloc: Global, case: &Case, answer: &mut String) -> Result<(), Fault> {
-    if append_recorded(alloc, word(case, 0)?, answer)? {
-        return Ok(());
-    }
-    Err(Fault::Argument(0))
 }
