@@ -9,6 +9,8 @@ pub(crate) struct Case {
     pub(crate) name: Option<String>,
     /// Under `call`.
     pub(crate) call: Option<String>,
+    /// Whether there is a configuration under `config`.
+    pub(crate) config: Option<()>,
     /// Under `input`.
     pub(crate) input: Option<String>,
     /// Under `inputs`.
@@ -117,7 +119,8 @@ fn read_member(
 ) -> Result<(), Fault> {
     let place = reader.offset();
     if key == "config" {
-        return pass(reader);
+        pass(reader)?;
+        return put(&mut case.config, (), place);
     }
     if let Some(slot) = case.text_under(key) {
         return put(slot, read_text(alloc, reader)?, place);

@@ -8,9 +8,12 @@ mod case;
 mod fault;
 mod input;
 mod judged;
+mod keys;
 mod recorded;
 mod shape_parts;
 mod shapes;
+#[cfg(test)]
+mod tests;
 mod type_names;
 mod wanted;
 

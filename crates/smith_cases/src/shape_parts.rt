@@ -11,6 +11,7 @@ use std::alloc::Global;
 ///
 /// - `group TYPE; TYPE`, a recursive group. A type is `struct FIELD,FIELD`, `array FIELD` or `func PARAM,PARAM -> RESULT`, after
 ///   `open` where it isn't final and `below INDEX` where it has a supertype.
+/// - `chain COUNT`, a group of so many structs without fields, each but the first below the one before.
 /// - `import MODULE NAME ENTITY`, an import by itself. An entity is `func INDEX`, `tag INDEX`, `table MINIMUM MAXIMUM REFERENCE`,
 ///   `memory MINIMUM MAXIMUM` or `global VALUE`. The maximum may be left out. The limits come after `shared` and `i64`, the value
 ///   type after `shared` and `mut`, where the entity is so.
@@ -22,6 +23,11 @@ pub(crate) fn add_part(alloc: Global, part: &str, shape: &mut Shape) -> Result<(
     let (word, rest) = split_word(part);
     match word {
         "group" => Ok(shape.groups.push(group_of(alloc, rest)?)?),
+        "chain" => Ok(
+            shape
+                .groups
+                .push(chain_of(alloc, known(rest.parse::<u32>().ok())?)?)?,
+        ),
         "import" => Ok(shape.imports.push(import_of(alloc, rest)?)?),
         "items" => Ok(shape.imports.push(items_of(alloc, rest)?)?),
         "names" => Ok(shape.imports.push(names_of(alloc, rest)?)?),
@@ -48,6 +54,27 @@ fn group_of(alloc: Global, text: &str) -> Result<Items<SubType>, Fault> {
         }
     }
     Ok(types)
+}
+
+fn chain_of(alloc: Global, count: u32) -> Result<Items<SubType>, Fault> {
+    let mut types = Items::new(alloc);
+    for index in 0..count {
+        types.push(open_struct(alloc, index.checked_sub(1)))?;
+    }
+    Ok(types)
+}
+
+fn open_struct(alloc: Global, supertype: Option<u32>) -> SubType {
+    SubType {
+        is_final: false,
+        supertype,
+        composite_type: CompositeType {
+            inner: CompositeInnerType::Struct(StructType {
+                fields: Items::new(alloc),
+            }),
+            shared: false,
+        },
+    }
 }
 
 fn sub_type_of(alloc: Global, text: &str) -> Result<SubType, Fault> {

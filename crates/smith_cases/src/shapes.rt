@@ -5,7 +5,7 @@ use smith_types::Items;
 use std::alloc::Global;
 
 // Each shape by its name, with its parts in the form that `add_part` reads.
-const SHAPES: [(&str, &[&str]); 23] = [
+const SHAPES: [(&str, &[&str]); 30] = [
     ("nothing", &[]),
     (
         "a function without parameters and results",
@@ -87,6 +87,22 @@ const SHAPES: [(&str, &[&str]); 23] = [
     (
         "a table whose limits are crossed",
         &["table 2 1 (ref null func)"],
+    ),
+    ("63 structs, each below the one before", &["chain 63"]),
+    ("64 structs, each below the one before", &["chain 64"]),
+    ("a vector", &["global v128"]),
+    (
+        "an exact reference",
+        &["group struct", "global (ref null (exact 0))"],
+    ),
+    (
+        "an exported function of an open type",
+        &["group open func ->", "func 0", "export f func 0"],
+    ),
+    ("a tag to import", &["group func ->", "import env t tag 0"]),
+    (
+        "a constant reference to no function",
+        &["global (ref nofunc)", "export g global 0"],
     ),
     (
         "each kind to import",

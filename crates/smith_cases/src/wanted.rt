@@ -40,22 +40,33 @@ impl fmt::Display for Difference<'_> {
     }
 }
 
-/// Checks that `case` wants something that not every answer has.
+/// Checks that `case` wants something that not every answer has, and no list that is empty.
 pub(crate) fn check_wanted(case: &Case) -> Result<(), Fault> {
-    let wanted = [
-        list(&case.answer),
-        list(&case.lines),
-        list(&case.pieces),
-        list(&case.may),
-    ];
-    if wanted.iter().all(|texts| texts.is_empty()) {
+    let wanted = [&case.answer, &case.lines, &case.pieces, &case.may];
+    if wanted.iter().all(|texts| texts.is_none()) || begins_with_anything(list(&case.answer)) {
         return Err(Fault::WantsNothing);
     }
-    let pieces = [list(&case.lines), list(&case.pieces), list(&case.absent)];
-    if pieces.iter().any(|texts| has_blank(texts)) {
-        return Err(Fault::EmptyPiece);
+    for texts in [
+        &case.answer,
+        &case.lines,
+        &case.pieces,
+        &case.absent,
+        &case.may,
+    ] {
+        if texts.as_ref().is_some_and(|texts| texts.is_empty()) {
+            return Err(Fault::WantsNothing);
+        }
+        if has_blank(list(texts)) {
+            return Err(Fault::EmptyPiece);
+        }
     }
     Ok(())
+}
+
+fn begins_with_anything(lines: &[String]) -> bool {
+    lines
+        .first()
+        .is_some_and(|line| line.as_str().trim() == ANYTHING)
 }
 
 fn has_blank(texts: &[String]) -> bool {

@@ -65,17 +65,15 @@ impl Refusal {
 
 /// The line and the column, both from 1, of the byte at `offset`. A column is a character.
 fn place(text: &[u8], offset: usize) -> (usize, usize) {
-    let mut line = 1;
-    let mut column = 1;
-    for byte in text.iter().take(offset) {
-        if *byte == b'\n' {
-            line += 1;
-            column = 1;
-        } else if *byte & 0xC0 != 0x80 {
-            column += 1;
-        }
-    }
-    (line, column)
+    let before = &text[..offset.min(text.len())];
+    let line = before.iter().filter(|byte| **byte == b'\n').count();
+    let column = before
+        .iter()
+        .rev()
+        .take_while(|byte| **byte != b'\n')
+        .filter(|byte| **byte & 0xC0 != 0x80)
+        .count();
+    (line.saturating_add(1), column.saturating_add(1))
 }
 
 impl fmt::Display for ConfigRefusal {

@@ -1,4 +1,21 @@
-use crate::by_name::{byte, count, flag, long, wide, word};
+ghost use Rattle.std.specs.Prelude.{◌≡◌, ◌≤◌, drop, IfOk, IfSome, OnOk};
+ghost use Rattle.json.specs.Reads.{token_of};
+ghost use Rattle.smith_json.specs.Fields.{named, others, other_named, field_named};
+ghost use Rattle.smith_json.specs.Values.{
+  first,
+  unwanted,
+  number_of,
+  whole_value,
+  truth_value,
+  file_value,
+  AreKinds,
+  weight,
+  weights,
+  list_end,
+};
+ghost use Rattle.smith_json.specs.Objects.{Sets, outcome};
+
+use crate::by_name::{byte, long, maximum, minimum, proposal, rule, wide, word};
 use crate::refusal::Fault;
 use bitflags::Flags;
 use json::{Reader, Token};
@@ -6,143 +23,200 @@ use smith_config::{Config, MemoryOffsetChoices};
 use smith_types::InstructionKinds;
 use std::str::FromStr;
 
-/// Reads the value of the member `name` from `reader`, and sets the field of that name to it.
-pub(crate) fn set_field(
-    config: &mut Config,
-    name: &str,
-    reader: &mut Reader<'_>,
-) -> Result<(), Fault> {
-    if let Some(field) = count(config, name) {
-        *field = whole(reader.next())?.unwrap_or(*field);
-    } else if let Some(field) = byte(config, name) {
-        *field = whole(reader.next())?.unwrap_or(*field);
-    } else if let Some(field) = word(config, name) {
-        *field = whole(reader.next())?.unwrap_or(*field);
-    } else if let Some(field) = long(config, name) {
-        *field = whole(reader.next())?.unwrap_or(*field);
-    } else if let Some(field) = wide(config, name) {
-        *field = whole(reader.next())?.unwrap_or(*field);
-    } else if let Some(field) = flag(config, name) {
-        *field = truth(reader.next())?.unwrap_or(*field);
-    } else {
-        set_other(config, name, reader)?;
-    }
-    Ok(())
-}
-
-/// The same for the fields that are neither numbers nor flags.
-fn set_other(config: &mut Config, name: &str, reader: &mut Reader<'_>) -> Result<(), Fault> {
-    match name {
-        "allowed-instructions" => {
-            let kinds = kinds(reader.next())?;
-            config.allowed_instructions = kinds.unwrap_or(config.allowed_instructions);
-            Ok(())
-        }
-        "memory-offset-choices" => {
-            let choices = offset_choices(reader)?;
-            config.memory_offset_choices = choices.unwrap_or(config.memory_offset_choices);
-            Ok(())
-        }
-        "available-imports" | "exports" | "module-shape" => no_file(reader.next()),
-        _ => Err(Fault::UnknownField),
-    }
+/// Takes the next token. The end of the text counts as a bad one.
+fn next<'a>(reader: &mut Reader<'a>) -> Token<'a>
+    ensures token { token_of result ≡ first reader.old }
+    ensures rest { reader.new ≡ drop 1 reader.old }
+{
+    reader.next().unwrap_or(Token::Bad)
 }
 
 /// The fault of a token that a field doesn't take.
-fn unwanted(token: Option<Token<'_>>) -> Fault {
+fn unwanted(token: Token<'_>) -> Fault
+    ensures { result ≡ unwanted (token_of token.entry) }
+{
     match token {
-        Some(
-            Token::BeginObject
-            | Token::BeginArray
-            | Token::String(_)
-            | Token::Number(_)
-            | Token::Bool(_)
-            | Token::Null,
-        ) => Fault::WrongType,
-        _ => Fault::NotAnObject,
+        Token::BeginObject
+        | Token::BeginArray
+        | Token::String(_)
+        | Token::Number(_)
+        | Token::Bool(_)
+        | Token::Null => Fault::WrongType,
+        Token::EndObject | Token::EndArray | Token::Key(_) | Token::Bad => Fault::NotAnObject,
     }
 }
 
-/// The whole number that a token denotes, or none at `null`.
-fn whole<N: FromStr>(token: Option<Token<'_>>) -> Result<Option<N>, Fault>
-where
-    N: Drop,
-    N::Err: Drop,
+/// The number, at most `most`, that the text of a JSON number writes in digits alone.
+fn number(text: &str, most: u128) -> Result<u128, Fault>
+    ensures exact { result ≡ number_of most text.now }
+    ensures bounded { IfOk result (λ n. n ≤ most) }
+{
+    if text.is_empty() || !text.bytes().all(|byte| byte.is_ascii_digit()) {
+        return Err(Fault::WrongType);
+    }
+    match u128::from_str(text) {
+        Ok(number) if number <= most => Ok(number),
+        _ => Err(Fault::OutOfRange),
+    }
+}
+
+/// The whole number, at most `most`, that a token denotes, or none at `null`.
+fn whole(token: Token<'_>, most: u128) -> Result<Option<u128>, Fault>
+    ensures exact { result ≡ whole_value most (token_of token.entry) }
+    ensures bounded { IfOk result (λ value. IfSome value (λ n. n ≤ most)) }
 {
     match token {
-        Some(Token::Null) => Ok(None),
-        Some(Token::Number(text)) => number(text).map(Some),
+        Token::Null => Ok(None),
+        Token::Number(text) => Ok(Some(number(text, most)?)),
         token => Err(unwanted(token)),
     }
 }
 
-/// The whole number that the text of a JSON number denotes.
-fn number<N: FromStr>(text: &str) -> Result<N, Fault>
-where
-    N: Drop,
-    N::Err: Drop,
+/// The truth value that a token denotes, or none at `null`.
+fn truth(token: Token<'_>) -> Result<Option<bool>, Fault>
+    ensures { result ≡ truth_value (token_of token.entry) }
 {
-    if text.bytes().any(|byte| matches!(byte, b'.' | b'e' | b'E')) {
-        return Err(Fault::WrongType);
+    match token {
+        Token::Null => Ok(None),
+        Token::Bool(value) => Ok(Some(value)),
+        token => Err(unwanted(token)),
     }
-    text.parse().map_err(|_| Fault::OutOfRange)
 }
 
-/// The truth value that a token denotes, or none at `null`.
-fn truth(token: Option<Token<'_>>) -> Result<Option<bool>, Fault> {
+/// Takes `null` alone, in place of a path.
+fn no_file(token: Token<'_>) -> Result<(), Fault>
+    ensures { result ≡ file_value (token_of token.entry) }
+{
     match token {
-        Some(Token::Null) => Ok(None),
-        Some(Token::Bool(value)) => Ok(Some(value)),
+        Token::Null => Ok(()),
         token => Err(unwanted(token)),
     }
 }
 
 /// The set of kinds of instructions that a token denotes, or none at `null`.
-fn kinds(token: Option<Token<'_>>) -> Result<Option<InstructionKinds>, Fault> {
+fn kinds(token: Token<'_>) -> Result<Option<InstructionKinds>, Fault>
+    ensures { AreKinds (token_of token.entry) result }
+{
     match token {
-        Some(Token::Null) => Ok(None),
-        Some(Token::Number(text)) => {
-            let bits = number(text)?;
-            let kinds = <InstructionKinds as Flags>::from_bits(bits).ok_or(Fault::OutOfRange)?;
-            Ok(Some(kinds))
+        Token::Null => Ok(None),
+        Token::Number(text) => {
+            let bits = number(text, 0xFFF)?;
+            Ok(Some(InstructionKinds::from_bits_retain(bits as u16)))
         }
-        Some(Token::String(names)) => {
-            let kinds = InstructionKinds::from_str(names).map_err(|_| Fault::OutOfRange)?;
-            Ok(Some(kinds))
-        }
-        token => Err(unwanted(token)),
-    }
-}
-
-/// The three weights of a list, or none at `null`.
-fn offset_choices(reader: &mut Reader<'_>) -> Result<Option<MemoryOffsetChoices>, Fault> {
-    match reader.next() {
-        Some(Token::Null) => return Ok(None),
-        Some(Token::BeginArray) => {}
-        token => return Err(unwanted(token)),
-    }
-    let inside = weight(reader.next())?;
-    let between = weight(reader.next())?;
-    let past = weight(reader.next())?;
-    match reader.next() {
-        Some(Token::EndArray) => Ok(Some(MemoryOffsetChoices(inside, between, past))),
+        Token::String(names) => match InstructionKinds::from_str(names) {
+            Ok(kinds) => Ok(Some(kinds)),
+            Err(_) => Err(Fault::OutOfRange),
+        },
         token => Err(unwanted(token)),
     }
 }
 
 /// One of the three weights.
-fn weight(token: Option<Token<'_>>) -> Result<u32, Fault> {
+fn weight(token: Token<'_>) -> Result<u32, Fault>
+    ensures { result ≡ weight (token_of token.entry) }
+{
     match token {
-        Some(Token::Number(text)) => number(text),
-        Some(Token::EndArray) => Err(Fault::WrongType),
+        Token::Number(text) => Ok(number(text, u32::MAX as u128)? as u32),
+        Token::EndArray => Err(Fault::WrongType),
         token => Err(unwanted(token)),
     }
 }
 
-/// Takes `null` alone.
-fn no_file(token: Option<Token<'_>>) -> Result<(), Fault> {
+/// The end of the list of weights.
+fn list_end(token: Token<'_>) -> Result<(), Fault>
+    ensures { result ≡ list_end (token_of token.entry) }
+{
     match token {
-        Some(Token::Null) => Ok(()),
+        Token::EndArray => Ok(()),
         token => Err(unwanted(token)),
     }
+}
+
+/// Reads the rest of a list of three weights.
+fn weights(reader: &mut Reader<'_>) -> Result<MemoryOffsetChoices, Fault>
+    ensures value { result ≡ weights reader.old }
+    ensures rest { OnOk result (reader.new ≡ drop 4 reader.old) }
+{
+    let inside = weight(next(reader))?;
+    let between = weight(next(reader))?;
+    let past = weight(next(reader))?;
+    list_end(next(reader))?;
+    Ok(MemoryOffsetChoices(inside, between, past))
+}
+
+/// Reads the value of the member `name` from `reader`, and sets the field of that name to it.
+pub(crate) fn set_field(
+    config: &mut Config,
+    name: &str,
+    reader: &mut Reader<'_>,
+) -> Result<(), Fault>
+    ensures { Sets (field_named name.now) config.old reader.old (outcome result config.new reader.new) }
+{
+    if let Some(field) = minimum(config, name) {
+        if let Some(value) = whole(next(reader), usize::MAX as u128)? {
+            *field = value as usize;
+        }
+    } else if let Some(field) = maximum(config, name) {
+        if let Some(value) = whole(next(reader), usize::MAX as u128)? {
+            *field = value as usize;
+        }
+    } else if let Some(field) = byte(config, name) {
+        if let Some(value) = whole(next(reader), u8::MAX as u128)? {
+            *field = value as u8;
+        }
+    } else if let Some(field) = word(config, name) {
+        if let Some(value) = whole(next(reader), u32::MAX as u128)? {
+            *field = value as u32;
+        }
+    } else if let Some(field) = long(config, name) {
+        if let Some(value) = whole(next(reader), u64::MAX as u128)? {
+            *field = value as u64;
+        }
+    } else if let Some(field) = wide(config, name) {
+        if let Some(value) = whole(next(reader), u128::MAX)? {
+            *field = value;
+        }
+    } else {
+        return set_flag(config, name, reader);
+    }
+    Ok(())
+}
+
+/// The same for the fields that are no numbers.
+fn set_flag(config: &mut Config, name: &str, reader: &mut Reader<'_>) -> Result<(), Fault>
+    ensures { Sets (other_named name.now) config.old reader.old (outcome result config.new reader.new) }
+{
+    if let Some(field) = proposal(config, name) {
+        if let Some(value) = truth(next(reader))? {
+            *field = value;
+        }
+    } else if let Some(field) = rule(config, name) {
+        if let Some(value) = truth(next(reader))? {
+            *field = value;
+        }
+    } else {
+        return set_other(config, name, reader);
+    }
+    Ok(())
+}
+
+/// The same for the fields that are neither numbers nor flags.
+fn set_other(config: &mut Config, name: &str, reader: &mut Reader<'_>) -> Result<(), Fault>
+    ensures { Sets (named name.now others) config.old reader.old (outcome result config.new reader.new) }
+{
+    match name {
+        "allowed-instructions" => {
+            if let Some(kinds) = kinds(next(reader))? {
+                config.allowed_instructions = kinds;
+            }
+        }
+        "memory-offset-choices" => match next(reader) {
+            Token::Null => {}
+            Token::BeginArray => config.memory_offset_choices = weights(reader)?,
+            token => return Err(unwanted(token)),
+        },
+        "available-imports" | "exports" | "module-shape" => no_file(next(reader))?,
+        _ => return Err(Fault::UnknownField),
+    }
+    Ok(())
 }

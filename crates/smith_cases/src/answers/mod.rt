@@ -27,6 +27,7 @@ use crate::answers::subtypes::answer_subtype;
 use crate::call::{Call, call_named};
 use crate::case::Case;
 use crate::fault::Fault;
+use crate::keys::check_keys;
 use crate::recorded::answer_recorded;
 use std::alloc::Global;
 
@@ -41,6 +42,7 @@ pub(crate) fn answer(
     let Some(call) = call_named(name) else {
         return Err(Fault::UnknownCall);
     };
+    check_keys(case, call)?;
     let mut answer = String::new(alloc);
     append_answer(alloc, line, case, call, input, &mut answer)?;
     Ok(answer)

@@ -1,0 +1,4 @@
+pub mod Fields
+pub mod Lends
+pub mod Values
+pub mod Objects
