@@ -54,7 +54,10 @@ pub(crate) enum DrawCall {
 #[derive(Clone, Copy, Debug, PartialEq)]
 pub(crate) enum FreeCall {
     Types,
+    RecGroup,
+    CloneRecGroup,
     Sub,
+    SubOfSuper,
     Composite,
     Struct,
     Func,
@@ -69,6 +72,7 @@ pub(crate) enum FreeCall {
 #[derive(Clone, Copy, Debug, PartialEq)]
 pub(crate) enum MatchingCall {
     Func,
+    Struct,
     Field,
     Storage,
     Val,
@@ -94,6 +98,7 @@ pub(crate) enum EntityCall {
 pub(crate) enum ConstantCall {
     Expression,
     TableInit,
+    Globals,
 }
 
 /// What numbers are drawn.
@@ -148,7 +153,7 @@ pub(crate) enum SubtypeCall {
 pub(crate) const RECORDED: &str = "recorded";
 
 // Each call by its name.
-const CALLS: [(&str, Call); 61] = [
+const CALLS: [(&str, Call); 66] = [
     ("Module::new", Call::Module(ModuleCall::New)),
     (
         "Module::new_internal",
@@ -172,6 +177,26 @@ const CALLS: [(&str, Call); 61] = [
     (
         "arbitrary_types",
         Call::Draw(DrawCall::Free(FreeCall::Types)),
+    ),
+    (
+        "arbitrary_rec_group",
+        Call::Draw(DrawCall::Free(FreeCall::RecGroup)),
+    ),
+    (
+        "clone_rec_group",
+        Call::Draw(DrawCall::Free(FreeCall::CloneRecGroup)),
+    ),
+    (
+        "arbitrary_sub_type_of_super_type",
+        Call::Draw(DrawCall::Free(FreeCall::SubOfSuper)),
+    ),
+    (
+        "arbitrary_matching_struct_type",
+        Call::Draw(DrawCall::Matching(MatchingCall::Struct)),
+    ),
+    (
+        "globals_for_const_expr",
+        Call::Draw(DrawCall::Constant(ConstantCall::Globals)),
     ),
     (
         "arbitrary_sub_type",

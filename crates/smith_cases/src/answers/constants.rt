@@ -3,14 +3,14 @@ ghost use Rattle.smith_config.specs.Sanitized.{IsSanitized};
 ghost use Rattle.smith_config.specs.Features.{features_of};
 ghost use Rattle.smith_types.specs.ValidTypes.{AreTypesValid};
 
-use crate::answers::spaces::{Over, spaces_of};
+use crate::answers::spaces::{Over, spaces_of, with_globals};
 use crate::answers::told::{tell_refusal, tell_values};
 use crate::arguments::{at_most, flag, read};
 use crate::call::ConstantCall;
 use crate::fault::Fault;
 use crate::type_names::{ref_type_of, val_type_of};
 use smith_bytes::Unstructured;
-use smith_draw::{arbitrary_const_expr, arbitrary_table_init};
+use smith_draw::{arbitrary_const_expr, arbitrary_table_init, globals_for_const_expr};
 use smith_types::{are_types_valid, is_ref_type_valid, is_val_type_valid};
 
 /// Appends the constant expression that `call` draws.
@@ -28,6 +28,7 @@ pub(crate) fn answer_constant(
     match call {
         ConstantCall::Expression => answer_expression(over, u, answer),
         ConstantCall::TableInit => answer_initialiser(over, u, answer),
+        ConstantCall::Globals => answer_globals(over, answer),
     }
 }
 
@@ -48,6 +49,23 @@ fn answer_expression(
     let spaces = spaces_of(over.types);
     match arbitrary_const_expr(over.alloc, over.config, &spaces, wanted, allow_defined, u) {
         Ok(drawn) => tell_values(drawn.as_slice(), answer),
+        Err(refusal) => tell_refusal(refusal, answer),
+    }
+}
+
+// The globals that a value of the type that is the first argument may be read of. The second is whether these may be defined ones.
+fn answer_globals(over: &Over<'_>, answer: &mut String) -> Result<(), Fault>
+    requires types { AreTypesValid (features_of over.now.config.now) over.now.types.now }
+{
+    at_most(over.case, 2)?;
+    let wanted = read(over.case, 0, val_type_of)?;
+    let allow_defined = flag(over.case, 1)?;
+    if !is_val_type_valid(over.config.features(), over.types.types().len(), wanted) {
+        return Err(Fault::NotCallable("the value type isn't valid"));
+    }
+    let spaces = with_globals(over.types);
+    match globals_for_const_expr(over.alloc, over.config, &spaces, wanted, allow_defined) {
+        Ok(globals) => tell_values(globals.as_slice(), answer),
         Err(refusal) => tell_refusal(refusal, answer),
     }
 }

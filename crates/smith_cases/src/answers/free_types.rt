@@ -1,8 +1,8 @@
-ghost use Rattle.std.specs.Prelude.{◌→◌, IsTrue};
+ghost use Rattle.std.specs.Prelude.{IsTrue};
 ghost use Rattle.smith_config.specs.Faults.{Passes};
 ghost use Rattle.smith_config.specs.Sanitized.{IsSanitized};
 
-use crate::answers::spaces::{Over, spaces_of};
+use crate::answers::spaces::{Over, spaces_of, types_of};
 use crate::answers::told::{tell_drawn, tell_refusal, tell_types};
 use crate::arguments::{at_most, flag, number};
 use crate::call::FreeCall;
@@ -10,8 +10,9 @@ use crate::fault::Fault;
 use smith_bytes::Unstructured;
 use smith_draw::{
     Entities, arbitrary_composite_type, arbitrary_field_type, arbitrary_func_type,
-    arbitrary_heap_type, arbitrary_ref_type, arbitrary_storage_type, arbitrary_struct_type,
-    arbitrary_sub_type, arbitrary_types, arbitrary_valtype,
+    arbitrary_heap_type, arbitrary_rec_group, arbitrary_ref_type, arbitrary_storage_type,
+    arbitrary_struct_type, arbitrary_sub_type, arbitrary_sub_type_of_super_type, arbitrary_types,
+    arbitrary_valtype, clone_rec_group,
 };
 use smith_types::TypeSpace;
 
@@ -54,6 +55,9 @@ pub(crate) fn answer_free_type(
     }
     match call {
         FreeCall::Types => answer_types(over, u, answer),
+        FreeCall::RecGroup => answer_group(over, u, answer),
+        FreeCall::CloneRecGroup => answer_clone(over, u, answer),
+        FreeCall::SubOfSuper => answer_subtype_of_one(over, bounds, u, answer),
         FreeCall::Sub => answer_sub_type(over, bounds, u, answer),
         FreeCall::Composite => answer_composite_type(over, bounds, u, answer),
         _ => answer_part(over, call, bounds, u, answer),
@@ -71,6 +75,63 @@ fn answer_types(over: &Over<'_>, u: &mut Unstructured<'_>, answer: &mut String) 
         Ok(()) => tell_types(&types, answer),
         Err(refusal) => tell_refusal(refusal, answer),
     }
+}
+
+// A group, behind no other, that may be empty.
+#[tactic(auto, using(smith_draw::proofs::CallerLemmas::passes_but_imports))]
+fn answer_group(over: &Over<'_>, u: &mut Unstructured<'_>, answer: &mut String) -> Result<(), Fault>
+    requires passes { Passes over.now.config.now }
+    requires sanitized { IsSanitized over.now.config.now }
+{
+    let Over { alloc, config, .. } = *over;
+    let mut types = TypeSpace::new(alloc);
+    if types.types().len() >= config.max_types {
+        return Err(Fault::NotCallable("no type is left"));
+    }
+    match arbitrary_rec_group(alloc, config, &mut types, &Entities::none(), true, u) {
+        Ok(()) => tell_types(&types, answer),
+        Err(refusal) => tell_refusal(refusal, answer),
+    }
+}
+
+// A clone of one of the groups of the case, which may be empty.
+#[tactic(auto, using(smith_draw::proofs::CallerLemmas::passes_but_imports))]
+fn answer_clone(over: &Over<'_>, u: &mut Unstructured<'_>, answer: &mut String) -> Result<(), Fault>
+    requires { Passes over.now.config.now }
+{
+    let Over { alloc, config, .. } = *over;
+    let mut types = types_of(alloc, over.case)?;
+    if types.types().len() >= config.max_types || types.rec_groups().is_empty() {
+        return Err(Fault::NotCallable("nothing may be cloned"));
+    }
+    match clone_rec_group(alloc, config, &mut types, &Entities::none(), true, u) {
+        Ok(is_cloned) => {
+            writeln!(answer, "{is_cloned}")?;
+            tell_types(&types, answer)
+        }
+        Err(refusal) => tell_refusal(refusal, answer),
+    }
+}
+
+// A type below one of the types of the case, of which the first may have subtypes.
+fn answer_subtype_of_one(
+    over: &Over<'_>,
+    bounds: Bounds,
+    u: &mut Unstructured<'_>,
+    answer: &mut String,
+) -> Result<(), Fault>
+    requires { IsSanitized over.now.config.now }
+{
+    let Over { alloc, config, .. } = *over;
+    let types = over.types.types();
+    if !config.gc_enabled || types.is_empty() || types[0].is_final || over.types.depth(0) >= 60 {
+        return Err(Fault::NotCallable("the first type has no subtypes"));
+    }
+    let spaces = spaces_of(over.types);
+    tell_drawn(
+        arbitrary_sub_type_of_super_type(alloc, config, &spaces, bounds.limit, u),
+        answer,
+    )
 }
 
 fn answer_sub_type(

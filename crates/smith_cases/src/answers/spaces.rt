@@ -5,7 +5,7 @@ use crate::fault::Fault;
 use crate::shapes::shape_named;
 use smith_config::Config;
 use smith_draw::{Entities, Spaces};
-use smith_types::{TypeSpace, type_space_of};
+use smith_types::{GlobalType, TypeSpace, ValType, type_space_of};
 use std::alloc::Global;
 
 /// What a call of a case draws over.
@@ -31,6 +31,35 @@ pub(crate) fn spaces_of<'a>(types: &'a TypeSpace) -> Spaces<'a>
     Spaces {
         types,
         entities: Entities::none(),
+    }
+}
+
+const VARIABLE: GlobalType = GlobalType {
+    val_type: ValType::I32,
+    mutable: true,
+    shared: false,
+};
+
+const CONSTANT: GlobalType = GlobalType {
+    val_type: ValType::I32,
+    mutable: false,
+    shared: false,
+};
+
+const GLOBALS: [GlobalType; 3] = [VARIABLE, CONSTANT, CONSTANT];
+
+/// The types `types` with three globals of an i32: a variable and a constant that are imported, and a constant that is defined.
+pub(crate) fn with_globals<'a>(types: &'a TypeSpace) -> Spaces<'a>
+    ensures types { result.types.now ≡ types.now }
+    ensures functions { result.entities.funcs.now ≡ [] }
+{
+    Spaces {
+        types,
+        entities: Entities {
+            globals: &GLOBALS,
+            imported_globals: 2,
+            ..Entities::none()
+        },
     }
 }
 
