@@ -40,7 +40,7 @@ fn write_lanes<S: Sink>(value: i128, sink: &mut S) -> fmt::Result
     ensures fault { S.failed sink.new ≡ is_err result }
 {
     let bits = value.cast_unsigned();
-    write!(sink, "i32x4")?;
+    sink.write_str(" i32x4")?;
     for lane in 0..4u32 {
         let low = ((bits >> (32 * lane)) & 0xffff_ffff) as u32;
         write!(sink, " {low:#010x}")?;
@@ -48,57 +48,40 @@ fn write_lanes<S: Sink>(value: i128, sink: &mut S) -> fmt::Result
     Ok(())
 }
 
-// Writes the immediate arguments of an instruction that has some.
+// Writes the immediate arguments of an instruction, each after a space.
 fn write_arguments<S: Sink>(instruction: &ConstInstr, sink: &mut S) -> fmt::Result
     requires open { S.failed sink.old ≡ false }
     ensures fault { S.failed sink.new ≡ is_err result }
 {
     match instruction {
-        ConstInstr::I32Const(value) => write!(sink, "{value}"),
-        ConstInstr::I64Const(value) => write!(sink, "{value}"),
+        ConstInstr::I32Const(value) => write!(sink, " {value}"),
+        ConstInstr::I64Const(value) => write!(sink, " {value}"),
         ConstInstr::F32Const(bits) => write_f32(*bits, sink),
         ConstInstr::F64Const(bits) => write_f64(*bits, sink),
         ConstInstr::V128Const(bits) => write_lanes(*bits, sink),
-        ConstInstr::RefNull(heap_type) => heap_type.write_text(sink),
+        ConstInstr::RefNull(heap_type) => {
+            sink.write_str(" ")?;
+            heap_type.write_text(sink)
+        }
         ConstInstr::GlobalGet(index)
         | ConstInstr::RefFunc(index)
         | ConstInstr::StructNew(index)
         | ConstInstr::StructNewDefault(index)
         | ConstInstr::ArrayNew(index)
-        | ConstInstr::ArrayNewDefault(index) => write!(sink, "{index}"),
+        | ConstInstr::ArrayNewDefault(index) => write!(sink, " {index}"),
         ConstInstr::ArrayNewFixed {
             array_type_index,
             array_size,
-        } => write!(sink, "{array_type_index} {array_size}"),
+        } => write!(sink, " {array_type_index} {array_size}"),
         _ => Ok(()),
     }
-}
-
-fn has_arguments(instruction: &ConstInstr) -> bool {
-    !matches!(
-        instruction,
-        ConstInstr::I32Add
-            | ConstInstr::I32Sub
-            | ConstInstr::I32Mul
-            | ConstInstr::I64Add
-            | ConstInstr::I64Sub
-            | ConstInstr::I64Mul
-            | ConstInstr::RefI31
-            | ConstInstr::RefI31Shared
-            | ConstInstr::AnyConvertExtern
-            | ConstInstr::ExternConvertAny
-    )
 }
 
 /// The sections Text Format, Numeric, Vector, Reference, Aggregate and Variable Instructions; `ref.i31_shared` as the
 /// shared-everything-threads proposal writes it. Integers are written in decimal, with their sign.
 impl TextForm for ConstInstr {
     fn write_text<S: Sink>(&self, sink: &mut S) -> fmt::Result {
-        write!(sink, "{}", keyword_of(self))?;
-        if !has_arguments(self) {
-            return Ok(());
-        }
-        write!(sink, " ")?;
+        sink.write_str(keyword_of(self))?;
         write_arguments(self, sink)
     }
 }

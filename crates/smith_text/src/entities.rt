@@ -24,10 +24,10 @@ fn address_type(is_wide: bool) -> &'static str {
 /// The section Text Format, Table Types; shared tables as the shared-everything-threads proposal writes them.
 impl TextForm for TableType {
     fn write_text<S: Sink>(&self, sink: &mut S) -> fmt::Result {
-        let shared = if self.shared { "shared " } else { "" };
-        write!(sink, "{shared}{}", address_type(self.table64))?;
+        sink.write_str(if self.shared { "shared " } else { "" })?;
+        sink.write_str(address_type(self.table64))?;
         write_limits(self.minimum, self.maximum, sink)?;
-        write!(sink, " ")?;
+        sink.write_str(" ")?;
         self.element_type.write_text(sink)
     }
 }
@@ -48,10 +48,10 @@ fn write_page_size<S: Sink>(log2: u32, sink: &mut S) -> fmt::Result
 /// writes them.
 impl TextForm for MemoryType {
     fn write_text<S: Sink>(&self, sink: &mut S) -> fmt::Result {
-        write!(sink, "{}", address_type(self.memory64))?;
+        sink.write_str(address_type(self.memory64))?;
         write_limits(self.minimum, self.maximum, sink)?;
         if self.shared {
-            write!(sink, " shared")?;
+            sink.write_str(" shared")?;
         }
         match self.page_size_log2 {
             Some(log2) => write_page_size(log2, sink),
@@ -65,13 +65,13 @@ impl TextForm for GlobalType {
     fn write_text<S: Sink>(&self, sink: &mut S) -> fmt::Result {
         let keywords = match (self.shared, self.mutable) {
             (false, false) => return self.val_type.write_text(sink),
-            (false, true) => "mut",
-            (true, false) => "shared",
-            (true, true) => "shared mut",
+            (false, true) => "(mut ",
+            (true, false) => "(shared ",
+            (true, true) => "(shared mut ",
         };
-        write!(sink, "({keywords} ")?;
+        sink.write_str(keywords)?;
         self.val_type.write_text(sink)?;
-        write!(sink, ")")
+        sink.write_str(")")
     }
 }
 
@@ -101,9 +101,11 @@ fn write_details<S: Sink>(entity: &EntityType, sink: &mut S) -> fmt::Result
 /// The section Text Format, External Types.
 impl TextForm for EntityType {
     fn write_text<S: Sink>(&self, sink: &mut S) -> fmt::Result {
-        write!(sink, "({} ", keyword_of(self))?;
+        sink.write_str("(")?;
+        sink.write_str(keyword_of(self))?;
+        sink.write_str(" ")?;
         write_details(self, sink)?;
-        write!(sink, ")")
+        sink.write_str(")")
     }
 }
 
@@ -118,18 +120,18 @@ pub(crate) fn write_import_type<S: Sink>(
 {
     write!(sink, "({} (;{index};) ", keyword_of(entity))?;
     write_details(entity, sink)?;
-    write!(sink, ")")
+    sink.write_str(")")
 }
 
 /// The keyword of the section Text Format, Exports.
 impl TextForm for ExportKind {
     fn write_text<S: Sink>(&self, sink: &mut S) -> fmt::Result {
         match self {
-            ExportKind::Func => write!(sink, "func"),
-            ExportKind::Table => write!(sink, "table"),
-            ExportKind::Memory => write!(sink, "memory"),
-            ExportKind::Global => write!(sink, "global"),
-            ExportKind::Tag => write!(sink, "tag"),
+            ExportKind::Func => sink.write_str("func"),
+            ExportKind::Table => sink.write_str("table"),
+            ExportKind::Memory => sink.write_str("memory"),
+            ExportKind::Global => sink.write_str("global"),
+            ExportKind::Tag => sink.write_str("tag"),
         }
     }
 }

@@ -40,7 +40,7 @@ fn write_magnitude<S: Sink>(float: &Float, sink: &mut S) -> fmt::Result
 {
     if float.exponent == float.greatest {
         return match float.significand {
-            0 => write!(sink, "inf"),
+            0 => sink.write_str("inf"),
             payload => write!(sink, "nan:0x{payload:x}"),
         };
     }
@@ -58,13 +58,11 @@ fn write_float<S: Sink>(float: &Float, sink: &mut S) -> fmt::Result
     requires open { S.failed sink.old ≡ false }
     ensures fault { S.failed sink.new ≡ is_err result }
 {
-    if float.is_negative {
-        write!(sink, "-")?;
-    }
+    sink.write_str(if float.is_negative { " -" } else { " " })?;
     write_magnitude(float, sink)
 }
 
-/// Writes the number of 32 bits whose bits are `bits`, as a hexadecimal number that is equal, an infinity or a NaN with its payload.
+/// Writes, after a space, the number of 32 bits whose bits are `bits`: a hexadecimal number that is equal, an infinity or a NaN with its payload.
 pub(crate) fn write_f32<S: Sink>(bits: u32, sink: &mut S) -> fmt::Result
     requires open { S.failed sink.old ≡ false }
     ensures fault { S.failed sink.new ≡ is_err result }

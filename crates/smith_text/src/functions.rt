@@ -12,7 +12,7 @@ fn write_check<S: Sink>(global: u32, sink: &mut S) -> fmt::Result
     ensures fault { S.failed sink.new ≡ is_err result }
 {
     writeln!(sink, "    global.get {global}\n    i32.eqz")?;
-    writeln!(sink, "    if\n      unreachable\n    end")?;
+    sink.write_str("    if\n      unreachable\n    end\n")?;
     writeln!(
         sink,
         "    global.get {global}\n    i32.const 1\n    i32.sub"
@@ -28,7 +28,7 @@ fn write_trap<S: Sink>(fuel_globals: &[u32], sink: &mut S) -> fmt::Result
     for global in fuel_globals.iter().rev() {
         write_check(*global, sink)?;
     }
-    writeln!(sink, "    unreachable")
+    sink.write_str("    unreachable\n")
 }
 
 fn write_locals<S: Sink>(body: &Code, sink: &mut S) -> fmt::Result
@@ -38,9 +38,8 @@ fn write_locals<S: Sink>(body: &Code, sink: &mut S) -> fmt::Result
     if body.locals.is_empty() {
         return Ok(());
     }
-    write!(sink, "   ")?;
-    write_list("local", body.locals.as_slice(), sink)?;
-    writeln!(sink, "")
+    write_list("    (local", body.locals.as_slice(), sink)?;
+    sink.write_str("\n")
 }
 
 // Writes the function of the index `index`, of the type of the index `ty`. The section Text Format, Functions. Raw bytes have no
@@ -60,7 +59,7 @@ fn write_function<S: Sink>(
     if let Instructions::Unreachable = body.instructions {
         write_trap(fuel_globals, sink)?;
     }
-    writeln!(sink, "  )")
+    sink.write_str("  )\n")
 }
 
 /// Writes the functions that `module` defines.

@@ -36,14 +36,14 @@ fn write_single<S: Sink>(import: &Import, indices: &mut NextIndices, sink: &mut 
     requires open { S.failed sink.old ≡ false }
     ensures fault { S.failed sink.new ≡ is_err result }
 {
-    write!(sink, "  (import ")?;
+    sink.write_str("  (import ")?;
     import.module.write_text(sink)?;
-    write!(sink, " ")?;
+    sink.write_str(" ")?;
     import.name.write_text(sink)?;
-    write!(sink, " ")?;
+    sink.write_str(" ")?;
     let index = indices.take(&import.entity_type);
     write_import_type(&import.entity_type, index, sink)?;
-    writeln!(sink, ")")
+    sink.write_str(")\n")
 }
 
 // Writes an import of a group whose imports have types of their own.
@@ -51,11 +51,11 @@ fn write_item<S: Sink>(item: &ImportItem, index: u32, sink: &mut S) -> fmt::Resu
     requires open { S.failed sink.old ≡ false }
     ensures fault { S.failed sink.new ≡ is_err result }
 {
-    write!(sink, "    (item ")?;
+    sink.write_str("    (item ")?;
     item.name.write_text(sink)?;
-    write!(sink, " ")?;
+    sink.write_str(" ")?;
     write_import_type(&item.entity_type, index, sink)?;
-    writeln!(sink, ")")
+    sink.write_str(")\n")
 }
 
 fn write_typed_group<S: Sink>(
@@ -67,14 +67,14 @@ fn write_typed_group<S: Sink>(
     requires open { S.failed sink.old ≡ false }
     ensures fault { S.failed sink.new ≡ is_err result }
 {
-    write!(sink, "  (import ")?;
+    sink.write_str("  (import ")?;
     module.write_text(sink)?;
-    writeln!(sink, "")?;
+    sink.write_str("\n")?;
     for item in items {
         let index = indices.take(&item.entity_type);
         write_item(item, index, sink)?;
     }
-    writeln!(sink, "  )")
+    sink.write_str("  )\n")
 }
 
 // Writes an import of a group whose imports have one type.
@@ -82,7 +82,7 @@ fn write_name<S: Sink>(name: &Name, index: u32, sink: &mut S) -> fmt::Result
     requires open { S.failed sink.old ≡ false }
     ensures fault { S.failed sink.new ≡ is_err result }
 {
-    write!(sink, "    (item ")?;
+    sink.write_str("    (item ")?;
     name.write_text(sink)?;
     writeln!(sink, " (;{index};))")
 }
@@ -97,16 +97,16 @@ fn write_uniform_group<S: Sink>(
     requires open { S.failed sink.old ≡ false }
     ensures fault { S.failed sink.new ≡ is_err result }
 {
-    write!(sink, "  (import ")?;
+    sink.write_str("  (import ")?;
     module.write_text(sink)?;
-    writeln!(sink, "")?;
+    sink.write_str("\n")?;
     for name in names {
         let index = indices.take(entity_type);
         write_name(name, index, sink)?;
     }
-    write!(sink, "    ")?;
+    sink.write_str("    ")?;
     entity_type.write_text(sink)?;
-    writeln!(sink, "\n  )")
+    sink.write_str("\n  )\n")
 }
 
 fn write_group<S: Sink>(group: &Imports, indices: &mut NextIndices, sink: &mut S) -> fmt::Result

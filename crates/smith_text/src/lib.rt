@@ -12,8 +12,6 @@ mod notes;
 mod segments;
 mod sink;
 mod strings;
-#[cfg(test)]
-mod tests;
 mod text_form;
 mod types;
 mod values;

@@ -26,7 +26,7 @@ fn write_tables<S: Sink>(module: &Module, sink: &mut S) -> fmt::Result
         if let Some(expression) = initialiser {
             write_each(expression.as_slice(), sink)?;
         }
-        writeln!(sink, ")")?;
+        sink.write_str(")\n")?;
     }
     Ok(())
 }
@@ -41,7 +41,7 @@ fn write_memories<S: Sink>(module: &Module, sink: &mut S) -> fmt::Result
     for (index, memory) in memories.iter().enumerate().skip(imported) {
         write!(sink, "  (memory (;{index};) ")?;
         memory.write_text(sink)?;
-        writeln!(sink, ")")?;
+        sink.write_str(")\n")?;
     }
     Ok(())
 }
@@ -71,7 +71,7 @@ fn write_globals<S: Sink>(module: &Module, sink: &mut S) -> fmt::Result
         write!(sink, "  (global (;{index};) ")?;
         global.write_text(sink)?;
         write_each(initialiser.as_slice(), sink)?;
-        writeln!(sink, ")")?;
+        sink.write_str(")\n")?;
     }
     Ok(())
 }
@@ -82,9 +82,9 @@ fn write_exports<S: Sink>(module: &Module, sink: &mut S) -> fmt::Result
     ensures fault { S.failed sink.new ≡ is_err result }
 {
     for (name, kind, index) in module.exports() {
-        write!(sink, "  (export ")?;
+        sink.write_str("  (export ")?;
         name.write_text(sink)?;
-        write!(sink, " (")?;
+        sink.write_str(" (")?;
         kind.write_text(sink)?;
         writeln!(sink, " {index}))")?;
     }
@@ -98,7 +98,7 @@ fn write_exports<S: Sink>(module: &Module, sink: &mut S) -> fmt::Result
 /// bodies stand. Lines of comments follow for what the text format has no form for.
 impl TextForm for Module {
     fn write_text<S: Sink>(&self, sink: &mut S) -> fmt::Result {
-        writeln!(sink, "(module")?;
+        sink.write_str("(module\n")?;
         write_types(self.types(), self.rec_groups(), sink)?;
         write_imports(self.imports(), sink)?;
         write_tables(self, sink)?;
@@ -109,7 +109,7 @@ impl TextForm for Module {
         write_element_segments(self.elems(), sink)?;
         write_functions(self, sink)?;
         write_data_segments(self.data(), sink)?;
-        writeln!(sink, ")")?;
+        sink.write_str(")\n")?;
         write_notes(self, sink)
     }
 }

@@ -20,7 +20,7 @@ fn write_values<T: TextForm, S: Sink>(name: &str, values: &[T], sink: &mut S) ->
 {
     write!(sink, ";; {name}")?;
     write_each(values, sink)?;
-    writeln!(sink, "")
+    sink.write_str("\n")
 }
 
 // Writes the line of the raw body of the function `index`: its bytes in hexadecimal.
@@ -32,7 +32,7 @@ fn write_raw_body<S: Sink>(index: usize, bytes: &[u8], sink: &mut S) -> fmt::Res
     for byte in bytes {
         write!(sink, "{byte:02x}")?;
     }
-    writeln!(sink, "")
+    sink.write_str("\n")
 }
 
 // Writes the lines of the raw bodies among `code`, of which the first is that of the function `start`.

@@ -35,7 +35,7 @@ impl TextForm for ElementKind {
     fn write_text<S: Sink>(&self, sink: &mut S) -> fmt::Result {
         match self {
             ElementKind::Passive => return Ok(()),
-            ElementKind::Declared => write!(sink, "declare")?,
+            ElementKind::Declared => sink.write_str("declare")?,
             ElementKind::Active {
                 table: None,
                 offset,
@@ -48,7 +48,7 @@ impl TextForm for ElementKind {
                 offset.write_text(sink)?;
             }
         }
-        write!(sink, " ")
+        sink.write_str(" ")
     }
 }
 
@@ -57,11 +57,11 @@ fn write_functions<S: Sink>(ty: &RefType, functions: &[u32], sink: &mut S) -> fm
     requires open { S.failed sink.old ≡ false }
     ensures fault { S.failed sink.new ≡ is_err result }
 {
-    write!(sink, "func")?;
+    sink.write_str("func")?;
     if *ty != FUNCREF {
-        write!(sink, " (;")?;
+        sink.write_str(" (;")?;
         ty.write_text(sink)?;
-        write!(sink, ";)")?;
+        sink.write_str(";)")?;
     }
     write_each(functions, sink)
 }
@@ -76,9 +76,9 @@ fn write_expressions<S: Sink>(
 {
     ty.write_text(sink)?;
     for expression in expressions {
-        write!(sink, " (item")?;
+        sink.write_str(" (item")?;
         write_each(expression.as_slice(), sink)?;
-        write!(sink, ")")?;
+        sink.write_str(")")?;
     }
     Ok(())
 }
@@ -102,9 +102,9 @@ fn write_element_details<S: Sink>(segment: &ElementSegment, sink: &mut S) -> fmt
 /// The section Text Format, Element Segments.
 impl TextForm for ElementSegment {
     fn write_text<S: Sink>(&self, sink: &mut S) -> fmt::Result {
-        write!(sink, "(elem ")?;
+        sink.write_str("(elem ")?;
         write_element_details(self, sink)?;
-        write!(sink, ")")
+        sink.write_str(")")
     }
 }
 
@@ -123,7 +123,7 @@ impl TextForm for DataSegmentKind {
             write!(sink, "(memory {memory_index}) ")?;
         }
         offset.write_text(sink)?;
-        write!(sink, " ")
+        sink.write_str(" ")
     }
 }
 
@@ -139,9 +139,9 @@ fn write_data_details<S: Sink>(segment: &DataSegment, sink: &mut S) -> fmt::Resu
 /// The section Text Format, Data Segments.
 impl TextForm for DataSegment {
     fn write_text<S: Sink>(&self, sink: &mut S) -> fmt::Result {
-        write!(sink, "(data ")?;
+        sink.write_str("(data ")?;
         write_data_details(self, sink)?;
-        write!(sink, ")")
+        sink.write_str(")")
     }
 }
 
@@ -156,7 +156,7 @@ pub(crate) fn write_element_segments<S: Sink>(
     for (index, segment) in segments.iter().enumerate() {
         write!(sink, "  (elem (;{index};) ")?;
         write_element_details(segment, sink)?;
-        writeln!(sink, ")")?;
+        sink.write_str(")\n")?;
     }
     Ok(())
 }
@@ -169,7 +169,7 @@ pub(crate) fn write_data_segments<S: Sink>(segments: &[DataSegment], sink: &mut 
     for (index, segment) in segments.iter().enumerate() {
         write!(sink, "  (data (;{index};) ")?;
         write_data_details(segment, sink)?;
-        writeln!(sink, ")")?;
+        sink.write_str(")\n")?;
     }
     Ok(())
 }

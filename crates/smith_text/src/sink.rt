@@ -8,13 +8,17 @@ pub trait Sink {
     // Whether a write has failed.
     ghost failed: { Self → Bool };
 
-    /// Writes what `text` prints. The macros `write!` and `writeln!` call it.
-    ///
-    /// No write of the sink has failed so far.
+    /// Writes `text`, where no write of the sink has failed so far.
     ///
     /// # Errors
     ///
     /// The error of the destination.
+    fn write_str(&mut self, text: &str) -> fmt::Result
+        requires open { failed self.old ≡ false }
+        ensures fault { failed self.new ≡ is_err result };
+
+    /// Writes what `text` prints. The macros `write!` and `writeln!` call it, and it is as
+    /// [`Sink::write_str`] is.
     fn write_fmt<D: Display + Drop>(&mut self, text: D) -> fmt::Result
         requires open { failed self.old ≡ false }
         ensures fault { failed self.new ≡ is_err result };
@@ -41,6 +45,12 @@ impl<W: fmt::Write> FromFmt<W> {
 
 impl<W: fmt::Write> Sink for FromFmt<W> {
     ghost failed = { λ sink. sink.failed };
+
+    fn write_str(&mut self, text: &str) -> fmt::Result {
+        let written = self.writer.write_str(text);
+        self.failed = written.is_err();
+        written
+    }
 
     fn write_fmt<D: Display + Drop>(&mut self, text: D) -> fmt::Result {
         let written = self.writer.write_fmt(text);

@@ -10,8 +10,8 @@ fn write_byte<S: Sink>(byte: u8, sink: &mut S) -> fmt::Result
     ensures fault { S.failed sink.new ≡ is_err result }
 {
     match byte {
-        b'"' => write!(sink, "\\\""),
-        b'\\' => write!(sink, "\\\\"),
+        b'"' => sink.write_str("\\\""),
+        b'\\' => sink.write_str("\\\\"),
         b' '..=b'~' => write!(sink, "{}", byte as char),
         _ => write!(sink, "\\{byte:02x}"),
     }
@@ -23,11 +23,11 @@ pub(crate) fn write_string<S: Sink>(bytes: &[u8], sink: &mut S) -> fmt::Result
     requires open { S.failed sink.old ≡ false }
     ensures fault { S.failed sink.new ≡ is_err result }
 {
-    write!(sink, "\"")?;
+    sink.write_str("\"")?;
     for byte in bytes {
         write_byte(*byte, sink)?;
     }
-    write!(sink, "\"")
+    sink.write_str("\"")
 }
 
 /// The section Text Format, Names. A character outside of ASCII is written as the bytes of its UTF-8.

@@ -28,15 +28,15 @@ pub(crate) fn write_each<T: TextForm, S: Sink>(items: &[T], sink: &mut S) -> fmt
     ensures fault { S.failed sink.new ≡ is_err result }
 {
     for item in items {
-        write!(sink, " ")?;
+        sink.write_str(" ")?;
         item.write_text(sink)?;
     }
     Ok(())
 }
 
-/// Writes `items` in parentheses after ` (` and `keyword`, or nothing where there are none.
+/// Writes `opening`, `items` and a closing parenthesis, or nothing where there are no items.
 pub(crate) fn write_list<T: TextForm, S: Sink>(
-    keyword: &str,
+    opening: &str,
     items: &[T],
     sink: &mut S,
 ) -> fmt::Result
@@ -46,7 +46,7 @@ pub(crate) fn write_list<T: TextForm, S: Sink>(
     if items.is_empty() {
         return Ok(());
     }
-    write!(sink, " ({keyword}")?;
+    sink.write_str(opening)?;
     write_each(items, sink)?;
-    write!(sink, ")")
+    sink.write_str(")")
 }

@@ -13,8 +13,8 @@ use std::ops::Range;
 impl TextForm for StorageType {
     fn write_text<S: Sink>(&self, sink: &mut S) -> fmt::Result {
         match self {
-            StorageType::I8 => write!(sink, "i8"),
-            StorageType::I16 => write!(sink, "i16"),
+            StorageType::I8 => sink.write_str("i8"),
+            StorageType::I16 => sink.write_str("i16"),
             StorageType::Val(ty) => ty.write_text(sink),
         }
     }
@@ -26,18 +26,18 @@ impl TextForm for FieldType {
         if !self.mutable {
             return self.element_type.write_text(sink);
         }
-        write!(sink, "(mut ")?;
+        sink.write_str("(mut ")?;
         self.element_type.write_text(sink)?;
-        write!(sink, ")")
+        sink.write_str(")")
     }
 }
 
 /// The section Text Format, Composite Types: an array type.
 impl TextForm for ArrayType {
     fn write_text<S: Sink>(&self, sink: &mut S) -> fmt::Result {
-        write!(sink, "(array ")?;
+        sink.write_str("(array ")?;
         self.0.write_text(sink)?;
-        write!(sink, ")")
+        sink.write_str(")")
     }
 }
 
@@ -45,19 +45,19 @@ impl TextForm for ArrayType {
 /// parentheses.
 impl TextForm for StructType {
     fn write_text<S: Sink>(&self, sink: &mut S) -> fmt::Result {
-        write!(sink, "(struct")?;
-        write_list("field", self.fields.as_slice(), sink)?;
-        write!(sink, ")")
+        sink.write_str("(struct")?;
+        write_list(" (field", self.fields.as_slice(), sink)?;
+        sink.write_str(")")
     }
 }
 
 /// The section Text Format, Composite Types: a function type, with the abbreviations that list its parameters and its results.
 impl TextForm for FuncType {
     fn write_text<S: Sink>(&self, sink: &mut S) -> fmt::Result {
-        write!(sink, "(func")?;
-        write_list("param", self.params.as_slice(), sink)?;
-        write_list("result", self.results.as_slice(), sink)?;
-        write!(sink, ")")
+        sink.write_str("(func")?;
+        write_list(" (param", self.params.as_slice(), sink)?;
+        write_list(" (result", self.results.as_slice(), sink)?;
+        sink.write_str(")")
     }
 }
 
@@ -78,9 +78,9 @@ impl TextForm for CompositeType {
         if !self.shared {
             return self.inner.write_text(sink);
         }
-        write!(sink, "(shared ")?;
+        sink.write_str("(shared ")?;
         self.inner.write_text(sink)?;
-        write!(sink, ")")
+        sink.write_str(")")
     }
 }
 
@@ -90,13 +90,16 @@ impl TextForm for SubType {
         if self.is_final && self.supertype.is_none() {
             return self.composite_type.write_text(sink);
         }
-        let keyword = if self.is_final { "sub final" } else { "sub" };
-        write!(sink, "({keyword} ")?;
+        sink.write_str(if self.is_final {
+            "(sub final "
+        } else {
+            "(sub "
+        })?;
         if let Some(index) = self.supertype {
             write!(sink, "{index} ")?;
         }
         self.composite_type.write_text(sink)?;
-        write!(sink, ")")
+        sink.write_str(")")
     }
 }
 
@@ -107,7 +110,7 @@ fn write_type<S: Sink>(indent: &str, index: usize, ty: &SubType, sink: &mut S) -
 {
     write!(sink, "{indent}(type (;{index};) ")?;
     ty.write_text(sink)?;
-    writeln!(sink, ")")
+    sink.write_str(")\n")
 }
 
 // Writes the types of a group of other than one type, of which the first has the index `start`.
@@ -115,11 +118,11 @@ fn write_several<S: Sink>(start: usize, members: &[SubType], sink: &mut S) -> fm
     requires open { S.failed sink.old ≡ false }
     ensures fault { S.failed sink.new ≡ is_err result }
 {
-    writeln!(sink, "  (rec")?;
+    sink.write_str("  (rec\n")?;
     for (place, ty) in members.iter().enumerate() {
         write_type("    ", start.saturating_add(place), ty, sink)?;
     }
-    writeln!(sink, "  )")
+    sink.write_str("  )\n")
 }
 
 // Writes a recursive group. The section Text Format, Recursive Types, with its abbreviation for a group of one type.

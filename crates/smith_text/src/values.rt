@@ -41,7 +41,7 @@ fn abbreviation_of(ty: AbstractHeapType) -> &'static str {
 /// The section Text Format, Heap Types.
 impl TextForm for AbstractHeapType {
     fn write_text<S: Sink>(&self, sink: &mut S) -> fmt::Result {
-        write!(sink, "{}", keyword_of(*self))
+        sink.write_str(keyword_of(*self))
     }
 }
 
@@ -52,7 +52,9 @@ impl TextForm for HeapType {
         match self {
             HeapType::Abstract { shared: false, ty } => ty.write_text(sink),
             HeapType::Abstract { shared: true, ty } => {
-                write!(sink, "(shared {})", keyword_of(*ty))
+                sink.write_str("(shared ")?;
+                sink.write_str(keyword_of(*ty))?;
+                sink.write_str(")")
             }
             HeapType::Concrete(index) => write!(sink, "{index}"),
             HeapType::Exact(index) => write!(sink, "(exact {index})"),
@@ -66,12 +68,11 @@ impl TextForm for RefType {
         if self.nullable
             && let HeapType::Abstract { shared: false, ty } = self.heap_type
         {
-            return write!(sink, "{}", abbreviation_of(ty));
+            return sink.write_str(abbreviation_of(ty));
         }
-        let null = if self.nullable { "null " } else { "" };
-        write!(sink, "(ref {null}")?;
+        sink.write_str(if self.nullable { "(ref null " } else { "(ref " })?;
         self.heap_type.write_text(sink)?;
-        write!(sink, ")")
+        sink.write_str(")")
     }
 }
 
@@ -79,11 +80,11 @@ impl TextForm for RefType {
 impl TextForm for ValType {
     fn write_text<S: Sink>(&self, sink: &mut S) -> fmt::Result {
         match self {
-            ValType::I32 => write!(sink, "i32"),
-            ValType::I64 => write!(sink, "i64"),
-            ValType::F32 => write!(sink, "f32"),
-            ValType::F64 => write!(sink, "f64"),
-            ValType::V128 => write!(sink, "v128"),
+            ValType::I32 => sink.write_str("i32"),
+            ValType::I64 => sink.write_str("i64"),
+            ValType::F32 => sink.write_str("f32"),
+            ValType::F64 => sink.write_str("f64"),
+            ValType::V128 => sink.write_str("v128"),
             ValType::Ref(reference) => reference.write_text(sink),
         }
     }

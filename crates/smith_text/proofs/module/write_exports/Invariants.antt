@@ -1,0 +1,5 @@
+use Rattle.std.proofs.Common.{◌≡◌, false}
+use Rattle.smith_text.proofs.module.write_exports.Given as goal
+
+abbrev pub invariant-loop-name : goal.invariant-loop-name
+invariant-loop-name g l = g.S.Sink.failed l.sink ≡ false

@@ -1,0 +1,5 @@
+use Rattle.std.proofs.Common.{◌≡◌, false}
+use Rattle.smith_text.proofs.segments.write_expressions.Given as goal
+
+abbrev pub invariant-loop-expression : goal.invariant-loop-expression
+invariant-loop-expression g l = g.S.Sink.failed l.sink ≡ false
