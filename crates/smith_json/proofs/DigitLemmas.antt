@@ -46,20 +46,20 @@ no_plus (c ∷ cs) h =
     let least : 48 ≤ c = (inside c (both (is_ascii_digit c) (list_all is_ascii_digit cs) digits).0).0 in
     let other : (c == 43) ≡ false = grind (arith, least) in rw other refl
 
-pub parsed : {E : Type 0} (text : List ℕ) (most n : ℕ) → are_digits text ≡ true → ParsesUnsigned {E = E} 128 10 text (Ok n) → n ≤ most → Ok n ≡ number_of most text
-parsed text most n h read small =
+pub parsed : (E : Type 0) (text : List ℕ) (most n : ℕ) → are_digits text ≡ true → ParsesUnsigned {E = E} 128 10 text (Ok n) → n ≤ most → Ok n ≡ number_of most text
+parsed E text most n h read small =
     let plain = no_plus text h in
-    let value : digits_value 10 text ≡ n = rw plain at read.1 in
+    let value : digits_value 10 text ≡ n = sym (rw plain at read.1) in
     let fits : nat_lt most n ≡ false = grind (arith, small) in rw (h, value, fits) refl
 
-pub parsed_large : {E : Type 0} (text : List ℕ) (most n : ℕ) → are_digits text ≡ true → ParsesUnsigned {E = E} 128 10 text (Ok n) → most < n → Err OutOfRange ≡ number_of most text
-parsed_large text most n h read large =
+pub parsed_large : (E : Type 0) (text : List ℕ) (most n : ℕ) → are_digits text ≡ true → ParsesUnsigned {E = E} 128 10 text (Ok n) → most < n → Err OutOfRange ≡ number_of most text
+parsed_large E text most n h read large =
     let plain = no_plus text h in
-    let value : digits_value 10 text ≡ n = rw plain at read.1 in
+    let value : digits_value 10 text ≡ n = sym (rw plain at read.1) in
     let exceeds : nat_lt most n ≡ true = grind (arith, large) in rw (h, value, exceeds) refl
 
-pub unparsed : {E : Type 0} (text : List ℕ) (most : ℕ) (e : E) → are_digits text ≡ true → ParsesUnsigned {E = E} 128 10 text (Err e) → most < 2 ^ 128 → Err OutOfRange ≡ number_of most text
-unparsed text most e h unread small =
+pub unparsed : (E : Type 0) (text : List ℕ) (most : ℕ) (e : E) → are_digits text ≡ true → ParsesUnsigned {E = E} 128 10 text (Err e) → most < 2 ^ 128 → Err OutOfRange ≡ number_of most text
+unparsed E text most e h unread small =
     let plain = no_plus text h in
     let unread_here : ¬ (IsNumeral 10 text × (digits_value 10 text < 2 ^ 128)) = rw plain at unread in
     let no : ¬ (digits_value 10 text < 2 ^ 128) = λ s. unread_here (numeral text h, s) in

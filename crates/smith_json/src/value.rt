@@ -1,4 +1,6 @@
 ghost use Rattle.std.specs.Prelude.{◌≡◌, ◌≤◌, length, drop, IfOk, IfSome, OnOk};
+ghost use Rattle.std.specs.List.{list_all};
+ghost use Rattle.std.specs.Char.{is_ascii_digit};
 ghost use Rattle.json.specs.Reads.{token_of};
 ghost use Rattle.smith_json.specs.Fields.{named, others, other_named, field_named};
 ghost use Rattle.smith_json.specs.Values.{
@@ -51,7 +53,14 @@ fn unwanted(token: Token<'_>) -> Fault
 fn are_digits(text: &str) -> bool
     ensures { result ≡ are_digits text.now }
 {
-    !text.is_empty() && text.bytes().all(|byte| byte.is_ascii_digit())
+    !text.is_empty() && all_digits(text.as_bytes())
+}
+
+/// Whether each byte is a digit.
+fn all_digits(text: &[u8]) -> bool
+    ensures { result ≡ list_all is_ascii_digit text.now }
+{
+    text.iter().all(|byte| byte.is_ascii_digit())
 }
 
 /// The number, at most `most`, that the text of a JSON number writes in digits alone.

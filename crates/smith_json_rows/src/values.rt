@@ -1,7 +1,7 @@
 use bitflags::Flags;
 use json::{Reader, Scratch, Token};
 use smith_config::Config;
-use smith_json::{FIELDS, config, read_config};
+use smith_json::{FIELDS, FieldKind, config, read_config};
 use std::test::Fail;
 
 /// The number 2^64, written in digits and as its value.
@@ -64,5 +64,30 @@ fn an_object_is_read_in_mid_text(rt: HostRuntime) -> Result<(), Fail> {
     assert!(rt; read_config(rt.alloc(), &mut reader, &mut config).is_ok());
     assert_eq!(rt; config.max_types, 7);
     assert_eq!(rt; reader.next_key()?, Some("input"));
+    Ok(())
+}
+
+#[test]
+fn each_field_takes_the_kind_of_its_entry(rt: HostRuntime) -> Result<(), Fail> {
+    let alloc = rt.alloc();
+    for field in &FIELDS {
+        let (taken, refused) = match field.kind {
+            FieldKind::Whole(bits) => {
+                let most = u128::MAX >> (128 - bits.clamp(1, 127));
+                match bits {
+                    128 => (u128::MAX.to_string(alloc)?, "1.0".to_string(alloc)?),
+                    _ => (most.to_string(alloc)?, (most + 1).to_string(alloc)?),
+                }
+            }
+            FieldKind::Flag => ("true".to_string(alloc)?, "0".to_string(alloc)?),
+            FieldKind::InstructionKinds => ("4095".to_string(alloc)?, "[]".to_string(alloc)?),
+            FieldKind::OffsetChoices => ("[0, 0, 1]".to_string(alloc)?, "1".to_string(alloc)?),
+            FieldKind::File => ("null".to_string(alloc)?, "[]".to_string(alloc)?),
+        };
+        let text = format!(in alloc; "{{\"{}\": {taken}}}", field.name)?;
+        assert!(rt; config(alloc, text.as_str()).is_ok(), "{text}");
+        let text = format!(in alloc; "{{\"{}\": {refused}}}", field.name)?;
+        assert!(rt; config(alloc, text.as_str()).is_err(), "{text}");
+    }
     Ok(())
 }
