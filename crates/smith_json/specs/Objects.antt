@@ -1,5 +1,7 @@
 -- What an object makes of a configuration. Rules of this project.
-use Rattle.std.specs.Prelude.{◌≡◌, ℕ, List, [], ◌∷◌, ◌++◌, drop, Option, Some, None, Result, Ok, Err, Contains, MatchResult, ◌⊎◌}
+use Rattle.std.specs.Prelude.{◌≡◌, ℕ, List, [], ◌∷◌, ◌++◌, drop, Option, Some, None, Result, Ok, Err, Bool, true, false}
+use Rattle.std.specs.List.{list_any}
+use Rattle.std.specs.Str.{bytes_eq}
 use Rattle.json.specs.Token.{Token, begin_object, end_object, begin_array, end_array, key, string, number, boolean, null, bad}
 use Rattle.json.specs.Json.{read_key}
 use Rattle.json.specs.Lex.{tokens}
@@ -40,6 +42,9 @@ Sets (Some (kinds set)) config ts r = (v : Result (Option InstructionKinds) Faul
 Sets (Some (choices set)) config ts r = r ≡ set_choices set config (first ts) (drop 1 ts)
 Sets (Some file) config ts r = r ≡ outcome (file_value (first ts)) config (drop 1 ts)
 
+abbrev pub is_given : List (List ℕ) → List ℕ → Bool
+is_given given name = list_any (λ other. bytes_eq other name) given
+
 -- the configuration and the tokens after an object, or the first fault with the name of the member
 abbrev pub Reading : Type 0
 Reading = Result (Config × List Token) (Fault × List ℕ)
@@ -51,12 +56,12 @@ pub data ReadsMembers : List (List ℕ) → Config → List Token → Reading �
   breaks : {given : List (List ℕ)} {config : Config} {ts : List Token} →
       read_key ts ≡ None → ReadsMembers given config ts (Err (NotAnObject, []))
   repeats : {given : List (List ℕ)} {config : Config} {ts rest : List Token} {name : List ℕ} →
-      read_key ts ≡ Some (Some name, rest) → Contains given name → ReadsMembers given config ts (Err (RepeatedField, name))
+      read_key ts ≡ Some (Some name, rest) → is_given given name ≡ true → ReadsMembers given config ts (Err (RepeatedField, name))
   refuses : {given : List (List ℕ)} {config : Config} {ts rest : List Token} {name : List ℕ} {fault : Fault} →
-      read_key ts ≡ Some (Some name, rest) → ¬ Contains given name → Sets (field_named name) config rest (Err fault) →
+      read_key ts ≡ Some (Some name, rest) → is_given given name ≡ false → Sets (field_named name) config rest (Err fault) →
       ReadsMembers given config ts (Err (fault, name))
   sets : {given : List (List ℕ)} {config next : Config} {ts rest after : List Token} {name : List ℕ} {r : Reading} →
-      read_key ts ≡ Some (Some name, rest) → ¬ Contains given name → Sets (field_named name) config rest (Ok (next, after)) →
+      read_key ts ≡ Some (Some name, rest) → is_given given name ≡ false → Sets (field_named name) config rest (Ok (next, after)) →
       ReadsMembers (given ++ name ∷ []) next after r → ReadsMembers given config ts r
 
 -- what an object makes of a configuration
@@ -71,6 +76,10 @@ alone (Ok (config, [])) = Ok (config, [])
 alone (Ok (config, t ∷ ts)) = Err (TextAfter, [])
 alone (Err e) = Err e
 
+-- what a whole text makes of a configuration
+abbrev pub ReadsAlone : Config → List ℕ → Reading → Type 0
+ReadsAlone config text r = (s : Reading) × ReadsObject config (tokens text) s × (r ≡ alone s)
+
 -- what a whole text makes of the default configuration
 abbrev pub ReadsText : List ℕ → Reading → Type 0
-ReadsText text r = (s : Reading) × ReadsObject default_config (tokens text) s × (r ≡ alone s)
+ReadsText text r = ReadsAlone default_config text r

@@ -1,5 +1,5 @@
 -- What the tokens of a value denote for a field that takes it. Rules of this project.
-use Rattle.std.specs.Prelude.{◌≡◌, ℕ, ◌-◌, ◌^◌, nat_lt, List, [], ◌∷◌, drop, Bool, true, false, ◌&&◌, if◌then◌else◌, Option, Some, None, option_map, Result, Ok, Err, length}
+use Rattle.std.specs.Prelude.{◌≡◌, ℕ, ◌-◌, ◌^◌, nat_lt, List, [], ◌∷◌, drop, Bool, true, false, ◌==◌, if◌then◌else◌, Option, Some, None, option_map, Result, Ok, Err, length}
 use Rattle.std.specs.List.{list_all}
 use Rattle.std.specs.Char.{is_ascii_digit}
 use Rattle.std.specs.Str.Parse.{digits_value}
@@ -37,8 +37,9 @@ unwanted (boolean b) = WrongType
 unwanted null = WrongType
 unwanted bad = NotAnObject
 
+-- a digit, and digits alone
 abbrev pub are_digits : List ℕ → Bool
-are_digits text = nat_lt 0 (length text) && list_all is_ascii_digit text
+are_digits text = if length text == 0 then false else list_all is_ascii_digit text
 
 -- the number that digits alone write, up to a most
 abbrev pub number_of : ℕ → List ℕ → Result ℕ Fault

@@ -8,8 +8,6 @@ mod by_name;
 mod field;
 mod read;
 mod refusal;
-#[cfg(test)]
-mod tests;
 mod value;
 
 pub use field::{FIELDS, Field, FieldKind};

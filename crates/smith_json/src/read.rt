@@ -1,3 +1,10 @@
+ghost use Rattle.std.specs.Prelude.{◌≡◌, ◌≢◌, ◌≤◌, length, [], Ok, Err, IfOk, OnOk, IfErr};
+ghost use Rattle.std.specs.List.{list_any};
+ghost use Rattle.std.specs.Str.{bytes_eq};
+ghost use Rattle.std.specs.String.{string_bytes};
+ghost use Rattle.smith_json.specs.Fields.{field_named};
+ghost use Rattle.smith_json.specs.Objects.{Sets, ReadsMembers, ReadsObject, ReadsAlone, ReadsText};
+
 use crate::refusal::{ConfigRefusal, Fault, Refusal};
 use crate::value::set_field;
 use json::{Reader, Scratch, Token};
@@ -11,7 +18,10 @@ use std::alloc::Global;
 ///
 /// Refuses the text at its first fault, reading from the start; [`ConfigRefusal`] names the member
 /// and its line and column.
-pub fn config(alloc: Global, text: &str) -> Result<Config, ConfigRefusal> {
+pub fn config(alloc: Global, text: &str) -> Result<Config, ConfigRefusal>
+    ensures ok { IfOk result (λ config. ReadsText text.now (Ok (config, []))) }
+    ensures refused { IfErr result (λ refusal. refusal.fault ≢ Fault.OutOfMemory → ReadsText text.now (Err (refusal.fault, string_bytes refusal.field))) }
+{
     let mut config = Config::default();
     match read_text(alloc, text, &mut config) {
         Ok(()) => Ok(config),
@@ -20,13 +30,14 @@ pub fn config(alloc: Global, text: &str) -> Result<Config, ConfigRefusal> {
 }
 
 /// Reads an object from `text`, and refuses what follows it.
-fn read_text(alloc: Global, text: &str, config: &mut Config) -> Result<(), Refusal> {
+fn read_text(alloc: Global, text: &str, config: &mut Config) -> Result<(), Refusal>
+    ensures ok { OnOk result (ReadsAlone config.old text.now (Ok (config.new, []))) }
+    ensures refused { IfErr result (λ refusal. refusal.fault ≢ Fault.OutOfMemory → ReadsAlone config.old text.now (Err (refusal.fault, string_bytes refusal.field))) }
+{
     let mut scratch = Scratch::new(alloc);
-    let mut reader = Reader::new(text, &mut scratch).map_err(|_| nameless(
-        alloc,
-        Fault::OutOfMemory,
-        0,
-    ))?;
+    let Ok(mut reader) = Reader::new(text, &mut scratch) else {
+        return Err(nameless(alloc, Fault::OutOfMemory, 0));
+    };
     read_config(alloc, &mut reader, config)?;
     let offset = reader.offset();
     match reader.next() {
@@ -42,32 +53,54 @@ fn read_text(alloc: Global, text: &str, config: &mut Config) -> Result<(), Refus
 ///
 /// Refuses the object at its first fault. The members before the fault are set then, and the
 /// reader is in the middle of the object.
-pub fn read_config<'a>(
+pub fn read_config(
+    alloc: Global,
+    reader: &mut Reader<'_>,
+    config: &mut Config,
+) -> Result<(), Refusal>
+    ensures ok { OnOk result (ReadsObject config.old reader.old (Ok (config.new, reader.new))) }
+    ensures refused { IfErr result (λ refusal. refusal.fault ≢ Fault.OutOfMemory → ReadsObject config.old reader.old (Err (refusal.fault, string_bytes refusal.field))) }
+{
+    let start = reader.offset();
+    match reader.next() {
+        Some(Token::BeginObject) => read_members(alloc, reader, config),
+        _ => Err(nameless(alloc, Fault::NotAnObject, start)),
+    }
+}
+
+/// Reads the members of an object and its end.
+fn read_members<'a>(
     alloc: Global,
     reader: &mut Reader<'a>,
     config: &mut Config,
-) -> Result<(), Refusal> {
-    let offset = reader.offset();
-    let Some(Token::BeginObject) = reader.next() else {
-        return Err(nameless(alloc, Fault::NotAnObject, offset));
-    };
+) -> Result<(), Refusal>
+    ensures ok { OnOk result (ReadsMembers [] config.old reader.old (Ok (config.new, reader.new))) }
+    ensures refused { IfErr result (λ refusal. refusal.fault ≢ Fault.OutOfMemory → ReadsMembers [] config.old reader.old (Err (refusal.fault, string_bytes refusal.field))) }
+{
     let mut given: Vec<&'a str> = Vec::new(alloc);
     loop {
-        let offset = reader.offset();
+        let start = reader.offset();
         let Ok(key) = reader.next_key() else {
-            return Err(nameless(alloc, Fault::NotAnObject, offset));
+            return Err(nameless(alloc, Fault::NotAnObject, start));
         };
         let Some(name) = key else {
             return Ok(());
         };
-        if given.iter().any(|other| *other == name) {
-            return Err(refused(alloc, Fault::RepeatedField, name, offset));
+        if is_given(given.as_slice(), name) {
+            return Err(refused(alloc, Fault::RepeatedField, name, start));
         }
-        read_member(alloc, reader, config, name, offset)?;
+        read_member(alloc, reader, config, name, start)?;
         if given.push(name).is_err() {
-            return Err(nameless(alloc, Fault::OutOfMemory, offset));
+            return Err(nameless(alloc, Fault::OutOfMemory, start));
         }
     }
+}
+
+/// Whether a member before has the name `name`.
+fn is_given(given: &[&str], name: &str) -> bool
+    ensures { result ≡ list_any (λ other. bytes_eq other.now name.now) given.now }
+{
+    given.iter().any(|other| *other == name)
 }
 
 /// Reads the value of the member `name`, which stands at `start`, into the field of that name.
@@ -77,7 +110,11 @@ fn read_member(
     config: &mut Config,
     name: &str,
     start: usize,
-) -> Result<(), Refusal> {
+) -> Result<(), Refusal>
+    ensures ok { OnOk result (Sets (field_named name.now) config.old reader.old (Ok (config.new, reader.new))) }
+    ensures refused { IfErr result (λ refusal. refusal.fault ≢ Fault.OutOfMemory → Sets (field_named name.now) config.old reader.old (Err refusal.fault) × (string_bytes refusal.field ≡ name.now)) }
+    ensures shorter { length reader.new ≤ length reader.old }
+{
     let offset = reader.offset();
     match set_field(config, name, reader) {
         Ok(()) => Ok(()),
@@ -86,7 +123,10 @@ fn read_member(
     }
 }
 
-fn nameless(alloc: Global, fault: Fault, offset: usize) -> Refusal {
+/// A refusal that names no member.
+fn nameless(alloc: Global, fault: Fault, offset: usize) -> Refusal
+    ensures { (result.fault ≡ fault) × (string_bytes result.field ≡ []) }
+{
     Refusal {
         fault,
         field: String::new(alloc),
@@ -94,7 +134,10 @@ fn nameless(alloc: Global, fault: Fault, offset: usize) -> Refusal {
     }
 }
 
-fn refused(alloc: Global, fault: Fault, name: &str, offset: usize) -> Refusal {
+/// The refusal of the member `name`.
+fn refused(alloc: Global, fault: Fault, name: &str, offset: usize) -> Refusal
+    ensures { result.fault ≢ Fault.OutOfMemory → (result.fault ≡ fault) × (string_bytes result.field ≡ name.now) }
+{
     match String::from_str(alloc, name) {
         Ok(field) => Refusal {
             fault,

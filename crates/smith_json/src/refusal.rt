@@ -1,3 +1,6 @@
+ghost use Rattle.std.specs.Prelude.{◌≡◌};
+ghost use Rattle.std.specs.String.{string_bytes};
+
 use crate::field::Field;
 use std::error::Error;
 use std::fmt;
@@ -47,7 +50,9 @@ pub struct ConfigRefusal {
 
 impl Refusal {
     /// Gives the refusal its line and column in `text`, which the reader has read.
-    pub fn in_text(self, text: &str) -> ConfigRefusal {
+    pub fn in_text(self, text: &str) -> ConfigRefusal
+        ensures { (result.fault ≡ self.fault) × (string_bytes result.field ≡ string_bytes self.field) }
+    {
         let Refusal {
             fault,
             field,

@@ -1,9 +1,12 @@
-ghost use Rattle.std.specs.Prelude.{◌≡◌, ◌≤◌, drop, IfOk, IfSome, OnOk};
+ghost use Rattle.std.specs.Prelude.{◌≡◌, ◌≤◌, length, drop, IfOk, IfSome, OnOk};
+ghost use Rattle.std.specs.List.{list_all};
+ghost use Rattle.std.specs.Char.{is_ascii_digit};
 ghost use Rattle.json.specs.Reads.{token_of};
 ghost use Rattle.smith_json.specs.Fields.{named, others, other_named, field_named};
 ghost use Rattle.smith_json.specs.Values.{
   first,
   unwanted,
+  are_digits,
   number_of,
   whole_value,
   truth_value,
@@ -46,12 +49,26 @@ fn unwanted(token: Token<'_>) -> Fault
     }
 }
 
+/// Whether a text has a digit and digits alone.
+fn are_digits(text: &str) -> bool
+    ensures { result ≡ are_digits text.now }
+{
+    !text.is_empty() && all_digits(text.as_bytes())
+}
+
+/// Whether each byte is a digit.
+fn all_digits(text: &[u8]) -> bool
+    ensures { result ≡ list_all is_ascii_digit text.now }
+{
+    text.iter().all(|byte| byte.is_ascii_digit())
+}
+
 /// The number, at most `most`, that the text of a JSON number writes in digits alone.
 fn number(text: &str, most: u128) -> Result<u128, Fault>
     ensures exact { result ≡ number_of most text.now }
     ensures bounded { IfOk result (λ n. n ≤ most) }
 {
-    if text.is_empty() || !text.bytes().all(|byte| byte.is_ascii_digit()) {
+    if !are_digits(text) {
         return Err(Fault::WrongType);
     }
     match u128::from_str(text) {
@@ -136,6 +153,7 @@ fn list_end(token: Token<'_>) -> Result<(), Fault>
 fn weights(reader: &mut Reader<'_>) -> Result<MemoryOffsetChoices, Fault>
     ensures value { result ≡ weights reader.old }
     ensures rest { OnOk result (reader.new ≡ drop 4 reader.old) }
+    ensures shorter { length reader.new ≤ length reader.old }
 {
     let inside = weight(next(reader))?;
     let between = weight(next(reader))?;
@@ -150,7 +168,8 @@ pub(crate) fn set_field(
     name: &str,
     reader: &mut Reader<'_>,
 ) -> Result<(), Fault>
-    ensures { Sets (field_named name.now) config.old reader.old (outcome result config.new reader.new) }
+    ensures exact { Sets (field_named name.now) config.old reader.old (outcome result config.new reader.new) }
+    ensures shorter { length reader.new ≤ length reader.old }
 {
     if let Some(field) = minimum(config, name) {
         if let Some(value) = whole(next(reader), usize::MAX as u128)? {
@@ -184,7 +203,8 @@ pub(crate) fn set_field(
 
 /// The same for the fields that are no numbers.
 fn set_flag(config: &mut Config, name: &str, reader: &mut Reader<'_>) -> Result<(), Fault>
-    ensures { Sets (other_named name.now) config.old reader.old (outcome result config.new reader.new) }
+    ensures exact { Sets (other_named name.now) config.old reader.old (outcome result config.new reader.new) }
+    ensures shorter { length reader.new ≤ length reader.old }
 {
     if let Some(field) = proposal(config, name) {
         if let Some(value) = truth(next(reader))? {
@@ -202,7 +222,8 @@ fn set_flag(config: &mut Config, name: &str, reader: &mut Reader<'_>) -> Result<
 
 /// The same for the fields that are neither numbers nor flags.
 fn set_other(config: &mut Config, name: &str, reader: &mut Reader<'_>) -> Result<(), Fault>
-    ensures { Sets (named name.now others) config.old reader.old (outcome result config.new reader.new) }
+    ensures exact { Sets (named name.now others) config.old reader.old (outcome result config.new reader.new) }
+    ensures shorter { length reader.new ≤ length reader.old }
 {
     match name {
         "allowed-instructions" => {

@@ -1,0 +1,10 @@
+use Rattle.std.proofs.Common.{◌≡◌, ℕ, List, [], map, length}
+use Rattle.smith_json.specs.Objects.{Reading, ReadsMembers}
+use Rattle.smith_json.proofs.read.read_members.Given as goal
+
+-- what the members from here on make of the configuration, all members make of the first
+abbrev pub invariant-loop-key : goal.invariant-loop-key
+invariant-loop-key l = (r : Reading) → ReadsMembers (map (λ name. name.now) l.given.items) l.config l.reader r → ReadsMembers [] l.initial.config l.initial.reader r
+
+abbrev pub decreases-loop-key : goal.decreases-loop-key
+decreases-loop-key l = length l.reader
