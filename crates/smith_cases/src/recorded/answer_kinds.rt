@@ -25,7 +25,7 @@ impl AnswerKinds {
     }
 }
 
-/// Writes each kind after its number, with a comma behind.
+/// Writes each kind after its number, with a comma after it.
 impl fmt::Display for AnswerKinds {
     fn fmt<W: fmt::Write>(&self, f: &mut fmt::Formatter<W>) -> fmt::Result {
         for (kind, count) in &self.counts {

@@ -47,7 +47,7 @@ fn rich_input(alloc: Global, number: u32) -> Result<Vec<u8>, AllocError> {
     Ok(input)
 }
 
-// The state behind `state`, below 2^31. That multiples of 2^32 are lost on the way changes nothing.
+// The state after `state`, below 2^31. That multiples of 2^32 are lost on the way changes nothing.
 fn next_state(state: u32) -> u32 {
     state.wrapping_mul(1_103_515_245).wrapping_add(12_345) & 0x7fff_ffff
 }
