@@ -62,7 +62,8 @@ fn write_float<S: Sink>(float: &Float, sink: &mut S) -> fmt::Result
     write_magnitude(float, sink)
 }
 
-/// Writes, after a space, the number of 32 bits whose bits are `bits`: a hexadecimal number that is equal, an infinity or a NaN with its payload.
+/// Writes, after a space, the number of 32 bits whose bits are `bits`: a hexadecimal number that is equal, an infinity, or a NaN
+/// with its payload.
 pub(crate) fn write_f32<S: Sink>(bits: u32, sink: &mut S) -> fmt::Result
     requires open { S.failed sink.old ≡ false }
     ensures fault { S.failed sink.new ≡ is_err result }

@@ -211,7 +211,7 @@ fn constant_instructions_are_written(rt: HostRuntime) -> Result<(), Fail> {
             (ConstInstr::F64Const(1), "f64.const 0x0.0000000000001p-1022"),
             (
                 ConstInstr::F64Const(0x000f_ffff_ffff_fff0),
-                "f64.const 0x0.fffffffffffffp-1022",
+                "f64.const 0x0.ffffffffffffp-1022",
             ),
             (
                 ConstInstr::F64Const(0xfff0_0000_0000_0000),
