@@ -3,7 +3,7 @@ ghost use Rattle.smith_config.specs.Sanitized.{IsSanitized};
 ghost use Rattle.smith_config.specs.Features.{features_of};
 ghost use Rattle.smith_types.specs.ValidTypes.{AreTypesValid};
 
-use crate::answers::spaces::{Over, spaces_of, with_globals};
+use crate::answers::spaces::{Over, number_global, spaces_of, with_globals};
 use crate::answers::told::{tell_refusal, tell_values};
 use crate::arguments::{at_most, flag, read};
 use crate::call::ConstantCall;
@@ -53,7 +53,8 @@ fn answer_expression(
     }
 }
 
-// The globals that a value of the type that is the first argument may be read of. The second is whether these may be defined ones.
+// The globals that a value of the type that is the first argument may be read of, among a variable and a constant that are
+// imported and a constant that is defined, all of an i32. The second argument is whether defined ones may be read.
 fn answer_globals(over: &Over<'_>, answer: &mut String) -> Result<(), Fault>
     requires types { AreTypesValid (features_of over.now.config.now) over.now.types.now }
 {
@@ -63,7 +64,12 @@ fn answer_globals(over: &Over<'_>, answer: &mut String) -> Result<(), Fault>
     if !is_val_type_valid(over.config.features(), over.types.types().len(), wanted) {
         return Err(Fault::NotCallable("the value type isn't valid"));
     }
-    let spaces = with_globals(over.types);
+    let globals = [
+        number_global(true),
+        number_global(false),
+        number_global(false),
+    ];
+    let spaces = with_globals(over.types, &globals);
     match globals_for_const_expr(over.alloc, over.config, &spaces, wanted, allow_defined) {
         Ok(globals) => tell_values(globals.as_slice(), answer),
         Err(refusal) => tell_refusal(refusal, answer),

@@ -1,4 +1,5 @@
-ghost use Rattle.std.specs.Prelude.{◌≡◌, []};
+ghost use Rattle.std.specs.Prelude.{◌≡◌, [], false};
+ghost use Rattle.smith_types.specs.declared.value_type.ValType.TheVariants.{I32};
 
 use crate::case::Case;
 use crate::fault::Fault;
@@ -34,29 +35,29 @@ pub(crate) fn spaces_of<'a>(types: &'a TypeSpace) -> Spaces<'a>
     }
 }
 
-const VARIABLE: GlobalType = GlobalType {
-    val_type: ValType::I32,
-    mutable: true,
-    shared: false,
-};
+/// A global of an i32 that isn't shared.
+pub(crate) const fn number_global(mutable: bool) -> GlobalType
+    ensures value { result.val_type ≡ I32 }
+    ensures shared { result.shared ≡ false }
+{
+    GlobalType {
+        val_type: ValType::I32,
+        mutable,
+        shared: false,
+    }
+}
 
-const CONSTANT: GlobalType = GlobalType {
-    val_type: ValType::I32,
-    mutable: false,
-    shared: false,
-};
-
-const GLOBALS: [GlobalType; 3] = [VARIABLE, CONSTANT, CONSTANT];
-
-/// The types `types` with three globals of an i32: a variable and a constant that are imported, and a constant that is defined.
-pub(crate) fn with_globals<'a>(types: &'a TypeSpace) -> Spaces<'a>
+/// The types `types` and the globals `globals`, of which two are imported.
+pub(crate) fn with_globals<'a>(types: &'a TypeSpace, globals: &'a [GlobalType]) -> Spaces<'a>
     ensures types { result.types.now ≡ types.now }
     ensures functions { result.entities.funcs.now ≡ [] }
+    ensures globals { result.entities.globals.now ≡ globals.now }
+    ensures imported { result.entities.imported_globals ≡ 2 }
 {
     Spaces {
         types,
         entities: Entities {
-            globals: &GLOBALS,
+            globals,
             imported_globals: 2,
             ..Entities::none()
         },
