@@ -1,4 +1,4 @@
-use crate::judged::judge;
+use smith_answers::judge;
 use std::test::Fail;
 
 // Each line, and what the report says after `not ok`.

@@ -3,7 +3,7 @@ use crate::fault::Fault;
 use crate::shapes::shape_named;
 use json::{Reader, Scratch};
 use smith_config::{Config, Shape};
-use smith_json::read_config;
+use smith_json::{ConfigRefusal, Refusal, read_config};
 use std::alloc::Global;
 
 /// The configuration of `case`, which stands in `line`: the default where none is given.
@@ -23,7 +23,22 @@ fn set_fields(alloc: Global, line: &str, config: &mut Config) -> Result<(), Faul
     }
     match read_config(alloc, &mut reader, config) {
         Ok(()) => Ok(()),
-        Err(refusal) => Err(Fault::Config(refusal.in_text(line))),
+        Err(refusal) => Err(fault_of(refusal, line)),
+    }
+}
+
+// The fault of a configuration in `line` that is refused.
+fn fault_of(refusal: Refusal, line: &str) -> Fault {
+    let ConfigRefusal {
+        fault,
+        field: _,
+        line,
+        column,
+    } = refusal.in_text(line);
+    Fault::Config {
+        fault,
+        line,
+        column,
     }
 }
 

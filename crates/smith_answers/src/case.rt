@@ -3,7 +3,7 @@ use json::{Reader, Scratch, Token};
 use std::alloc::Global;
 
 /// A case: the value of each of its keys. The head of this program says what each key means.
-#[derive(Debug, Default, Drop)]
+#[derive(Default, Drop)]
 pub(crate) struct Case {
     /// Under `name`.
     pub(crate) name: Option<String>,
@@ -155,15 +155,21 @@ fn read_text(alloc: Global, reader: &mut Reader<'_>) -> Result<String, Fault> {
     }
 }
 
+// The most texts of a list.
+const MOST_TEXTS: usize = 100_000;
+
 fn read_list(alloc: Global, reader: &mut Reader<'_>) -> Result<Vec<String>, Fault> {
     let mut texts = Vec::new(alloc);
     if !matches!(reader.next(), Some(Token::BeginArray)) {
         return Err(Fault::Syntax(reader.offset()));
     }
-    while !reader.take_end_array() {
+    for _ in 0..MOST_TEXTS {
+        if reader.take_end_array() {
+            return Ok(texts);
+        }
         texts.push(read_text(alloc, reader)?)?;
     }
-    Ok(texts)
+    Err(Fault::Syntax(reader.offset()))
 }
 
 /// Reads on in `reader`, which begins at a case of at most `most` keys, to the value of the key `config`. False where the case has

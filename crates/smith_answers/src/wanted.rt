@@ -3,7 +3,7 @@ use crate::fault::Fault;
 use std::fmt;
 
 /// The first difference of an answer from what a case wants.
-#[derive(Clone, Copy, Debug, Drop, PartialEq)]
+#[derive(Clone, Copy, Drop)]
 pub(crate) enum Difference<'a> {
     /// The kind of the answer is none of those that may come.
     Kind(&'a str),

@@ -1,5 +1,5 @@
 /// A call of a case.
-#[derive(Clone, Copy, Debug, PartialEq)]
+#[derive(Clone, Copy)]
 pub(crate) enum Call {
     /// A module, told by its text.
     Module(ModuleCall),
@@ -20,7 +20,7 @@ pub(crate) enum Call {
 }
 
 /// How a module is made.
-#[derive(Clone, Copy, Debug, PartialEq)]
+#[derive(Clone, Copy, PartialEq)]
 pub(crate) enum ModuleCall {
     New,
     NewInternal,
@@ -30,7 +30,7 @@ pub(crate) enum ModuleCall {
 }
 
 /// What is asked of a configuration, or under it.
-#[derive(Clone, Copy, Debug, PartialEq)]
+#[derive(Clone, Copy, PartialEq)]
 pub(crate) enum ConfigCall {
     Arbitrary,
     Sanitize,
@@ -41,7 +41,7 @@ pub(crate) enum ConfigCall {
 }
 
 /// What is drawn over a type space.
-#[derive(Clone, Copy, Debug, PartialEq)]
+#[derive(Clone, Copy)]
 pub(crate) enum DrawCall {
     Free(FreeCall),
     Matching(MatchingCall),
@@ -51,7 +51,7 @@ pub(crate) enum DrawCall {
 }
 
 /// What type is drawn.
-#[derive(Clone, Copy, Debug, PartialEq)]
+#[derive(Clone, Copy)]
 pub(crate) enum FreeCall {
     Types,
     RecGroup,
@@ -69,7 +69,7 @@ pub(crate) enum FreeCall {
 }
 
 /// What type is drawn below or above another.
-#[derive(Clone, Copy, Debug, PartialEq)]
+#[derive(Clone, Copy)]
 pub(crate) enum MatchingCall {
     Func,
     Struct,
@@ -84,7 +84,7 @@ pub(crate) enum MatchingCall {
 }
 
 /// What the drawn type is of.
-#[derive(Clone, Copy, Debug, PartialEq)]
+#[derive(Clone, Copy)]
 pub(crate) enum EntityCall {
     Global,
     Tag,
@@ -94,7 +94,7 @@ pub(crate) enum EntityCall {
 }
 
 /// What the drawn expression is for.
-#[derive(Clone, Copy, Debug, PartialEq)]
+#[derive(Clone, Copy)]
 pub(crate) enum ConstantCall {
     Expression,
     TableInit,
@@ -102,7 +102,7 @@ pub(crate) enum ConstantCall {
 }
 
 /// What numbers are drawn.
-#[derive(Clone, Copy, Debug, PartialEq)]
+#[derive(Clone, Copy)]
 pub(crate) enum NumberCall {
     GraduallyGrow,
     Limits64,
@@ -110,7 +110,7 @@ pub(crate) enum NumberCall {
 }
 
 /// What is drawn of the byte source.
-#[derive(Clone, Copy, Debug, PartialEq)]
+#[derive(Clone, Copy)]
 pub(crate) enum SourceCall {
     Arbitrary,
     IntInRange,
@@ -123,7 +123,7 @@ pub(crate) enum SourceCall {
 }
 
 /// What name is drawn.
-#[derive(Clone, Copy, Debug, PartialEq)]
+#[derive(Clone, Copy, PartialEq)]
 pub(crate) enum NameCall {
     LimitedStr,
     UniqueString,
@@ -132,7 +132,7 @@ pub(crate) enum NameCall {
 }
 
 /// What is read from a text.
-#[derive(Clone, Copy, Debug, PartialEq)]
+#[derive(Clone, Copy)]
 pub(crate) enum ParserCall {
     OffsetChoices,
     Kind,
@@ -142,7 +142,7 @@ pub(crate) enum ParserCall {
 }
 
 /// What is below what.
-#[derive(Clone, Copy, Debug, PartialEq)]
+#[derive(Clone, Copy)]
 pub(crate) enum SubtypeCall {
     HeapType,
     RefType,

@@ -1,9 +1,8 @@
 use smith_bytes::Error;
-use smith_json::ConfigRefusal;
 use std::alloc::{AllocError, AllocFailed};
 
 /// Why a case can't be answered.
-#[derive(Debug, Drop, thiserror::Error)]
+#[derive(Clone, Copy, Debug, thiserror::Error)]
 pub(crate) enum Fault {
     /// The line is no JSON object of strings and lists of strings, from this byte on.
     #[error("no object of a case, from byte {0} on")]
@@ -54,8 +53,15 @@ pub(crate) enum Fault {
     #[error("the call may not be made: {0}")]
     NotCallable(&'static str),
     /// The configuration doesn't read.
-    #[error("the configuration, {0}")]
-    Config(ConfigRefusal),
+    #[error("the configuration, line {line}, column {column}: {fault:?}")]
+    Config {
+        /// What is wrong.
+        fault: smith_json::Fault,
+        /// The line of what is wrong, from 1.
+        line: usize,
+        /// The column in that line, from 1.
+        column: usize,
+    },
     /// Memory was refused, which is all that plain data is refused for.
     #[error("out of memory")]
     Memory,

@@ -112,7 +112,9 @@ fn inner_of(alloc: Global, text: &str) -> Result<CompositeInnerType, Fault> {
 }
 
 fn function_of(alloc: Global, text: &str) -> Result<FuncType, Fault> {
-    let (params, results) = known(text.split_once("->"))?;
+    let Some((params, results)) = text.split_once("->") else {
+        return Err(Fault::UnknownShape);
+    };
     Ok(FuncType {
         params: list_of(alloc, params, val_type_of)?,
         results: list_of(alloc, results, val_type_of)?,

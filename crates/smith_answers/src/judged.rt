@@ -8,7 +8,7 @@ use std::alloc::{AllocError, Global};
 
 /// Answers the case of `line` twice, or once where the answer is a checksum, and appends to `report` the line `ok NAME`, or
 /// `not ok NAME: ` and the first difference. The result is whether the answers are as the case wants.
-pub(crate) fn judge(alloc: Global, line: &str, report: &mut String) -> Result<bool, AllocError> {
+pub fn judge(alloc: Global, line: &str, report: &mut String) -> Result<bool, AllocError> {
     let mut case = Case::default();
     let judged = judged(alloc, line, &mut case);
     let name = case.name.as_ref().map_or("", |name| name.as_str());
