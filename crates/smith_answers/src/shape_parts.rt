@@ -22,17 +22,27 @@ use std::alloc::Global;
 pub(crate) fn add_part(alloc: Global, part: &str, shape: &mut Shape) -> Result<(), Fault> {
     let (word, rest) = split_word(part);
     match word {
-        "group" => Ok(shape.groups.push(group_of(alloc, rest)?)?),
-        "chain" => Ok(
-            shape
-                .groups
-                .push(chain_of(alloc, known(rest.parse::<u32>().ok())?)?)?,
-        ),
-        "import" => Ok(shape.imports.push(import_of(alloc, rest)?)?),
-        "items" => Ok(shape.imports.push(items_of(alloc, rest)?)?),
-        "names" => Ok(shape.imports.push(names_of(alloc, rest)?)?),
+        "group" | "chain" => Ok(shape.groups.push(types_of(alloc, word, rest)?)?),
+        "import" | "items" | "names" => Ok(shape.imports.push(imports_of(alloc, word, rest)?)?),
         "export" => Ok(shape.exports.push(export_of(alloc, rest)?)?),
         _ => define(known(entity_of(part))?, shape),
+    }
+}
+
+// The types of a part that begins with `word`.
+fn types_of(alloc: Global, word: &str, rest: &str) -> Result<Items<SubType>, Fault> {
+    if word == "group" {
+        return group_of(alloc, rest);
+    }
+    chain_of(alloc, known(rest.parse::<u32>().ok())?)
+}
+
+// The imports of a part that begins with `word`.
+fn imports_of(alloc: Global, word: &str, rest: &str) -> Result<Imports, Fault> {
+    match word {
+        "import" => import_of(alloc, rest),
+        "items" => items_of(alloc, rest),
+        _ => names_of(alloc, rest),
     }
 }
 

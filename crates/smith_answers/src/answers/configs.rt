@@ -5,10 +5,10 @@ use crate::call::ConfigCall;
 use crate::case::Case;
 use crate::fault::Fault;
 use crate::shapes::shape_named;
-use smith_bytes::{Error, Unstructured, Which};
+use smith_bytes::{ConfigFault, Error, Unstructured, Which};
 use smith_config::{Config, Shape};
 use smith_spell::spell;
-use smith_types::WasmFeatures;
+use smith_types::{Items, WasmFeatures};
 use std::alloc::Global;
 
 /// Appends what `call` gives of the configuration of `case`, or under it.
@@ -24,16 +24,26 @@ pub(crate) fn answer_config(
         return tell_drawn(input, answer);
     }
     let mut config = config_of(alloc, line, case)?;
+    answer_under(alloc, case, call, &mut config, answer)
+}
+
+fn answer_under(
+    alloc: Global,
+    case: &Case,
+    call: ConfigCall,
+    config: &mut Config,
+    answer: &mut String,
+) -> Result<(), Fault> {
     match call {
-        ConfigCall::ShapeCheck => checked_shape(alloc, case, &config, answer),
-        ConfigCall::Spell => spelled(alloc, case, &config, answer),
-        _ => told(call, &mut config, answer),
+        ConfigCall::ShapeCheck => checked_shape(alloc, case, config, answer),
+        ConfigCall::Spell => spelled(alloc, case, config, answer),
+        _ => told(call, config, answer),
     }
 }
 
 fn told(call: ConfigCall, config: &mut Config, answer: &mut String) -> Result<(), Fault> {
     match call {
-        ConfigCall::Check => checked(config, answer),
+        ConfigCall::Check => tell_check(config.check(), answer),
         ConfigCall::Features => tell_features(config.features(), answer),
         _ => {
             config.sanitize();
@@ -44,12 +54,14 @@ fn told(call: ConfigCall, config: &mut Config, answer: &mut String) -> Result<()
 
 fn tell_drawn(input: &[u8], answer: &mut String) -> Result<(), Fault> {
     match Config::arbitrary(&mut Unstructured::new(input)) {
-        Ok(config) => {
-            tell_config(&config, answer)?;
-            tell_features(config.features(), answer)
-        }
+        Ok(config) => tell_config_and_features(&config, answer),
         Err(refusal) => tell_refusal(refusal, answer),
     }
+}
+
+fn tell_config_and_features(config: &Config, answer: &mut String) -> Result<(), Fault> {
+    tell_config(config, answer)?;
+    tell_features(config.features(), answer)
 }
 
 // Appends a line `FIELD: VALUE,` for each field.
@@ -58,8 +70,9 @@ fn tell_config(config: &Config, answer: &mut String) -> Result<(), Fault> {
     Ok(())
 }
 
-fn checked(config: &Config, answer: &mut String) -> Result<(), Fault> {
-    match config.check() {
+// Appends what a check of a configuration says.
+fn tell_check(checked: Result<(), ConfigFault>, answer: &mut String) -> Result<(), Fault> {
+    match checked {
         Ok(()) => writeln!(answer, "passes")?,
         Err(fault) => writeln!(answer, "refused: {fault:?}")?,
     }
@@ -102,7 +115,13 @@ fn checked_shape(
     answer: &mut String,
 ) -> Result<(), Fault> {
     let which = which_of(case)?;
-    match shape_of(alloc, case)?.check(alloc, which, config) {
+    let shape = shape_of(alloc, case)?;
+    tell_shape_check(shape.check(alloc, which, config), answer)
+}
+
+// Appends what a check of a shape says.
+fn tell_shape_check(checked: Result<(), Error>, answer: &mut String) -> Result<(), Fault> {
+    match checked {
         Ok(()) => Ok(writeln!(answer, "passes")?),
         Err(refusal) => tell_refusal(refusal, answer),
     }
@@ -111,12 +130,21 @@ fn checked_shape(
 // The bytes that spell the groups and the functions of a shape.
 fn spelled(alloc: Global, case: &Case, config: &Config, answer: &mut String) -> Result<(), Fault> {
     let shape = shape_of(alloc, case)?;
-    match spell(
+    let spelling = spell(
         alloc,
         config,
         shape.groups.as_slice(),
         shape.funcs.as_slice(),
-    ) {
+    );
+    tell_spelling(spelling, answer)
+}
+
+// Appends the bytes of a spelling, or `none`.
+fn tell_spelling(
+    spelling: Result<Option<Items<u8>>, Error>,
+    answer: &mut String,
+) -> Result<(), Fault> {
+    match spelling {
         Ok(Some(bytes)) => tell_bytes("spelled", bytes.as_slice(), answer),
         Ok(None) => Ok(writeln!(answer, "none")?),
         Err(refusal) => tell_refusal(refusal, answer),

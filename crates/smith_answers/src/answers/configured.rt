@@ -44,15 +44,19 @@ fn fault_of(refusal: Refusal, line: &str) -> Fault {
 
 // Sets the shapes that `case` names.
 fn set_shapes(alloc: Global, case: &Case, config: &mut Config) -> Result<(), Fault> {
-    config.available_imports = shape_under(alloc, &case.available_imports)?;
-    config.exports = shape_under(alloc, &case.exports)?;
-    config.module_shape = shape_under(alloc, &case.module_shape)?;
-    Ok(())
+    set_shape(
+        alloc,
+        &case.available_imports,
+        &mut config.available_imports,
+    )?;
+    set_shape(alloc, &case.exports, &mut config.exports)?;
+    set_shape(alloc, &case.module_shape, &mut config.module_shape)
 }
 
-fn shape_under(alloc: Global, name: &Option<String>) -> Result<Option<Shape>, Fault> {
-    match name {
-        Some(name) => Ok(Some(shape_named(alloc, name.as_str())?)),
-        None => Ok(None),
+// Puts the shape of the name `name` into `slot`, where a name is given.
+fn set_shape(alloc: Global, name: &Option<String>, slot: &mut Option<Shape>) -> Result<(), Fault> {
+    if let Some(name) = name {
+        *slot = Some(shape_named(alloc, name.as_str())?);
     }
+    Ok(())
 }

@@ -40,9 +40,20 @@ pub(crate) fn answer_draw(
     answer: &mut String,
 ) -> Result<(), Fault> {
     let mut u = Unstructured::new(input);
-    let config = settled(alloc, line, case)?;
-    answer_under(alloc, case, call, &config, &mut u, answer)?;
+    answer_settled(alloc, line, case, call, &mut u, answer)?;
     tell_rest(&u, answer)
+}
+
+fn answer_settled(
+    alloc: Global,
+    line: &str,
+    case: &Case,
+    call: DrawCall,
+    u: &mut Unstructured<'_>,
+    answer: &mut String,
+) -> Result<(), Fault> {
+    let config = settled(alloc, line, case)?;
+    answer_under(alloc, case, call, &config, u, answer)
 }
 
 fn answer_under(

@@ -60,8 +60,10 @@ fn behavior_of(case: &Case, call: ModuleCall) -> Result<DuplicateImportsBehavior
 
 // A configuration that the first bytes draw, and a module of the others.
 fn of_drawn(alloc: Global, u: &mut Unstructured<'_>) -> Result<Module, Error> {
-    let config = Config::arbitrary(u)?;
-    Module::new(alloc, config, u)
+    match Config::arbitrary(u) {
+        Ok(config) => Module::new(alloc, config, u),
+        Err(refusal) => Err(refusal),
+    }
 }
 
 fn told(

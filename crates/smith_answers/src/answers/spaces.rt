@@ -6,7 +6,7 @@ use crate::fault::Fault;
 use crate::shapes::shape_named;
 use smith_config::Config;
 use smith_draw::{Entities, Spaces};
-use smith_types::{GlobalType, TypeSpace, ValType, type_space_of};
+use smith_types::{GlobalType, SubType, TypeSpace, ValType};
 use std::alloc::Global;
 
 /// What a call of a case draws over.
@@ -70,9 +70,21 @@ pub(crate) fn types_of(alloc: Global, case: &Case) -> Result<TypeSpace, Fault> {
         return Ok(TypeSpace::new(alloc));
     };
     let shape = shape_named(alloc, name.as_str())?;
-    match type_space_of(alloc, shape.groups.as_slice()) {
-        Ok(Some(types)) => Ok(types),
-        Ok(None) => Err(Fault::UnknownTypes),
-        Err(_) => Err(Fault::Memory),
+    let mut types = TypeSpace::new(alloc);
+    for group in shape.groups.as_slice() {
+        add_group(alloc, group.as_slice(), &mut types)?;
     }
+    Ok(types)
+}
+
+// Adds a group of the types `members` to `types`.
+fn add_group(alloc: Global, members: &[SubType], types: &mut TypeSpace) -> Result<(), Fault> {
+    for member in members {
+        let added = member.clone(alloc)?;
+        if !types.may_follow(&added) {
+            return Err(Fault::UnknownTypes);
+        }
+        let _index = types.push_type(added)?;
+    }
+    Ok(types.push_group()?)
 }
