@@ -184,6 +184,17 @@ carrying_more context limited wanted task todo todo' start old new now step = re
   tasks = step_tasks context limited wanted task todo todo' old new step now.tasks.0 now.tasks.1;
 }
 
+-- the first task was to draw the wanted value
+pub carrying_begun : (context : Context) (limited : Bool) (wanted : ValType) (none todo : List Task) (start now : State) → none ≡ [] → IsValTypeValid context.features (length context.types) wanted → IsStep context limited (Draw (Value wanted)) none start todo now → IsCarrying context limited wanted todo start now
+carrying_begun context limited wanted none todo start now empty valid step = carrying_more context limited wanted (Draw (Value wanted)) none todo start start now first step
+  where
+    first_gives : (end : Option State) → Ends context limited end (Draw (Value wanted) ∷ []) start → Gives context limited (Value wanted) start end
+    first_gives end (None, gives, is) = rw is gives
+    first_gives end (Some last, gives, is) = rw is gives
+
+    first : IsCarrying context limited wanted (Draw (Value wanted) ∷ none) start start
+    first = rw empty (record { gives = first_gives; tasks = ((valid, λ lack. lack), tt) })
+
 -- no task is left
 pub carrying_done : (context : Context) (limited : Bool) (wanted : ValType) (todo : List Task) (start now : State) → IsCarrying context limited wanted todo start now → todo ≡ [] → Gives context limited (Value wanted) start (Some now)
 carrying_done context limited wanted todo start now h none = h.gives (Some now) (rw none refl)

@@ -14,13 +14,15 @@ use Rattle.smith_types.specs.Kinds.{shared, bottom}
 use Rattle.smith_types.specs.Types.{IsOrderly}
 use Rattle.smith_types.specs.Space.{HasDepth, root, deeper}
 use Rattle.smith_types.specs.Subtyping.{IsBelow}
-use Rattle.smith_types.specs.KindCounts.{is_of, indices_from, indices_of_kind}
+use Rattle.smith_types.specs.KindCounts.{is_inner_of_kind, indices_from, indices_of_kind}
 use Rattle.smith_types.specs.KindCounts as kinds
+use Rattle.smith_types.specs.Families.{is_directly_below}
+use Rattle.smith_types.specs.Families as families
 use Rattle.smith_types.proofs.ListLemmas.{slice_get-grown}
 use Rattle.smith_types.proofs.PathLemmas.{below_declared}
 use Rattle.smith_types.proofs.SpaceLemmas.{depth_alone, depth_some}
 use Rattle.smith_types.proofs.WalkLemmas.{below_level, below_above}
-use Rattle.smith_draw.specs.Offered.{is_of_kind, is_kind, picked_from, of_kinds, supertype_of, ancestors, supertypes_of_inner, kinds_at, of_standing, bottom_at, gc_supertypes}
+use Rattle.smith_draw.specs.Offered.{is_of_kind, is_kind, is_index, is_declared_below, direct_subtypes, picked_from, of_kinds, supertype_of, ancestors, supertypes_of_inner, kinds_at, of_standing, bottom_at, gc_supertypes}
 use Rattle.smith_draw.proofs.AncestorLemmas.{ancestors_up, ancestors_none}
 
 -- what stands in the second of two lists stands behind the first in both
@@ -30,10 +32,10 @@ slice_get-behind (y ∷ xs) ys zero k x is at = absurd (omega (arith, is))
 slice_get-behind (y ∷ xs) ys (suc n) k x is at = slice_get-behind xs ys n k x (omega (arith, is)) at
 
 -- the tests of a kind are one
-same_shared : (kind : AbstractHeapType) (is_shared : Bool) (inner : CompositeInnerType) → (is_shared && is_of_kind kind inner) ≡ is_of true kind is_shared inner
+same_shared : (kind : AbstractHeapType) (is_shared : Bool) (inner : CompositeInnerType) → (is_shared && is_of_kind kind inner) ≡ is_inner_of_kind true kind is_shared inner
 same_shared kind is_shared inner = search rules
 
-same_unshared : (kind : AbstractHeapType) (is_shared : Bool) (inner : CompositeInnerType) → (not is_shared && is_of_kind kind inner) ≡ is_of false kind is_shared inner
+same_unshared : (kind : AbstractHeapType) (is_shared : Bool) (inner : CompositeInnerType) → (not is_shared && is_of_kind kind inner) ≡ is_inner_of_kind false kind is_shared inner
 same_unshared kind is_shared inner = search rules
 
 same_kind : (s : Bool) (kind : AbstractHeapType) (t : SubType) → is_kind s kind t ≡ kinds.is_of_kind s kind t
@@ -149,45 +151,25 @@ up_found types o i d n place a deep up past high below =
     slice_get-behind (kinds_at types i) (ancestors types i) place (place - n) (Concrete a) (omega (arith, kinds, past))
     (ancestor_at types o i d (place - n) a (d - 1 - (place - n)) deep high below (omega (arith, near)))
 
--- types that a test picks
-most_turn : (b : Bool) (first n : ℕ) (rest : List HeapType) → length rest ≤ n → length (if b then Concrete first ∷ rest else rest) ≤ suc n
-most_turn true first n rest le = omega arith
-most_turn false first n rest le = omega arith
+-- the types directly below a type, by their indices
+direct_indices : (types : List SubType) (i : ℕ) → direct_subtypes types i ≡ map Concrete (families.direct_subtypes types i)
+direct_indices types i = picked_indices (is_declared_below i) (is_directly_below i) (λ t. one t.supertype) 0 types
+  where
+    one : (o : Option ℕ) → is_index i o ≡ families.is_index i o
+    one None = refl
+    one (Some s) = refl
 
-pub picked_most : (test : SubType → Bool) (start : ℕ) (types : List SubType) → length (picked_from test start types) ≤ length types
-picked_most test start [] = omega arith
-picked_most test start (t ∷ types) = most_turn (test t) start (length types) (picked_from test (start + 1) types) (picked_most test (start + 1) types)
+pub direct_counted : (types : List SubType) (i n : ℕ) → n ≡ length (families.direct_subtypes types i) → n ≡ length (direct_subtypes types i)
+direct_counted types i n count = count ∙ sym (length-map (families.direct_subtypes types i) Concrete) ∙ ap length (sym (direct_indices types i))
 
-picked_turn : (test : SubType → Bool) (types : List SubType) (i : ℕ) (t : SubType) (b : Bool) → i < length types → t ≡ get_or types i t → b ≡ test t
-    → picked_from test i (drop i types) ≡ (if b then Concrete i ∷ picked_from test (i + 1) (drop (i + 1) types) else picked_from test (i + 1) (drop (i + 1) types))
-picked_turn test types i t b inside read is =
-    let next : suc i ≡ i + 1 = omega arith in
-    let head : drop i types ≡ t ∷ drop (i + 1) types = drop-cons types i t inside ∙ ap (λ (u : SubType). u ∷ drop (suc i) types) (sym read) ∙ ap (λ (n : ℕ). t ∷ drop n types) next in
-    ap (picked_from test i) head ∙ ap (λ (c : Bool). if c then Concrete i ∷ picked_from test (i + 1) (drop (i + 1) types) else picked_from test (i + 1) (drop (i + 1) types)) (sym is)
+pub direct_inside : (types : List SubType) (i place : ℕ) → place < length (direct_subtypes types i) → place < length (families.direct_subtypes types i)
+direct_inside types i place inside = omega (arith, inside, direct_counted types i (length (families.direct_subtypes types i)) refl)
 
-past_one : (b : Bool) (first left : ℕ) (rest : List HeapType) → b ≡ true → (left ≡ 0 → ⊥) → left < length (if b then Concrete first ∷ rest else rest)
-    → (left - 1 < length rest) × ((x : HeapType) → slice_get rest (left - 1) ≡ Some x → slice_get (if b then Concrete first ∷ rest else rest) left ≡ Some x)
-past_one true first left rest on some inside = (omega (arith, some, inside), λ x at. slice_get-behind (Concrete first ∷ []) rest left (left - 1) x (omega (arith, some)) at)
-past_one false first left rest on some inside = cc
-
-past_none : (b : Bool) (first left : ℕ) (rest : List HeapType) → b ≡ false → left < length (if b then Concrete first ∷ rest else rest)
-    → (left < length rest) × ((x : HeapType) → slice_get rest left ≡ Some x → slice_get (if b then Concrete first ∷ rest else rest) left ≡ Some x)
-past_none true first left rest off inside = cc
-past_none false first left rest off inside = (inside, λ x at. at)
-
--- one that is picked is passed
-pub picked_past : (test : SubType → Bool) (types : List SubType) (i left next : ℕ) (t : SubType) (b : Bool) → i < length types → t ≡ get_or types i t → b ≡ test t → b ≡ true → (left ≡ 0 → ⊥) → next ≡ left - 1 → left < length (picked_from test i (drop i types))
-    → (next < length (picked_from test (i + 1) (drop (i + 1) types))) × ((x : HeapType) → slice_get (picked_from test (i + 1) (drop (i + 1) types)) next ≡ Some x → slice_get (picked_from test i (drop i types)) left ≡ Some x)
-picked_past test types i left next t b inside read is on some steps within =
-    let turn = picked_turn test types i t b inside read is in
-    rw (turn, steps) (past_one b i left (picked_from test (i + 1) (drop (i + 1) types)) on some (rw turn at within))
-
--- or one that is not
-pub picked_over : (test : SubType → Bool) (types : List SubType) (i left next : ℕ) (t : SubType) (b : Bool) → i < length types → t ≡ get_or types i t → b ≡ test t → b ≡ false → next ≡ left → left < length (picked_from test i (drop i types))
-    → (next < length (picked_from test (i + 1) (drop (i + 1) types))) × ((x : HeapType) → slice_get (picked_from test (i + 1) (drop (i + 1) types)) next ≡ Some x → slice_get (picked_from test i (drop i types)) left ≡ Some x)
-picked_over test types i left next t b inside read is off steps within =
-    let turn = picked_turn test types i t b inside read is in
-    rw (turn, steps) (past_none b i left (picked_from test (i + 1) (drop (i + 1) types)) off (rw turn at within))
+pub direct_found : (types : List SubType) (i place found : ℕ) → slice_get (families.direct_subtypes types i) place ≡ Some found → slice_get (direct_subtypes types i) place ≡ Some (Concrete found)
+direct_found types i place found at =
+    ap (λ (l : List HeapType). slice_get l place) (direct_indices types i)
+    ∙ slice_get-map Concrete (families.direct_subtypes types i) place
+    ∙ ap (λ (o : Option ℕ). option_map Concrete o) at
 
 -- behind itself and the types directly below
 pub behind_direct : (own : HeapType) (direct more : List HeapType) (place n : ℕ) (x : HeapType) → n ≡ length direct → n < place → slice_get more (place - 1 - n) ≡ Some x → slice_get (own ∷ direct ++ more) place ≡ Some x

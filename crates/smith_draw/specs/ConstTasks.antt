@@ -23,7 +23,7 @@ pub record IsOperandDrawn (context : Context) (limited : Bool) (operand : Operan
   pub read : (depth : ℕ) → old.fuel < depth → operand_at limited (expression_at context limited depth) operand old ≡ Some new
   pub drawn : IsDrawn context (operand_type operand ∷ []) old.made old.fuel new.made new.fuel
 
--- a node was chosen for an operand: its operands are to be drawn, and its instruction is to be written behind them
+-- a node was chosen for an operand: its operands are to be drawn, and its instruction is to be written after them
 pub record IsOperandBegun (context : Context) (limited : Bool) (operand : Operand) (todo : List Task) (old : State) (todo' : List Task) (new : State) : Type 0 where
   pub node : Node
   pub bytes : List ℕ
@@ -33,7 +33,7 @@ pub record IsOperandBegun (context : Context) (limited : Bool) (operand : Operan
   pub read : (depth : ℕ) → old.fuel < depth
       → operand_at limited (expression_at context limited depth) operand old ≡ option_map (behind node.instruction) (operands_at (operand_at limited (expression_at context limited (depth - 1))) node.operands (state_of old.made (old.fuel - 1) bytes))
 
--- a task was carried out, and the tasks behind it became these
+-- a task was carried out, and the tasks after it became these
 abbrev pub IsStep : Context → Bool → Task → List Task → State → List Task → State → Type 0
 IsStep context limited (Draw operand) todo old todo' new = ((todo' ≡ todo) × IsOperandDrawn context limited operand old new) ⊎ IsOperandBegun context limited operand todo old todo' new
 IsStep context limited (Write instruction) todo old todo' new = (todo' ≡ todo) × (new ≡ behind instruction old)

@@ -21,7 +21,6 @@ ghost use Rattle.smith_draw.specs.Offered.{
   supertypes_of_inner,
   kinds_below,
   kinds_above,
-  is_declared_below,
   of_kinds,
   direct_subtypes,
   ancestors,
@@ -35,7 +34,7 @@ ghost use Rattle.smith_draw.specs.Offered.{
 use smith_config::Config;
 use smith_types::{AbstractHeapType, CompositeInnerType, HeapType, SubType, TypeSpace};
 
-/// How many supertypes of `ty` are offered with garbage collection.
+/// Returns the number of supertypes of `ty` that are offered with garbage collection.
 pub(crate) fn count_supertypes(space: &TypeSpace, ty: HeapType) -> usize
     ensures { result ≡ length (gc_supertypes space.now.types ty) }
 {
@@ -48,7 +47,7 @@ pub(crate) fn count_supertypes(space: &TypeSpace, ty: HeapType) -> usize
     }
 }
 
-/// The supertype of `ty` that is offered with garbage collection at the place `place`, which is below the number of these.
+/// Returns the supertype of `ty` that is offered with garbage collection at the place `place`, which is below [`count_supertypes`].
 pub(crate) fn offered_supertype(space: &TypeSpace, ty: HeapType, place: usize) -> HeapType
     requires { place < length (gc_supertypes space.now.types ty) }
     ensures { slice_get (gc_supertypes space.now.types ty) place ≡ Some result }
@@ -68,7 +67,8 @@ pub(crate) fn offered_supertype(space: &TypeSpace, ty: HeapType, place: usize) -
     }
 }
 
-/// How many these are: the abstract types `abstracts`, and the concrete types of the kinds `kinds`, all of the sharedness `shared`.
+/// Returns the number of the abstract types `abstracts` and of the concrete types of the kinds `kinds`, all of them shared, or all of
+/// them not, as `shared` says.
 fn count_abstract(
     space: &TypeSpace,
     shared: bool,
@@ -85,7 +85,7 @@ fn count_abstract(
     count
 }
 
-/// That one of the same, at the place `place`.
+/// Returns the type at the place `place` among those that [`count_abstract`] counts, the abstract types first.
 fn offered_abstract(
     space: &TypeSpace,
     shared: bool,
@@ -105,7 +105,8 @@ fn offered_abstract(
     HeapType::Concrete(offered_of_kinds(space, shared, kinds, place - abstracts.len()))
 }
 
-/// The index of that type of each of `kinds`, by kind and by index, which stands at the place `place`.
+/// Returns the index of the type at the place `place` among the types of the kinds `kinds`, kind by kind, each in the order of the
+/// indices.
 fn offered_of_kinds(
     space: &TypeSpace,
     shared: bool,
@@ -126,6 +127,7 @@ fn offered_of_kinds(
     0
 }
 
+/// Returns the number of supertypes that are offered of the type of the index `index`, itself among them.
 fn count_concrete_supertypes(space: &TypeSpace, index: u32) -> usize
     ensures { result ≡ length (gc_supertypes space.now.types (Concrete index)) }
 {
@@ -137,6 +139,7 @@ fn count_concrete_supertypes(space: &TypeSpace, index: u32) -> usize
     }
 }
 
+/// Returns the one of these at the place `place`, the type itself first.
 fn offered_concrete_supertype(space: &TypeSpace, index: u32, place: usize) -> HeapType
     requires { place < length (gc_supertypes space.now.types (Concrete index)) }
     ensures { slice_get (gc_supertypes space.now.types (Concrete index)) place ≡ Some result }
@@ -150,8 +153,8 @@ fn offered_concrete_supertype(space: &TypeSpace, index: u32, place: usize) -> He
     }
 }
 
-/// Of what stands above the type `ty` of the index `index`, abstract types and then the types on the way up, nearest first, that at
-/// the place `place`.
+/// Returns the type at the place `place` above the type `ty` of the index `index`: abstract types, and then the types on the way up,
+/// nearest first.
 fn offered_above(space: &TypeSpace, index: u32, ty: &SubType, place: usize) -> HeapType
     requires orderly { IsOrderly space.now.types }
     requires stands { slice_get space.now.types index ≡ Some ty.now }
@@ -169,7 +172,7 @@ fn offered_above(space: &TypeSpace, index: u32, ty: &SubType, place: usize) -> H
     HeapType::Concrete(space.ancestor(index, depth - 1 - (place - kinds.len()) as u32))
 }
 
-/// How many subtypes of `ty` are offered with garbage collection.
+/// Returns the number of subtypes of `ty` that are offered with garbage collection.
 pub(crate) fn count_subtypes(config: &Config, space: &TypeSpace, ty: HeapType) -> usize
     ensures { result ≡ length (gc_subtypes config.now space.now.types ty) }
 {
@@ -177,12 +180,12 @@ pub(crate) fn count_subtypes(config: &Config, space: &TypeSpace, ty: HeapType) -
         HeapType::Abstract { shared, ty } => {
             count_abstract(space, shared, abstract_subtypes(ty), kinds_below(ty))
         }
-        HeapType::Concrete(index) => count_concrete_subtypes(config, space.types(), index),
+        HeapType::Concrete(index) => count_concrete_subtypes(config, space, index),
         HeapType::Exact(_) => 1,
     }
 }
 
-/// The subtype of `ty` that is offered with garbage collection at the place `place`, which is below the number of these.
+/// Returns the subtype of `ty` that is offered with garbage collection at the place `place`, which is below [`count_subtypes`].
 pub(crate) fn offered_subtype(
     config: &Config,
     space: &TypeSpace,
@@ -196,22 +199,21 @@ pub(crate) fn offered_subtype(
         HeapType::Abstract { shared, ty } => {
             offered_abstract(space, shared, abstract_subtypes(ty), kinds_below(ty), place)
         }
-        HeapType::Concrete(index) => {
-            offered_concrete_subtype(config, space.types(), index, place)
-        }
+        HeapType::Concrete(index) => { offered_concrete_subtype(config, space, index, place) }
         HeapType::Exact(_) => ty,
     }
 }
 
-fn count_concrete_subtypes(config: &Config, types: &[SubType], index: u32) -> usize
-    requires few { length types.now < 2 ^ 32 }
-    ensures { result ≡ length (gc_subtypes config.now types.now (Concrete index)) }
+/// Returns the number of subtypes that are offered of the type of the index `index`, itself among them.
+fn count_concrete_subtypes(config: &Config, space: &TypeSpace, index: u32) -> usize
+    ensures { result ≡ length (gc_subtypes config.now space.now.types (Concrete index)) }
 {
-    let direct = count_direct(types, index);
-    1 + direct + count_exact(config, direct) + count_bottom(types, index)
+    let direct = count_direct(space, index);
+    1 + direct + count_exact(config, direct) + count_bottom(space.types(), index)
 }
 
-/// How many exact types, and types directly below again, are offered where `direct` types are directly below.
+/// Returns the number of types that are offered with custom descriptors alone: the exact type, and the `direct` types directly below
+/// once more.
 fn count_exact(config: &Config, direct: usize) -> usize
     requires { direct < 2 ^ 32 }
     ensures { result ≡ (if config.now.custom_descriptors_enabled then 1 + direct else 0) }
@@ -223,6 +225,7 @@ fn count_exact(config: &Config, direct: usize) -> usize
     }
 }
 
+/// Returns the number of bottoms of the kind of the type of the index `index`: one where that type exists.
 fn count_bottom(types: &[SubType], index: u32) -> usize
     ensures { result ≡ length (bottom_at types.now index) }
 {
@@ -232,52 +235,53 @@ fn count_bottom(types: &[SubType], index: u32) -> usize
     }
 }
 
+/// Returns the one of the subtypes of the type of the index `index` at the place `place`, the type itself first.
 fn offered_concrete_subtype(
     config: &Config,
-    types: &[SubType],
+    space: &TypeSpace,
     index: u32,
     place: usize,
 ) -> HeapType
-    requires few { length types.now < 2 ^ 32 }
-    requires inside { place < length (gc_subtypes config.now types.now (Concrete index)) }
-    ensures { slice_get (gc_subtypes config.now types.now (Concrete index)) place ≡ Some result }
+    requires { place < length (gc_subtypes config.now space.now.types (Concrete index)) }
+    ensures { slice_get (gc_subtypes config.now space.now.types (Concrete index)) place ≡ Some result }
 {
     if place == 0 {
         return HeapType::Concrete(index);
     }
-    let direct = count_direct(types, index);
+    let direct = count_direct(space, index);
     if place <= direct {
-        return HeapType::Concrete(offered_direct(types, index, place - 1));
+        return HeapType::Concrete(offered_direct(space, index, place - 1));
     }
-    offered_below(config, types, index, direct, place - 1 - direct)
+    offered_below(config, space, index, direct, place - 1 - direct)
 }
 
-/// Of what is offered below the type `index` behind the types directly below, of which there are `direct`, that at the place `place`.
+/// Returns the type at the place `place` among those that are offered below the type of the index `index` after the `direct` types
+/// directly below.
 fn offered_below(
     config: &Config,
-    types: &[SubType],
+    space: &TypeSpace,
     index: u32,
     direct: usize,
     place: usize,
 ) -> HeapType
-    requires few { length types.now < 2 ^ 32 }
-    requires counted { direct ≡ length (direct_subtypes types.now index) }
-    requires inside { place < length (exact_subtypes config.now types.now index ++ bottom_at types.now index) }
-    ensures { slice_get (exact_subtypes config.now types.now index ++ bottom_at types.now index) place ≡ Some result }
+    requires few { direct < 2 ^ 32 }
+    requires counted { direct ≡ length (direct_subtypes space.now.types index) }
+    requires inside { place < length (exact_subtypes config.now space.now.types index ++ bottom_at space.now.types index) }
+    ensures { slice_get (exact_subtypes config.now space.now.types index ++ bottom_at space.now.types index) place ≡ Some result }
 {
     if !config.custom_descriptors_enabled {
-        return offered_bottom(types, index);
+        return offered_bottom(space.types(), index);
     }
     if place == 0 {
         return HeapType::Exact(index);
     }
     if place <= direct {
-        return HeapType::Concrete(offered_direct(types, index, place - 1));
+        return HeapType::Concrete(offered_direct(space, index, place - 1));
     }
-    offered_bottom(types, index)
+    offered_bottom(space.types(), index)
 }
 
-/// The bottom of the kind of the type `index`, which stands.
+/// Returns the bottom of the kind of the type of the index `index`, which exists.
 fn offered_bottom(types: &[SubType], index: u32) -> HeapType
     requires { 0 < length (bottom_at types.now index) }
     ensures { bottom_at types.now index ≡ result ∷ [] }
@@ -291,44 +295,21 @@ fn offered_bottom(types: &[SubType], index: u32) -> HeapType
     }
 }
 
-/// How many types are declared directly below the type `supertype`.
-fn count_direct(types: &[SubType], supertype: u32) -> usize
-    ensures { result ≡ length (direct_subtypes types.now supertype) }
+/// Returns the number of types that are declared directly below the type of the index `supertype`.
+fn count_direct(space: &TypeSpace, supertype: u32) -> usize
+    ensures count { result ≡ length (direct_subtypes space.now.types supertype) }
+    ensures few { result < 2 ^ 32 }
 {
-    let mut count = 0;
-    for ty in types {
-        if is_declared_below(ty, supertype) {
-            count += 1;
-        }
-    }
-    count
+    space.count_of_direct_subtypes(supertype) as usize
 }
 
-/// The index of that type directly below the type `supertype` which stands at the place `place` among these.
-fn offered_direct(types: &[SubType], supertype: u32, place: usize) -> u32
-    requires few { length types.now < 2 ^ 32 }
-    requires inside { place < length (direct_subtypes types.now supertype) }
-    ensures { slice_get (direct_subtypes types.now supertype) place ≡ Some (Concrete result) }
+/// Returns the index of the one of these at the place `place`, in the order of their indices.
+fn offered_direct(space: &TypeSpace, supertype: u32, place: usize) -> u32
+    requires few { place < 2 ^ 32 }
+    requires inside { place < length (direct_subtypes space.now.types supertype) }
+    ensures { slice_get (direct_subtypes space.now.types supertype) place ≡ Some (Concrete result) }
 {
-    let mut left = place;
-    for index in 0..types.len() {
-        if is_declared_below(&types[index], supertype) {
-            if left == 0 {
-                return index as u32;
-            }
-            left -= 1;
-        }
-    }
-    0
-}
-
-fn is_declared_below(ty: &SubType, index: u32) -> bool
-    ensures { result ≡ is_declared_below index ty.now }
-{
-    match ty.supertype {
-        Some(supertype) => supertype == index,
-        None => false,
-    }
+    space.direct_subtype(supertype, place as u32)
 }
 
 /// The abstract types that are offered above `inner`, widest first.

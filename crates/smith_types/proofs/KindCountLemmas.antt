@@ -7,10 +7,10 @@ use Rattle.smith_types.specs.declared.composite_type.CompositeInnerType.{Composi
 use Rattle.smith_types.specs.declared.composite_type.SubType.{SubType}
 use Rattle.smith_types.specs.declared.kind_counts.KindCounts.{KindCounts}
 use Rattle.smith_types.specs.Kinds.{shared}
-use Rattle.smith_types.specs.KindCounts.{is_of, is_of_kind, indices_from, indices_of_kind, count_where, count_at, counts_with, AreCounts}
+use Rattle.smith_types.specs.KindCounts.{is_inner_of_kind, is_of_kind, indices_from, indices_of_kind, count_where, count_at, counts_with, AreCounts}
 
--- the count of a kind, where one type more is counted
-counted : (counts : KindCounts) (s : Bool) (kind : AbstractHeapType) (is_shared : Bool) (inner : CompositeInnerType) → count_at (counts_with is_shared inner counts) s kind ≡ (if is_of s kind is_shared inner then count_at counts s kind + 1 else count_at counts s kind)
+-- the count of a kind with one more type
+counted : (counts : KindCounts) (s : Bool) (kind : AbstractHeapType) (is_shared : Bool) (inner : CompositeInnerType) → count_at (counts_with is_shared inner counts) s kind ≡ (if is_inner_of_kind s kind is_shared inner then count_at counts s kind + 1 else count_at counts s kind)
 counted counts s kind is_shared inner = search rules
 
 one_behind : (b : Bool) (n m l : ℕ) (c : Bool) → l ≡ (if c then m + 1 else m) → n ≡ (if b then l + 1 else l) → n ≡ (if c then (if b then m + 1 else m) + 1 else (if b then m + 1 else m))
@@ -19,7 +19,7 @@ one_behind true n m l false is same = omega arith
 one_behind false n m l true is same = omega arith
 one_behind false n m l false is same = omega arith
 
--- how many types a test picks, with one type more
+-- how many types a test picks with one more type
 count_push : (test : SubType → Bool) (types : List SubType) (t : SubType) → count_where test (types ++ t ∷ []) ≡ (if test t then count_where test types + 1 else count_where test types)
 count_push test [] t = refl
 count_push test (u ∷ types) t = one_behind (test u) _ (count_where test types) _ (test t) (count_push test types t) refl
@@ -67,7 +67,7 @@ later_turn true first zero n m found rest least most at = absurd (omega arith)
 later_turn true first (suc place) n m found rest least most at = at place (omega arith) (omega arith)
 later_turn false first place n m found rest least most at = at place least most
 
--- the index at a place of those that are picked, where the types before it have no more picked than the place, and the types up to it have more
+-- the type of an index is at a place of those that are picked: no more than `place` are picked before it, and more than `place` up to it
 index_found : (test : SubType → Bool) (first : ℕ) (types : List SubType) (i place : ℕ) → i < length types → count_where test (take i types) ≤ place → place < count_where test (take (suc i) types)
     → slice_get (indices_from test first types) place ≡ Some (first + i)
 index_found test first [] i place inside least most = absurd (omega arith)
@@ -80,7 +80,7 @@ pub index_of_kind_found : (types : List SubType) (s : Bool) (kind : AbstractHeap
     → slice_get (indices_of_kind types s kind) place ≡ Some i
 index_of_kind_found types s kind i place inside least most = index_found (is_of_kind s kind) 0 types i place inside least most ∙ ap Some (omega arith)
 
--- where the search for a type of a kind begins: at or before the last type
+-- the search for a type of a kind begins with all types
 pub search_begins : (types : List SubType) (s : Bool) (kind : AbstractHeapType) (place long : ℕ) → long ≡ length types → place < length (indices_of_kind types s kind)
     → (long - 1 < length types) × (place < count_where (is_of_kind s kind) (take (suc (long - 1)) types))
 search_begins types s kind place long is less =
@@ -89,7 +89,7 @@ search_begins types s kind place long is less =
     let all : take (suc (long - 1)) types ≡ types = take_all (suc (long - 1)) types (omega (arith, is)) in
     (omega (arith, is, picked, most, less), rw all (omega (arith, picked, less)))
 
--- and where it ends
+-- and ends with one
 pub search_ends : (types : List SubType) (s : Bool) (kind : AbstractHeapType) (place low high : ℕ) → high ≤ low → low ≤ high → high < length types → count_where (is_of_kind s kind) (take low types) ≤ place → place < count_where (is_of_kind s kind) (take (suc high) types)
     → slice_get (indices_of_kind types s kind) place ≡ Some low
 search_ends types s kind place low high met ordered inside least most =

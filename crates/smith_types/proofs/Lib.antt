@@ -14,6 +14,7 @@ pub mod GroupGrowthLemmas
 pub mod WalkLemmas
 pub mod KindCountLemmas
 pub mod PlaceLemmas
+pub mod FamilyLemmas
 pub mod FeatureBitLemmas
 pub mod PartLemmas
 pub mod KindLemmas

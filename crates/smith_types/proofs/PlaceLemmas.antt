@@ -15,7 +15,7 @@ use Rattle.smith_types.specs.declared.value_type.AbstractHeapType.{AbstractHeapT
 use Rattle.smith_types.specs.Kinds.{shared}
 use Rattle.smith_types.specs.KindCounts.{is_of_kind, indices_of_kind, count_where, count_at, counts_with, AreCounts}
 use Rattle.smith_types.proofs.KindCountLemmas.{AreCounts-push, AreCounts-none, count_most, length_indices}
-use Rattle.smith_types.specs.Places.{counts_from, last_counts, IsAncestor, IsPlace, ArePlaces, depths_in, IsBehind, IsRowAtEnd}
+use Rattle.smith_types.specs.Places.{last_counts_from, last_counts, IsAncestor, IsPlace, ArePlaces, depths_in, IsLonger, IsRowAtEnd}
 use Rattle.smith_types.specs.Subtyping.{IsBelow, itself}
 use Rattle.smith_types.proofs.GrowthLemmas.{IsBelow-grown, IsBelow-trans}
 use Rattle.smith_types.proofs.ListLemmas.{slice_get-last, slice_get-push}
@@ -31,7 +31,7 @@ pub place_read : (types : List SubType) (table : List ℕ) (places : List Place)
 place_read types table places i place d known inside read =
     known.each i place (slice_get-get_or places i d (omega (arith, known.long)) ∙ ap Some (sym read))
 
--- how many types of a kind stand up to a type, read as code reads it
+-- the number of types of a kind up to a type, read as code reads it
 pub count_read : (types now : List SubType) (table : List ℕ) (places : List Place) (i n : ℕ) (place d : Place) (s : Bool) (kind : AbstractHeapType) → types ≡ now → ArePlaces types table places → i < length now → place ≡ get_or places i d → n ≡ count_at place.counts s kind
     → n ≡ count_where (is_of_kind s kind) (take (suc i) now)
 count_read types now table places i n place d s kind view known inside read is =
@@ -49,10 +49,10 @@ depths_known types table places known = record {
       (known.each i (get_or places i d) (slice_get-get_or places i d within)).depth;
 }
 
--- what stands in the row of a type where a type of the depth of another would, is that one exactly where it is above
-pub row_told : (types : List SubType) (table : List ℕ) (i j : ℕ) (p q : Place) (found : ℕ) → IsOrderly types → IsPlace types table i p → IsPlace types table j q → q.depth < p.depth → found ≡ get_or table (p.start + (q.depth - 1)) found
+-- the entry of a row at the depth of another type is this other type exactly where it is above
+pub row_decides : (types : List SubType) (table : List ℕ) (i j : ℕ) (p q : Place) (found : ℕ) → IsOrderly types → IsPlace types table i p → IsPlace types table j q → q.depth < p.depth → found ≡ get_or table (p.start + (q.depth - 1)) found
     → IsTrue (nat_eq found j) ↔ IsBelow types (Concrete i) (Concrete j)
-row_told types table i j p q found orderly lower upper less read =
+row_decides types table i j p q found orderly lower upper less read =
     let some : 1 ≤ q.depth = depth_some types upper.depth in
     let within : p.start + p.depth ≤ length table + 1 = lower.within in
     let stands : found ≡ slice_index table (p.start + (q.depth - 1)) = read ∙ get_or_default_zero table (p.start + (q.depth - 1)) found (omega (arith, within, some, less)) in
@@ -64,9 +64,9 @@ row_told types table i j p q found orderly lower upper less read =
     )
 
 -- no other type that is as deep, or deeper, is above a type
-pub row_ended : (types : List SubType) (table : List ℕ) (i j : ℕ) (p q : Place) → IsOrderly types → IsPlace types table i p → IsPlace types table j q → (i ≡ j → ⊥) → p.depth ≤ q.depth
+pub none_as_deep_above : (types : List SubType) (table : List ℕ) (i j : ℕ) (p q : Place) → IsOrderly types → IsPlace types table i p → IsPlace types table j q → (i ≡ j → ⊥) → p.depth ≤ q.depth
     → IsTrue (nat_lt q.depth p.depth) ↔ IsBelow types (Concrete i) (Concrete j)
-row_ended types table i j p q orderly lower upper other more = (
+none_as_deep_above types table i j p q orderly lower upper other more = (
   λ yes.
       let less : q.depth < p.depth = ltb-true q.depth p.depth yes in
       absurd (omega (arith, less, more)),
@@ -77,8 +77,8 @@ row_ended types table i j p q orderly lower upper other more = (
 )
 
 -- a type is below itself
-pub row_met : (types : List SubType) (i j : ℕ) → i ≡ j → IsTrue true ↔ IsBelow types (Concrete i) (Concrete j)
-row_met types i j same = (λ yes. subst (λ n. IsBelow types (Concrete i) (Concrete n)) same itself, λ below. refl)
+pub itself_below : (types : List SubType) (i j : ℕ) → i ≡ j → IsTrue true ↔ IsBelow types (Concrete i) (Concrete j)
+itself_below types i j same = (λ yes. subst (λ n. IsBelow types (Concrete i) (Concrete n)) same itself, λ below. refl)
 
 -- the ancestor of a depth, read as code reads it
 pub ancestor_read : (types now : List SubType) (table : List ℕ) (places : List Place) (i depth : ℕ) (place d : Place) (found : ℕ) → types ≡ now → ArePlaces types table places → i < length now → place ≡ get_or places i d → 0 < depth → ((own : ℕ) → HasDepth now i own → depth ≤ own) → (depth ≡ place.depth → ⊥)
@@ -115,7 +115,7 @@ IsAncestor-grown types more i depth ancestor h = record {
 }
 
 -- a place stays as the list and the table grow
-IsPlace-grown : (types more : List SubType) (table longer : List ℕ) (i : ℕ) (place : Place) → i < length types → IsBehind table longer → IsPlace types table i place → IsPlace (types ++ more) longer i place
+IsPlace-grown : (types more : List SubType) (table longer : List ℕ) (i : ℕ) (place : Place) → i < length types → IsLonger table longer → IsPlace types table i place → IsPlace (types ++ more) longer i place
 IsPlace-grown types more table longer i place inside behind h =
     let within : place.start + place.depth ≤ length table + 1 = h.within in record {
       depth = HasDepth-grown types more h.depth;
@@ -127,8 +127,8 @@ IsPlace-grown types more table longer i place inside behind h =
     }
 
 -- the places stay as the table grows
-pub ArePlaces-behind : (types : List SubType) (table longer : List ℕ) (places : List Place) → IsBehind table longer → ArePlaces types table places → ArePlaces types longer places
-ArePlaces-behind types table longer places behind before = record {
+pub ArePlaces-longer : (types : List SubType) (table longer : List ℕ) (places : List Place) → IsLonger table longer → ArePlaces types table places → ArePlaces types longer places
+ArePlaces-longer types table longer places behind before = record {
   long = before.long;
   each = λ i place at.
       let h = before.each i place at in
@@ -142,7 +142,7 @@ ArePlaces-behind types table longer places behind before = record {
       };
 }
 
-pub ArePlaces-push : (types : List SubType) (t : SubType) (table longer : List ℕ) (places : List Place) (place : Place) → ArePlaces types table places → IsBehind table longer → IsPlace (types ++ t ∷ []) longer (length types) place → ArePlaces (types ++ t ∷ []) longer (places ++ place ∷ [])
+pub ArePlaces-push : (types : List SubType) (t : SubType) (table longer : List ℕ) (places : List Place) (place : Place) → ArePlaces types table places → IsLonger table longer → IsPlace (types ++ t ∷ []) longer (length types) place → ArePlaces (types ++ t ∷ []) longer (places ++ place ∷ [])
 ArePlaces-push types t table longer places place before behind last = record {
   long = simp length-append (ap (λ n. n + 1) before.long);
   each = λ i p at. elim (slice_get-push places place i p at) [
@@ -159,12 +159,12 @@ all_taken : (types : List SubType) (t : SubType) → take (suc (length types)) (
 all_taken types t = take_all (suc (length types)) (types ++ t ∷ []) (simp length-append (omega arith))
 
 -- the counts up to the last place, read as code reads it
-pub counts_from-last : (counts : KindCounts) (places : List Place) (d : Place) → 1 ≤ length places → (get_or places (length places - 1) d).counts ≡ counts_from counts places
-counts_from-last counts [] d some = absurd (omega arith)
-counts_from-last counts (p ∷ []) d some = refl
-counts_from-last counts (p ∷ q ∷ places) d some =
+pub last_counts-last : (counts : KindCounts) (places : List Place) (d : Place) → 1 ≤ length places → (get_or places (length places - 1) d).counts ≡ last_counts_from counts places
+last_counts-last counts [] d some = absurd (omega arith)
+last_counts-last counts (p ∷ []) d some = refl
+last_counts-last counts (p ∷ q ∷ places) d some =
     let fewer : length (p ∷ q ∷ places) - 1 ≡ suc (length (q ∷ places) - 1) = omega arith in
-    rw fewer (counts_from-last p.counts (q ∷ places) d (omega arith))
+    rw fewer (last_counts-last p.counts (q ∷ places) d (omega arith))
 
 -- the counts up to the last place are those of all types
 pub counts_known : (types : List SubType) (table : List ℕ) (places : List Place) → ArePlaces types table places → AreCounts types (last_counts places)
@@ -175,11 +175,11 @@ counts_known types table (p ∷ places) known =
     let end : suc last ≡ length types = omega (arith, known.long) in
     let place = known.each last (get_or (p ∷ places) last p) (slice_get-get_or (p ∷ places) last p (omega arith)) in
     let all : take (suc last) types ≡ types = take_all (suc last) types (omega (arith, end)) in
-    subst (λ c. AreCounts types c) (counts_from-last no_place.counts (p ∷ places) p (omega arith)) (rw all at place.counts)
+    subst (λ c. AreCounts types c) (last_counts-last no_place.counts (p ∷ places) p (omega arith)) (rw all at place.counts)
 
 -- how many types of a kind there are, read as code reads it
-pub count_told : (types now : List SubType) (table : List ℕ) (places : List Place) (s : Bool) (kind : AbstractHeapType) (n : ℕ) → types ≡ now → ArePlaces types table places → n ≡ count_at (last_counts places) s kind → n ≡ length (indices_of_kind now s kind)
-count_told types now table places s kind n view known is =
+pub count_of_all : (types now : List SubType) (table : List ℕ) (places : List Place) (s : Bool) (kind : AbstractHeapType) (n : ℕ) → types ≡ now → ArePlaces types table places → n ≡ count_at (last_counts places) s kind → n ≡ length (indices_of_kind now s kind)
+count_of_all types now table places s kind n view known is =
     subst (λ xs. n ≡ length (indices_of_kind xs s kind)) view
     (is ∙ (counts_known types table places known).each s kind ∙ sym (length_indices (is_of_kind s kind) 0 types))
 

@@ -8,26 +8,26 @@ use Rattle.smith_types.specs.declared.composite_type.SubType.{SubType}
 use Rattle.smith_types.specs.declared.kind_counts.KindCounts.{KindCounts}
 use Rattle.smith_types.specs.Kinds.{shared}
 
--- a composite type, shared or not as the third argument says, is of a kind, and shared or not as the first says
-abbrev pub is_of : Bool → AbstractHeapType → Bool → CompositeInnerType → Bool
-is_of false heap.Array is_shared (Array a) = not is_shared
-is_of true heap.Array is_shared (Array a) = is_shared
-is_of false heap.Func is_shared (Func f) = not is_shared
-is_of true heap.Func is_shared (Func f) = is_shared
-is_of false heap.Struct is_shared (Struct s) = not is_shared
-is_of true heap.Struct is_shared (Struct s) = is_shared
-is_of _ _ is_shared _ = false
+-- a composite type is of a kind, and its sharedness, the third argument, is the first
+abbrev pub is_inner_of_kind : Bool → AbstractHeapType → Bool → CompositeInnerType → Bool
+is_inner_of_kind false heap.Array is_shared (Array a) = not is_shared
+is_inner_of_kind true heap.Array is_shared (Array a) = is_shared
+is_inner_of_kind false heap.Func is_shared (Func f) = not is_shared
+is_inner_of_kind true heap.Func is_shared (Func f) = is_shared
+is_inner_of_kind false heap.Struct is_shared (Struct s) = not is_shared
+is_inner_of_kind true heap.Struct is_shared (Struct s) = is_shared
+is_inner_of_kind _ _ is_shared _ = false
 
--- a type is of a kind, and shared or not
+-- a type is of a kind, and of a sharedness
 abbrev pub is_of_kind : Bool → AbstractHeapType → SubType → Bool
-is_of_kind is_shared kind t = is_of is_shared kind (shared t) t.composite_type.inner
+is_of_kind is_shared kind t = is_inner_of_kind is_shared kind (shared t) t.composite_type.inner
 
 -- the indices of the types that a test picks, in order; the first type has the index `first`
 abbrev pub indices_from : (SubType → Bool) → ℕ → List SubType → List ℕ
 indices_from test first [] = []
 indices_from test first (t ∷ types) = if test t then first ∷ indices_from test (first + 1) types else indices_from test (first + 1) types
 
--- the indices of the types of a kind that are shared or not, in order
+-- the indices, in order, of the types of a kind and a sharedness
 abbrev pub indices_of_kind : List SubType → Bool → AbstractHeapType → List ℕ
 indices_of_kind types is_shared kind = indices_from (is_of_kind is_shared kind) 0 types
 
@@ -46,7 +46,7 @@ count_at counts false heap.Struct = counts.structs
 count_at counts true heap.Struct = counts.shared_structs
 count_at counts _ _ = 0
 
--- one type more is counted
+-- the counts with one more type
 abbrev pub counts_with : Bool → CompositeInnerType → KindCounts → KindCounts
 counts_with false (Array a) counts = record counts { arrays = counts.arrays + 1 }
 counts_with true (Array a) counts = record counts { shared_arrays = counts.shared_arrays + 1 }
@@ -55,6 +55,6 @@ counts_with true (Func f) counts = record counts { shared_funcs = counts.shared_
 counts_with false (Struct s) counts = record counts { structs = counts.structs + 1 }
 counts_with true (Struct s) counts = record counts { shared_structs = counts.shared_structs + 1 }
 
--- what counts each kind and sharedness among these types
+-- these are the counts of each kind and sharedness among these types
 pub record AreCounts (types : List SubType) (counts : KindCounts) : Type 0 where
   pub each : (is_shared : Bool) (kind : AbstractHeapType) → count_at counts is_shared kind ≡ count_where (is_of_kind is_shared kind) types

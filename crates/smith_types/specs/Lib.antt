@@ -6,6 +6,7 @@ pub mod Space
 pub mod Subtyping
 pub mod KindCounts
 pub mod Places
+pub mod Families
 pub mod Matching
 pub mod Flags
 pub mod ValidTypes

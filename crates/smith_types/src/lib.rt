@@ -8,6 +8,7 @@ mod composite_type;
 mod const_instr;
 mod entity_type;
 mod exact;
+mod family;
 mod features;
 mod grouped_types;
 mod held_values;

@@ -1,24 +1,28 @@
 ghost use Rattle.std.specs.Prelude.{◌≡◌, ◌+◌, ◌++◌, ◌≤◌, ◌<◌, [], ◌∷◌, length, IfOk, IfErr};
 ghost use Rattle.smith_types.specs.Types.{IsOrderly};
 ghost use Rattle.smith_types.specs.Space.{MayFollow};
-ghost use Rattle.smith_types.specs.Places.{last_counts, IsPlace, ArePlaces, IsBehind, IsRowAtEnd};
+ghost use Rattle.smith_types.specs.Places.{last_counts, IsPlace, ArePlaces, IsLonger, IsRowAtEnd};
 
 use crate::composite_type::SubType;
 use crate::kind_counts::{KindCounts, no_counts};
 use smith_bytes::Error;
 
-// Where a type stands among its declared supertypes.
+// What a type space keeps of a type: its row in the table of rows, its depth, and the counts up to it.
+//
+// The row of a type has its declared supertypes, near and far, by depth: at k the one of the depth k + 1. A type without a
+// supertype has an empty row.
 #[derive(Clone, Copy)]
 pub(crate) struct Place {
-    // Where the row of the type begins in the table of rows: the types on the way down to it, by depth, without the type itself.
+    // The index in the table at which the row starts.
     pub(crate) start: usize,
-    // The number of types on the way up, the type itself included: one more than the length of the row.
+    // The number of types on the way up, the type itself included: the length of the row and 1.
     pub(crate) depth: u32,
-    // How many types of each kind stand up to the type, the type itself included.
+    // The number of types of each kind among the types up to this one, itself included.
     pub(crate) counts: KindCounts,
 }
 
-// Adds the row of the type `added`, which is to be added behind `types`, at the end of `table`, and gives its place.
+// Makes `table` end with the row of the type `added`, the next one after `types`, and returns its place. After want of memory
+// `table` may be longer.
 pub(crate) fn push_row(
     types: &[SubType],
     places: &[Place],
@@ -29,7 +33,7 @@ pub(crate) fn push_row(
     requires places { ArePlaces types.now table.old.items places.now }
     requires follows { MayFollow types.now added.now }
     ensures ok { IfOk result (λ place. IsPlace (types.now ++ added.now ∷ []) table.new.items (length types.now) place) }
-    ensures behind { IsBehind table.old.items table.new.items }
+    ensures longer { IsLonger table.old.items table.new.items }
     ensures memory { IfErr result (λ e. e ≡ Error.Memory) }
 {
     let counts = last_counts(places).with(&added.composite_type);
@@ -52,7 +56,7 @@ pub(crate) fn push_row(
     }
 }
 
-// How many types of each kind stand up to the last of `places`.
+// The number of types of each kind among the types of all `places`.
 pub(crate) fn last_counts(places: &[Place]) -> KindCounts
     ensures { result ≡ last_counts places.now }
 {
@@ -62,12 +66,13 @@ pub(crate) fn last_counts(places: &[Place]) -> KindCounts
     }
 }
 
-// Where the row of `above` begins, once `table` ends with it: a row that does not end the table is copied behind it.
+// Makes `table` end with the row of `above`, by a copy unless it does already, and returns the index at which that row starts. After
+// want of memory `table` may be longer.
 fn end_with_row(table: &mut Vec<u32>, above: Place) -> Result<usize, Error>
     requires some { 0 < above.depth }
     requires within { above.start + above.depth ≤ length table.old.items + 1 }
     ensures ok { IfOk result (λ start. IsRowAtEnd table.old.items above table.new.items start) }
-    ensures behind { IsBehind table.old.items table.new.items }
+    ensures longer { IsLonger table.old.items table.new.items }
     ensures memory { IfErr result (λ e. e ≡ Error.Memory) }
 {
     let end = table.len();

@@ -23,8 +23,10 @@ ghost use Rattle.std.specs.Prelude.{
   if◌then◌else◌,
 };
 ghost use Rattle.std.specs.declared.ops.Range.{Range};
-ghost use Rattle.smith_types.specs.Types.{IsAlike, next_start, next_group};
-ghost use Rattle.smith_types.specs.Space.{AreExtensible, HasDepth, MayFollow};
+ghost use Rattle.smith_types.specs.Types.{IsAlike, IsOrderly, next_start, next_group};
+ghost use Rattle.smith_types.specs.Space.{AreExtensible, HasDepth, MayFollow, extensible_from};
+ghost use Rattle.smith_types.specs.Places.{ArePlaces, IsLonger, depths_in};
+ghost use Rattle.smith_types.specs.Families.{direct_subtypes, AreFamilies};
 ghost use Rattle.smith_types.specs.KindCounts.{indices_of_kind};
 ghost use Rattle.smith_types.specs.Sizes.{value_count};
 ghost use Rattle.smith_types.specs.Matching.{IsCompositeMatch, IsInnerInRange};
@@ -33,6 +35,7 @@ ghost use Rattle.smith_types.specs.Subtyping.{IsBelow, IsRefBelow, IsValBelow, I
 
 use crate::composite_type::{CompositeInnerType, CompositeType, SubType};
 use crate::entity_type::EntityType;
+use crate::family::{Family, extend_families, join_family};
 use crate::matching::composite_type_is_match;
 use crate::place::{Place, last_counts, push_row};
 use crate::subtyping::{heap_type_is_below, ref_type_is_below, val_type_is_below};
@@ -52,8 +55,10 @@ const DEPTH_LIMIT: u32 = 60;
 pub struct TypeSpace {
     types: Vec<SubType>,
     places: Vec<Place>,
-    // The rows of the types: the row of each, and maybe what a type that was refused left behind.
+    // The table of the rows of all places. It may have entries that no place uses: those of a type that was refused.
     rows: Vec<u32>,
+    // The families of the first types: at least up to the last type that has a supertype.
+    families: Vec<Family>,
     extensible: Vec<u32>,
     groups: Vec<Range<usize>>,
 }
@@ -62,6 +67,7 @@ impl Model for TypeSpace {
     ghost use Rattle.std.specs.Prelude.{◌≡◌};
     ghost use Rattle.smith_types.specs.Space.{Space, IsSound, extensible_from};
     ghost use Rattle.smith_types.specs.Places.{ArePlaces, depths_in};
+    ghost use Rattle.smith_types.specs.Families.{AreFamilies};
 
     ghost Value = { Space };
 
@@ -69,7 +75,8 @@ impl Model for TypeSpace {
 
     ghost invariant = { λ a. IsSound (record { types = a.types.items; groups = a.groups.items })
         × ArePlaces a.types.items a.rows.items a.places.items
-        × (a.extensible.items ≡ extensible_from 0 a.types.items (depths_in a.places.items)) };
+        × (a.extensible.items ≡ extensible_from 0 a.types.items (depths_in a.places.items))
+        × AreFamilies a.types.items a.families.items };
 }
 
 /// Prints the types and the groups.
@@ -96,6 +103,7 @@ impl TypeSpace {
             types: Vec::new(alloc),
             places: Vec::new(alloc),
             rows: Vec::new(alloc),
+            families: Vec::new(alloc),
             extensible: Vec::new(alloc),
             groups: Vec::new(alloc),
         }
@@ -111,6 +119,7 @@ impl TypeSpace {
             types: Vec::with_capacity(alloc, types)?,
             places,
             rows: Vec::new(alloc),
+            families: Vec::new(alloc),
             extensible: Vec::new(alloc),
             groups: Vec::with_capacity(alloc, types)?,
         })
@@ -141,8 +150,10 @@ impl TypeSpace {
         self.places[index as usize].depth
     }
 
-    /// The type of the depth `depth` on the way up from the type `index`, which stands: of the depth 1 a type without a supertype, and
-    /// of the depth of `index` that type itself.
+    /// Returns the index of the type of the depth `depth` on the way up by declared supertypes from the type of the index `index`.
+    ///
+    /// Where `depth` is 1, that type has no supertype; where `depth` is the depth of the type of the index `index`, it is this type
+    /// itself. The type of the index `index` exists, and `depth` is from 1 to its depth, as [`TypeSpace::depth`] returns it.
     pub fn ancestor(&self, index: u32, depth: u32) -> u32
         requires stands { index < length self.now.types }
         requires some { 0 < depth }
@@ -157,14 +168,17 @@ impl TypeSpace {
         self.rows[place.start + (depth as usize - 1)]
     }
 
-    /// The number of the types of the kind `kind`, shared or not as `shared` says.
+    /// Returns the number of types of the kind `kind` that are shared, or that are not, as `shared` says.
+    ///
+    /// The kinds of types are `Array`, `Func` and `Struct`; of any other abstract heap type there are none.
     pub fn count_of_kind(&self, shared: bool, kind: AbstractHeapType) -> u32
         ensures { result ≡ length (indices_of_kind self.now.types shared kind) }
     {
         last_counts(self.places.as_slice()).count(shared, kind)
     }
 
-    /// The index of that type of the kind `kind`, shared or not as `shared` says, which stands behind `place` others of these.
+    /// Returns the index of the type at the place `place`, from 0, among the types that [`TypeSpace::count_of_kind`] counts, in the
+    /// order of their indices. The place is below their number.
     pub fn index_of_kind(&self, shared: bool, kind: AbstractHeapType, place: u32) -> u32
         requires { place < length (indices_of_kind self.now.types shared kind) }
         ensures { slice_get (indices_of_kind self.now.types shared kind) place ≡ Some result }
@@ -182,8 +196,33 @@ impl TypeSpace {
         low as u32
     }
 
-    // Whether the type `from` is the type `to`, or some declared supertype of `from` is: whether `to` stands in the row of `from`
-    // where a type of its depth would.
+    /// Returns the number of types that are declared directly below the type of the index `index`: 0 where no type has this index.
+    pub fn count_of_direct_subtypes(&self, index: u32) -> u32
+        ensures { result ≡ length (direct_subtypes self.now.types index) }
+    {
+        match self.families.get(index as usize) {
+            Some(family) => family.count,
+            None => 0,
+        }
+    }
+
+    /// Returns the index of the type at the place `place`, from 0, among the types that [`TypeSpace::count_of_direct_subtypes`] counts,
+    /// in the order of their indices. The place is below their number. Takes a step for each of them after that place.
+    pub fn direct_subtype(&self, index: u32, place: u32) -> u32
+        requires { place < length (direct_subtypes self.now.types index) }
+        ensures { slice_get (direct_subtypes self.now.types index) place ≡ Some result }
+    {
+        let family = self.families[index as usize];
+        let mut at = family.count - 1;
+        let mut found = family.last;
+        while place < at {
+            found = self.families[found as usize].previous;
+            at -= 1;
+        }
+        found
+    }
+
+    // Whether the type `from` is the type `to`, or `to` is on the way up from `from`: then `to` is in the row of `from` at its depth.
     pub(crate) fn reaches(&self, from: u32, to: u32) -> bool
         requires lower { from < length self.now.types }
         requires upper { to < length self.now.types }
@@ -214,7 +253,7 @@ impl TypeSpace {
         self.types.len() < u32::MAX as usize && is_supertype_at(self.types.as_slice(), added)
     }
 
-    /// Adds the type `added` last and gives its index. The type belongs to no group until [`TypeSpace::push_group`].
+    /// Adds the type `added` last and returns its index. The type belongs to no group until [`TypeSpace::push_group`].
     ///
     /// A supertype that `added` declares stands and is of the kind and sharedness of `added`, and an index is left, as
     /// [`TypeSpace::may_follow`] tells. After want of memory the space is unchanged, and `added` is gone.
@@ -226,28 +265,22 @@ impl TypeSpace {
         ensures err { OnErr result (self.new ≡ self.old) }
         ensures memory { IfErr result (λ e. e ≡ Error.Memory) }
     {
-        let index = self.types.len() as u32;
-        let place = push_row(
-            self.types.as_slice(),
-            self.places.as_slice(),
+        let count = self.types.len();
+        self.types.push(added)?;
+        if push_place(
+            &self.types[..count],
+            &self.types[count],
+            &mut self.places,
             &mut self.rows,
-            &added,
-        )?;
-        let count = self.extensible.len();
-        let is_extensible = may_have_subtypes(&added, place.depth);
-        self.places.push(place)?;
-        if push_where(is_extensible, &mut self.extensible, index).is_err() {
-            self.places.pop();
+            &mut self.extensible,
+            &mut self.families,
+        )
+        .is_err()
+        {
+            self.types.pop();
             return Err(Error::Memory);
         }
-        match self.types.push(added) {
-            Ok(()) => Ok(index),
-            Err(_) => {
-                self.places.pop();
-                self.extensible.truncate(count);
-                Err(Error::Memory)
-            }
-        }
+        Ok(count as u32)
     }
 
     /// Makes room for `additional` more types, so that adding that number moves no type. No type is added.
@@ -328,6 +361,40 @@ impl TypeSpace {
             _ => 1,
         }
     }
+}
+
+// Adds the place of the type `added`, the next one after `types`, with its row, and its index where it may have subtypes. After
+// want of memory `places` and `extensible` are unchanged, and `rows` and `families` may be longer.
+fn push_place(
+    types: &[SubType],
+    added: &SubType,
+    places: &mut Vec<Place>,
+    rows: &mut Vec<u32>,
+    extensible: &mut Vec<u32>,
+    families: &mut Vec<Family>,
+) -> Result<(), Error>
+    requires orderly { IsOrderly types.now }
+    requires follows { MayFollow types.now added.now }
+    requires places { ArePlaces types.now rows.old.items places.old.items }
+    requires extensible { extensible.old.items ≡ extensible_from 0 types.now (depths_in places.old.items) }
+    requires families { AreFamilies types.now families.old.items }
+    ensures places { OnOk result (ArePlaces (types.now ++ added.now ∷ []) rows.new.items places.new.items) }
+    ensures extensible { OnOk result (extensible.new.items ≡ extensible_from 0 (types.now ++ added.now ∷ []) (depths_in places.new.items)) }
+    ensures families { OnOk result (AreFamilies (types.now ++ added.now ∷ []) families.new.items) }
+    ensures rows { IsLonger rows.old.items rows.new.items }
+    ensures err { OnErr result ((places.new.items ≡ places.old.items) × (extensible.new.items ≡ extensible.old.items)) }
+    ensures known { OnErr result (AreFamilies types.now families.new.items) }
+{
+    extend_families(types, added, families)?;
+    let place = push_row(types, places.as_slice(), rows, added)?;
+    let is_extensible = may_have_subtypes(added, place.depth);
+    places.push(place)?;
+    if push_where(is_extensible, extensible, types.len() as u32).is_err() {
+        places.pop();
+        return Err(Error::Memory);
+    }
+    join_family(types, added, families);
+    Ok(())
 }
 
 // Whether the type `ty`, of depth `depth`, may have subtypes.

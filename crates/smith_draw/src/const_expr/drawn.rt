@@ -43,7 +43,8 @@ pub(super) fn draw_whole_expression(
     Ok(drawn)
 }
 
-/// Draws a value of the type `wanted` behind the instructions of `out`, by a list of tasks whose last one is the next.
+/// Draws a value of the type `wanted` and writes its instructions at the end of `out`. What is still to be done is a list of tasks, of
+/// which the last is the next.
 fn draw_expression(
     alloc: Global,
     scope: &Scope<'_>,
@@ -60,14 +61,14 @@ fn draw_expression(
     ensures left { KeepsPieces u.old u.new }
 {
     let mut tasks = Vec::new(alloc);
-    tasks.push(Task::Draw(Operand::Value(wanted)))?;
+    draw_choice(alloc, scope, wanted, &mut tasks, fuel, out, u)?;
     while let Some(task) = tasks.pop() {
         carry_out(alloc, scope, task, &mut tasks, fuel, out, u)?;
     }
     Ok(())
 }
 
-/// Carries out `task`, and puts on `tasks` what it leaves to do.
+/// Carries out `task` and adds to `tasks` what it leaves to do.
 fn carry_out(
     alloc: Global,
     scope: &Scope<'_>,
@@ -97,8 +98,8 @@ fn carry_out(
     }
 }
 
-/// Chooses what gives a value of the type `wanted`. An extended constant and an instruction without operands are written behind
-/// the instructions of `out`. What another choice asks for is put on `tasks`, and has spent fuel.
+/// Chooses what gives a value of the type `wanted`, and spends fuel. An extended constant and an instruction without operands are
+/// written at the end of `out`. Of any other choice the operands and the instruction are added to `tasks`.
 fn draw_choice(
     alloc: Global,
     scope: &Scope<'_>,

@@ -10,11 +10,12 @@ use smith_types::ConstInstr;
 pub(super) enum Task {
     /// Draw an operand: an expression of a type, or a length.
     Draw(Operand),
-    /// Write an instruction behind those that stand.
+    /// Write an instruction after those that are drawn.
     Write(ConstInstr),
 }
 
-/// Puts the drawing of `node` on `tasks`, whose last one is the next.
+/// Adds to `tasks`, of which the last is the next, the operands of `node`, the first of them as the next, and its instruction after
+/// them.
 pub(super) fn push_node(node: &Node, tasks: &mut Vec<Task>) -> Result<(), Error>
     ensures ok { OnOk result (reverse tasks.new.items ≡ map Draw node.now.operands ++ (Write node.now.instruction ∷ reverse tasks.old.items)) }
     ensures memory { IfErr result (λ e. e ≡ Error.Memory) }
@@ -23,7 +24,7 @@ pub(super) fn push_node(node: &Node, tasks: &mut Vec<Task>) -> Result<(), Error>
     push_operands(node.operands.as_slice(), tasks)
 }
 
-/// Puts `operands` on `tasks`, the last operand first.
+/// Adds `operands` to `tasks`, the last operand first.
 fn push_operands(operands: &[Operand], tasks: &mut Vec<Task>) -> Result<(), Error>
     ensures ok { OnOk result (reverse tasks.new.items ≡ map Draw operands.now ++ reverse tasks.old.items) }
     ensures memory { IfErr result (λ e. e ≡ Error.Memory) }

@@ -1,10 +1,16 @@
-use Rattle.std.proofs.Common.{◌≡◌, ◌<◌, List, length, sym, subst, arith}
+use Rattle.std.proofs.Common.{◌≡◌, ◌<◌, List, length, ap, sym, subst, arith}
 use Rattle.std.specs.Prelude.{reverse}
 use Rattle.smith_draw.specs.ConstScopes.{context_of}
 use Rattle.smith_draw.specs.ConstExprs.{state_of}
 use Rattle.smith_draw.specs.declared.const_expr.task.Task.{Task}
-use Rattle.smith_draw.proofs.ConstTaskLemmas.{popped, nothing_left, ahead, carrying_more, carrying_done, refusal_read, step_less}
+use Rattle.smith_draw.proofs.ConstTaskLemmas.{popped, nothing_left, ahead, carrying_begun, carrying_more, carrying_done, refusal_read, step_less}
 use Rattle.smith_draw.proofs.const_expr.drawn.draw_expression.Goals as goal
+
+pub loop-task-init : goal.loop-task-init
+loop-task-init c = record {
+  carrying = carrying_begun (context_of c.args.scope.now) _ c.args.wanted (reverse c.new-tasks.result.items) _ (state_of c.args.out.now c.args.fuel.now c.args.u.now) (state_of c.draw_choice.new.out c.draw_choice.new.fuel c.draw_choice.new.u) (ap reverse c.new-tasks.ensures.items) c.requires.wanted c.in_ok-draw_choice.ensures.step;
+  kept = c.draw_choice.ensures.left;
+}
 
 pub loop-task-preserved : goal.loop-task-preserved
 loop-task-preserved c = record {

@@ -1,7 +1,7 @@
 use Rattle.std.proofs.Common.{arith, ◌<◌, ap, length}
 use Rattle.smith_types.specs.Places.{IsPlace}
 use Rattle.smith_types.proofs.SpaceLemmas.{depth_some}
-use Rattle.smith_types.proofs.PlaceLemmas.{place_read, row_told, row_ended, row_met}
+use Rattle.smith_types.proofs.PlaceLemmas.{place_read, row_decides, none_as_deep_above, itself_below}
 use Rattle.smith_types.proofs.type_space.TypeSpace.reaches.Goals as goal
 
 pub overflow_sub-upper : goal.overflow_sub-upper
@@ -28,7 +28,7 @@ returns-then-upper-lower c =
     let from_inside : c.args.from < length c.self.inside.types.items = rw (ap (λ s. s.types) c.self.view_is) c.requires.lower in
     let to_inside : c.args.to < length c.self.inside.types.items = rw (ap (λ s. s.types) c.self.view_is) c.requires.upper in
     rw (← ap (λ s. s.types) c.self.view_is)
-    (row_told c.self.inside.types.items _ c.args.from c.args.to _ _ _ c.self.invariant.0.orderly
+    (row_decides c.self.inside.types.items _ c.args.from c.args.to _ _ _ c.self.invariant.0.orderly
     (place_read _ _ _ c.args.from _ _ c.self.invariant.1 from_inside c.index-lower.ensures)
     (place_read _ _ _ c.args.to _ _ c.self.invariant.1 to_inside c.index-upper.ensures)
     c.if-upper-lower.true c.index.ensures)
@@ -38,10 +38,10 @@ returns-else-upper-lower c =
     let from_inside : c.args.from < length c.self.inside.types.items = rw (ap (λ s. s.types) c.self.view_is) c.requires.lower in
     let to_inside : c.args.to < length c.self.inside.types.items = rw (ap (λ s. s.types) c.self.view_is) c.requires.upper in
     rw (← ap (λ s. s.types) c.self.view_is)
-    (row_ended c.self.inside.types.items _ c.args.from c.args.to _ _ c.self.invariant.0.orderly
+    (none_as_deep_above c.self.inside.types.items _ c.args.from c.args.to _ _ c.self.invariant.0.orderly
     (place_read _ _ _ c.args.from _ _ c.self.invariant.1 from_inside c.index-lower.ensures)
     (place_read _ _ _ c.args.to _ _ c.self.invariant.1 to_inside c.index-upper.ensures)
     c.if-from-to.false c.if-upper-lower.false)
 
 pub returns-then-from-to : goal.returns-then-from-to
-returns-then-from-to c = row_met _ _ _ c.if-from-to.true
+returns-then-from-to c = itself_below _ _ _ c.if-from-to.true

@@ -1,0 +1,61 @@
+ghost use Rattle.std.specs.Prelude.{◌≡◌, ◌++◌, ◌<◌, ℕ, [], ◌∷◌, Some, length, OnOk, IfErr};
+ghost use Rattle.smith_types.specs.Types.{IsOrderly};
+ghost use Rattle.smith_types.specs.Space.{MayFollow};
+ghost use Rattle.smith_types.specs.Families.{AreFamilies};
+
+use crate::composite_type::SubType;
+use smith_bytes::Error;
+
+// The direct subtypes of a type, from the last to the first: each has the one before it.
+#[derive(Clone, Copy)]
+pub(crate) struct Family {
+    // The number of types that are declared directly below the type.
+    pub(crate) count: u32,
+    // The index of the last of these, where there is one.
+    pub(crate) last: u32,
+    // The index of the one before the type itself among the direct subtypes of its supertype, where there is one.
+    pub(crate) previous: u32,
+}
+
+// Makes room among `families` for the type `added`, the next one after `types`, where it has a supertype.
+pub(crate) fn extend_families(
+    types: &[SubType],
+    added: &SubType,
+    families: &mut Vec<Family>,
+) -> Result<(), Error>
+    requires { AreFamilies types.now families.old.items }
+    ensures families { AreFamilies types.now families.new.items }
+    ensures room { OnOk result ((supertype : ℕ) → added.now.supertype ≡ Some supertype → length types.now < length families.new.items) }
+    ensures memory { IfErr result (λ e. e ≡ Error.Memory) }
+{
+    if added.supertype.is_none() {
+        return Ok(());
+    }
+    while families.len() <= types.len() {
+        families.push(Family {
+            count: 0,
+            last: 0,
+            previous: 0,
+        })?;
+    }
+    Ok(())
+}
+
+// Adds the type `added`, the next one after `types`, to the direct subtypes of its supertype, where it has one.
+pub(crate) fn join_family(types: &[SubType], added: &SubType, families: &mut Vec<Family>)
+    requires orderly { IsOrderly types.now }
+    requires follows { MayFollow types.now added.now }
+    requires families { AreFamilies types.now families.old.items }
+    requires room { (supertype : ℕ) → added.now.supertype ≡ Some supertype → length types.now < length families.old.items }
+    ensures { AreFamilies (types.now ++ added.now ∷ []) families.new.items }
+{
+    if let Some(supertype) = added.supertype {
+        let above = families[supertype as usize];
+        families[types.len()].previous = above.last;
+        families[supertype as usize] = Family {
+            count: above.count + 1,
+            last: types.len() as u32,
+            previous: above.previous,
+        };
+    }
+}
