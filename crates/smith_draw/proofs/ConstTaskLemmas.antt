@@ -1,9 +1,9 @@
 -- Lists of tasks, the next one first: what carrying them out gives, how much work they are, and what each step makes of them.
 use Rattle.std.proofs.Common.{◌≡◌, ◌⊎◌, inl, inr, ℕ, zero, suc, ◌+◌, ◌*◌, ◌-◌, ◌<◌, ◌≤◌, Bool, true, false, List, [], ◌∷◌, ◌++◌, Option, Some, None, length, map, get_or, drop, refl, subst, ap, ◌∙◌, arith}
-use Rattle.std.specs.Prelude.{Result, Ok, Err, OnOk, IfSome, IsErrAnd, slice_get, reverse, option_and_then}
+use Rattle.std.specs.Prelude.{IsTrue, ◌↔◌, Result, Ok, Err, OnOk, IfSome, IsErrAnd, slice_get, reverse, option_and_then}
 use Rattle.std.specs.Option.{option_map}
 use Rattle.std.specs.List.{AllByRecursion as Each}
-use Rattle.std.proofs.lemmas.List.{reverse-append, drop_more}
+use Rattle.std.proofs.lemmas.List.{reverse-append, length-reverse, drop_more}
 use Rattle.std.proofs.lemmas.List.Elements.{recursion_from_All}
 use Rattle.smith_bytes.specs.declared.error.Error.{Error}
 use Rattle.smith_bytes.specs.declared.error.Error.TheVariants as errors
@@ -19,7 +19,7 @@ use Rattle.smith_draw.specs.ConstNodes.{is_extended, node_at}
 use Rattle.smith_draw.specs.ConstBounds.{widest, MayLack, MayRefuseConstExpr}
 use Rattle.smith_draw.specs.ConstExprs.{State, state_of, behind, length_at, operand_at, operands_at, expression_at}
 use Rattle.smith_draw.specs.ConstSteps.{operand_type, IsDrawn, IsNode, ReadsValue}
-use Rattle.smith_draw.specs.ConstTasks.{IsOperandBegun, IsStep, MayRefuseTask}
+use Rattle.smith_draw.specs.ConstTasks.{IsOperandBegun, IsStep, IsGrowthPaid, MayRefuseTask}
 use Rattle.smith_draw.specs.declared.const_expr.node.Operand.{Operand}
 use Rattle.smith_draw.specs.declared.const_expr.node.Operand.TheVariants.{Value, Length}
 use Rattle.smith_draw.specs.declared.const_expr.node.Node.{Node}
@@ -142,6 +142,30 @@ step_less context limited (Draw operand) todo todo' old new (inr begun) =
     rw (begun.tasks, begun.state, work_operands node.operands (Write node.instruction ∷ todo)) (spent_work (widest context.types) (length node.operands) old.fuel (work todo) begun.fits.few begun.fits.paid)
 step_less context limited (Write instruction) todo todo' old new (same, made) = rw (same, made) (omega arith)
 
+length_operands : (operands : List Operand) (tasks : List Task) → length (map Draw operands ++ tasks) ≡ length operands + length tasks
+length_operands [] tasks = refl
+length_operands (operand ∷ operands) tasks = let more = length_operands operands tasks in omega arith
+
+step_growth : (context : Context) (limited : Bool) (task : Task) (todo todo' : List Task) (old new : State) → IsStep context limited task todo old todo' new → IsGrowthPaid context todo old.fuel todo' new.fuel
+step_growth context limited (Draw operand) todo todo' old new (inl (same, drawn)) = rw same (record { few = omega arith; paid = λ more. absurd (omega arith) })
+step_growth context limited (Draw operand) todo todo' old new (inr begun) =
+    let node = begun.node in
+    let few = begun.fits.few in
+    let some = begun.some in
+    let fuel = begun.fits.paid some in
+    let long = length_operands node.operands (Write node.instruction ∷ todo) in
+    rw (begun.tasks, begun.state) (record { few = omega arith; paid = λ more. omega arith })
+step_growth context limited (Write instruction) todo todo' old new (same, made) = rw same (record { few = omega arith; paid = λ more. absurd (omega arith) })
+
+-- the same of tasks whose last one is the next
+pub step_grown : (context : Context) (limited : Bool) (task : Task) (todo todo' : List Task) (old new : State) → IsStep context limited task (reverse todo) old (reverse todo') new → IsGrowthPaid context todo old.fuel todo' new.fuel
+step_grown context limited task todo todo' old new step =
+    let growth = step_growth context limited task (reverse todo) (reverse todo') old new step in
+    let few = growth.few in
+    let before = length-reverse todo in
+    let after = length-reverse todo' in
+    record { few = rw (before, after) at few; paid = λ more. growth.paid (rw (before, after) more) }
+
 -- a task draws a valid value, for which nothing is offered only where that may be so for the wanted one
 abbrev pub IsFor : Context → ValType → Task → Type 0
 IsFor context wanted (Draw operand) = IsValTypeValid context.features (length context.types) (operand_type operand) × (MayLack context.types (operand_type operand) → MayLack context.types wanted)
@@ -258,15 +282,20 @@ leaf_step context limited wanted choice node after todo old new chosen other dra
     nothing [] none = refl
     nothing (operand ∷ operands) none = absurd (omega arith)
 
+pub not_empty : (n : ℕ) {empty : Bool} → (IsTrue empty ↔ (n ≡ 0)) → empty ≡ false → 0 < n
+not_empty zero (told, tells) none = absurd (none, tells refl)
+not_empty (suc n) h none = omega arith
+
 -- a node is put on the tasks
 pub node_step : (context : Context) (limited : Bool) (wanted : ValType) (choice : Choice) (node : Node) (after : List ℕ) (todo todo' : List Task) (old new : State) → choose_at (offers context wanted old.fuel) old.bytes ≡ (Some choice, after) → is_extended choice ≡ false
-    → node_at context.types wanted choice after ≡ (node, new.bytes) → new ≡ state_of old.made (old.fuel - 1) new.bytes → IsNode context wanted old.fuel node → todo' ≡ map Draw node.operands ++ Write node.instruction ∷ todo → IsStep context limited (Draw (Value wanted)) todo old todo' new
-node_step context limited wanted choice node after todo todo' old new chosen other drawn state fits tasks = inr (record {
+    → node_at context.types wanted choice after ≡ (node, new.bytes) → new ≡ state_of old.made (old.fuel - 1) new.bytes → IsNode context wanted old.fuel node → 0 < length node.operands → todo' ≡ map Draw node.operands ++ Write node.instruction ∷ todo → IsStep context limited (Draw (Value wanted)) todo old todo' new
+node_step context limited wanted choice node after todo todo' old new chosen other drawn state fits some tasks = inr (record {
   node = node;
   bytes = new.bytes;
   state = state;
   tasks = tasks;
   fits = fits;
+  some = some;
   read = λ depth deep. node_read context limited wanted old choice node after new.bytes depth chosen other drawn deep;
 })
 

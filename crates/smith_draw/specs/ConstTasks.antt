@@ -1,11 +1,11 @@
 -- What one task of drawing a constant expression does, and leaves to do. Lists of tasks begin with the next one.
-use Rattle.std.specs.Prelude.{◌≡◌, ◌⊎◌, ℕ, ◌-◌, ◌<◌, Bool, List, [], ◌∷◌, ◌++◌, Some, None, map, length}
+use Rattle.std.specs.Prelude.{◌≡◌, ◌⊎◌, ℕ, ◌+◌, ◌-◌, ◌<◌, ◌≤◌, Bool, List, [], ◌∷◌, ◌++◌, Some, None, map, length}
 use Rattle.std.specs.Option.{option_map}
 use Rattle.smith_types.specs.Expressions.{Context}
 use Rattle.smith_types.specs.ValidTypes.{IsValTypeValid}
 use Rattle.smith_bytes.specs.declared.error.Error.{Error}
 use Rattle.smith_bytes.specs.declared.error.Error.TheVariants as errors
-use Rattle.smith_draw.specs.ConstBounds.{MayLack}
+use Rattle.smith_draw.specs.ConstBounds.{widest, MayLack}
 use Rattle.smith_draw.specs.ConstExprs.{State, state_of, behind, operand_at, operands_at, expression_at}
 use Rattle.smith_draw.specs.ConstSteps.{operand_type, IsDrawn, IsNode}
 use Rattle.smith_draw.specs.declared.const_expr.node.Operand.{Operand}
@@ -30,6 +30,7 @@ pub record IsOperandBegun (context : Context) (limited : Bool) (operand : Operan
   pub state : new ≡ state_of old.made (old.fuel - 1) bytes
   pub tasks : todo' ≡ map Draw node.operands ++ Write node.instruction ∷ todo
   pub fits : IsNode context (operand_type operand) old.fuel node
+  pub some : 0 < length node.operands
   pub read : (depth : ℕ) → old.fuel < depth
       → operand_at limited (expression_at context limited depth) operand old ≡ option_map (behind node.instruction) (operands_at (operand_at limited (expression_at context limited (depth - 1))) node.operands (state_of old.made (old.fuel - 1) bytes))
 
@@ -37,6 +38,11 @@ pub record IsOperandBegun (context : Context) (limited : Bool) (operand : Operan
 abbrev pub IsStep : Context → Bool → Task → List Task → State → List Task → State → Type 0
 IsStep context limited (Draw operand) todo old todo' new = ((todo' ≡ todo) × IsOperandDrawn context limited operand old new) ⊎ IsOperandBegun context limited operand todo old todo' new
 IsStep context limited (Write instruction) todo old todo' new = (todo' ≡ todo) × (new ≡ behind instruction old)
+
+-- a step leaves at most the operands of one node and its instruction more to do, and more than before only where it spends fuel
+pub record IsGrowthPaid (context : Context) (todo : List Task) (fuel : ℕ) (todo' : List Task) (left : ℕ) : Type 0 where
+  pub few : length todo' ≤ length todo + (widest context.types + 1)
+  pub paid : length todo < length todo' → left < fuel
 
 -- nothing is offered for an operand, which its definition says too
 pub record IsOperandLacking (context : Context) (limited : Bool) (operand : Operand) (old : State) : Type 0 where

@@ -385,6 +385,7 @@ fn push_place(
     ensures err { OnErr result ((places.new.items ≡ places.old.items) × (extensible.new.items ≡ extensible.old.items)) }
     ensures known { OnErr result (AreFamilies types.now families.new.items) }
 {
+    make_room(added, places.capacity(), rows, families)?;
     extend_families(types, added, families)?;
     let place = push_row(types, places.as_slice(), rows, added)?;
     let is_extensible = may_have_subtypes(added, place.depth);
@@ -394,6 +395,30 @@ fn push_place(
         return Err(Error::Memory);
     }
     join_family(types, added, families);
+    Ok(())
+}
+
+// Makes room for `count` entries in each of `rows` and `families` that has none yet, where the type `added` has a supertype: a space
+// without supertypes takes no memory for them.
+fn make_room(
+    added: &SubType,
+    count: usize,
+    rows: &mut Vec<u32>,
+    families: &mut Vec<Family>,
+) -> Result<(), Error>
+    ensures rows { rows.new.items ≡ rows.old.items }
+    ensures families { families.new.items ≡ families.old.items }
+    ensures memory { IfErr result (λ e. e ≡ Error.Memory) }
+{
+    if added.supertype.is_none() {
+        return Ok(());
+    }
+    if rows.capacity() == 0 {
+        rows.reserve(count)?;
+    }
+    if families.capacity() == 0 {
+        families.reserve(count)?;
+    }
     Ok(())
 }
 

@@ -7,7 +7,7 @@ ghost use Rattle.smith_draw.specs.ConstScopes.{context_of, IsScope};
 ghost use Rattle.smith_draw.specs.ConstExprs.{state_of, length_at, expression_alone_at};
 ghost use Rattle.smith_draw.specs.ConstBounds.{most_instructions, MayRefuseConstExpr};
 ghost use Rattle.smith_draw.specs.ConstSteps.{IsDrawn, ReadsValue};
-ghost use Rattle.smith_draw.specs.ConstTasks.{IsTaskValid, IsStep, MayRefuseTask};
+ghost use Rattle.smith_draw.specs.ConstTasks.{IsTaskValid, IsStep, IsGrowthPaid, MayRefuseTask};
 ghost use Rattle.smith_draw.specs.declared.const_expr.task.Task.TheVariants.{Draw};
 ghost use Rattle.smith_draw.specs.declared.const_expr.node.Operand.TheVariants.{Value};
 
@@ -68,7 +68,8 @@ fn draw_expression(
     Ok(())
 }
 
-/// Carries out `task` and adds to `tasks` what it leaves to do.
+/// Carries out `task` and adds to `tasks` what it leaves to do: at most the operands of one instruction and the instruction itself, for
+/// which it spends fuel.
 fn carry_out(
     alloc: Global,
     scope: &Scope<'_>,
@@ -81,6 +82,7 @@ fn carry_out(
     requires scope { IsScope (context_of scope.now) }
     requires valid { IsTaskValid (context_of scope.now) task }
     ensures step { OnOk result (IsStep (context_of scope.now) scope.now.config.now.limit_arrays_in_const_exprs task (reverse tasks.old.items) (state_of out.old fuel.old u.old) (reverse tasks.new.items) (state_of out.new fuel.new u.new)) }
+    ensures growth { OnOk result (IsGrowthPaid (context_of scope.now) tasks.old.items fuel.old tasks.new.items fuel.new) }
     ensures refusal { IfErr result (MayRefuseTask (context_of scope.now) scope.now.config.now.limit_arrays_in_const_exprs task (state_of out.old fuel.old u.old)) }
     ensures left { KeepsPieces u.old u.new }
 {

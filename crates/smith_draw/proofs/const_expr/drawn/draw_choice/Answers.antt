@@ -1,10 +1,10 @@
-use Rattle.std.proofs.Common.{refl, sym, ◌∙◌}
+use Rattle.std.proofs.Common.{◌<◌, length, refl, sym, ◌∙◌}
 use Rattle.std.specs.Prelude.{reverse}
 use Rattle.std.proofs.lemmas.Result.{on_ok_weaker}
 use Rattle.smith_draw.specs.ConstScopes.{context_of}
 use Rattle.smith_draw.specs.ConstExprs.{state_of}
 use Rattle.smith_draw.proofs.ConstStepLemmas.{passed_on, node_made}
-use Rattle.smith_draw.proofs.ConstTaskLemmas.{choice_refused, extended_step, leaf_step, node_step}
+use Rattle.smith_draw.proofs.ConstTaskLemmas.{choice_refused, extended_step, leaf_step, node_step, not_empty}
 use Rattle.smith_draw.proofs.const_expr.drawn.draw_choice.Goals as goal
 
 pub returns-in_err-choice-clause-refusal : goal.returns-in_err-choice-clause-refusal
@@ -33,7 +33,8 @@ pub returns-clause-step : goal.returns-clause-step
 returns-clause-step c =
     let context = context_of c.args.scope.now in
     let fits = node_made context c.args.wanted c.args.fuel.now c.in_ok-choice.choice _ c.choose_offer.new.u c.in_ok-node.node _ c.types.ensures.value c.in_ok-choice.ensures.fits c.in_ok-node.ensures.exact in
+    let some : 0 < length c.in_ok-node.node.operands = not_empty _ c.is_empty.ensures c.if-is_empty.false in
     on_ok_weaker c.push_node.result
     (λ tasks. node_step context _ c.args.wanted c.in_ok-choice.choice c.in_ok-node.node c.choose_offer.new.u (reverse c.args.tasks.now.items) _ (state_of c.args.out.now c.args.fuel.now c.args.u.now) _
-    c.in_ok-choice.ensures.exact (sym c.is_extended.ensures ∙ c.if-is_extended.false) (rw c.types.ensures.value at c.in_ok-node.ensures.exact) (rw c.saturating_sub.ensures refl) fits tasks)
+    c.in_ok-choice.ensures.exact (sym c.is_extended.ensures ∙ c.if-is_extended.false) (rw c.types.ensures.value at c.in_ok-node.ensures.exact) (rw c.saturating_sub.ensures refl) fits some tasks)
     c.push_node.ensures.ok
