@@ -143,7 +143,7 @@ step_less context limited (Draw operand) todo todo' old new (inr begun) =
 step_less context limited (Write instruction) todo todo' old new (same, made) = rw (same, made) (omega arith)
 
 length_operands : (operands : List Operand) (tasks : List Task) → length (map Draw operands ++ tasks) ≡ length operands + length tasks
-length_operands [] tasks = refl
+length_operands [] tasks = omega arith
 length_operands (operand ∷ operands) tasks = let more = length_operands operands tasks in omega arith
 
 step_growth : (context : Context) (limited : Bool) (task : Task) (todo todo' : List Task) (old new : State) → IsStep context limited task todo old todo' new → IsGrowthPaid context todo old.fuel todo' new.fuel
@@ -283,7 +283,7 @@ leaf_step context limited wanted choice node after todo old new chosen other dra
     nothing (operand ∷ operands) none = absurd (omega arith)
 
 pub not_empty : (n : ℕ) {empty : Bool} → (IsTrue empty ↔ (n ≡ 0)) → empty ≡ false → 0 < n
-not_empty zero (told, tells) none = absurd (none, tells refl)
+not_empty zero (told, tells) none = let empty = tells refl in cc
 not_empty (suc n) h none = omega arith
 
 -- a node is put on the tasks

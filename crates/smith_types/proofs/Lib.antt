@@ -1,4 +1,5 @@
 pub mod ListLemmas
+pub mod ResultLemmas
 pub mod GrowthLemmas
 pub mod LengthLemmas
 pub mod HeldValueLemmas

@@ -288,8 +288,8 @@ impl TypeSpace {
         ensures value { self.new ≡ self.old }
         ensures memory { IfErr result (λ e. e ≡ Error.Memory) }
     {
-        self.places.reserve(additional)?;
         self.extensible.reserve(additional)?;
+        self.places.reserve(additional)?;
         Ok(self.types.reserve(additional)?)
     }
 

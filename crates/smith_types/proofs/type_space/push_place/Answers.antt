@@ -1,21 +1,17 @@
-use Rattle.std.proofs.Common.{◌≡◌, ◌∙◌, sym, false, Result, Ok, Err, ap, arith, ◌++◌, ◌∷◌, [], length}
-use Rattle.std.specs.Prelude.{is_err, OnOk}
+use Rattle.std.proofs.Common.{◌≡◌, ◌∙◌, sym, ap, arith, ◌++◌, ◌∷◌, [], length}
 use Rattle.std.proofs.lemmas.List.{map-append}
 use Rattle.smith_types.specs.Space.{extensible_from}
 use Rattle.smith_types.specs.Places.{depths_in}
 use Rattle.smith_types.specs.declared.place.Place.{Place}
+use Rattle.smith_types.proofs.ResultLemmas.{ok_of}
 use Rattle.smith_types.proofs.SpaceLemmas.{extensible-push}
 use Rattle.smith_types.proofs.PlaceLemmas.{ArePlaces-push, depths_known}
 use Rattle.smith_types.proofs.type_space.push_place.Goals as goal
 
-ok_of : {A E P : Type 0} (r : Result A E) → is_err r ≡ false → OnOk r P → P
-ok_of (Ok x) none h = h
-ok_of (Err e) none h = cc
-
 pub returns-clause-places : goal.returns-clause-places
 returns-clause-places c =
     rw c.in_ok-push.ensures.items
-    (ArePlaces-push _ _ _ _ _ _ c.requires.places c.push_row.ensures.longer c.in_ok-place.ensures.ok)
+    (ArePlaces-push _ _ _ _ _ _ c.requires.places (rw c.make_room.ensures.rows at c.push_row.ensures.longer) c.in_ok-place.ensures.ok)
 
 pub returns-clause-extensible : goal.returns-clause-extensible
 returns-clause-extensible c =

@@ -1,22 +1,14 @@
-use Rattle.std.proofs.Common.{◌≡◌, ◌∙◌, sym, subst, ap, false, true, List, Result, Ok, Err, arith, ◌++◌, ◌∷◌, [], length, take}
-use Rattle.std.specs.Prelude.{is_err, OnOk, OnErr}
+use Rattle.std.proofs.Common.{◌≡◌, ◌∙◌, sym, subst, ap, List, arith, ◌++◌, ◌∷◌, [], length, take}
 use Rattle.std.proofs.lemmas.Grind.{common_steps}
 use Rattle.smith_types.specs.declared.composite_type.SubType.{SubType}
 use Rattle.smith_types.specs.Space.{MayFollow, IsSound, extensible_from}
 use Rattle.smith_types.specs.Places.{ArePlaces, depths_in}
 use Rattle.smith_types.specs.Families.{AreFamilies}
 use Rattle.smith_types.proofs.ListLemmas.{slice_get-last, push_front, push_whole}
+use Rattle.smith_types.proofs.ResultLemmas.{ok_of, err_of}
 use Rattle.smith_types.proofs.SpaceLemmas.{IsSound-type}
 use Rattle.smith_types.proofs.PlaceLemmas.{ArePlaces-longer}
 use Rattle.smith_types.proofs.type_space.TypeSpace.push_type.Goals as goal
-
-ok_of : {A E P : Type 0} (r : Result A E) → is_err r ≡ false → OnOk r P → P
-ok_of (Ok x) none h = h
-ok_of (Err e) none h = cc
-
-err_of : {A E P : Type 0} (r : Result A E) → is_err r ≡ true → OnErr r P → P
-err_of (Ok x) some h = cc
-err_of (Err e) some h = h
 
 pub invariant_of-self-else-is_err : goal.invariant_of-self-else-is_err
 invariant_of-self-else-is_err c =
