@@ -1,0 +1,21 @@
+-- What the bytes are that are written for a configuration and an input.
+use Rattle.std.specs.Prelude.{◌≡◌, ◌⊎◌, ℕ, List, false, Ok, Err}
+use Rattle.smith_bytes.specs.declared.error.Error.{Error}
+use Rattle.smith_bytes.specs.declared.error.Error.TheVariants.{Memory}
+use Rattle.smith_config.specs.declared.config.Config.{Config}
+use Rattle.smith_definitions.specs.Module.{Parts}
+use Rattle.smith_sections.specs.Modules.{IsModule}
+use Rattle.smith_encode.specs.Contents.{contents_of}
+use Rattle.wasm_smith.specs.Generated.{IsGenerated}
+use Rattle.smith_output.specs.declared.output.OutputFault.{OutputFault}
+use Rattle.smith_output.specs.declared.output.OutputFault.TheVariants.{Refused}
+
+-- a module that the generator gives for the configuration and the input, and leaves these bytes of it, is spelled in the binary format
+pub record IsBinaryOf (config : Config) (input bytes left : List ℕ) : Type 0 where
+  pub module : Parts
+  pub generated : IsGenerated false config input (Ok module) left
+  pub spelled : IsModule (contents_of module) bytes
+
+-- a refusal is the generator's for the configuration and the input, or want of memory
+abbrev pub IsRefusedFor : Config → List ℕ → List ℕ → OutputFault → Type 0
+IsRefusedFor config input left fault = (e : Error) → fault ≡ Refused e → (e ≡ Memory) ⊎ IsGenerated false config input (Err e) left

@@ -1,0 +1,89 @@
+use crate::configured::config_of;
+use crate::corpus::make_corpus;
+use crate::failure::Failure;
+use crate::files::{read_file, read_input, read_text, shows_output, write_file, write_output};
+use crate::warnings::warn;
+use crate::words::{CONFIG, ENSURE_TERMINATION, FUEL, INPUT, OUTPUT, OUTPUT_DIR, WAT};
+use clap::ArgMatches;
+use smith_bytes::Unstructured;
+use smith_output::{Form, Manner, output};
+use std::alloc::Global;
+
+// The number of calls that are allowed where none is given.
+const DEFAULT_FUEL: u32 = 100;
+
+/// What the program is to make.
+#[derive(Clone, Copy)]
+pub(crate) struct Asked<'a> {
+    /// The words of the command line.
+    pub(crate) matches: &'a ArgMatches<'a>,
+    /// The text of the configuration file, where there is one.
+    pub(crate) config: Option<&'a str>,
+    /// How modules are written.
+    pub(crate) manner: Manner,
+}
+
+/// Does what `matches` asks for, and returns the status.
+pub(crate) fn answer(rt: &HostRuntime, matches: &ArgMatches<'_>) -> Result<u8, Failure> {
+    let file = match matches.get_str(CONFIG) {
+        Some(path) => Some(read_text(rt, path)?),
+        None => None,
+    };
+    let asked = Asked {
+        matches,
+        config: file.as_ref().map(|text| text.as_str()),
+        manner: manner_of(matches),
+    };
+    warn(rt, &asked)?;
+    match matches.get_str(OUTPUT_DIR) {
+        Some(folder) => make_corpus(rt, &asked, folder)?,
+        None => make_one(rt, &asked)?,
+    }
+    Ok(0)
+}
+
+/// Makes the module of the input, and writes it.
+fn make_one(rt: &HostRuntime, asked: &Asked<'_>) -> Result<(), Failure> {
+    let path = asked.matches.get_str(OUTPUT);
+    if asked.manner.form == Form::Binary && path.is_none() && shows_output(rt) {
+        return Err(Failure::Terminal);
+    }
+    let input = input_of(rt, asked.matches.get_str(INPUT))?;
+    let bytes = module_of(rt.alloc(), asked, input.as_slice())?;
+    match path {
+        Some(path) => write_file(rt, path, bytes.as_slice()),
+        None => write_output(rt, bytes.as_slice()),
+    }
+}
+
+/// The bytes of the module of `input`.
+pub(crate) fn module_of(
+    alloc: Global,
+    asked: &Asked<'_>,
+    input: &[u8],
+) -> Result<Vec<u8>, Failure> {
+    let mut u = Unstructured::new(input);
+    let config = config_of(alloc, asked, &mut u)?;
+    Ok(output(alloc, config, asked.manner, &mut u)?)
+}
+
+fn input_of(rt: &HostRuntime, path: Option<&str>) -> Result<Vec<u8>, Failure> {
+    match path {
+        None | Some("-") => read_input(rt),
+        Some(path) => read_file(rt, path),
+    }
+}
+
+fn manner_of(matches: &ArgMatches<'_>) -> Manner {
+    let form = if matches.get_flag(WAT) {
+        Form::Text
+    } else {
+        Form::Binary
+    };
+    let fuel = if matches.get_flag(ENSURE_TERMINATION) {
+        Some(matches.get_one::<u32>(FUEL).unwrap_or(DEFAULT_FUEL))
+    } else {
+        None
+    };
+    Manner { form, fuel }
+}

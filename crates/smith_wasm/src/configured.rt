@@ -1,0 +1,135 @@
+use crate::asked::Asked;
+use crate::failure::Failure;
+use crate::words::{ARBITRARY, CONFIG};
+use json::{Reader, Scratch};
+use smith_bytes::Unstructured;
+use smith_config::{Config, MemoryOffsetChoices};
+use smith_json::{FIELDS, Fault, Field, FieldKind, Refusal, read_config};
+use smith_output::OutputFault;
+use smith_types::InstructionKinds;
+use std::alloc::Global;
+use std::str::FromStr;
+
+/// The configuration: the default, or the one that `u` gives first where a drawn one is wanted; over it the fields of the
+/// configuration file, and over these the fields that are words.
+pub(crate) fn config_of(
+    alloc: Global,
+    asked: &Asked<'_>,
+    u: &mut Unstructured<'_>,
+) -> Result<Config, Failure> {
+    let mut config = begun(asked.matches.get_flag(ARBITRARY), u)?;
+    set_from_file(alloc, asked, &mut config)?;
+    set_from_words(alloc, asked, &mut config)?;
+    Ok(config)
+}
+
+fn begun(drawn: bool, u: &mut Unstructured<'_>) -> Result<Config, Failure> {
+    if !drawn {
+        return Ok(Config::default());
+    }
+    match Config::arbitrary(u) {
+        Ok(config) => Ok(config),
+        Err(refusal) => Err(Failure::Output(OutputFault::Refused(refusal))),
+    }
+}
+
+/// Sets the fields that the configuration file names.
+fn set_from_file(alloc: Global, asked: &Asked<'_>, config: &mut Config) -> Result<(), Failure> {
+    let Some(text) = asked.config else {
+        return Ok(());
+    };
+    match read_over(alloc, text, config) {
+        Ok(()) => Ok(()),
+        Err(refusal) => {
+            let path = String::from_str(alloc, asked.matches.get_str(CONFIG).unwrap_or(""))?;
+            Err(Failure::Config(path, refusal.in_text(text)))
+        }
+    }
+}
+
+/// Sets the fields that the object of `text` names.
+fn read_over(alloc: Global, text: &str, config: &mut Config) -> Result<(), Refusal> {
+    let mut scratch = Scratch::new(alloc);
+    let Ok(mut reader) = Reader::new(text, &mut scratch) else {
+        return refused(alloc, Fault::OutOfMemory, 0);
+    };
+    read_config(alloc, &mut reader, config)?;
+    let offset = reader.offset();
+    match reader.next() {
+        None => Ok(()),
+        Some(_) => refused(alloc, Fault::TextAfter, offset),
+    }
+}
+
+fn refused(alloc: Global, fault: Fault, offset: usize) -> Result<(), Refusal> {
+    Err(Refusal {
+        fault,
+        field: String::new(alloc),
+        offset,
+    })
+}
+
+/// Sets the fields that are words.
+fn set_from_words(alloc: Global, asked: &Asked<'_>, config: &mut Config) -> Result<(), Failure> {
+    for field in &FIELDS {
+        if let Some(value) = asked.matches.get_str(field.name) {
+            set_from_word(alloc, field, value, config)?;
+        }
+    }
+    Ok(())
+}
+
+/// Sets `field` to what the word `value` denotes.
+fn set_from_word(
+    alloc: Global,
+    field: &'static Field,
+    value: &str,
+    config: &mut Config,
+) -> Result<(), Failure> {
+    if is_set(alloc, field, value, config)? {
+        return Ok(());
+    }
+    Err(Failure::Word(field.name, String::from_str(alloc, value)?))
+}
+
+/// Sets `field` to what the word `value` denotes, and returns whether it denotes a value of the field.
+fn is_set(
+    alloc: Global,
+    field: &'static Field,
+    value: &str,
+    config: &mut Config,
+) -> Result<bool, Failure> {
+    match field.kind {
+        FieldKind::InstructionKinds => Ok(is_kinds_set(value, config)),
+        FieldKind::OffsetChoices => Ok(is_choices_set(value, config)),
+        _ => {
+            let text = format!(in alloc; "{{\"{}\":{value}}}", field.name)?;
+            Ok(is_plain(value) && read_over(alloc, text.as_str(), config).is_ok())
+        }
+    }
+}
+
+/// Whether `value` is a whole number or a truth value as JSON writes them, or a word that JSON doesn't know.
+fn is_plain(value: &str) -> bool {
+    value != "null" && value.bytes().all(|byte| byte.is_ascii_alphanumeric())
+}
+
+fn is_kinds_set(value: &str, config: &mut Config) -> bool {
+    match InstructionKinds::from_str(value) {
+        Ok(kinds) => {
+            config.allowed_instructions = kinds;
+            true
+        }
+        Err(_) => false,
+    }
+}
+
+fn is_choices_set(value: &str, config: &mut Config) -> bool {
+    match MemoryOffsetChoices::from_str(value) {
+        Ok(choices) => {
+            config.memory_offset_choices = choices;
+            true
+        }
+        Err(_) => false,
+    }
+}

@@ -1,0 +1,41 @@
+//! Makes a WebAssembly module from the bytes of a file or of standard input, and writes it in the binary or the text format.
+//!
+//! `smith_wasm --help` lists the words. Each field of the configuration is a word of its own, named as in a configuration file.
+#![tactic(auto)]
+
+mod asked;
+mod configured;
+mod corpus;
+mod failure;
+mod files;
+mod warnings;
+mod words;
+
+use crate::asked::answer;
+use crate::failure::Failure;
+use crate::words::command;
+use std::env;
+use std::process::ExitCode;
+
+fn main(rt: HostRuntime) -> ExitCode {
+    match run(&rt) {
+        Ok(status) => ExitCode::from(status),
+        Err(failure) => {
+            let _ = eprintln!(rt; "smith_wasm: {failure}");
+            ExitCode::from(failure.status())
+        }
+    }
+}
+
+/// Does what the words after the program's name say, and returns the status.
+fn run(rt: &HostRuntime) -> Result<u8, Failure> {
+    let words: Vec<String> = env::args(rt)?.collect(rt.alloc())?;
+    let command = command(rt.alloc())?;
+    match command.try_get_matches_from(words.as_slice()) {
+        Ok(matches) => answer(rt, &matches),
+        Err(error) => {
+            error.print(rt)?;
+            Ok(error.exit_code() as u8)
+        }
+    }
+}

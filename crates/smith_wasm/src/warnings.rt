@@ -1,0 +1,37 @@
+use crate::asked::Asked;
+use crate::failure::Failure;
+
+// The fields by which the Rust crate makes bodies, custom sections and components, of which there are none here.
+const WITHOUT_EFFECT: [&str; 12] = [
+    "allowed-instructions",
+    "memory-offset-choices",
+    "max-instructions",
+    "canonicalize-nans",
+    "generate-custom-sections",
+    "min-uleb-size",
+    "max-aliases",
+    "max-components",
+    "max-instances",
+    "max-modules",
+    "max-nesting-depth",
+    "max-values",
+];
+
+/// Warns of each field that is set and has no effect.
+pub(crate) fn warn(rt: &HostRuntime, asked: &Asked<'_>) -> Result<(), Failure> {
+    for name in WITHOUT_EFFECT {
+        if is_given(asked, name) {
+            eprintln!(rt; "smith_wasm: the field {name} has no effect here")?;
+        }
+    }
+    Ok(())
+}
+
+/// Whether a word, or a text in the configuration file, names the field `name`.
+fn is_given(asked: &Asked<'_>, name: &str) -> bool {
+    asked.matches.get_str(name).is_some() || asked.config.is_some_and(|text| mentions(text, name))
+}
+
+fn mentions(text: &str, name: &str) -> bool {
+    text.split('"').any(|piece| piece == name)
+}
