@@ -7,14 +7,14 @@ use Rattle.smith_definitions.specs.Module.{Parts}
 use Rattle.smith_sections.specs.Modules.{IsModule}
 use Rattle.smith_encode.specs.Contents.{contents_of}
 use Rattle.wasm_smith.specs.Generated.{IsGenerated}
-use Rattle.smith_output.specs.declared.output.OutputFault.{OutputFault}
-use Rattle.smith_output.specs.declared.output.OutputFault.TheVariants.{Refused}
+use Rattle.smith_output.specs.declared.made.OutputFault.{OutputFault}
+use Rattle.smith_output.specs.declared.made.OutputFault.TheVariants.{Refused}
 
 -- a module that the generator gives for the configuration and the input, and leaves these bytes of it, is spelled in the binary format
 pub record IsBinaryOf (config : Config) (input bytes left : List ℕ) : Type 0 where
-  pub module : Parts
-  pub generated : IsGenerated false config input (Ok module) left
-  pub spelled : IsModule (contents_of module) bytes
+  pub made : Parts
+  pub generated : IsGenerated false config input (Ok made) left
+  pub spelled : IsModule (contents_of made) bytes
 
 -- a refusal is the generator's for the configuration and the input, or want of memory
 abbrev pub IsRefusedFor : Config → List ℕ → List ℕ → OutputFault → Type 0

@@ -26,140 +26,172 @@ pub(crate) const SIZE: &str = "size";
 /// The word of the folder of a corpus.
 pub(crate) const OUTPUT_DIR: &str = "output-dir";
 
+/// What follows a word.
+#[derive(Clone, Copy)]
+enum Takes {
+    /// Nothing.
+    Nothing,
+    /// A text of this name.
+    Text(&'static str),
+    /// A number below 2^32.
+    Number,
+}
+
+/// A word of the command line that is no field of the configuration.
+struct Word {
+    name: &'static str,
+    short: Option<char>,
+    takes: Takes,
+    // The word that has to be there too.
+    needs: Option<&'static str>,
+    about: &'static str,
+}
+
+static WORDS: [Word; 10] = [
+    Word {
+        name: OUTPUT,
+        short: Some('o'),
+        takes: Takes::Text("FILE"),
+        needs: None,
+        about: "Writes to this file, in place of standard output.",
+    },
+    Word {
+        name: WAT,
+        short: Some('t'),
+        takes: Takes::Nothing,
+        needs: None,
+        about: "Writes the text format, in place of the binary format.",
+    },
+    Word {
+        name: CONFIG,
+        short: Some('c'),
+        takes: Takes::Text("FILE"),
+        needs: None,
+        about: "Reads the configuration from this file, a JSON object.",
+    },
+    Word {
+        name: ARBITRARY,
+        short: None,
+        takes: Takes::Nothing,
+        needs: None,
+        about: "Draws the configuration from the input first, and the module from the bytes after it.",
+    },
+    Word {
+        name: ENSURE_TERMINATION,
+        short: None,
+        takes: Takes::Nothing,
+        needs: None,
+        about: "Adds a global that counts calls, so that each call ends.",
+    },
+    Word {
+        name: FUEL,
+        short: Some('f'),
+        takes: Takes::Number,
+        needs: Some(ENSURE_TERMINATION),
+        about: "The number of calls before the module traps; 100 where it is left out.",
+    },
+    Word {
+        name: COUNT,
+        short: None,
+        takes: Takes::Number,
+        needs: Some(OUTPUT_DIR),
+        about: "Makes this number of modules, from inputs of a random generator.",
+    },
+    Word {
+        name: SEED,
+        short: None,
+        takes: Takes::Number,
+        needs: Some(COUNT),
+        about: "The seed of the random generator; 0 where it is left out.",
+    },
+    Word {
+        name: SIZE,
+        short: None,
+        takes: Takes::Number,
+        needs: Some(COUNT),
+        about: "The length of each of these inputs in bytes; 1024 where it is left out.",
+    },
+    Word {
+        name: OUTPUT_DIR,
+        short: None,
+        takes: Takes::Text("DIR"),
+        needs: Some(COUNT),
+        about: "Writes the modules into this folder, named by their numbers.",
+    },
+];
+
 /// Makes the command line of the program.
-pub(crate) fn command<'a>(alloc: Global) -> Result<Command<'a>, Failure> {
+pub(crate) fn command(alloc: Global) -> Result<Command<'static>, Failure> {
     let command = Command::new(alloc, "smith_wasm").version("0.1.0").about(
         "Makes a valid WebAssembly module from the bytes of a file or of standard input.",
     );
-    with_fields(alloc, with_corpus(alloc, with_files(alloc, command)?)?)
+    let input = Arg::new(alloc, INPUT).value_name("INPUT").help(
+        "The file of the input; standard input where it is - or left out.",
+    );
+    with_fields(alloc, with_words(alloc, command.arg(input)?)?)
 }
 
-/// Adds the words of what is read and written.
-fn with_files<'a>(alloc: Global, command: Command<'a>) -> Result<Command<'a>, Failure> {
-    let command = command
-        .arg(
-            Arg::new(alloc, INPUT).value_name("INPUT").help(
-                "The file of the input; standard input where it is - or left out.",
-            ),
-        )?
-        .arg(value(
-            alloc,
-            OUTPUT,
-            "FILE",
-            "Writes to this file, in place of standard output.",
-        )
-        .short('o'))?
-        .arg(switch(
-            alloc,
-            WAT,
-            "Writes the text format, in place of the binary format.",
-        )
-        .short('t'))?
-        .arg(value(
-            alloc,
-            CONFIG,
-            "FILE",
-            "Reads the configuration from this file, a JSON object.",
-        )
-        .short('c'))?;
-    Ok(
-        command
-            .arg(switch(
-                alloc,
-                ARBITRARY,
-                "Draws the configuration from the input first, and the module from the bytes after it.",
-            ))?
-            .arg(switch(
-                alloc,
-                ENSURE_TERMINATION,
-                "Adds a global by which calls are counted, so that each call ends.",
-            ))?
-            .arg(
-                number(
-                    alloc,
-                    FUEL,
-                    "The number of calls that are allowed; 100 where it is left out.",
-                )
-                .short('f')
-                .requires_arg(ENSURE_TERMINATION)?,
-            )?,
-    )
+/// Adds the words that are no fields.
+fn with_words(alloc: Global, command: Command<'static>) -> Result<Command<'static>, Failure> {
+    let mut command = command;
+    for word in &WORDS {
+        command = command.arg(arg_of(alloc, word)?)?;
+    }
+    Ok(command)
 }
 
-/// Adds the words of a corpus.
-fn with_corpus<'a>(alloc: Global, command: Command<'a>) -> Result<Command<'a>, Failure> {
-    Ok(
-        command
-            .arg(number(
-                alloc,
-                COUNT,
-                "Writes this number of modules, of inputs from a random generator.",
-            )
-            .requires_arg(OUTPUT_DIR)?)?
-            .arg(number(
-                alloc,
-                SEED,
-                "The seed of the random generator; 0 where it is left out.",
-            )
-            .requires_arg(COUNT)?)?
-            .arg(number(
-                alloc,
-                SIZE,
-                "The length of each input in bytes; 1024 where it is left out.",
-            )
-            .requires_arg(COUNT)?)?
-            .arg(value(
-                alloc,
-                OUTPUT_DIR,
-                "DIR",
-                "Writes the modules into this folder, named by their numbers.",
-            )
-            .requires_arg(COUNT)?)?,
-    )
+fn arg_of(alloc: Global, word: &'static Word) -> Result<Arg<'static>, Failure> {
+    let arg = taking(Arg::new(alloc, word.name), word.takes)
+        .long(word.name)
+        .help(word.about);
+    let arg = match word.short {
+        Some(letter) => arg.short(letter),
+        None => arg,
+    };
+    match word.needs {
+        Some(other) => Ok(arg.requires_arg(other)?),
+        None => Ok(arg),
+    }
+}
+
+fn taking(arg: Arg<'static>, takes: Takes) -> Arg<'static> {
+    match takes {
+        Takes::Nothing => arg.action(ArgAction::SetTrue),
+        Takes::Text(name) => arg.value_name(name).action(ArgAction::Set),
+        Takes::Number => arg
+            .value_name("N")
+            .value_parser(value_parser!(u32))
+            .action(ArgAction::Set),
+    }
 }
 
 /// Adds a word for each field of the configuration.
-fn with_fields<'a>(alloc: Global, command: Command<'a>) -> Result<Command<'a>, Failure> {
+fn with_fields(alloc: Global, command: Command<'static>) -> Result<Command<'static>, Failure> {
     let mut command = command;
     for field in &FIELDS {
         if !matches!(field.kind, FieldKind::File) {
-            command = command.arg(value(
-                alloc,
-                field.name,
-                kind_name(field),
-                field.about,
-            ).help_heading("Configuration"))?;
+            command = command.arg(field_arg(alloc, field))?;
         }
     }
     Ok(command)
 }
 
-/// The name of the values of `field`.
-fn kind_name(field: &Field) -> &'static str {
-    match field.kind {
+fn field_arg(alloc: Global, field: &'static Field) -> Arg<'static> {
+    Arg::new(alloc, field.name)
+        .long(field.name)
+        .value_name(kind_name(field.kind))
+        .help(field.about)
+        .help_heading("Configuration")
+        .action(ArgAction::Set)
+}
+
+/// The name of the values of a field.
+fn kind_name(kind: FieldKind) -> &'static str {
+    match kind {
         FieldKind::Whole(_) => "NUMBER",
         FieldKind::Flag => "true|false",
         FieldKind::InstructionKinds => "NAMES",
         FieldKind::OffsetChoices => "INSIDE,NEAR,FAR",
         FieldKind::File => "FILE",
     }
-}
-
-fn value<'a>(alloc: Global, name: &'a str, value_name: &'a str, about: &'a str) -> Arg<'a> {
-    Arg::new(alloc, name)
-        .long(name)
-        .value_name(value_name)
-        .help(about)
-        .action(ArgAction::Set)
-}
-
-fn number<'a>(alloc: Global, name: &'a str, about: &'a str) -> Arg<'a> {
-    value(alloc, name, "N", about).value_parser(value_parser!(u32))
-}
-
-fn switch<'a>(alloc: Global, name: &'a str, about: &'a str) -> Arg<'a> {
-    Arg::new(alloc, name)
-        .long(name)
-        .help(about)
-        .action(ArgAction::SetTrue)
 }

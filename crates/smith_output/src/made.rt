@@ -1,6 +1,6 @@
 ghost use Rattle.std.specs.Prelude.{◌≡◌, ◌<◌, ◌-◌, ◌^◌, None, IfOk, IfErr, length};
 ghost use Rattle.smith_output.specs.Output.{IsBinaryOf, IsRefusedFor};
-ghost use Rattle.smith_output.specs.declared.output.Form.TheVariants.{Binary};
+ghost use Rattle.smith_output.specs.declared.made.Form.TheVariants.{Binary};
 ghost use Rattle.smith_bytes.specs.declared.error.Error.TheVariants.{Memory};
 ghost use Rattle.smith_sections.specs.Modules.{IsModule};
 ghost use Rattle.smith_encode.specs.Contents.{contents_of};
@@ -42,7 +42,10 @@ pub enum OutputFault {
 }
 
 impl From<Error> for OutputFault {
-    ghost from_gives = { λ e fault. fault ≡ OutputFault.Refused e };
+    ghost use Rattle.std.specs.Prelude.{◌≡◌};
+    ghost use Rattle.smith_output.specs.declared.made.OutputFault.TheVariants.{Refused};
+
+    ghost from_gives = { λ e fault. fault ≡ Refused e };
 
     fn from(refusal: Error) -> OutputFault {
         OutputFault::Refused(refusal)
