@@ -8,7 +8,7 @@ use Rattle.smith_sections.specs.Modules.{IsModule}
 use Rattle.smith_encode.specs.Contents.{contents_of}
 use Rattle.wasm_smith.specs.Generated.{IsGenerated}
 use Rattle.smith_output.specs.declared.made.OutputFault.{OutputFault}
-use Rattle.smith_output.specs.declared.made.OutputFault.TheVariants.{Refused}
+use Rattle.smith_output.specs.declared.made.OutputFault.TheVariants.{Refused, TooLong}
 
 -- a module that the generator gives for the configuration and the input, and leaves these bytes of it, is spelled in the binary format
 pub record IsBinaryOf (config : Config) (input bytes left : List ℕ) : Type 0 where
@@ -16,6 +16,12 @@ pub record IsBinaryOf (config : Config) (input bytes left : List ℕ) : Type 0 w
   pub generated : IsGenerated false config input (Ok made) left
   pub spelled : IsModule (contents_of made) bytes
 
+-- a module is not written for want of memory, or where it is too long
+abbrev pub IsUnencoded : OutputFault → Type 0
+IsUnencoded (Refused e) = e ≡ Memory
+IsUnencoded TooLong = Unit {0}
+
 -- a refusal is the generator's for the configuration and the input, or want of memory
 abbrev pub IsRefusedFor : Config → List ℕ → List ℕ → OutputFault → Type 0
-IsRefusedFor config input left fault = (e : Error) → fault ≡ Refused e → (e ≡ Memory) ⊎ IsGenerated false config input (Err e) left
+IsRefusedFor config input left (Refused e) = (e ≡ Memory) ⊎ IsGenerated false config input (Err e) left
+IsRefusedFor config input left TooLong = Unit {0}

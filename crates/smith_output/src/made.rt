@@ -1,7 +1,6 @@
 ghost use Rattle.std.specs.Prelude.{◌≡◌, ◌<◌, ◌-◌, ◌^◌, None, IfOk, IfErr, length};
-ghost use Rattle.smith_output.specs.Output.{IsBinaryOf, IsRefusedFor};
+ghost use Rattle.smith_output.specs.Output.{IsBinaryOf, IsUnencoded, IsRefusedFor};
 ghost use Rattle.smith_output.specs.declared.made.Form.TheVariants.{Binary};
-ghost use Rattle.smith_bytes.specs.declared.error.Error.TheVariants.{Memory};
 ghost use Rattle.smith_sections.specs.Modules.{IsModule};
 ghost use Rattle.smith_encode.specs.Contents.{contents_of};
 
@@ -52,15 +51,6 @@ impl From<Error> for OutputFault {
     }
 }
 
-impl From<EncodeError> for OutputFault {
-    fn from(error: EncodeError) -> OutputFault {
-        match error {
-            EncodeError::Memory => OutputFault::Refused(Error::Memory),
-            EncodeError::TooLong => OutputFault::TooLong,
-        }
-    }
-}
-
 /// Draws a module from the bytes of `u` under `config`, as [`Module::new`] does, and encodes the module in the binary format.
 ///
 /// # Errors
@@ -83,9 +73,13 @@ pub fn binary(
 /// Encodes `module` in the binary format.
 fn encoded(alloc: Global, module: &Module) -> Result<Vec<u8>, OutputFault>
     ensures spelled { IfOk result (λ bytes. IsModule (contents_of «module».now) bytes.items) }
-    ensures refused { IfErr result (λ fault. (e : Error) → fault ≡ OutputFault.Refused e → e ≡ Memory) }
+    ensures refused { IfErr result IsUnencoded }
 {
-    Ok(encode(alloc, module)?)
+    match encode(alloc, module) {
+        Ok(bytes) => Ok(bytes),
+        Err(EncodeError::Memory) => Err(OutputFault::Refused(Error::Memory)),
+        Err(EncodeError::TooLong) => Err(OutputFault::TooLong),
+    }
 }
 
 /// Draws a module from the bytes of `u` under `config`, as [`Module::new`] does, counts its calls where `manner` says so, and writes
