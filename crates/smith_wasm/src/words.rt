@@ -1,4 +1,5 @@
 use crate::failure::Failure;
+use crate::warnings::has_no_effect;
 use clap::{Arg, ArgAction, Command, value_parser};
 use smith_json::{FIELDS, Field, FieldKind};
 use std::alloc::Global;
@@ -121,7 +122,7 @@ static WORDS: [Word; 10] = [
 ];
 
 /// Makes the command line of the program.
-pub(crate) fn command(alloc: Global) -> Result<Command<'static>, Failure> {
+pub(crate) fn command<'a>(alloc: Global) -> Result<Command<'a>, Failure> {
     let command = Command::new(alloc, "smith_wasm").version("0.1.0").about(
         "Makes a valid WebAssembly module from the bytes of a file or of standard input.",
     );
@@ -132,7 +133,7 @@ pub(crate) fn command(alloc: Global) -> Result<Command<'static>, Failure> {
 }
 
 /// Adds the words that are no fields.
-fn with_words(alloc: Global, command: Command<'static>) -> Result<Command<'static>, Failure> {
+fn with_words<'a>(alloc: Global, command: Command<'a>) -> Result<Command<'a>, Failure> {
     let mut command = command;
     for word in &WORDS {
         command = command.arg(arg_of(alloc, word)?)?;
@@ -140,7 +141,7 @@ fn with_words(alloc: Global, command: Command<'static>) -> Result<Command<'stati
     Ok(command)
 }
 
-fn arg_of(alloc: Global, word: &'static Word) -> Result<Arg<'static>, Failure> {
+fn arg_of<'a>(alloc: Global, word: &'static Word) -> Result<Arg<'a>, Failure> {
     let arg = taking(Arg::new(alloc, word.name), word.takes)
         .long(word.name)
         .help(word.about);
@@ -154,7 +155,7 @@ fn arg_of(alloc: Global, word: &'static Word) -> Result<Arg<'static>, Failure> {
     }
 }
 
-fn taking(arg: Arg<'static>, takes: Takes) -> Arg<'static> {
+fn taking<'a>(arg: Arg<'a>, takes: Takes) -> Arg<'a> {
     match takes {
         Takes::Nothing => arg.action(ArgAction::SetTrue),
         Takes::Text(name) => arg.value_name(name).action(ArgAction::Set),
@@ -166,7 +167,7 @@ fn taking(arg: Arg<'static>, takes: Takes) -> Arg<'static> {
 }
 
 /// Adds a word for each field of the configuration.
-fn with_fields(alloc: Global, command: Command<'static>) -> Result<Command<'static>, Failure> {
+fn with_fields<'a>(alloc: Global, command: Command<'a>) -> Result<Command<'a>, Failure> {
     let mut command = command;
     for field in &FIELDS {
         if !matches!(field.kind, FieldKind::File) {
@@ -176,13 +177,27 @@ fn with_fields(alloc: Global, command: Command<'static>) -> Result<Command<'stat
     Ok(command)
 }
 
-fn field_arg(alloc: Global, field: &'static Field) -> Arg<'static> {
+fn field_arg<'a>(alloc: Global, field: &'static Field) -> Arg<'a> {
     Arg::new(alloc, field.name)
         .long(field.name)
         .value_name(kind_name(field.kind))
         .help(field.about)
-        .help_heading("Configuration")
+        .help_heading(heading_of(field.name))
         .action(ArgAction::Set)
+}
+
+/// The group of the field `name` in the help.
+fn heading_of(name: &str) -> &'static str {
+    if has_no_effect(name) {
+        return "Fields without effect here";
+    }
+    if name.starts_with("min-") || name.starts_with("max-") {
+        return "Fields: numbers";
+    }
+    if name.ends_with("-enabled") {
+        return "Fields: features";
+    }
+    "Fields: rules"
 }
 
 /// The name of the values of a field.
