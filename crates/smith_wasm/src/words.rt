@@ -45,6 +45,8 @@ struct Word {
     takes: Takes,
     // The word that has to be there too.
     needs: Option<&'static str>,
+    // The words that may not be there too.
+    excludes: &'static [&'static str],
     about: &'static str,
 }
 
@@ -54,6 +56,7 @@ static WORDS: [Word; 10] = [
         short: Some('o'),
         takes: Takes::Text("FILE"),
         needs: None,
+        excludes: &[],
         about: "Writes to this file, in place of standard output.",
     },
     Word {
@@ -61,6 +64,7 @@ static WORDS: [Word; 10] = [
         short: Some('t'),
         takes: Takes::Nothing,
         needs: None,
+        excludes: &[],
         about: "Writes the text format, in place of the binary format.",
     },
     Word {
@@ -68,6 +72,7 @@ static WORDS: [Word; 10] = [
         short: Some('c'),
         takes: Takes::Text("FILE"),
         needs: None,
+        excludes: &[],
         about: "Reads the configuration from this file, a JSON object.",
     },
     Word {
@@ -75,6 +80,7 @@ static WORDS: [Word; 10] = [
         short: None,
         takes: Takes::Nothing,
         needs: None,
+        excludes: &[],
         about: "Draws the configuration from the input first, and the module from the bytes after it.",
     },
     Word {
@@ -82,6 +88,7 @@ static WORDS: [Word; 10] = [
         short: None,
         takes: Takes::Nothing,
         needs: None,
+        excludes: &[],
         about: "Adds a global that counts calls, so that each call ends.",
     },
     Word {
@@ -89,6 +96,7 @@ static WORDS: [Word; 10] = [
         short: Some('f'),
         takes: Takes::Number,
         needs: Some(ENSURE_TERMINATION),
+        excludes: &[],
         about: "The number of calls before the module traps; 100 where it is left out.",
     },
     Word {
@@ -96,6 +104,7 @@ static WORDS: [Word; 10] = [
         short: None,
         takes: Takes::Number,
         needs: Some(OUTPUT_DIR),
+        excludes: &[INPUT, OUTPUT],
         about: "Makes this number of modules, from inputs of a random generator.",
     },
     Word {
@@ -103,6 +112,7 @@ static WORDS: [Word; 10] = [
         short: None,
         takes: Takes::Number,
         needs: Some(COUNT),
+        excludes: &[],
         about: "The seed of the random generator; 0 where it is left out.",
     },
     Word {
@@ -110,6 +120,7 @@ static WORDS: [Word; 10] = [
         short: None,
         takes: Takes::Number,
         needs: Some(COUNT),
+        excludes: &[],
         about: "The length of each of these inputs in bytes; 1024 where it is left out.",
     },
     Word {
@@ -117,6 +128,7 @@ static WORDS: [Word; 10] = [
         short: None,
         takes: Takes::Text("DIR"),
         needs: Some(COUNT),
+        excludes: &[],
         about: "Writes the modules into this folder, named by their numbers.",
     },
 ];
@@ -149,6 +161,7 @@ fn arg_of<'a>(alloc: Global, word: &'static Word) -> Result<Arg<'a>, Failure> {
         Some(letter) => arg.short(letter),
         None => arg,
     };
+    let arg = arg.conflicts_with_all(word.excludes)?;
     match word.needs {
         Some(other) => Ok(arg.requires_arg(other)?),
         None => Ok(arg),
@@ -189,15 +202,15 @@ fn field_arg<'a>(alloc: Global, field: &'static Field) -> Arg<'a> {
 /// The group of the field `name` in the help.
 fn heading_of(name: &str) -> &'static str {
     if has_no_effect(name) {
-        return "Fields without effect here";
+        return "Without effect here";
     }
     if name.starts_with("min-") || name.starts_with("max-") {
-        return "Fields: numbers";
+        return "Numbers of the configuration";
     }
     if name.ends_with("-enabled") {
-        return "Fields: features";
+        return "Features of the configuration";
     }
-    "Fields: rules"
+    "Rules of the configuration"
 }
 
 /// The name of the values of a field.
