@@ -13,12 +13,12 @@ use std::alloc::Global;
 const DEFAULT_FUEL: u32 = 100;
 
 /// What the program is to make.
-#[derive(Clone, Copy)]
-pub(crate) struct Asked<'a> {
+#[derive(Drop)]
+pub(crate) struct Asked<'m, 'w> {
     /// The words of the command line.
-    pub(crate) matches: &'a ArgMatches<'a>,
+    pub(crate) matches: &'m ArgMatches<'w>,
     /// The text of the configuration file, where there is one.
-    pub(crate) config: Option<&'a str>,
+    pub(crate) config: Option<String>,
     /// How modules are written.
     pub(crate) manner: Manner,
 }
@@ -31,7 +31,7 @@ pub(crate) fn answer(rt: &HostRuntime, matches: &ArgMatches<'_>) -> Result<u8, F
     };
     let asked = Asked {
         matches,
-        config: file.as_ref().map(|text| text.as_str()),
+        config: file,
         manner: manner_of(matches),
     };
     warn(rt, &asked)?;
@@ -43,7 +43,7 @@ pub(crate) fn answer(rt: &HostRuntime, matches: &ArgMatches<'_>) -> Result<u8, F
 }
 
 /// Makes the module of the input, and writes it.
-fn make_one(rt: &HostRuntime, asked: &Asked<'_>) -> Result<(), Failure> {
+fn make_one(rt: &HostRuntime, asked: &Asked<'_, '_>) -> Result<(), Failure> {
     let path = asked.matches.get_str(OUTPUT);
     if asked.manner.form == Form::Binary && path.is_none() && shows_output(rt) {
         return Err(Failure::Terminal);
@@ -59,7 +59,7 @@ fn make_one(rt: &HostRuntime, asked: &Asked<'_>) -> Result<(), Failure> {
 /// The bytes of the module of `input`.
 pub(crate) fn module_of(
     alloc: Global,
-    asked: &Asked<'_>,
+    asked: &Asked<'_, '_>,
     input: &[u8],
 ) -> Result<Vec<u8>, Failure> {
     let mut u = Unstructured::new(input);

@@ -14,7 +14,7 @@ use std::str::FromStr;
 /// configuration file, and over these the fields that are words.
 pub(crate) fn config_of(
     alloc: Global,
-    asked: &Asked<'_>,
+    asked: &Asked<'_, '_>,
     u: &mut Unstructured<'_>,
 ) -> Result<Config, Failure> {
     let mut config = begun(asked.matches.get_flag(ARBITRARY), u)?;
@@ -34,15 +34,15 @@ fn begun(drawn: bool, u: &mut Unstructured<'_>) -> Result<Config, Failure> {
 }
 
 /// Sets the fields that the configuration file names.
-fn set_from_file(alloc: Global, asked: &Asked<'_>, config: &mut Config) -> Result<(), Failure> {
-    let Some(text) = asked.config else {
+fn set_from_file(alloc: Global, asked: &Asked<'_, '_>, config: &mut Config) -> Result<(), Failure> {
+    let Some(text) = &asked.config else {
         return Ok(());
     };
-    match read_over(alloc, text, config) {
+    match read_over(alloc, text.as_str(), config) {
         Ok(()) => Ok(()),
         Err(refusal) => {
             let path = String::from_str(alloc, asked.matches.get_str(CONFIG).unwrap_or(""))?;
-            Err(Failure::Config(path, refusal.in_text(text)))
+            Err(Failure::Config(path, refusal.in_text(text.as_str())))
         }
     }
 }
@@ -70,7 +70,11 @@ fn refused(alloc: Global, fault: Fault, offset: usize) -> Result<(), Refusal> {
 }
 
 /// Sets the fields that are words.
-fn set_from_words(alloc: Global, asked: &Asked<'_>, config: &mut Config) -> Result<(), Failure> {
+fn set_from_words(
+    alloc: Global,
+    asked: &Asked<'_, '_>,
+    config: &mut Config,
+) -> Result<(), Failure> {
     for field in &FIELDS {
         if let Some(value) = asked.matches.get_str(field.name) {
             set_from_word(alloc, field, value, config)?;

@@ -4,6 +4,7 @@ use crate::files::write_file;
 use crate::words::{COUNT, SEED, SIZE};
 use rand_core::{Rng, SeedableRng};
 use rand_xoshiro::Xoshiro256PlusPlus;
+use smith_bytes::Error;
 use smith_output::{Form, OutputFault};
 use std::fs;
 use std::io::IsTerminal;
@@ -14,11 +15,11 @@ const DEFAULT_SIZE: u32 = 1024;
 // The number of modules from one line of progress to the next.
 const STRIDE: u32 = 256;
 
-/// Writes the modules of as many random inputs as are asked for into the folder `folder`, each named by its number. An input that is
-/// refused has no file. The last line on standard error says how many were written and how many were refused.
+/// Writes the modules of as many random inputs as are wanted into the folder `folder`, each named by its number. An input that is
+/// refused has no file. At the end standard error has a line for each refused input, and a last line that counts.
 pub(crate) fn make_corpus(
     rt: &HostRuntime,
-    asked: &Asked<'_>,
+    asked: &Asked<'_, '_>,
     folder: &str,
 ) -> Result<(), Failure> {
     fs::create_dir_all(rt, folder)?;
@@ -26,50 +27,53 @@ pub(crate) fn make_corpus(
     let seed = asked.matches.get_one::<u32>(SEED).unwrap_or(0);
     let mut random = Xoshiro256PlusPlus::seed_from_u64(u64::from(seed));
     let mut input = empty_input(rt, asked)?;
-    let mut refused: u32 = 0;
+    let mut refusals = Vec::new(rt.alloc());
     for number in 0..count {
         random.fill_bytes(input.as_mut_slice());
-        if !is_made(rt, asked, folder, number, input.as_slice())? {
-            refused = refused.saturating_add(1);
+        if let Some(refusal) = refusal_of(rt, asked, folder, number, input.as_slice())? {
+            refusals.push((number, refusal))?;
         }
         show_progress(rt, number, count)?;
     }
-    let made = count.saturating_sub(refused);
+    show_refusals(rt, count, refusals.as_slice())
+}
+
+/// Shows each refused input with its refusal, and how many of `count` inputs were written and refused.
+fn show_refusals(rt: &HostRuntime, count: u32, refusals: &[(u32, Error)]) -> Result<(), Failure> {
+    for (number, refusal) in refusals {
+        eprintln!(rt; "smith_wasm: input {number} is refused: {refusal:?}")?;
+    }
+    let refused = refusals.len();
+    let made = (count as usize).saturating_sub(refused);
     eprintln!(rt; "smith_wasm: {made} modules written, {refused} inputs refused")?;
     Ok(())
 }
 
 /// Room for an input of the length that is asked for.
-fn empty_input(rt: &HostRuntime, asked: &Asked<'_>) -> Result<Vec<u8>, Failure> {
+fn empty_input(rt: &HostRuntime, asked: &Asked<'_, '_>) -> Result<Vec<u8>, Failure> {
     let size = asked.matches.get_one::<u32>(SIZE).unwrap_or(DEFAULT_SIZE);
     Ok(vec![in rt.alloc(); 0; size as usize]?)
 }
 
-/// Writes the module of `input` as the file of the number `number`. False where the input is refused for another reason than memory.
-fn is_made(
+/// Writes the module of `input` as the file of the number `number`, or returns why `input` is refused. Want of memory is a failure.
+fn refusal_of(
     rt: &HostRuntime,
-    asked: &Asked<'_>,
+    asked: &Asked<'_, '_>,
     folder: &str,
     number: u32,
     input: &[u8],
-) -> Result<bool, Failure> {
+) -> Result<Option<Error>, Failure> {
     match module_of(rt.alloc(), asked, input) {
         Ok(bytes) => {
             let ending = ending_of(asked.manner.form);
             let path = format!(in rt.alloc(); "{folder}/{number}.{ending}")?;
             write_file(rt, path.as_str(), bytes.as_slice())?;
-            Ok(true)
+            Ok(None)
         }
-        Err(failure) => passed_over(failure),
-    }
-}
-
-/// False for an input that is refused, else the failure.
-fn passed_over(failure: Failure) -> Result<bool, Failure> {
-    match failure {
-        Failure::Output(OutputFault::Refused(refusal)) if refusal != smith_bytes::Error::Memory =>
-            Ok(false),
-        other => Err(other),
+        Err(Failure::Output(OutputFault::Refused(refusal))) if refusal != Error::Memory => Ok(Some(
+            refusal,
+        )),
+        Err(failure) => Err(failure),
     }
 }
 

@@ -17,8 +17,13 @@ const WITHOUT_EFFECT: [&str; 12] = [
     "max-values",
 ];
 
+/// Whether the field `name` has no effect.
+pub(crate) fn has_no_effect(name: &str) -> bool {
+    WITHOUT_EFFECT.iter().any(|other| *other == name)
+}
+
 /// Warns of each field that is set and has no effect.
-pub(crate) fn warn(rt: &HostRuntime, asked: &Asked<'_>) -> Result<(), Failure> {
+pub(crate) fn warn(rt: &HostRuntime, asked: &Asked<'_, '_>) -> Result<(), Failure> {
     for name in WITHOUT_EFFECT {
         if is_given(asked, name) {
             eprintln!(rt; "smith_wasm: the field {name} has no effect here")?;
@@ -28,8 +33,12 @@ pub(crate) fn warn(rt: &HostRuntime, asked: &Asked<'_>) -> Result<(), Failure> {
 }
 
 /// Whether a word, or a text in the configuration file, names the field `name`.
-fn is_given(asked: &Asked<'_>, name: &str) -> bool {
-    asked.matches.get_str(name).is_some() || asked.config.is_some_and(|text| mentions(text, name))
+fn is_given(asked: &Asked<'_, '_>, name: &str) -> bool {
+    asked.matches.get_str(name).is_some()
+        || asked
+            .config
+            .as_ref()
+            .is_some_and(|text| mentions(text.as_str(), name))
 }
 
 fn mentions(text: &str, name: &str) -> bool {

@@ -1,4 +1,5 @@
 use crate::failure::Failure;
+use crate::warnings::has_no_effect;
 use clap::{Arg, ArgAction, Command, value_parser};
 use smith_json::{FIELDS, Field, FieldKind};
 use std::alloc::Global;
@@ -44,6 +45,8 @@ struct Word {
     takes: Takes,
     // The word that has to be there too.
     needs: Option<&'static str>,
+    // The words that may not be there too.
+    excludes: &'static [&'static str],
     about: &'static str,
 }
 
@@ -53,6 +56,7 @@ static WORDS: [Word; 10] = [
         short: Some('o'),
         takes: Takes::Text("FILE"),
         needs: None,
+        excludes: &[],
         about: "Writes to this file, in place of standard output.",
     },
     Word {
@@ -60,6 +64,7 @@ static WORDS: [Word; 10] = [
         short: Some('t'),
         takes: Takes::Nothing,
         needs: None,
+        excludes: &[],
         about: "Writes the text format, in place of the binary format.",
     },
     Word {
@@ -67,6 +72,7 @@ static WORDS: [Word; 10] = [
         short: Some('c'),
         takes: Takes::Text("FILE"),
         needs: None,
+        excludes: &[],
         about: "Reads the configuration from this file, a JSON object.",
     },
     Word {
@@ -74,6 +80,7 @@ static WORDS: [Word; 10] = [
         short: None,
         takes: Takes::Nothing,
         needs: None,
+        excludes: &[],
         about: "Draws the configuration from the input first, and the module from the bytes after it.",
     },
     Word {
@@ -81,6 +88,7 @@ static WORDS: [Word; 10] = [
         short: None,
         takes: Takes::Nothing,
         needs: None,
+        excludes: &[],
         about: "Adds a global that counts calls, so that each call ends.",
     },
     Word {
@@ -88,6 +96,7 @@ static WORDS: [Word; 10] = [
         short: Some('f'),
         takes: Takes::Number,
         needs: Some(ENSURE_TERMINATION),
+        excludes: &[],
         about: "The number of calls before the module traps; 100 where it is left out.",
     },
     Word {
@@ -95,6 +104,7 @@ static WORDS: [Word; 10] = [
         short: None,
         takes: Takes::Number,
         needs: Some(OUTPUT_DIR),
+        excludes: &[INPUT, OUTPUT],
         about: "Makes this number of modules, from inputs of a random generator.",
     },
     Word {
@@ -102,6 +112,7 @@ static WORDS: [Word; 10] = [
         short: None,
         takes: Takes::Number,
         needs: Some(COUNT),
+        excludes: &[],
         about: "The seed of the random generator; 0 where it is left out.",
     },
     Word {
@@ -109,6 +120,7 @@ static WORDS: [Word; 10] = [
         short: None,
         takes: Takes::Number,
         needs: Some(COUNT),
+        excludes: &[],
         about: "The length of each of these inputs in bytes; 1024 where it is left out.",
     },
     Word {
@@ -116,12 +128,13 @@ static WORDS: [Word; 10] = [
         short: None,
         takes: Takes::Text("DIR"),
         needs: Some(COUNT),
+        excludes: &[],
         about: "Writes the modules into this folder, named by their numbers.",
     },
 ];
 
 /// Makes the command line of the program.
-pub(crate) fn command(alloc: Global) -> Result<Command<'static>, Failure> {
+pub(crate) fn command<'a>(alloc: Global) -> Result<Command<'a>, Failure> {
     let command = Command::new(alloc, "smith_wasm").version("0.1.0").about(
         "Makes a valid WebAssembly module from the bytes of a file or of standard input.",
     );
@@ -132,7 +145,7 @@ pub(crate) fn command(alloc: Global) -> Result<Command<'static>, Failure> {
 }
 
 /// Adds the words that are no fields.
-fn with_words(alloc: Global, command: Command<'static>) -> Result<Command<'static>, Failure> {
+fn with_words<'a>(alloc: Global, command: Command<'a>) -> Result<Command<'a>, Failure> {
     let mut command = command;
     for word in &WORDS {
         command = command.arg(arg_of(alloc, word)?)?;
@@ -140,7 +153,7 @@ fn with_words(alloc: Global, command: Command<'static>) -> Result<Command<'stati
     Ok(command)
 }
 
-fn arg_of(alloc: Global, word: &'static Word) -> Result<Arg<'static>, Failure> {
+fn arg_of<'a>(alloc: Global, word: &'static Word) -> Result<Arg<'a>, Failure> {
     let arg = taking(Arg::new(alloc, word.name), word.takes)
         .long(word.name)
         .help(word.about);
@@ -148,13 +161,14 @@ fn arg_of(alloc: Global, word: &'static Word) -> Result<Arg<'static>, Failure> {
         Some(letter) => arg.short(letter),
         None => arg,
     };
+    let arg = arg.conflicts_with_all(word.excludes)?;
     match word.needs {
         Some(other) => Ok(arg.requires_arg(other)?),
         None => Ok(arg),
     }
 }
 
-fn taking(arg: Arg<'static>, takes: Takes) -> Arg<'static> {
+fn taking<'a>(arg: Arg<'a>, takes: Takes) -> Arg<'a> {
     match takes {
         Takes::Nothing => arg.action(ArgAction::SetTrue),
         Takes::Text(name) => arg.value_name(name).action(ArgAction::Set),
@@ -166,7 +180,7 @@ fn taking(arg: Arg<'static>, takes: Takes) -> Arg<'static> {
 }
 
 /// Adds a word for each field of the configuration.
-fn with_fields(alloc: Global, command: Command<'static>) -> Result<Command<'static>, Failure> {
+fn with_fields<'a>(alloc: Global, command: Command<'a>) -> Result<Command<'a>, Failure> {
     let mut command = command;
     for field in &FIELDS {
         if !matches!(field.kind, FieldKind::File) {
@@ -176,13 +190,27 @@ fn with_fields(alloc: Global, command: Command<'static>) -> Result<Command<'stat
     Ok(command)
 }
 
-fn field_arg(alloc: Global, field: &'static Field) -> Arg<'static> {
+fn field_arg<'a>(alloc: Global, field: &'static Field) -> Arg<'a> {
     Arg::new(alloc, field.name)
         .long(field.name)
         .value_name(kind_name(field.kind))
         .help(field.about)
-        .help_heading("Configuration")
+        .help_heading(heading_of(field.name))
         .action(ArgAction::Set)
+}
+
+/// The group of the field `name` in the help.
+fn heading_of(name: &str) -> &'static str {
+    if has_no_effect(name) {
+        return "Without effect here";
+    }
+    if name.starts_with("min-") || name.starts_with("max-") {
+        return "Numbers of the configuration";
+    }
+    if name.ends_with("-enabled") {
+        return "Features of the configuration";
+    }
+    "Rules of the configuration"
 }
 
 /// The name of the values of a field.
