@@ -5,7 +5,7 @@ use smith_types::Items;
 use std::alloc::Global;
 
 // Each shape by its name, with its parts in the form that `add_part` reads.
-const SHAPES: [(&str, &[&str]); 30] = [
+const SHAPES: [(&str, &[&str]); 31] = [
     ("nothing", &[]),
     (
         "a function without parameters and results",
@@ -23,6 +23,13 @@ const SHAPES: [(&str, &[&str]); 30] = [
     (
         "a struct below a struct",
         &["group open struct; open below 0 struct"],
+    ),
+    (
+        "a struct below a struct, and a function over them",
+        &[
+            "group open struct; open below 0 struct",
+            "group func i32,(ref 1) -> (ref 0)",
+        ],
     ),
     ("an empty group", &["group"]),
     (

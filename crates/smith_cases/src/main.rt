@@ -1,8 +1,9 @@
 //! Answers cases, each a JSON object on a line of standard input, and prints which of them are answered as they want.
 //!
 //! For each case there is a line `ok NAME`, or `not ok NAME: ` and the first difference. The last line counts, and the status is 1
-//! where a case is not ok. A case is answered twice, and two answers that differ are not ok. A line without a character but blanks
-//! is passed over. The crate's own cases are in `stdin`; in this folder they are tried in some two minutes, before any proof, by
+//! where a case is not ok. A case is answered twice, one of checksums once, and two answers that differ are not ok. Lines of blanks,
+//! and lines that begin with `#`, are passed over. The crate's own cases are in `stdin`; in this folder they are tried in some two
+//! minutes, before any proof, by
 //!
 //! ```sh
 //! rt try --seconds 600 < stdin
@@ -24,7 +25,7 @@ fn main(rt: HostRuntime) -> io::Result<ExitCode> {
     let mut wrong: u64 = 0;
     for line in rt.lines(alloc) {
         let line = line?;
-        if line.as_str().trim().is_empty() {
+        if is_passed_over(line.as_str()) {
             continue;
         }
         let mut report = String::new(alloc);
@@ -42,4 +43,9 @@ fn main(rt: HostRuntime) -> io::Result<ExitCode> {
     } else {
         ExitCode::FAILURE
     })
+}
+
+// Whether `line` has no case.
+fn is_passed_over(line: &str) -> bool {
+    line.trim().is_empty() || line.starts_with('#')
 }
