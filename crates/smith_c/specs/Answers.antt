@@ -1,8 +1,8 @@
 -- What a call writes to the caller's buffer, and what it returns.
 use Rattle.std.specs.Prelude.{◌≡◌, ℕ, List, ◌++◌, ◌≤◌, ◌<◌, length, drop}
 use Rattle.smith_c.specs.declared.answer.Answer.{Answer}
-use Rattle.smith_c.specs.declared.refusal.Refusal.{Refusal}
-use Rattle.smith_c.specs.Refusals.{status_of}
+use Rattle.smith_request.specs.declared.refusal.Refusal.{Refusal}
+use Rattle.smith_request.specs.Refusals.{status_of}
 
 -- these bytes were written to the front of a buffer, and the rest is as it was; or they are too long, and nothing was written
 pub data IsPut (status : ℕ) (bytes before after : List ℕ) (answer : Answer) : Type 0 where

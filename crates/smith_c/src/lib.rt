@@ -2,16 +2,15 @@
 #![tactic(auto)]
 
 ghost use Rattle.smith_c.specs.Answers.{IsAnswered, IsExplained};
-ghost use Rattle.smith_c.specs.Made.{IsBinary, HasBinary, HasModule};
-ghost use Rattle.smith_c.specs.Refusals.{IsRefusal};
+ghost use Rattle.smith_request.specs.Made.{IsBinary, HasBinary, HasModule};
+ghost use Rattle.smith_request.specs.Refusals.{IsRefusal};
 
 mod answer;
-mod made;
-mod refusal;
+mod explanation;
 
 pub use crate::answer::Answer;
 use crate::answer::put;
-use crate::refusal::explain;
+use crate::explanation::explain;
 use std::alloc::Global;
 
 /// Writes the module of a configuration and of `input` to the front of `out`, in the binary format.
@@ -21,7 +20,7 @@ use std::alloc::Global;
 pub extern "C" fn smith_binary(alloc: Global, config: &[u8], input: &[u8], out: &mut [u8]) -> Answer
     ensures { IsAnswered (IsBinary config.now input.now) (IsRefusal config.now input.now) out.old out.new result }
 {
-    match made::binary(alloc, config, input) {
+    match smith_request::binary(alloc, config, input) {
         Ok(bytes) => put(answer::MADE, bytes.as_slice(), out),
         Err(refusal) => Answer::without_output(refusal.status()),
     }
@@ -32,7 +31,7 @@ pub extern "C" fn smith_binary(alloc: Global, config: &[u8], input: &[u8], out: 
 pub extern "C" fn smith_text(alloc: Global, config: &[u8], input: &[u8], out: &mut [u8]) -> Answer
     ensures { IsAnswered (λ text. HasModule config.now input.now) (IsRefusal config.now input.now) out.old out.new result }
 {
-    match made::text(alloc, config, input) {
+    match smith_request::text(alloc, config, input) {
         Ok(text) => put(answer::MADE, text.as_str().as_bytes(), out),
         Err(refusal) => Answer::without_output(refusal.status()),
     }
@@ -49,7 +48,7 @@ pub extern "C" fn smith_refusal(
 ) -> Answer
     ensures { IsExplained (HasBinary config.now input.now) (IsRefusal config.now input.now) out.old out.new result }
 {
-    match made::binary(alloc, config, input) {
+    match smith_request::binary(alloc, config, input) {
         Ok(_) => Answer::without_output(answer::MADE),
         Err(refusal) => explain(alloc, &refusal, out),
     }

@@ -1,7 +1,7 @@
 ghost use Rattle.std.specs.Prelude.{◌≡◌, ℕ, List, [], Ok, Err, IfOk, IfErr};
 ghost use Rattle.smith_json.specs.Objects.{ReadsText};
-ghost use Rattle.smith_c.specs.Made.{IsConfigured, Answers, AnswersText, IsBinary, HasModule};
-ghost use Rattle.smith_c.specs.Refusals.{IsRefusal};
+ghost use Rattle.smith_request.specs.Made.{IsConfigured, Answers, AnswersText, IsBinary, HasModule};
+ghost use Rattle.smith_request.specs.Refusals.{IsRefusal};
 
 use crate::refusal::Refusal;
 use smith_binary::EncodeError;

@@ -11,9 +11,9 @@ use Rattle.smith_encode.specs.TooLong.{IsTooLong}
 use Rattle.smith_json.specs.Objects.{ReadsText}
 use Rattle.smith_json.specs.declared.refusal.Fault.{Fault}
 use Rattle.smith_json.specs.declared.refusal.Fault.TheVariants.{OutOfMemory, NotAnObject, UnknownField, RepeatedField, WrongType, OutOfRange, TextAfter}
-use Rattle.smith_c.specs.Made.{AnswersText}
-use Rattle.smith_c.specs.declared.refusal.Refusal.{Refusal}
-use Rattle.smith_c.specs.declared.refusal.Refusal.TheVariants.{NotUtf8, Config, Module, Encoding}
+use Rattle.smith_request.specs.Made.{AnswersText}
+use Rattle.smith_request.specs.declared.refusal.Refusal.{Refusal}
+use Rattle.smith_request.specs.declared.refusal.Refusal.TheVariants.{NotUtf8, Config, Module, Encoding}
 
 -- a configuration's text and an input may be refused so
 abbrev pub IsRefusal : List ℕ → List ℕ → Refusal → Type 0

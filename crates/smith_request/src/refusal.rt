@@ -1,12 +1,9 @@
 ghost use Rattle.std.specs.Prelude.{◌≡◌};
-ghost use Rattle.smith_c.specs.Answers.{PutsText};
-ghost use Rattle.smith_c.specs.Refusals.{fault_status, error_status, status_of};
+ghost use Rattle.smith_request.specs.Refusals.{fault_status, error_status, status_of};
 
-use crate::answer::{Answer, put};
 use smith_binary::EncodeError;
 use smith_bytes::Error;
 use smith_json::{ConfigRefusal, Fault};
-use std::alloc::Global;
 use std::fmt;
 
 /// Why there is no module.
@@ -65,15 +62,5 @@ impl fmt::Display for Refusal {
             Refusal::Module(error) => write!(f, "{error}"),
             Refusal::Encoding(error) => write!(f, "{error}"),
         }
-    }
-}
-
-/// Writes `refusal` in words to `out`, with its number. The text is empty where there is no memory for it.
-pub fn explain(alloc: Global, refusal: &Refusal, out: &mut [u8]) -> Answer
-    ensures { PutsText (status_of refusal.now) out.old out.new result }
-{
-    match format!(in alloc; "{refusal}") {
-        Ok(text) => put(refusal.status(), text.as_str().as_bytes(), out),
-        Err(_) => put(refusal.status(), b"", out),
     }
 }
