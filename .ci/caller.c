@@ -1,0 +1,99 @@
+/* Reads a configuration and inputs from standard input, each as its length in four bytes, the lowest first, and then its bytes.
+ * Writes for each input a status and the module, or the reason in words, in the same form.
+ *
+ * It also looks at what each call left of its buffer, with too little room, with as much as is needed, and with more. It ends with
+ * status 3 where that isn't what smith.h says, and with 4 where it has no memory, or can't read or write.
+ */
+#include "smith.h"
+
+/* What it needs of the C library, whose headers the kit lacks. */
+long read(int file, void *buffer, size_t length);
+long write(int file, const void *buffer, size_t length);
+void *malloc(size_t length);
+void *memset(void *bytes, int byte, size_t length);
+void _exit(int status);
+
+typedef struct smith_answer call(const uint8_t *, size_t, const uint8_t *, size_t, uint8_t *, size_t);
+
+enum { MARK = 0xA5, ROOM = 1 << 18, GIVEN = 64 << 20, BEYOND = 64 };
+
+struct bytes {
+    const uint8_t *at;
+    size_t length;
+};
+
+static void need(int holds, int status) {
+    if (!holds) _exit(status);
+}
+
+static void write_all(const void *bytes, size_t length) {
+    for (const uint8_t *rest = bytes; length > 0;) {
+        long count = write(1, rest, length);
+        need(count > 0, 4);
+        rest += count;
+        length -= (size_t)count;
+    }
+}
+
+static void write_number(uint32_t number) {
+    uint8_t bytes[4] = {(uint8_t)number, (uint8_t)(number >> 8), (uint8_t)(number >> 16), (uint8_t)(number >> 24)};
+    write_all(bytes, 4);
+}
+
+/* Takes a record from the front of what was read. */
+static struct bytes record(struct bytes *given) {
+    need(given->length >= 4, 4);
+    const uint8_t *at = given->at;
+    size_t length = at[0] | at[1] << 8 | at[2] << 16 | (size_t)at[3] << 24;
+    need(given->length - 4 >= length, 4);
+    *given = (struct bytes){at + 4 + length, given->length - 4 - length};
+    return (struct bytes){at + 4, length};
+}
+
+/* Calls with this room in a buffer of marks. All but what is written must still be marks, bytes beyond the room too. */
+static struct smith_answer marked(call *make, struct bytes config, struct bytes input, uint8_t *out, size_t room, uint32_t writes) {
+    memset(out, MARK, room + BEYOND);
+    struct smith_answer answer = make(config.at, config.length, input.at, input.length, out, room);
+    size_t written = answer.status == writes ? answer.length : 0;
+    need(written <= room, 3);
+    for (size_t i = written; i < room + BEYOND; i++) need(out[i] == MARK, 3);
+    return answer;
+}
+
+/* Calls with all the room there is, then with as little as the output takes, and with one byte less. */
+static struct smith_answer tried(call *make, struct bytes config, struct bytes input, uint8_t *out, uint32_t writes) {
+    struct smith_answer first = marked(make, config, input, out, ROOM, writes);
+    need(first.status != SMITH_SHORT, 3);
+    if (first.length > 0) {
+        struct smith_answer less = marked(make, config, input, out, first.length - 1, writes);
+        need(less.status == SMITH_SHORT && less.length == first.length, 3);
+    }
+    struct smith_answer just = marked(make, config, input, out, first.length, writes);
+    need(just.status == first.status && just.length == first.length, 3);
+    return just;
+}
+
+static void answer_record(struct bytes config, struct bytes input, uint8_t *out) {
+    struct smith_answer answer = tried(smith_binary, config, input, out, SMITH_MADE);
+    if (answer.status != SMITH_MADE) {
+        struct smith_answer reason = tried(smith_refusal, config, input, out, answer.status);
+        need(reason.status == answer.status, 3);
+        answer = reason;
+    }
+    write_number(answer.status);
+    write_number((uint32_t)answer.length);
+    write_all(out, answer.length);
+}
+
+int main(void) {
+    uint8_t *buffer = malloc(GIVEN), *out = malloc(ROOM + BEYOND);
+    need(buffer && out, 4);
+    struct bytes given = {buffer, 0};
+    for (long count; (count = read(0, buffer + given.length, GIVEN - given.length)) != 0;) {
+        need(count > 0, 4);
+        given.length += (size_t)count;
+    }
+    struct bytes config = record(&given);
+    while (given.length > 0) answer_record(config, record(&given), out);
+    return 0;
+}

@@ -1,0 +1,54 @@
+"""Valid WebAssembly modules from bytes, by bindings/out/libsmith.so (or the library that SMITH_LIBRARY names)."""
+import ctypes
+import os
+import pathlib
+
+
+class Answer(ctypes.Structure):
+    """What a call came to, as in smith.h."""
+
+    _fields_ = [("status", ctypes.c_uint32), ("length", ctypes.c_size_t)]
+
+
+class Refused(Exception):
+    """There is no module. `status` is the number that smith.h names."""
+
+    def __init__(self, status: int, words: str):
+        super().__init__(words)
+        self.status = status
+
+
+_MADE, _SHORT = 0, 1
+_BUILT = pathlib.Path(__file__).resolve().parent.parent / "out" / "libsmith.so"
+_LIBRARY = ctypes.CDLL(os.environ.get("SMITH_LIBRARY", str(_BUILT)))
+for _name in ("smith_binary", "smith_text", "smith_refusal"):
+    getattr(_LIBRARY, _name).restype = Answer
+    getattr(_LIBRARY, _name).argtypes = [ctypes.c_char_p, ctypes.c_size_t] * 3
+
+
+def _output(call, config: bytes, given: bytes) -> tuple:
+    """The status and the output of a call, in a buffer that is made longer once if it has to be."""
+    room = 1 << 16
+    while True:
+        buffer = ctypes.create_string_buffer(room)
+        answer = call(config, len(config), given, len(given), buffer, room)
+        if answer.status != _SHORT:
+            return answer.status, buffer.raw[: answer.length]
+        room = answer.length
+
+
+def _made(call, config: str, given: bytes) -> bytes:
+    status, output = _output(call, config.encode(), given)
+    if status != _MADE:
+        raise Refused(status, _output(_LIBRARY.smith_refusal, config.encode(), given)[1].decode())
+    return output
+
+
+def module(given: bytes, config: str = "") -> bytes:
+    """The module of `given` in the binary format. `config` is a JSON object, or empty for the default configuration."""
+    return _made(_LIBRARY.smith_binary, config, given)
+
+
+def text(given: bytes, config: str = "") -> str:
+    """The same module in the text format."""
+    return _made(_LIBRARY.smith_text, config, given).decode()

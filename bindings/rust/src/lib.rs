@@ -1,0 +1,82 @@
+//! Valid WebAssembly modules from bytes, by the proved library `libsmith.a`.
+use std::fmt;
+
+/// A configuration.
+#[derive(Clone, Debug, Default, PartialEq, Eq)]
+pub struct Config(String);
+
+impl Config {
+    /// Makes a configuration of `text`, a JSON object in the form of the crate `wasm-smith`. Each call that uses it reads it.
+    pub fn from_json(text: impl Into<String>) -> Self {
+        Config(text.into())
+    }
+}
+
+/// Why there is no module.
+#[derive(Clone, Debug, PartialEq, Eq)]
+pub struct Refused {
+    /// The number that `smith.h` names.
+    pub status: u32,
+    /// The reason in words.
+    pub words: String,
+}
+
+impl fmt::Display for Refused {
+    fn fmt(&self, f: &mut fmt::Formatter<'_>) -> fmt::Result {
+        f.write_str(&self.words)
+    }
+}
+
+impl std::error::Error for Refused {}
+
+const MADE: u32 = 0;
+const SHORT: u32 = 1;
+
+#[repr(C)]
+struct Answer {
+    status: u32,
+    length: usize,
+}
+
+type Call = unsafe extern "C" fn(*const u8, usize, *const u8, usize, *mut u8, usize) -> Answer;
+
+extern "C" {
+    fn smith_binary(config: *const u8, config_length: usize, input: *const u8, input_length: usize, out: *mut u8, out_length: usize) -> Answer;
+    fn smith_text(config: *const u8, config_length: usize, input: *const u8, input_length: usize, out: *mut u8, out_length: usize) -> Answer;
+    fn smith_refusal(config: *const u8, config_length: usize, input: *const u8, input_length: usize, out: *mut u8, out_length: usize) -> Answer;
+}
+
+/// The status and the output of `call`, in a buffer that is made longer once if it has to be.
+fn output(call: Call, config: &Config, input: &[u8]) -> (u32, Vec<u8>) {
+    let config = config.0.as_bytes();
+    let mut out = vec![0; 1 << 16];
+    loop {
+        // SAFETY: each pointer is that of a slice with its length, and `out` is borrowed alone.
+        let answer = unsafe { call(config.as_ptr(), config.len(), input.as_ptr(), input.len(), out.as_mut_ptr(), out.len()) };
+        if answer.status != SHORT {
+            out.truncate(answer.length);
+            return (answer.status, out);
+        }
+        out.resize(answer.length, 0);
+    }
+}
+
+fn made(call: Call, config: &Config, input: &[u8]) -> Result<Vec<u8>, Refused> {
+    match output(call, config, input) {
+        (MADE, bytes) => Ok(bytes),
+        (status, _) => {
+            let words = output(smith_refusal, config, input).1;
+            Err(Refused { status, words: String::from_utf8_lossy(&words).into_owned() })
+        }
+    }
+}
+
+/// The module of `config` and `input` in the binary format.
+pub fn module(config: &Config, input: &[u8]) -> Result<Vec<u8>, Refused> {
+    made(smith_binary, config, input)
+}
+
+/// The same module in the text format.
+pub fn text(config: &Config, input: &[u8]) -> Result<String, Refused> {
+    made(smith_text, config, input).map(|text| String::from_utf8_lossy(&text).into_owned())
+}

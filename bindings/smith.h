@@ -1,0 +1,70 @@
+/* Valid WebAssembly modules from bytes.
+ *
+ * Link with libsmith.a, or load libsmith.so; `bindings/build` makes both.
+ *
+ * Each call takes a configuration, an input, and a buffer for its output. All three are a pointer and a number of bytes.
+ *
+ * - `config` is a JSON object in the form of the Rust crate `wasm-smith`, as {"max-types": 3}, in UTF-8, without a zero at its end.
+ *   Of length 0 it is the default configuration.
+ * - `input` is any bytes. The same configuration and input give the same module.
+ * - No pointer may be null, even where its length is 0, and `out` may overlap neither `config` nor `input`.
+ *   No length may be above PTRDIFF_MAX.
+ * - A call writes all of its output to the front of `out` and leaves the other bytes as they are, or it leaves all of `out` as it is.
+ *   It keeps no pointer.
+ *
+ * Any number of threads may call at the same time, each with a buffer of its own. A call takes memory from malloc, which must be
+ * thread-safe then, and gives all of it back. It uses the stack, more of it for deeper modules, so give a thread the usual 8 MiB. Do
+ * not call from a signal handler.
+ *
+ * The module is valid, and is the one that the definitions of this project give: both are proved for every input. Nothing checks
+ * that a caller in C keeps the rules above.
+ */
+#ifndef SMITH_H
+#define SMITH_H
+
+#include <stddef.h>
+#include <stdint.h>
+
+#ifdef __cplusplus
+extern "C" {
+#endif
+
+/* What a call came to. */
+enum {
+    SMITH_MADE = 0,         /* there is a module */
+    SMITH_SHORT = 1,        /* nothing was written, since the output has `length` bytes and `out` has fewer */
+    SMITH_NO_MEMORY = 2,    /* malloc gave no memory */
+    SMITH_CONFIG_TEXT = 3,  /* the configuration isn't UTF-8, or isn't an object of known fields with values that they take */
+    SMITH_CONFIG = 4,       /* a minimum is above its maximum, or a maximum is too large */
+    SMITH_UNMET = 5,        /* the input doesn't reach a minimum of the configuration, or exports would pass the type size */
+    SMITH_SHAPE = 6,        /* refused for a shape; a configuration from JSON has none */
+    SMITH_TOO_LONG = 7      /* a list or a section is too long for the binary format */
+};
+
+/* `length` is the number of bytes of the output. It is 0 where there is none. */
+struct smith_answer {
+    uint32_t status;
+    size_t length;
+};
+
+/* Writes the module in the binary format. The status is any of the above. */
+struct smith_answer smith_binary(const uint8_t *config, size_t config_length,
+                                 const uint8_t *input, size_t input_length,
+                                 uint8_t *out, size_t out_length);
+
+/* Writes the module in the text format. The status is any of the above but SMITH_TOO_LONG. */
+struct smith_answer smith_text(const uint8_t *config, size_t config_length,
+                               const uint8_t *input, size_t input_length,
+                               uint8_t *out, size_t out_length);
+
+/* Writes in words, as UTF-8, why smith_binary gives no module, and answers with the status of that refusal. The words are missing
+ * where there is no memory for them. Where there is a module it writes nothing, and answers SMITH_MADE with length 0. */
+struct smith_answer smith_refusal(const uint8_t *config, size_t config_length,
+                                  const uint8_t *input, size_t input_length,
+                                  uint8_t *out, size_t out_length);
+
+#ifdef __cplusplus
+}
+#endif
+
+#endif

@@ -1,0 +1,137 @@
+use crate::answers::told::{tell_bytes, tell_refusal};
+use crate::arguments::{at_most, word};
+use crate::call::ConfigCall;
+use crate::case::Case;
+use crate::fault::Fault;
+use crate::shapes::shape_named;
+use smith_bytes::{ConfigFault, Error, Unstructured, Which};
+use smith_config::{Config, Shape};
+use smith_spell::spell;
+use smith_types::{Items, WasmFeatures};
+use std::alloc::Global;
+
+/// Appends what `call` gives of `config`, or under it.
+pub(crate) fn answer_config(
+    alloc: Global,
+    case: &Case,
+    call: ConfigCall,
+    config: &mut Config,
+    answer: &mut String,
+) -> Result<(), Fault> {
+    match call {
+        ConfigCall::ShapeCheck => checked_shape(alloc, case, config, answer),
+        ConfigCall::Spell => spelled(alloc, case, config, answer),
+        _ => told(call, config, answer),
+    }
+}
+
+fn told(call: ConfigCall, config: &mut Config, answer: &mut String) -> Result<(), Fault> {
+    match call {
+        ConfigCall::Check => tell_check(config.check(), answer),
+        ConfigCall::Features => tell_features(config.features(), answer),
+        _ => {
+            config.sanitize();
+            tell_config(config, answer)
+        }
+    }
+}
+
+/// Appends the configuration that `input` draws, and its features.
+pub(crate) fn answer_drawn_config(input: &[u8], answer: &mut String) -> Result<(), Fault> {
+    match Config::arbitrary(&mut Unstructured::new(input)) {
+        Ok(config) => tell_config_and_features(&config, answer),
+        Err(refusal) => tell_refusal(refusal, answer),
+    }
+}
+
+fn tell_config_and_features(config: &Config, answer: &mut String) -> Result<(), Fault> {
+    tell_config(config, answer)?;
+    tell_features(config.features(), answer)
+}
+
+// Appends a line `FIELD: VALUE,` for each field.
+fn tell_config(config: &Config, answer: &mut String) -> Result<(), Fault> {
+    writeln!(answer, "{config:#?}")?;
+    Ok(())
+}
+
+// Appends what a check of a configuration says.
+fn tell_check(checked: Result<(), ConfigFault>, answer: &mut String) -> Result<(), Fault> {
+    match checked {
+        Ok(()) => writeln!(answer, "passes")?,
+        Err(fault) => writeln!(answer, "refused: {fault:?}")?,
+    }
+    Ok(())
+}
+
+// Appends a line for each feature that is on.
+fn tell_features(features: WasmFeatures, answer: &mut String) -> Result<(), Fault> {
+    for flag in WasmFeatures::FLAGS {
+        if features.contains(*flag.value()) {
+            writeln!(answer, "{}", flag.name())?;
+        }
+    }
+    Ok(())
+}
+
+// The shape under the key `shape`.
+fn shape_of(alloc: Global, case: &Case) -> Result<Shape, Fault> {
+    match &case.shape {
+        Some(name) => shape_named(alloc, name.as_str()),
+        None => Err(Fault::UnknownShape),
+    }
+}
+
+// The use of a shape that the first argument names.
+fn which_of(case: &Case) -> Result<Which, Fault> {
+    at_most(case, 1)?;
+    match word(case, 0)? {
+        "AvailableImports" => Ok(Which::AvailableImports),
+        "Exports" => Ok(Which::Exports),
+        "ModuleShape" => Ok(Which::ModuleShape),
+        _ => Err(Fault::Argument(0)),
+    }
+}
+
+fn checked_shape(
+    alloc: Global,
+    case: &Case,
+    config: &Config,
+    answer: &mut String,
+) -> Result<(), Fault> {
+    let which = which_of(case)?;
+    let shape = shape_of(alloc, case)?;
+    tell_shape_check(shape.check(alloc, which, config), answer)
+}
+
+// Appends what a check of a shape says.
+fn tell_shape_check(checked: Result<(), Error>, answer: &mut String) -> Result<(), Fault> {
+    match checked {
+        Ok(()) => Ok(writeln!(answer, "passes")?),
+        Err(refusal) => tell_refusal(refusal, answer),
+    }
+}
+
+// The bytes that spell the groups and the functions of a shape.
+fn spelled(alloc: Global, case: &Case, config: &Config, answer: &mut String) -> Result<(), Fault> {
+    let shape = shape_of(alloc, case)?;
+    let spelling = spell(
+        alloc,
+        config,
+        shape.groups.as_slice(),
+        shape.funcs.as_slice(),
+    );
+    tell_spelling(spelling, answer)
+}
+
+// Appends the bytes of a spelling, or `none`.
+fn tell_spelling(
+    spelling: Result<Option<Items<u8>>, Error>,
+    answer: &mut String,
+) -> Result<(), Fault> {
+    match spelling {
+        Ok(Some(bytes)) => tell_bytes("spelled", bytes.as_slice(), answer),
+        Ok(None) => Ok(writeln!(answer, "none")?),
+        Err(refusal) => tell_refusal(refusal, answer),
+    }
+}

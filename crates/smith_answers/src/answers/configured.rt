@@ -1,0 +1,65 @@
+use crate::case::{Case, goes_to_config};
+use crate::fault::Fault;
+use crate::shapes::shape_named;
+use json::{Reader, Scratch};
+use smith_config::{Config, Shape};
+use smith_json::{ConfigRefusal, Refusal, read_config};
+use std::alloc::Global;
+
+/// Sets in `config`, which is the default, the fields and the shapes that `case` gives. The case stands in `line`.
+pub(crate) fn set_config(
+    alloc: Global,
+    line: &str,
+    case: &Case,
+    config: &mut Config,
+) -> Result<(), Fault> {
+    set_fields(alloc, line, config)?;
+    set_shapes(alloc, case, config)
+}
+
+// Sets the fields that the case of `line` gives.
+fn set_fields(alloc: Global, line: &str, config: &mut Config) -> Result<(), Fault> {
+    let mut scratch = Scratch::new(alloc);
+    let mut reader = Reader::new(line, &mut scratch)?;
+    if !goes_to_config(&mut reader, line.len()) {
+        return Ok(());
+    }
+    match read_config(alloc, &mut reader, config) {
+        Ok(()) => Ok(()),
+        Err(refusal) => Err(fault_of(refusal, line)),
+    }
+}
+
+// The fault of a configuration in `line` that is refused.
+fn fault_of(refusal: Refusal, line: &str) -> Fault {
+    let ConfigRefusal {
+        fault,
+        field: _,
+        line,
+        column,
+    } = refusal.in_text(line);
+    Fault::Config {
+        fault,
+        line,
+        column,
+    }
+}
+
+// Sets the shapes that `case` names.
+fn set_shapes(alloc: Global, case: &Case, config: &mut Config) -> Result<(), Fault> {
+    set_shape(
+        alloc,
+        &case.available_imports,
+        &mut config.available_imports,
+    )?;
+    set_shape(alloc, &case.exports, &mut config.exports)?;
+    set_shape(alloc, &case.module_shape, &mut config.module_shape)
+}
+
+// Puts the shape of the name `name` into `slot`, where a name is given.
+fn set_shape(alloc: Global, name: &Option<String>, slot: &mut Option<Shape>) -> Result<(), Fault> {
+    if let Some(name) = name {
+        *slot = Some(shape_named(alloc, name.as_str())?);
+    }
+    Ok(())
+}

@@ -1,0 +1,105 @@
+ghost use Rattle.std.specs.Prelude.{◌≡◌};
+ghost use Rattle.smith_config.specs.Sanitized.{IsSanitized};
+ghost use Rattle.smith_config.specs.Features.{features_of};
+ghost use Rattle.smith_types.specs.ValidTypes.{AreTypesValid};
+
+use crate::answers::spaces::{Over, number_global, spaces_of, with_globals};
+use crate::answers::told::{tell_refusal, tell_values};
+use crate::arguments::{at_most, flag, read};
+use crate::call::ConstantCall;
+use crate::fault::Fault;
+use crate::type_names::{ref_type_of, val_type_of};
+use smith_bytes::Unstructured;
+use smith_draw::{arbitrary_const_expr, arbitrary_table_init, globals_for_const_expr};
+use smith_types::{are_types_valid, is_ref_type_valid, is_val_type_valid};
+
+/// Appends the constant expression that `call` draws.
+pub(crate) fn answer_constant(
+    over: &Over<'_>,
+    call: ConstantCall,
+    u: &mut Unstructured<'_>,
+    answer: &mut String,
+) -> Result<(), Fault>
+    requires sanitized { IsSanitized over.now.config.now }
+{
+    if !are_types_valid(over.config.features(), over.types) {
+        return Err(Fault::NotCallable("the types aren't valid"));
+    }
+    match call {
+        ConstantCall::Expression => answer_expression(over, u, answer),
+        ConstantCall::TableInit => answer_initialiser(over, u, answer),
+        ConstantCall::Globals => answer_globals(over, answer),
+    }
+}
+
+// An expression of the value type that is the first argument. The second is whether it may read defined globals.
+fn answer_expression(
+    over: &Over<'_>,
+    u: &mut Unstructured<'_>,
+    answer: &mut String,
+) -> Result<(), Fault>
+    requires types { AreTypesValid (features_of over.now.config.now) over.now.types.now }
+{
+    at_most(over.case, 2)?;
+    let wanted = read(over.case, 0, val_type_of)?;
+    let allow_defined = flag(over.case, 1)?;
+    if !is_val_type_valid(over.config.features(), over.types.types().len(), wanted) {
+        return Err(Fault::NotCallable("the value type isn't valid"));
+    }
+    let spaces = spaces_of(over.types);
+    match arbitrary_const_expr(over.alloc, over.config, &spaces, wanted, allow_defined, u) {
+        Ok(drawn) => tell_values(drawn.as_slice(), answer),
+        Err(refusal) => tell_refusal(refusal, answer),
+    }
+}
+
+// The globals that a value of the type that is the first argument may be read of, among a variable and a constant that are
+// imported and a constant that is defined, all of an i32. The second argument is whether defined ones may be read.
+fn answer_globals(over: &Over<'_>, answer: &mut String) -> Result<(), Fault>
+    requires types { AreTypesValid (features_of over.now.config.now) over.now.types.now }
+{
+    at_most(over.case, 2)?;
+    let wanted = read(over.case, 0, val_type_of)?;
+    let allow_defined = flag(over.case, 1)?;
+    if !is_val_type_valid(over.config.features(), over.types.types().len(), wanted) {
+        return Err(Fault::NotCallable("the value type isn't valid"));
+    }
+    let globals = [
+        number_global(true),
+        number_global(false),
+        number_global(false),
+    ];
+    let spaces = with_globals(over.types, &globals);
+    match globals_for_const_expr(over.alloc, over.config, &spaces, wanted, allow_defined) {
+        Ok(globals) => tell_values(globals.as_slice(), answer),
+        Err(refusal) => tell_refusal(refusal, answer),
+    }
+}
+
+// An initialiser of a table whose elements are of the reference type that is the argument.
+fn answer_initialiser(
+    over: &Over<'_>,
+    u: &mut Unstructured<'_>,
+    answer: &mut String,
+) -> Result<(), Fault>
+    requires types { AreTypesValid (features_of over.now.config.now) over.now.types.now }
+    requires sanitized { IsSanitized over.now.config.now }
+{
+    at_most(over.case, 1)?;
+    let element = read(over.case, 0, ref_type_of)?;
+    if !is_ref_type_valid(over.config.features(), over.types.types().len(), element) {
+        return Err(Fault::NotCallable("the element type isn't valid"));
+    }
+    if !element.nullable && !over.config.gc_enabled {
+        return Err(Fault::NotCallable("nothing makes an element"));
+    }
+    if over.config.gc_enabled && !over.config.reference_types_enabled {
+        return Err(Fault::NotCallable("references are off"));
+    }
+    let spaces = spaces_of(over.types);
+    match arbitrary_table_init(over.alloc, over.config, &spaces, element, u) {
+        Ok(Some(drawn)) => tell_values(drawn.as_slice(), answer),
+        Ok(None) => Ok(writeln!(answer, "none")?),
+        Err(refusal) => tell_refusal(refusal, answer),
+    }
+}

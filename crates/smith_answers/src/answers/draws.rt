@@ -1,0 +1,62 @@
+ghost use Rattle.smith_config.specs.Faults.{Passes};
+ghost use Rattle.smith_config.specs.Sanitized.{IsSanitized};
+
+use crate::answers::constants::answer_constant;
+use crate::answers::entities::answer_entity;
+use crate::answers::free_types::answer_free_type;
+use crate::answers::matching::answer_matching;
+use crate::answers::numbers::answer_number;
+use crate::answers::spaces::{Over, types_of};
+use crate::answers::told::tell_rest;
+use crate::call::DrawCall;
+use crate::case::Case;
+use crate::fault::Fault;
+use smith_bytes::Unstructured;
+use smith_config::Config;
+use std::alloc::Global;
+
+/// Appends what `call` draws from `input` over the types of `case`, and what it leaves. First `config` is sanitised. One that doesn't
+/// pass its check is none of a draw.
+pub(crate) fn answer_draw(
+    alloc: Global,
+    case: &Case,
+    call: DrawCall,
+    config: &mut Config,
+    input: &[u8],
+    answer: &mut String,
+) -> Result<(), Fault> {
+    config.sanitize();
+    if config.check().is_err() {
+        return Err(Fault::NotCallable("the configuration doesn't pass"));
+    }
+    let mut u = Unstructured::new(input);
+    answer_under(alloc, case, call, config, &mut u, answer)?;
+    tell_rest(&u, answer)
+}
+
+fn answer_under(
+    alloc: Global,
+    case: &Case,
+    call: DrawCall,
+    config: &Config,
+    u: &mut Unstructured<'_>,
+    answer: &mut String,
+) -> Result<(), Fault>
+    requires passes { Passes config.now }
+    requires sanitized { IsSanitized config.now }
+{
+    let types = types_of(alloc, case)?;
+    let over = Over {
+        alloc,
+        case,
+        config,
+        types: &types,
+    };
+    match call {
+        DrawCall::Free(call) => answer_free_type(&over, call, u, answer),
+        DrawCall::Matching(call) => answer_matching(&over, call, u, answer),
+        DrawCall::Entity(call) => answer_entity(&over, call, u, answer),
+        DrawCall::Constant(call) => answer_constant(&over, call, u, answer),
+        DrawCall::Number(call) => answer_number(case, call, u, answer),
+    }
+}

@@ -1,0 +1,211 @@
+ghost use Rattle.std.specs.Prelude.{IsTrue};
+ghost use Rattle.smith_config.specs.Faults.{Passes};
+ghost use Rattle.smith_config.specs.Sanitized.{IsSanitized};
+
+use crate::answers::spaces::{Over, spaces_of, types_of};
+use crate::answers::told::{tell_drawn, tell_refusal, tell_types};
+use crate::arguments::{at_most, flag, number};
+use crate::call::FreeCall;
+use crate::fault::Fault;
+use smith_bytes::Unstructured;
+use smith_draw::{
+    Entities, arbitrary_composite_type, arbitrary_field_type, arbitrary_func_type,
+    arbitrary_heap_type, arbitrary_rec_group, arbitrary_ref_type, arbitrary_storage_type,
+    arbitrary_struct_type, arbitrary_sub_type, arbitrary_sub_type_of_super_type, arbitrary_types,
+    arbitrary_valtype, clone_rec_group,
+};
+use smith_types::TypeSpace;
+
+// What a drawn type may be.
+#[derive(Clone, Copy)]
+struct Bounds {
+    must_share: bool,
+    limit: u32,
+}
+
+// The bounds that the arguments give: whether the type must be shared, and below which index it may refer to types. Without
+// arguments it needn't be shared, and may refer to each type.
+fn bounds_of(over: &Over<'_>) -> Result<Bounds, Fault> {
+    at_most(over.case, 2)?;
+    if over.case.args().is_empty() {
+        return Ok(Bounds {
+            must_share: false,
+            limit: over.types.types().len() as u32,
+        });
+    }
+    Ok(Bounds {
+        must_share: flag(over.case, 0)?,
+        limit: number(over.case, 1)?,
+    })
+}
+
+/// Appends the type that `call` draws.
+pub(crate) fn answer_free_type(
+    over: &Over<'_>,
+    call: FreeCall,
+    u: &mut Unstructured<'_>,
+    answer: &mut String,
+) -> Result<(), Fault>
+    requires passes { Passes over.now.config.now }
+    requires sanitized { IsSanitized over.now.config.now }
+{
+    let bounds = bounds_of(over)?;
+    if bounds.must_share && !over.config.shared_everything_threads_enabled {
+        return Err(Fault::NotCallable("no type may be shared"));
+    }
+    match call {
+        FreeCall::Types => answer_types(over, u, answer),
+        FreeCall::RecGroup => answer_group(over, u, answer),
+        FreeCall::CloneRecGroup => answer_clone(over, u, answer),
+        FreeCall::SubOfSuper => answer_subtype_of_one(over, bounds, u, answer),
+        FreeCall::Sub => answer_sub_type(over, bounds, u, answer),
+        FreeCall::Composite => answer_composite_type(over, bounds, u, answer),
+        _ => answer_part(over, call, bounds, u, answer),
+    }
+}
+
+// Types that are drawn from the first on.
+#[tactic(auto, using(smith_draw::proofs::CallerLemmas::passes_but_imports))]
+fn answer_types(over: &Over<'_>, u: &mut Unstructured<'_>, answer: &mut String) -> Result<(), Fault>
+    requires passes { Passes over.now.config.now }
+    requires sanitized { IsSanitized over.now.config.now }
+{
+    let mut types = TypeSpace::new(over.alloc);
+    match arbitrary_types(over.alloc, over.config, &mut types, &Entities::none(), u) {
+        Ok(()) => tell_types(&types, answer),
+        Err(refusal) => tell_refusal(refusal, answer),
+    }
+}
+
+// A group, behind no other, that may be empty.
+#[tactic(auto, using(smith_draw::proofs::CallerLemmas::passes_but_imports))]
+fn answer_group(over: &Over<'_>, u: &mut Unstructured<'_>, answer: &mut String) -> Result<(), Fault>
+    requires passes { Passes over.now.config.now }
+    requires sanitized { IsSanitized over.now.config.now }
+{
+    let Over { alloc, config, .. } = *over;
+    let mut types = TypeSpace::new(alloc);
+    if types.types().len() >= config.max_types {
+        return Err(Fault::NotCallable("no type is left"));
+    }
+    match arbitrary_rec_group(alloc, config, &mut types, &Entities::none(), true, u) {
+        Ok(()) => tell_types(&types, answer),
+        Err(refusal) => tell_refusal(refusal, answer),
+    }
+}
+
+// A clone of one of the groups of the case, which may be empty.
+#[tactic(auto, using(smith_draw::proofs::CallerLemmas::passes_but_imports))]
+fn answer_clone(over: &Over<'_>, u: &mut Unstructured<'_>, answer: &mut String) -> Result<(), Fault>
+    requires { Passes over.now.config.now }
+{
+    let Over { alloc, config, .. } = *over;
+    let mut types = types_of(alloc, over.case)?;
+    if types.types().len() >= config.max_types || types.rec_groups().is_empty() {
+        return Err(Fault::NotCallable("nothing may be cloned"));
+    }
+    match clone_rec_group(alloc, config, &mut types, &Entities::none(), true, u) {
+        Ok(is_cloned) => {
+            writeln!(answer, "{is_cloned}")?;
+            tell_types(&types, answer)
+        }
+        Err(refusal) => tell_refusal(refusal, answer),
+    }
+}
+
+// A type below one of the types of the case, of which the first may have subtypes.
+fn answer_subtype_of_one(
+    over: &Over<'_>,
+    bounds: Bounds,
+    u: &mut Unstructured<'_>,
+    answer: &mut String,
+) -> Result<(), Fault>
+    requires { IsSanitized over.now.config.now }
+{
+    let Over { alloc, config, .. } = *over;
+    let types = over.types.types();
+    if !config.gc_enabled || types.is_empty() || types[0].is_final || over.types.depth(0) >= 60 {
+        return Err(Fault::NotCallable("the first type has no subtypes"));
+    }
+    let spaces = spaces_of(over.types);
+    tell_drawn(
+        arbitrary_sub_type_of_super_type(alloc, config, &spaces, bounds.limit, u),
+        answer,
+    )
+}
+
+fn answer_sub_type(
+    over: &Over<'_>,
+    bounds: Bounds,
+    u: &mut Unstructured<'_>,
+    answer: &mut String,
+) -> Result<(), Fault>
+    requires { IsSanitized over.now.config.now }
+{
+    let spaces = spaces_of(over.types);
+    tell_drawn(
+        arbitrary_sub_type(over.alloc, over.config, &spaces, bounds.limit, u),
+        answer,
+    )
+}
+
+fn answer_composite_type(
+    over: &Over<'_>,
+    bounds: Bounds,
+    u: &mut Unstructured<'_>,
+    answer: &mut String,
+) -> Result<(), Fault>
+    requires { IsSanitized over.now.config.now }
+{
+    let spaces = spaces_of(over.types);
+    tell_drawn(
+        arbitrary_composite_type(over.alloc, over.config, &spaces, bounds.limit, u),
+        answer,
+    )
+}
+
+// A part of a type.
+fn answer_part(
+    over: &Over<'_>,
+    call: FreeCall,
+    bounds: Bounds,
+    u: &mut Unstructured<'_>,
+    answer: &mut String,
+) -> Result<(), Fault>
+    requires sanitized { IsSanitized over.now.config.now }
+    requires may_share { IsTrue bounds.must_share → IsTrue over.now.config.now.shared_everything_threads_enabled }
+{
+    let Over { alloc, config, .. } = *over;
+    let spaces = spaces_of(over.types);
+    let Bounds { must_share, limit } = bounds;
+    match call {
+        FreeCall::Struct => tell_drawn(
+            arbitrary_struct_type(alloc, config, &spaces, must_share, limit, u),
+            answer,
+        ),
+        FreeCall::Func => tell_drawn(
+            arbitrary_func_type(alloc, config, &spaces, must_share, limit, u),
+            answer,
+        ),
+        FreeCall::Field => tell_drawn(
+            arbitrary_field_type(alloc, config, &spaces, must_share, limit, u),
+            answer,
+        ),
+        FreeCall::Storage => tell_drawn(
+            arbitrary_storage_type(alloc, config, &spaces, must_share, limit, u),
+            answer,
+        ),
+        FreeCall::Val => tell_drawn(
+            arbitrary_valtype(alloc, config, &spaces, must_share, limit, u),
+            answer,
+        ),
+        FreeCall::Ref => tell_drawn(
+            arbitrary_ref_type(alloc, config, &spaces, must_share, limit, u),
+            answer,
+        ),
+        _ => tell_drawn(
+            arbitrary_heap_type(alloc, config, &spaces, must_share, limit, u),
+            answer,
+        ),
+    }
+}

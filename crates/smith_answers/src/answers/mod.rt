@@ -1,0 +1,100 @@
+//! The answers to calls, each as text.
+
+mod configs;
+mod configured;
+mod constants;
+mod draws;
+mod entities;
+mod free_types;
+mod matching;
+mod modules;
+mod names;
+mod numbers;
+mod parsers;
+mod sources;
+mod spaces;
+mod subtypes;
+mod told;
+
+use crate::answers::configs::{answer_config, answer_drawn_config};
+use crate::answers::configured::set_config;
+use crate::answers::draws::answer_draw;
+use crate::answers::modules::answer_module;
+use crate::answers::names::answer_name;
+use crate::answers::parsers::answer_parser;
+use crate::answers::sources::answer_source;
+use crate::answers::subtypes::answer_subtype;
+use crate::call::{Call, ConfigCall, call_named};
+use crate::case::Case;
+use crate::fault::Fault;
+use crate::keys::check_keys;
+use crate::recorded::answer_recorded;
+use smith_config::Config;
+use std::alloc::Global;
+
+/// The answer to the call of `case`, which stands in `line`, over the bytes `input`.
+pub(crate) fn answer(
+    alloc: Global,
+    line: &str,
+    case: &Case,
+    input: &[u8],
+) -> Result<String, Fault> {
+    let name = case.call.as_ref().map_or("", |call| call.as_str());
+    let Some(call) = call_named(name) else {
+        return Err(Fault::UnknownCall);
+    };
+    check_keys(case, call)?;
+    let mut answer = String::new(alloc);
+    append_answer(alloc, line, case, call, input, &mut answer)?;
+    Ok(answer)
+}
+
+fn append_answer(
+    alloc: Global,
+    line: &str,
+    case: &Case,
+    call: Call,
+    input: &[u8],
+    answer: &mut String,
+) -> Result<(), Fault> {
+    match call {
+        Call::Source(call) => answer_source(alloc, case, call, input, answer),
+        Call::Name(call) => answer_name(alloc, case, call, input, answer),
+        Call::Parser(call) => answer_parser(case, call, answer),
+        Call::Subtype(call) => answer_subtype(alloc, case, call, answer),
+        Call::Config(ConfigCall::Arbitrary) => answer_drawn_config(input, answer),
+        _ => answer_configured(alloc, line, case, call, input, answer),
+    }
+}
+
+// Appends the answer to a call that has a configuration.
+fn answer_configured(
+    alloc: Global,
+    line: &str,
+    case: &Case,
+    call: Call,
+    input: &[u8],
+    answer: &mut String,
+) -> Result<(), Fault> {
+    let mut config = Config::default();
+    answer_over(alloc, line, case, call, &mut config, input, answer)
+}
+
+// Appends the answer to a call that has a configuration, which is set in `config`.
+fn answer_over(
+    alloc: Global,
+    line: &str,
+    case: &Case,
+    call: Call,
+    config: &mut Config,
+    input: &[u8],
+    answer: &mut String,
+) -> Result<(), Fault> {
+    set_config(alloc, line, case, config)?;
+    match call {
+        Call::Module(call) => answer_module(alloc, case, call, config, input, answer),
+        Call::Draw(call) => answer_draw(alloc, case, call, config, input, answer),
+        Call::Config(call) => answer_config(alloc, case, call, config, answer),
+        _ => answer_recorded(alloc, case, config, answer),
+    }
+}

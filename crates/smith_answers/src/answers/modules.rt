@@ -1,0 +1,118 @@
+use crate::answers::told::tell_refusal;
+use crate::arguments::{at_most, number, word};
+use crate::call::ModuleCall;
+use crate::case::Case;
+use crate::fault::Fault;
+use smith_bytes::{Error, Unstructured};
+use smith_config::Config;
+use smith_text::text;
+use std::alloc::Global;
+use std::mem;
+use wasm_smith::{DuplicateImportsBehavior, Module};
+
+/// Appends the text of the module that `call` makes, or its refusal. The configuration `config` is used up.
+pub(crate) fn answer_module(
+    alloc: Global,
+    case: &Case,
+    call: ModuleCall,
+    config: &mut Config,
+    input: &[u8],
+    answer: &mut String,
+) -> Result<(), Fault> {
+    let behavior = behavior_of(case, call)?;
+    let mut u = Unstructured::new(input);
+    match made(alloc, call, behavior, config, &mut u) {
+        Ok(module) => told(alloc, case, call, module, answer),
+        Err(refusal) => tell_refusal(refusal, answer),
+    }
+}
+
+// The module that `call` makes, before it is made to terminate.
+fn made(
+    alloc: Global,
+    call: ModuleCall,
+    behavior: DuplicateImportsBehavior,
+    config: &mut Config,
+    u: &mut Unstructured<'_>,
+) -> Result<Module, Error> {
+    match call {
+        ModuleCall::Arbitrary => Module::arbitrary(alloc, u),
+        ModuleCall::NewOfDrawn => of_drawn(alloc, u),
+        ModuleCall::NewInternal => Module::new_internal(alloc, taken(config), u, behavior),
+        _ => Module::new(alloc, taken(config), u),
+    }
+}
+
+// The configuration `config`, in whose place the default stays.
+fn taken(config: &mut Config) -> Config {
+    mem::replace(config, Config::default())
+}
+
+// The rule of duplicate imports: that of the first argument for the internal call, else the rule of `Module::new`.
+fn behavior_of(case: &Case, call: ModuleCall) -> Result<DuplicateImportsBehavior, Fault> {
+    if call != ModuleCall::NewInternal {
+        return Ok(DuplicateImportsBehavior::Allowed);
+    }
+    at_most(case, 1)?;
+    match word(case, 0)? {
+        "Allowed" => Ok(DuplicateImportsBehavior::Allowed),
+        "Disallowed" => Ok(DuplicateImportsBehavior::Disallowed),
+        _ => Err(Fault::Argument(0)),
+    }
+}
+
+// A configuration that the first bytes draw, and a module of the others.
+fn of_drawn(alloc: Global, u: &mut Unstructured<'_>) -> Result<Module, Error> {
+    match Config::arbitrary(u) {
+        Ok(config) => Module::new(alloc, config, u),
+        Err(refusal) => Err(refusal),
+    }
+}
+
+fn told(
+    alloc: Global,
+    case: &Case,
+    call: ModuleCall,
+    mut module: Module,
+    answer: &mut String,
+) -> Result<(), Fault> {
+    if call == ModuleCall::EnsureTermination {
+        terminate(alloc, case, &mut module, answer)?;
+    }
+    tell_module(alloc, &module, answer)
+}
+
+fn tell_module(alloc: Global, module: &Module, answer: &mut String) -> Result<(), Fault> {
+    match text(alloc, module) {
+        Ok(text) => Ok(answer.push_str(text.as_str())?),
+        Err(refusal) => tell_refusal(refusal, answer),
+    }
+}
+
+// Adds fuel to `module` for each argument in turn, and tells each answer.
+fn terminate(
+    alloc: Global,
+    case: &Case,
+    module: &mut Module,
+    answer: &mut String,
+) -> Result<(), Fault> {
+    for place in 0..case.args().len() {
+        add_fuel(alloc, module, number(case, place)?, answer)?;
+    }
+    Ok(())
+}
+
+fn add_fuel(
+    alloc: Global,
+    module: &mut Module,
+    fuel: u32,
+    answer: &mut String,
+) -> Result<(), Fault> {
+    if module.globals().len() >= u32::MAX as usize {
+        return Err(Fault::NotCallable("there are too many globals"));
+    }
+    match module.ensure_termination(alloc, fuel) {
+        Ok(index) => Ok(writeln!(answer, "fuel global {index}")?),
+        Err(refusal) => tell_refusal(refusal, answer),
+    }
+}

@@ -1,0 +1,64 @@
+use crate::answers::told::{tell_refusal, tell_rest};
+use crate::arguments::number;
+use crate::call::NameCall;
+use crate::case::Case;
+use crate::fault::Fault;
+use smith_bytes::{
+    Error, Unstructured, limited_str, unique_kebab_string, unique_string, unique_url,
+};
+use std::alloc::Global;
+use std::collections::HashSet;
+
+/// Appends the name that `call` draws of `input`, what names are taken afterwards, and what it leaves. The first argument is the
+/// most bytes of a name, the others are the names that are taken.
+pub(crate) fn answer_name(
+    alloc: Global,
+    case: &Case,
+    call: NameCall,
+    input: &[u8],
+    answer: &mut String,
+) -> Result<(), Fault> {
+    let most: usize = number(case, 0)?;
+    let mut u = Unstructured::new(input);
+    if call == NameCall::LimitedStr {
+        writeln!(answer, "{:?}", limited_str(most, &mut u))?;
+        return tell_rest(&u, answer);
+    }
+    let mut names = names_of(alloc, case)?;
+    match drawn(alloc, call, most, &mut names, &mut u) {
+        Ok(name) => writeln!(answer, "{:?}", name.as_str())?,
+        Err(refusal) => tell_refusal(refusal, answer)?,
+    }
+    tell_names(alloc, &names, answer)?;
+    tell_rest(&u, answer)
+}
+
+fn names_of(alloc: Global, case: &Case) -> Result<HashSet<String>, Fault> {
+    let mut names = HashSet::new(alloc);
+    for name in case.args().iter().skip(1) {
+        names.insert(name.clone()?)?;
+    }
+    Ok(names)
+}
+
+fn drawn(
+    alloc: Global,
+    call: NameCall,
+    most: usize,
+    names: &mut HashSet<String>,
+    u: &mut Unstructured<'_>,
+) -> Result<String, Error> {
+    match call {
+        NameCall::UniqueKebabString => unique_kebab_string(alloc, most, names, u),
+        NameCall::UniqueUrl => unique_url(alloc, most, names, u),
+        _ => unique_string(alloc, most, names, u),
+    }
+}
+
+// Appends a line of the names in order.
+fn tell_names(alloc: Global, names: &HashSet<String>, answer: &mut String) -> Result<(), Fault> {
+    let mut sorted: Vec<&str> = names.iter().map(|name| name.as_str()).collect(alloc)?;
+    sorted.sort()?;
+    writeln!(answer, "names {sorted:?}")?;
+    Ok(())
+}

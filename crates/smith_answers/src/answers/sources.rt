@@ -1,0 +1,157 @@
+use crate::answers::told::{tell_bytes, tell_refusal, tell_rest};
+use crate::arguments::{at_most, number, word};
+use crate::call::SourceCall;
+use crate::case::Case;
+use crate::fault::Fault;
+use smith_bytes::{Arbitrary, Error, Unstructured, arbitrary_loop};
+use std::alloc::Global;
+use std::fmt::Display;
+
+/// Appends what `call` draws of `input`, and what it leaves.
+pub(crate) fn answer_source(
+    alloc: Global,
+    case: &Case,
+    call: SourceCall,
+    input: &[u8],
+    answer: &mut String,
+) -> Result<(), Fault> {
+    let mut u = Unstructured::new(input);
+    match call {
+        SourceCall::Arbitrary => answer_value(case, &mut u, answer)?,
+        SourceCall::IntInRange => answer_in_range(case, &mut u, answer)?,
+        SourceCall::Ratio => answer_ratio(case, &mut u, answer)?,
+        SourceCall::Choose => answer_choice(case, &mut u, answer)?,
+        SourceCall::Bytes => answer_bytes(case, &mut u, answer)?,
+        SourceCall::PeekBytes => answer_peeked(case, &u, answer)?,
+        SourceCall::ArbitraryLen => writeln!(answer, "{}", u.arbitrary_len())?,
+        SourceCall::ArbitraryLoop => answer_loop(alloc, case, &mut u, answer)?,
+    }
+    tell_rest(&u, answer)
+}
+
+fn tell<T: Arbitrary + Display + Drop>(
+    u: &mut Unstructured<'_>,
+    answer: &mut String,
+) -> Result<(), Fault> {
+    let value: T = u.arbitrary();
+    writeln!(answer, "{value}")?;
+    Ok(())
+}
+
+// A value of the type that is the argument.
+fn answer_value(case: &Case, u: &mut Unstructured<'_>, answer: &mut String) -> Result<(), Fault> {
+    at_most(case, 1)?;
+    match word(case, 0)? {
+        "bool" => tell::<bool>(u, answer),
+        "u8" => tell::<u8>(u, answer),
+        "u16" => tell::<u16>(u, answer),
+        "u32" => tell::<u32>(u, answer),
+        "u64" => tell::<u64>(u, answer),
+        "u128" => tell::<u128>(u, answer),
+        "i32" => tell::<i32>(u, answer),
+        "i64" => tell::<i64>(u, answer),
+        "i128" => tell::<i128>(u, answer),
+        _ => Err(Fault::Argument(0)),
+    }
+}
+
+// Appends the number of type `$int` that is drawn between the second and the third argument.
+macro_rules! tell_in_range {
+    ($int:ty, $case:expr, $u:expr, $answer:expr) => {{
+        let least: $int = number($case, 1)?;
+        let most: $int = number($case, 2)?;
+        if most < least {
+            return Err(Fault::Argument(2));
+        }
+        writeln!($answer, "{}", $u.int_in_range(least..=most))?;
+        Ok(())
+    }};
+}
+
+// A number of the type that is the first argument.
+fn answer_in_range(
+    case: &Case,
+    u: &mut Unstructured<'_>,
+    answer: &mut String,
+) -> Result<(), Fault> {
+    at_most(case, 3)?;
+    match word(case, 0)? {
+        "u8" => tell_in_range!(u8, case, u, answer),
+        "u16" => tell_in_range!(u16, case, u, answer),
+        "u32" => tell_in_range!(u32, case, u, answer),
+        "u64" => tell_in_range!(u64, case, u, answer),
+        "u128" => tell_in_range!(u128, case, u, answer),
+        "usize" => tell_in_range!(usize, case, u, answer),
+        _ => Err(Fault::Argument(0)),
+    }
+}
+
+// Whether a chance of the first argument in the second comes.
+fn answer_ratio(case: &Case, u: &mut Unstructured<'_>, answer: &mut String) -> Result<(), Fault> {
+    at_most(case, 2)?;
+    let (n, m): (u8, u8) = (number(case, 0)?, number(case, 1)?);
+    if n == 0 || m < n {
+        return Err(Fault::Argument(1));
+    }
+    writeln!(answer, "{}", u.ratio(n, m))?;
+    Ok(())
+}
+
+// One of the arguments.
+fn answer_choice(case: &Case, u: &mut Unstructured<'_>, answer: &mut String) -> Result<(), Fault> {
+    match u.choose(case.args()) {
+        Ok(chosen) => Ok(writeln!(answer, "{:?}", chosen.as_str())?),
+        Err(refusal) => tell_refusal(refusal, answer),
+    }
+}
+
+// As many bytes as the argument says.
+fn answer_bytes(case: &Case, u: &mut Unstructured<'_>, answer: &mut String) -> Result<(), Fault> {
+    at_most(case, 1)?;
+    match u.bytes(number(case, 0)?) {
+        Ok(bytes) => tell_bytes("bytes", bytes, answer),
+        Err(refusal) => tell_refusal(refusal, answer),
+    }
+}
+
+// As many bytes as the argument says, which stay.
+fn answer_peeked(case: &Case, u: &Unstructured<'_>, answer: &mut String) -> Result<(), Fault> {
+    at_most(case, 1)?;
+    match u.peek_bytes(number(case, 0)?) {
+        Some(bytes) => tell_bytes("bytes", bytes, answer),
+        None => Ok(writeln!(answer, "none")?),
+    }
+}
+
+// What a call of a loop answers: false or a refusal where the argument at its place says so, else true.
+fn turn_of(case: &Case, place: usize) -> Result<bool, Error> {
+    match case.args().get(place).map(|word| word.as_str()) {
+        Some("false") => Ok(false),
+        Some("refused") => Err(Error::EmptyChoose),
+        _ => Ok(true),
+    }
+}
+
+// A loop from the first argument to the second, whose calls answer as the other arguments say.
+fn answer_loop(
+    _alloc: Global,
+    case: &Case,
+    u: &mut Unstructured<'_>,
+    answer: &mut String,
+) -> Result<(), Fault> {
+    let (min, max): (usize, usize) = (number(case, 0)?, number(case, 1)?);
+    if max < min {
+        return Err(Fault::Argument(1));
+    }
+    let mut calls: usize = 0;
+    let ended = arbitrary_loop(u, min, max, |_u| {
+        let turn = turn_of(case, calls.saturating_add(2));
+        calls = calls.saturating_add(1);
+        turn
+    });
+    if let Err(refusal) = ended {
+        tell_refusal(refusal, answer)?;
+    }
+    writeln!(answer, "calls {calls}")?;
+    Ok(())
+}

@@ -1,0 +1,95 @@
+ghost use Rattle.std.specs.Prelude.{◌≡◌, [], false};
+ghost use Rattle.smith_types.specs.declared.value_type.ValType.TheVariants.{I32};
+
+use crate::case::Case;
+use crate::fault::Fault;
+use crate::shapes::shape_named;
+use smith_config::Config;
+use smith_draw::{Entities, Spaces};
+use smith_types::{GlobalType, Items, SubType, TypeSpace, ValType};
+use std::alloc::Global;
+
+/// What a call of a case draws over.
+#[derive(Clone, Copy)]
+pub(crate) struct Over<'a> {
+    /// The allocator.
+    pub(crate) alloc: Global,
+    /// The case.
+    pub(crate) case: &'a Case,
+    /// The configuration.
+    pub(crate) config: &'a Config,
+    /// The types.
+    pub(crate) types: &'a TypeSpace,
+}
+
+/// The types `types`, without entities.
+pub(crate) fn spaces_of<'a>(types: &'a TypeSpace) -> Spaces<'a>
+    ensures types { result.types.now ≡ types.now }
+    ensures functions { result.entities.funcs.now ≡ [] }
+    ensures globals { result.entities.globals.now ≡ [] }
+    ensures imported { result.entities.imported_globals ≡ 0 }
+{
+    Spaces {
+        types,
+        entities: Entities::none(),
+    }
+}
+
+/// A global of an i32 that isn't shared.
+pub(crate) const fn number_global(mutable: bool) -> GlobalType
+    ensures value { result.val_type ≡ I32 }
+    ensures shared { result.shared ≡ false }
+{
+    GlobalType {
+        val_type: ValType::I32,
+        mutable,
+        shared: false,
+    }
+}
+
+/// The types `types` and the globals `globals`, of which two are imported.
+pub(crate) fn with_globals<'a>(types: &'a TypeSpace, globals: &'a [GlobalType]) -> Spaces<'a>
+    ensures types { result.types.now ≡ types.now }
+    ensures functions { result.entities.funcs.now ≡ [] }
+    ensures globals { result.entities.globals.now ≡ globals.now }
+    ensures imported { result.entities.imported_globals ≡ 2 }
+{
+    Spaces {
+        types,
+        entities: Entities {
+            globals,
+            imported_globals: 2,
+            ..Entities::none()
+        },
+    }
+}
+
+/// The types under the key `types` of `case`: those of a shape, none where the key isn't given.
+pub(crate) fn types_of(alloc: Global, case: &Case) -> Result<TypeSpace, Fault> {
+    let Some(name) = &case.types else {
+        return Ok(TypeSpace::new(alloc));
+    };
+    let shape = shape_named(alloc, name.as_str())?;
+    types_in(alloc, shape.groups.as_slice())
+}
+
+// The types of `groups`.
+fn types_in(alloc: Global, groups: &[Items<SubType>]) -> Result<TypeSpace, Fault> {
+    let mut types = TypeSpace::new(alloc);
+    for group in groups {
+        add_group(alloc, group.as_slice(), &mut types)?;
+    }
+    Ok(types)
+}
+
+// Adds a group of the types `members` to `types`.
+fn add_group(alloc: Global, members: &[SubType], types: &mut TypeSpace) -> Result<(), Fault> {
+    for member in members {
+        let added = member.clone(alloc)?;
+        if !types.may_follow(&added) {
+            return Err(Fault::UnknownTypes);
+        }
+        let _index = types.push_type(added)?;
+    }
+    Ok(types.push_group()?)
+}

@@ -1,0 +1,76 @@
+use crate::fault::Fault;
+use smith_bytes::{Error, Unstructured};
+use smith_text::{FromFmt, TextForm};
+use smith_types::TypeSpace;
+
+/// Appends a line of `value` in the text format.
+pub(crate) fn tell<T: TextForm>(value: &T, answer: &mut String) -> Result<(), Fault> {
+    if value.write_text(&mut FromFmt::new(&mut *answer)).is_err() {
+        return Err(Fault::Memory);
+    }
+    answer.push_str("\n")?;
+    Ok(())
+}
+
+/// Appends a line of what is drawn, or the refusal.
+pub(crate) fn tell_drawn<T: TextForm + Drop>(
+    drawn: Result<T, Error>,
+    answer: &mut String,
+) -> Result<(), Fault> {
+    match drawn {
+        Ok(value) => tell(&value, answer),
+        Err(refusal) => tell_refusal(refusal, answer),
+    }
+}
+
+/// Appends a line for each of `values`.
+pub(crate) fn tell_values<T: TextForm>(values: &[T], answer: &mut String) -> Result<(), Fault> {
+    for value in values {
+        tell(value, answer)?;
+    }
+    Ok(())
+}
+
+/// Appends a line `group START END` for each group of `types`, after which its types follow, a line each.
+pub(crate) fn tell_types(types: &TypeSpace, answer: &mut String) -> Result<(), Fault> {
+    for group in types.rec_groups() {
+        writeln!(answer, "group {} {}", group.start, group.end)?;
+        tell_values(
+            types.types().get(group.start..group.end).unwrap_or(&[]),
+            answer,
+        )?;
+    }
+    Ok(())
+}
+
+/// Appends the line that tells the refusal `refusal`.
+pub(crate) fn tell_refusal(refusal: Error, answer: &mut String) -> Result<(), Fault> {
+    writeln!(answer, "refused: {refusal:?}")?;
+    Ok(())
+}
+
+/// Appends how many bytes `u` has left, and the next of these.
+pub(crate) fn tell_rest(u: &Unstructured<'_>, answer: &mut String) -> Result<(), Fault> {
+    let count = u.len();
+    writeln!(answer, "left {count}")?;
+    if let Some(next) = u.peek_bytes(count.min(MOST_BYTES)) {
+        tell_bytes("next", next, answer)?;
+    }
+    Ok(())
+}
+
+// The most bytes that are told of what is left.
+const MOST_BYTES: usize = 16;
+
+/// Appends a line of `word` and `bytes` in hexadecimal, where there are any.
+pub(crate) fn tell_bytes(word: &str, bytes: &[u8], answer: &mut String) -> Result<(), Fault> {
+    if bytes.is_empty() {
+        return Ok(());
+    }
+    write!(answer, "{word} ")?;
+    for byte in bytes {
+        write!(answer, "{byte:02x}")?;
+    }
+    answer.push_str("\n")?;
+    Ok(())
+}

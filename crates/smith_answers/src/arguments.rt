@@ -1,0 +1,53 @@
+use crate::case::Case;
+use crate::fault::Fault;
+use std::str::FromStr;
+
+/// The argument of `case` at `place`, from 0.
+pub(crate) fn word(case: &Case, place: usize) -> Result<&str, Fault> {
+    match case.args().get(place) {
+        Some(word) => Ok(word.as_str()),
+        None => Err(Fault::Argument(place)),
+    }
+}
+
+/// The argument of `case` at `place`, from 0, as what `read` reads.
+pub(crate) fn read<T, F: FnOnce(&str) -> Option<T>>(
+    case: &Case,
+    place: usize,
+    read: F,
+) -> Result<T, Fault>
+    requires { F.IsAlwaysCallable read }
+{
+    match read(word(case, place)?) {
+        Some(value) => Ok(value),
+        None => Err(Fault::Argument(place)),
+    }
+}
+
+/// The argument of `case` at `place`, from 0, as a number.
+pub(crate) fn number<T: FromStr>(case: &Case, place: usize) -> Result<T, Fault>
+where
+    T::Err: Drop,
+{
+    match word(case, place)?.parse::<T>() {
+        Ok(number) => Ok(number),
+        Err(_) => Err(Fault::Argument(place)),
+    }
+}
+
+/// The argument of `case` at `place`, from 0, as `true` or `false`.
+pub(crate) fn flag(case: &Case, place: usize) -> Result<bool, Fault> {
+    match word(case, place)? {
+        "true" => Ok(true),
+        "false" => Ok(false),
+        _ => Err(Fault::Argument(place)),
+    }
+}
+
+/// Checks that `case` has no more than `count` arguments.
+pub(crate) fn at_most(case: &Case, count: usize) -> Result<(), Fault> {
+    if case.args().len() > count {
+        return Err(Fault::TooManyArguments);
+    }
+    Ok(())
+}

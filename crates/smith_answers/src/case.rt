@@ -1,0 +1,193 @@
+use crate::fault::Fault;
+use json::{Reader, Scratch, Token};
+use std::alloc::Global;
+
+/// A case: the value of each of its keys. The head of this program says what each key means.
+#[derive(Default, Drop)]
+pub(crate) struct Case {
+    /// Under `name`.
+    pub(crate) name: Option<String>,
+    /// Under `call`.
+    pub(crate) call: Option<String>,
+    /// Whether there is a configuration under `config`.
+    pub(crate) config: Option<()>,
+    /// Under `input`.
+    pub(crate) input: Option<String>,
+    /// Under `inputs`.
+    pub(crate) inputs: Option<String>,
+    /// Under `types`.
+    pub(crate) types: Option<String>,
+    /// Under `shape`.
+    pub(crate) shape: Option<String>,
+    /// Under `available-imports`.
+    pub(crate) available_imports: Option<String>,
+    /// Under `exports`.
+    pub(crate) exports: Option<String>,
+    /// Under `module-shape`.
+    pub(crate) module_shape: Option<String>,
+    /// Under `args`.
+    pub(crate) args: Option<Vec<String>>,
+    /// Under `answer`.
+    pub(crate) answer: Option<Vec<String>>,
+    /// Under `lines`.
+    pub(crate) lines: Option<Vec<String>>,
+    /// Under `pieces`.
+    pub(crate) pieces: Option<Vec<String>>,
+    /// Under `absent`.
+    pub(crate) absent: Option<Vec<String>>,
+    /// Under `may`.
+    pub(crate) may: Option<Vec<String>>,
+}
+
+impl Case {
+    /// The arguments of the call.
+    pub(crate) fn args(&self) -> &[String] {
+        list(&self.args)
+    }
+
+    // The text under the key `key`, where that key has a text.
+    fn text_under<'c>(&'c mut self, key: &str) -> Option<&'c mut Option<String>> {
+        match key {
+            "name" => Some(&mut self.name),
+            "call" => Some(&mut self.call),
+            "input" => Some(&mut self.input),
+            "inputs" => Some(&mut self.inputs),
+            "types" => Some(&mut self.types),
+            "shape" => Some(&mut self.shape),
+            "available-imports" => Some(&mut self.available_imports),
+            "exports" => Some(&mut self.exports),
+            "module-shape" => Some(&mut self.module_shape),
+            _ => None,
+        }
+    }
+
+    // The list of texts under the key `key`, where that key has a list.
+    fn list_under<'c>(&'c mut self, key: &str) -> Option<&'c mut Option<Vec<String>>> {
+        match key {
+            "args" => Some(&mut self.args),
+            "answer" => Some(&mut self.answer),
+            "lines" => Some(&mut self.lines),
+            "pieces" => Some(&mut self.pieces),
+            "absent" => Some(&mut self.absent),
+            "may" => Some(&mut self.may),
+            _ => None,
+        }
+    }
+}
+
+/// The texts of `texts`, none where no list is given.
+pub(crate) fn list(texts: &Option<Vec<String>>) -> &[String] {
+    match texts {
+        Some(texts) => texts.as_slice(),
+        None => &[],
+    }
+}
+
+/// Reads the case of `line` into `case`, whose fields are empty. After a fault `case` has the keys before it. The configuration is
+/// only passed over.
+pub(crate) fn read_case(alloc: Global, line: &str, case: &mut Case) -> Result<(), Fault> {
+    let mut scratch = Scratch::new(alloc);
+    let mut reader = Reader::new(line, &mut scratch)?;
+    if !matches!(reader.next(), Some(Token::BeginObject)) {
+        return Err(Fault::Syntax(reader.offset()));
+    }
+    for _ in 0..line.len() {
+        let Ok(found) = reader.next_key() else {
+            return Err(Fault::Syntax(reader.offset()));
+        };
+        match found {
+            Some(key) => read_member(alloc, key, &mut reader, case)?,
+            None => return ended(&mut reader),
+        }
+    }
+    Err(Fault::Syntax(reader.offset()))
+}
+
+// Whether nothing follows the object.
+fn ended(reader: &mut Reader<'_>) -> Result<(), Fault> {
+    match reader.next() {
+        None => Ok(()),
+        Some(_) => Err(Fault::Syntax(reader.offset())),
+    }
+}
+
+fn read_member(
+    alloc: Global,
+    key: &str,
+    reader: &mut Reader<'_>,
+    case: &mut Case,
+) -> Result<(), Fault> {
+    let place = reader.offset();
+    if key == "config" {
+        pass(reader)?;
+        return put(&mut case.config, (), place);
+    }
+    if let Some(slot) = case.text_under(key) {
+        return put(slot, read_text(alloc, reader)?, place);
+    }
+    match case.list_under(key) {
+        Some(slot) => put(slot, read_list(alloc, reader)?, place),
+        None => Err(Fault::UnknownKey(place)),
+    }
+}
+
+// Puts `value` where nothing is yet.
+fn put<T: Drop>(slot: &mut Option<T>, value: T, place: usize) -> Result<(), Fault> {
+    if slot.is_some() {
+        return Err(Fault::RepeatedKey(place));
+    }
+    *slot = Some(value);
+    Ok(())
+}
+
+// Passes over a value.
+fn pass(reader: &mut Reader<'_>) -> Result<(), Fault> {
+    match reader.skip_value(json::MAX_DEPTH) {
+        Ok(()) => Ok(()),
+        Err(_) => Err(Fault::Syntax(reader.offset())),
+    }
+}
+
+fn read_text(alloc: Global, reader: &mut Reader<'_>) -> Result<String, Fault> {
+    match reader.next() {
+        Some(Token::String(text)) => Ok(String::from_str(alloc, text)?),
+        _ => Err(Fault::Syntax(reader.offset())),
+    }
+}
+
+// The most texts of a list.
+const MOST_TEXTS: usize = 100_000;
+
+fn read_list(alloc: Global, reader: &mut Reader<'_>) -> Result<Vec<String>, Fault> {
+    let mut texts = Vec::new(alloc);
+    if !matches!(reader.next(), Some(Token::BeginArray)) {
+        return Err(Fault::Syntax(reader.offset()));
+    }
+    for _ in 0..MOST_TEXTS {
+        if reader.take_end_array() {
+            return Ok(texts);
+        }
+        texts.push(read_text(alloc, reader)?)?;
+    }
+    Err(Fault::Syntax(reader.offset()))
+}
+
+/// Reads on in `reader`, which begins at a case of at most `most` keys, to the value of the key `config`. False where the case has
+/// no such key.
+pub(crate) fn goes_to_config(reader: &mut Reader<'_>, most: usize) -> bool {
+    let _ = reader.next();
+    for _ in 0..most {
+        match reader.next_key() {
+            Ok(Some(key)) => {
+                if key == "config" {
+                    return true;
+                }
+                if reader.skip_value(json::MAX_DEPTH).is_err() {
+                    return false;
+                }
+            }
+            _ => return false,
+        }
+    }
+    false
+}

@@ -1,0 +1,31 @@
+use crate::fault::Fault;
+use std::alloc::Global;
+
+/// The bytes of `text`: words between blanks, each hexadecimal bytes, or `BYTES*COUNT`, which stands for so many copies of the bytes.
+pub(crate) fn bytes_of(alloc: Global, text: &str) -> Result<Vec<u8>, Fault> {
+    let mut bytes = Vec::new(alloc);
+    for word in text.split_whitespace() {
+        append_word(alloc, word, &mut bytes)?;
+    }
+    Ok(bytes)
+}
+
+// The most copies that a word may ask for.
+const MOST_COPIES: usize = 100_000;
+
+fn append_word(alloc: Global, word: &str, bytes: &mut Vec<u8>) -> Result<(), Fault> {
+    let (digits, copies) = match word.split_once('*') {
+        Some((digits, count)) => (digits, count.parse::<usize>().ok().ok_or(Fault::Input)?),
+        None => (word, 1),
+    };
+    if copies > MOST_COPIES {
+        return Err(Fault::Input);
+    }
+    let Ok(part) = hex::decode(alloc, digits) else {
+        return Err(Fault::Input);
+    };
+    for _ in 0..copies {
+        bytes.extend_from_slice(part.as_slice())?;
+    }
+    Ok(())
+}

@@ -1,0 +1,85 @@
+use crate::answers::answer;
+use crate::call::RECORDED;
+use crate::case::{Case, read_case};
+use crate::fault::Fault;
+use crate::input::bytes_of;
+use crate::wanted::{check_wanted, first_difference};
+use std::alloc::{AllocError, Global};
+
+/// Answers the case of `line` twice, or once where the answer is a checksum, and appends to `report` the line `ok NAME`, or
+/// `not ok NAME: ` and the first difference. The result is whether the answers are as the case wants.
+pub fn judge(alloc: Global, line: &str, report: &mut String) -> Result<bool, AllocError> {
+    let mut case = Case::default();
+    let judged = judged(alloc, line, &mut case);
+    let name = case.name.as_ref().map_or("", |name| name.as_str());
+    match &judged {
+        Ok(None) => writeln!(report, "ok {name}")?,
+        Ok(Some(difference)) => writeln!(report, "not ok {name}: {difference}")?,
+        Err(fault) => writeln!(report, "not ok {name}: {fault}")?,
+    }
+    Ok(matches!(judged, Ok(None)))
+}
+
+// The first difference of the answers to the case of `line`, which is read into `case`, from what the case wants.
+fn judged(alloc: Global, line: &str, case: &mut Case) -> Result<Option<String>, Fault> {
+    read_case(alloc, line, case)?;
+    if case.name.as_ref().is_none_or(|name| name.is_empty()) {
+        return Err(Fault::NoName);
+    }
+    check_wanted(case)?;
+    let input = case.input.as_ref().map_or("", |input| input.as_str());
+    let input = bytes_of(alloc, input)?;
+    match case.inputs.as_ref().map(|inputs| inputs.as_str()) {
+        None => of_input(alloc, line, case, input.as_slice()),
+        Some("each byte") => of_each_byte(alloc, line, case),
+        Some("each cut") => of_each_cut(alloc, line, case, input.as_slice()),
+        Some(_) => Err(Fault::UnknownInputs),
+    }
+}
+
+// The first difference of the answer to `case`, which stands in `line`, over `input`.
+fn of_input(alloc: Global, line: &str, case: &Case, input: &[u8]) -> Result<Option<String>, Fault> {
+    let given = answer(alloc, line, case, input)?;
+    if !is_recorded(case) && given != answer(alloc, line, case, input)? {
+        return Err(Fault::Unsteady);
+    }
+    match first_difference(given.as_str(), case) {
+        Some(difference) => Ok(Some(format!(in alloc; "{difference}")?)),
+        None => Ok(None),
+    }
+}
+
+// Whether the answer is a checksum of many, which is made once.
+fn is_recorded(case: &Case) -> bool {
+    case.call
+        .as_ref()
+        .is_some_and(|call| call.as_str() == RECORDED)
+}
+
+// The first difference over all inputs of one byte.
+fn of_each_byte(alloc: Global, line: &str, case: &Case) -> Result<Option<String>, Fault> {
+    if case.input.is_some() {
+        return Err(Fault::UselessKey);
+    }
+    for byte in 0..=u8::MAX {
+        if let Some(difference) = of_input(alloc, line, case, &[byte])? {
+            return Ok(Some(format!(in alloc; "of the byte {byte:02x}: {difference}")?));
+        }
+    }
+    Ok(None)
+}
+
+// The first difference over `input` cut at each length, and over the whole of it.
+fn of_each_cut(
+    alloc: Global,
+    line: &str,
+    case: &Case,
+    input: &[u8],
+) -> Result<Option<String>, Fault> {
+    for length in 0..=input.len() {
+        if let Some(difference) = of_input(alloc, line, case, &input[..length])? {
+            return Ok(Some(format!(in alloc; "cut at {length}: {difference}")?));
+        }
+    }
+    Ok(None)
+}

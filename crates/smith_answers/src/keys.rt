@@ -1,0 +1,100 @@
+use crate::call::{Call, ConfigCall, ModuleCall};
+use crate::case::Case;
+use crate::fault::Fault;
+
+/// The keys that a call reads, besides those of every case.
+#[derive(Clone, Copy)]
+struct Keys {
+    config: bool,
+    shapes: bool,
+    shape: bool,
+    types: bool,
+    args: bool,
+    input: bool,
+}
+
+const NONE: Keys = Keys {
+    config: false,
+    shapes: false,
+    shape: false,
+    types: false,
+    args: false,
+    input: false,
+};
+
+/// Checks that `call` reads each key that `case` has.
+pub(crate) fn check_keys(case: &Case, call: Call) -> Result<(), Fault> {
+    let keys = keys_of(call);
+    let has_shapes = case.available_imports.is_some()
+        || case.exports.is_some()
+        || case.module_shape.is_some();
+    let useless = [
+        case.config.is_some() && !keys.config,
+        has_shapes && !keys.shapes,
+        case.shape.is_some() && !keys.shape,
+        case.types.is_some() && !keys.types,
+        case.args.is_some() && !keys.args,
+        (case.input.is_some() || case.inputs.is_some()) && !keys.input,
+    ];
+    if useless.contains(&true) {
+        return Err(Fault::UselessKey);
+    }
+    Ok(())
+}
+
+fn keys_of(call: Call) -> Keys {
+    match call {
+        Call::Module(call) => keys_of_module(call),
+        Call::Config(call) => keys_of_config(call),
+        Call::Draw(_) => Keys {
+            config: true,
+            types: true,
+            args: true,
+            input: true,
+            ..NONE
+        },
+        Call::Source(_) | Call::Name(_) => Keys {
+            args: true,
+            input: true,
+            ..NONE
+        },
+        Call::Parser(_) => Keys { args: true, ..NONE },
+        Call::Subtype(_) => Keys {
+            types: true,
+            args: true,
+            ..NONE
+        },
+        Call::Recorded => Keys {
+            config: true,
+            shapes: true,
+            args: true,
+            ..NONE
+        },
+    }
+}
+
+fn keys_of_module(call: ModuleCall) -> Keys {
+    let is_configured = !matches!(call, ModuleCall::Arbitrary | ModuleCall::NewOfDrawn);
+    Keys {
+        config: is_configured,
+        shapes: is_configured,
+        args: matches!(
+            call,
+            ModuleCall::NewInternal | ModuleCall::EnsureTermination
+        ),
+        input: true,
+        ..NONE
+    }
+}
+
+fn keys_of_config(call: ConfigCall) -> Keys {
+    let is_drawn = call == ConfigCall::Arbitrary;
+    Keys {
+        config: !is_drawn,
+        shapes: !is_drawn,
+        shape: matches!(call, ConfigCall::ShapeCheck | ConfigCall::Spell),
+        args: call == ConfigCall::ShapeCheck,
+        input: is_drawn,
+        ..NONE
+    }
+}

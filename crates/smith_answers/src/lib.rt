@@ -1,0 +1,43 @@
+//! Answers cases, each a JSON object on a line, and compares the answers with what the cases want.
+//!
+//! Each key is given once, and a key that the call has no use for is refused.
+//!
+//! - `name` says what the case shows.
+//! - `call` names the call as Rust does, such as `Module::new`, `spell` or `arbitrary_const_expr`; `call.rt` lists them.
+//!   `Module::new of Config::arbitrary` draws the configuration first and the module from what is left, and `recorded` makes
+//!   checksums of what generated inputs give.
+//! - `args` lists the arguments of the call: numbers in decimal, types and heap types as the text format writes them without its
+//!   abbreviations, `true` and `false`, names. What each means is said where the call is made, in `answers`.
+//! - `config` holds the fields of the configuration that are not the default, as `smith_json` reads them.
+//! - `available-imports`, `exports` and `module-shape` name the shapes of the configuration, `shape` the shape that the call is
+//!   about, and `types` the shape whose types the call draws over or compares. The shapes are in `shapes.rt`.
+//! - `input` is the input in hexadecimal, with blanks between words; `00*512` stands for 512 bytes 00.
+//! - `inputs` is `each byte` for all inputs of one byte, or `each cut` for each front of `input`. What is wanted is then wanted of
+//!   each answer.
+//!
+//! An answer is text: the text of a module as `smith_text` writes it, else a line for each value. A refusal is a line such as
+//! `refused: IncorrectFormat(TypeSize)`. After a draw, `left 2` says how many bytes are left, and `next 0102` which come first.
+//! A case wants at least one of the first four of these, none of them empty, and blanks around lines don't count:
+//!
+//! - `answer` lists all lines, or those up to a last line `...`;
+//! - `lines` lists lines that occur in this order;
+//! - `pieces` lists pieces that occur;
+//! - `may` lists the kinds that the answer may have: `Ok`, or the refusal's name as in `IncorrectFormat(TypeSize)`;
+//! - `absent` lists pieces that don't occur.
+#![tactic(auto)]
+
+mod answers;
+mod arguments;
+mod call;
+mod case;
+mod fault;
+mod input;
+mod judged;
+mod keys;
+mod recorded;
+mod shape_parts;
+mod shapes;
+mod type_names;
+mod wanted;
+
+pub use judged::judge;

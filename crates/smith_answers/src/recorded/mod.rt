@@ -1,0 +1,94 @@
+//! Recorded answers: checksums of what generated inputs give, by which two ways to make the same modules are compared.
+
+mod answer_kinds;
+mod formula;
+
+use crate::arguments::{at_most, number, read};
+use crate::case::Case;
+use crate::fault::Fault;
+use crate::recorded::answer_kinds::AnswerKinds;
+use crate::recorded::formula::{Formula, formula_named};
+use sha2::{Digest, Sha256};
+use smith_bytes::{Error, Unstructured};
+use smith_config::Config;
+use smith_text::text;
+use std::alloc::Global;
+use std::ops::Range;
+use wasm_smith::Module;
+
+// The number of inputs that a line tells.
+const INPUTS_A_LINE: u32 = 64;
+
+/// Appends what generated inputs give under `config`. The arguments of `case` are the formula of the inputs, the first of their numbers
+/// and how many they are. For each 64 inputs there is a line: the first and the last number, how many answers there are of each kind,
+/// and the checksum of the answers.
+pub(crate) fn answer_recorded(
+    alloc: Global,
+    case: &Case,
+    config: &Config,
+    answer: &mut String,
+) -> Result<(), Fault> {
+    at_most(case, 3)?;
+    let formula = read(case, 0, formula_named)?;
+    let mut first = u32::from(number::<u16>(case, 1)?);
+    let count = u32::from(number::<u16>(case, 2)?);
+    let end = first.saturating_add(count);
+    for _ in 0..count.div_ceil(INPUTS_A_LINE) {
+        let next = first.saturating_add(INPUTS_A_LINE).min(end);
+        append_line(alloc, config, formula, first..next, answer)?;
+        first = next;
+    }
+    Ok(())
+}
+
+// Appends the line of the inputs `numbers`.
+fn append_line(
+    alloc: Global,
+    config: &Config,
+    formula: Formula,
+    numbers: Range<u32>,
+    answer: &mut String,
+) -> Result<(), Error> {
+    let (first, last) = (numbers.start, numbers.end.saturating_sub(1));
+    let mut hasher = Sha256::new();
+    let mut kinds = AnswerKinds::new(alloc);
+    for index in numbers {
+        let input = formula.input(alloc, index)?;
+        kinds.count(feed(alloc, config, &input, &mut hasher)?)?;
+    }
+    let checksum = hex::encode(alloc, hasher.finalize())?;
+    writeln!(answer, "{first} to {last}: {kinds}SHA-256 {checksum}")?;
+    Ok(())
+}
+
+// The module that `u` draws for a copy of `config`.
+fn drawn(alloc: Global, config: &Config, u: &mut Unstructured<'_>) -> Result<Module, Error> {
+    Module::new(alloc, config.clone(alloc)?, u)
+}
+
+// Feeds `hasher` with the answer to `input` and with what is left of it: the text of the module, or a line of the refusal; then a
+// line that says how many bytes are left, and these bytes. Gives the kind of the answer.
+fn feed(
+    alloc: Global,
+    config: &Config,
+    input: &[u8],
+    hasher: &mut Sha256,
+) -> Result<String, Error> {
+    let mut u = Unstructured::new(input);
+    let kind = match drawn(alloc, config, &mut u) {
+        Ok(module) => {
+            hasher.update(text(alloc, &module)?.as_str());
+            String::from_str(alloc, "Ok")?
+        }
+        Err(refusal) => {
+            hasher.update(format!(in alloc; "refused: {refusal:?}\n")?.as_str());
+            format!(in alloc; "{refusal:?}")?
+        }
+    };
+    let left = u.len();
+    hasher.update(format!(in alloc; "left {left}\n")?.as_str());
+    if let Some(bytes) = u.peek_bytes(left) {
+        hasher.update(bytes);
+    }
+    Ok(kind)
+}

@@ -1,0 +1,296 @@
+use crate::fault::Fault;
+use crate::type_names::{field_type_of, ref_type_of, val_type_of};
+use smith_config::Shape;
+use smith_types::{
+    ArrayType, CompositeInnerType, CompositeType, EntityType, ExportKind, FuncType, GlobalType,
+    Import, ImportItem, Imports, Items, MemoryType, Name, StructType, SubType, TableType,
+};
+use std::alloc::Global;
+
+/// Adds to `shape` the part that `part` writes, which is one of:
+///
+/// - `group TYPE; TYPE`, a recursive group. A type is `struct FIELD,FIELD`, `array FIELD` or `func PARAM,PARAM -> RESULT`, after
+///   `open` where it isn't final and `below INDEX` where it has a supertype.
+/// - `chain COUNT`, a group of so many structs without fields, each but the first below the one before.
+/// - `import MODULE NAME ENTITY`, an import by itself. An entity is `func INDEX`, `tag INDEX`, `table MINIMUM MAXIMUM REFERENCE`,
+///   `memory MINIMUM MAXIMUM` or `global VALUE`. The maximum may be left out. The limits come after `shared` and `i64`, the value
+///   type after `shared` and `mut`, where the entity is so.
+/// - `items MODULE NAME ENTITY; NAME ENTITY`, a group of imports of one module.
+/// - `names MODULE NAME,NAME ENTITY`, a group of imports of one module and type, without names where `-` stands for them.
+/// - an entity, which is defined.
+/// - `export NAME KIND INDEX`.
+pub(crate) fn add_part(alloc: Global, part: &str, shape: &mut Shape) -> Result<(), Fault> {
+    let (word, rest) = split_word(part);
+    match word {
+        "group" | "chain" => Ok(shape.groups.push(types_of(alloc, word, rest)?)?),
+        "import" | "items" | "names" => Ok(shape.imports.push(imports_of(alloc, word, rest)?)?),
+        "export" => Ok(shape.exports.push(export_of(alloc, rest)?)?),
+        _ => define(known(entity_of(part))?, shape),
+    }
+}
+
+// The types of a part that begins with `word`.
+fn types_of(alloc: Global, word: &str, rest: &str) -> Result<Items<SubType>, Fault> {
+    if word == "group" {
+        return group_of(alloc, rest);
+    }
+    chain_of(alloc, known(rest.parse::<u32>().ok())?)
+}
+
+// The imports of a part that begins with `word`.
+fn imports_of(alloc: Global, word: &str, rest: &str) -> Result<Imports, Fault> {
+    match word {
+        "import" => import_of(alloc, rest),
+        "items" => items_of(alloc, rest),
+        _ => names_of(alloc, rest),
+    }
+}
+
+// What is read, or the fault where nothing is.
+fn known<T: Drop>(value: Option<T>) -> Result<T, Fault> {
+    value.ok_or(Fault::UnknownShape)
+}
+
+// The first word of `text`, and what follows the blank after it.
+fn split_word(text: &str) -> (&str, &str) {
+    text.trim().split_once(' ').unwrap_or((text.trim(), ""))
+}
+
+fn group_of(alloc: Global, text: &str) -> Result<Items<SubType>, Fault> {
+    let mut types = Items::new(alloc);
+    for part in text.split(';') {
+        if !part.trim().is_empty() {
+            types.push(sub_type_of(alloc, part.trim())?)?;
+        }
+    }
+    Ok(types)
+}
+
+fn chain_of(alloc: Global, count: u32) -> Result<Items<SubType>, Fault> {
+    let mut types = Items::new(alloc);
+    for index in 0..count {
+        types.push(open_struct(alloc, index.checked_sub(1)))?;
+    }
+    Ok(types)
+}
+
+fn open_struct(alloc: Global, supertype: Option<u32>) -> SubType {
+    SubType {
+        is_final: false,
+        supertype,
+        composite_type: CompositeType {
+            inner: CompositeInnerType::Struct(StructType {
+                fields: Items::new(alloc),
+            }),
+            shared: false,
+        },
+    }
+}
+
+fn sub_type_of(alloc: Global, text: &str) -> Result<SubType, Fault> {
+    let (is_final, text) = match text.strip_prefix("open ") {
+        Some(rest) => (false, rest),
+        None => (true, text),
+    };
+    let (supertype, text) = match text.strip_prefix("below ") {
+        Some(rest) => {
+            let (index, rest) = split_word(rest);
+            (Some(known(index.parse::<u32>().ok())?), rest)
+        }
+        None => (None, text),
+    };
+    Ok(SubType {
+        is_final,
+        supertype,
+        composite_type: CompositeType {
+            inner: inner_of(alloc, text)?,
+            shared: false,
+        },
+    })
+}
+
+fn inner_of(alloc: Global, text: &str) -> Result<CompositeInnerType, Fault> {
+    let (word, rest) = split_word(text);
+    match word {
+        "struct" => Ok(CompositeInnerType::Struct(StructType {
+            fields: list_of(alloc, rest, field_type_of)?,
+        })),
+        "array" => Ok(CompositeInnerType::Array(ArrayType(known(field_type_of(rest))?))),
+        "func" => Ok(CompositeInnerType::Func(function_of(alloc, rest)?)),
+        _ => Err(Fault::UnknownShape),
+    }
+}
+
+fn function_of(alloc: Global, text: &str) -> Result<FuncType, Fault> {
+    let Some((params, results)) = text.split_once("->") else {
+        return Err(Fault::UnknownShape);
+    };
+    Ok(FuncType {
+        params: list_of(alloc, params, val_type_of)?,
+        results: list_of(alloc, results, val_type_of)?,
+    })
+}
+
+// The items between commas in `text`, each as what `read` reads.
+fn list_of<T: Drop, F: Fn(&str) -> Option<T>>(
+    alloc: Global,
+    text: &str,
+    read: F,
+) -> Result<Items<T>, Fault>
+    requires { F.IsAlwaysCallable read }
+{
+    let mut items = Items::new(alloc);
+    for part in text.split(',') {
+        if !part.trim().is_empty() {
+            items.push(known(read(part.trim()))?)?;
+        }
+    }
+    Ok(items)
+}
+
+fn import_of(alloc: Global, text: &str) -> Result<Imports, Fault> {
+    let (module, item) = split_word(text);
+    let ImportItem { name, entity_type } = item_of(alloc, item)?;
+    Ok(Imports::Single(Import {
+        module: Name::from_text(alloc, module)?,
+        name,
+        entity_type,
+    }))
+}
+
+fn item_of(alloc: Global, text: &str) -> Result<ImportItem, Fault> {
+    let (name, entity) = split_word(text);
+    Ok(ImportItem {
+        name: Name::from_text(alloc, name)?,
+        entity_type: known(entity_of(entity))?,
+    })
+}
+
+fn items_of(alloc: Global, text: &str) -> Result<Imports, Fault> {
+    let (module, rest) = split_word(text);
+    let mut items = Items::new(alloc);
+    for part in rest.split(';') {
+        if !part.trim().is_empty() {
+            items.push(item_of(alloc, part)?)?;
+        }
+    }
+    Ok(Imports::Compact1 {
+        module: Name::from_text(alloc, module)?,
+        items,
+    })
+}
+
+fn names_of(alloc: Global, text: &str) -> Result<Imports, Fault> {
+    let (module, rest) = split_word(text);
+    let (texts, entity) = split_word(rest);
+    let mut names = Items::new(alloc);
+    for text in texts.split(',') {
+        if text != "-" {
+            names.push(Name::from_text(alloc, text)?)?;
+        }
+    }
+    Ok(Imports::Compact2 {
+        module: Name::from_text(alloc, module)?,
+        entity_type: known(entity_of(entity))?,
+        names,
+    })
+}
+
+fn entity_of(text: &str) -> Option<EntityType> {
+    let (word, rest) = split_word(text);
+    match word {
+        "func" => Some(EntityType::Func(rest.parse::<u32>().ok()?)),
+        "tag" => Some(EntityType::Tag(rest.parse::<u32>().ok()?)),
+        "table" => Some(EntityType::Table(table_of(rest)?)),
+        "memory" => Some(EntityType::Memory(memory_of(rest)?)),
+        "global" => Some(EntityType::Global(global_of(rest)?)),
+        _ => None,
+    }
+}
+
+// Whether `text` begins with `word`, and what follows that.
+fn take_word<'a>(text: &'a str, word: &str) -> (bool, &'a str) {
+    match text.strip_prefix(word) {
+        Some(rest) => (true, rest),
+        None => (false, text),
+    }
+}
+
+fn limits_of(text: &str) -> Option<(u64, Option<u64>)> {
+    match text.split_once(' ') {
+        Some((minimum, maximum)) => {
+            Some((
+                minimum.parse::<u64>().ok()?,
+                Some(maximum.parse::<u64>().ok()?),
+            ))
+        }
+        None => Some((text.parse::<u64>().ok()?, None)),
+    }
+}
+
+fn table_of(text: &str) -> Option<TableType> {
+    let (shared, text) = take_word(text, "shared ");
+    let (table64, text) = take_word(text, "i64 ");
+    let start = text.find('(')?;
+    let (minimum, maximum) = limits_of(text.get(..start)?.trim())?;
+    Some(TableType {
+        element_type: ref_type_of(text.get(start..)?)?,
+        minimum,
+        maximum,
+        table64,
+        shared,
+    })
+}
+
+fn memory_of(text: &str) -> Option<MemoryType> {
+    let (shared, text) = take_word(text, "shared ");
+    let (memory64, text) = take_word(text, "i64 ");
+    let (minimum, maximum) = limits_of(text)?;
+    Some(MemoryType {
+        minimum,
+        maximum,
+        memory64,
+        shared,
+        page_size_log2: None,
+    })
+}
+
+fn global_of(text: &str) -> Option<GlobalType> {
+    let (shared, text) = take_word(text, "shared ");
+    let (mutable, text) = take_word(text, "mut ");
+    Some(GlobalType {
+        val_type: val_type_of(text)?,
+        mutable,
+        shared,
+    })
+}
+
+fn define(entity: EntityType, shape: &mut Shape) -> Result<(), Fault> {
+    match entity {
+        EntityType::Func(index) => shape.funcs.push(index)?,
+        EntityType::Tag(index) => shape.tags.push(index)?,
+        EntityType::Table(table) => shape.tables.push(table)?,
+        EntityType::Memory(memory) => shape.memories.push(memory)?,
+        EntityType::Global(global) => shape.globals.push(global)?,
+    }
+    Ok(())
+}
+
+fn export_of(alloc: Global, text: &str) -> Result<(Name, ExportKind, u32), Fault> {
+    let (name, item) = split_word(text);
+    let (kind, index) = known(known_export(item))?;
+    Ok((Name::from_text(alloc, name)?, kind, index))
+}
+
+fn known_export(text: &str) -> Option<(ExportKind, u32)> {
+    let (kind, index) = split_word(text);
+    let kind = match kind {
+        "func" => ExportKind::Func,
+        "table" => ExportKind::Table,
+        "memory" => ExportKind::Memory,
+        "global" => ExportKind::Global,
+        "tag" => ExportKind::Tag,
+        _ => return None,
+    };
+    Some((kind, index.parse::<u32>().ok()?))
+}

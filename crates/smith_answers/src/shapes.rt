@@ -1,0 +1,178 @@
+use crate::fault::Fault;
+use crate::shape_parts::add_part;
+use smith_config::Shape;
+use smith_types::Items;
+use std::alloc::Global;
+
+// Each shape by its name, with its parts in the form that `add_part` reads.
+const SHAPES: [(&str, &[&str]); 31] = [
+    ("nothing", &[]),
+    (
+        "a function without parameters and results",
+        &["group func ->", "func 0"],
+    ),
+    ("a function of a number", &["group func i32 ->", "func 0"]),
+    (
+        "a function with two results",
+        &["group func -> i32,i64", "func 0"],
+    ),
+    (
+        "a struct of 21 fields",
+        &["group struct i8,i8,i8,i8,i8,i8,i8,i8,i8,i8,i8,i8,i8,i8,i8,i8,i8,i8,i8,i8,i8"],
+    ),
+    (
+        "a struct below a struct",
+        &["group open struct; open below 0 struct"],
+    ),
+    (
+        "a struct below a struct, and a function over them",
+        &[
+            "group open struct; open below 0 struct",
+            "group func i32,(ref 1) -> (ref 0)",
+        ],
+    ),
+    ("an empty group", &["group"]),
+    (
+        "an array of bytes and a struct that refers to it",
+        &["group array i8", "group struct (mut (ref null 0))"],
+    ),
+    ("a struct of a byte", &["group struct i8"]),
+    ("an array of bytes", &["group array i8"]),
+    (
+        "a struct and three functions",
+        &["group struct; func ->; func -> i32; func i32 ->"],
+    ),
+    (
+        "memories in groups",
+        &[
+            "items env one memory 1",
+            "items a",
+            "names b two,three memory 1",
+            "names env - memory 1",
+        ],
+    ),
+    (
+        "one of each",
+        &[
+            "group func i32 -> i64",
+            "group func f32 ->",
+            "func 0",
+            "tag 1",
+            "global f32",
+            "memory 1 10",
+            "table 5 10 (ref null extern)",
+            "export foo func 0",
+            "export bar global 0",
+            "export baz memory 0",
+            "export qux table 0",
+            "export quux tag 0",
+        ],
+    ),
+    (
+        "a function and a memory to import",
+        &[
+            "group func i32 ->",
+            "import env ping func 0",
+            "import env memory memory 1",
+        ],
+    ),
+    (
+        "two exports of one name",
+        &["global i32", "export a global 0", "export a global 0"],
+    ),
+    (
+        "a memory that is imported and exported",
+        &["import env memory memory 1", "export m memory 0"],
+    ),
+    (
+        "an exported table",
+        &["table 0 (ref null func)", "export t table 0"],
+    ),
+    ("a struct below itself", &["group open below 0 struct"]),
+    ("a function of a type that is missing", &["func 5"]),
+    ("a tag with a result", &["group func -> i32", "tag 0"]),
+    (
+        "a table whose limits are crossed",
+        &["table 2 1 (ref null func)"],
+    ),
+    ("63 structs, each below the one before", &["chain 63"]),
+    ("64 structs, each below the one before", &["chain 64"]),
+    ("a vector", &["global v128"]),
+    (
+        "an exact reference",
+        &["group struct", "global (ref null (exact 0))"],
+    ),
+    (
+        "an exported function of an open type",
+        &["group open func ->", "func 0", "export f func 0"],
+    ),
+    ("a tag to import", &["group func ->", "import env t tag 0"]),
+    (
+        "a constant reference to no function",
+        &["global (ref nofunc)", "export g global 0"],
+    ),
+    (
+        "each kind to import",
+        &[
+            "group func i32 -> i64",
+            "group func f32 ->",
+            "import env function func 0",
+            "items env global global i32; table table i64 5 (ref null extern)",
+            "names env memory,second memory 1 10",
+            "import env tag tag 1",
+        ],
+    ),
+    (
+        "each kind to import and to export",
+        &[
+            "group func i32 -> i64",
+            "group func f32 ->",
+            "group struct i8,(mut (ref null 3)); array (mut i16)",
+            "import env function func 0",
+            "items env global global i32; table table i64 5 (ref null extern)",
+            "names env memory,second memory 1 10",
+            "import env tag tag 1",
+            "func 0",
+            "tag 1",
+            "global mut f64",
+            "memory 1 10",
+            "table 5 10 (ref null extern)",
+            "export function func 0",
+            "export table table 0",
+            "export memory memory 0",
+            "export second memory 1",
+            "export global global 0",
+            "export tag tag 0",
+            "export own-function func 1",
+            "export own-table table 1",
+            "export own-memory memory 2",
+            "export own-global global 1",
+            "export own-tag tag 1",
+        ],
+    ),
+];
+
+/// The shape of the name `name`.
+pub(crate) fn shape_named(alloc: Global, name: &str) -> Result<Shape, Fault> {
+    let mut shape = nothing(alloc);
+    let Some((_, parts)) = SHAPES.iter().find(|(other, _)| *other == name) else {
+        return Err(Fault::UnknownShape);
+    };
+    for part in *parts {
+        add_part(alloc, part, &mut shape)?;
+    }
+    Ok(shape)
+}
+
+fn nothing(alloc: Global) -> Shape {
+    Shape {
+        groups: Items::new(alloc),
+        imports: Items::new(alloc),
+        funcs: Items::new(alloc),
+        tags: Items::new(alloc),
+        tables: Items::new(alloc),
+        memories: Items::new(alloc),
+        globals: Items::new(alloc),
+        exports: Items::new(alloc),
+    }
+}

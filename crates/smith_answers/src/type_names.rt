@@ -1,0 +1,89 @@
+use smith_types::{AbstractHeapType, FieldType, HeapType, RefType, StorageType, ValType};
+
+// Each abstract heap type by its name in the text format.
+const ABSTRACT: [(&str, AbstractHeapType); 12] = [
+    ("func", AbstractHeapType::Func),
+    ("extern", AbstractHeapType::Extern),
+    ("any", AbstractHeapType::Any),
+    ("none", AbstractHeapType::None),
+    ("noextern", AbstractHeapType::NoExtern),
+    ("nofunc", AbstractHeapType::NoFunc),
+    ("eq", AbstractHeapType::Eq),
+    ("struct", AbstractHeapType::Struct),
+    ("array", AbstractHeapType::Array),
+    ("i31", AbstractHeapType::I31),
+    ("exn", AbstractHeapType::Exn),
+    ("noexn", AbstractHeapType::NoExn),
+];
+
+fn abstract_of(shared: bool, text: &str) -> Option<HeapType> {
+    ABSTRACT
+        .iter()
+        .find(|(name, _)| *name == text)
+        .map(|(_, ty)| HeapType::Abstract { shared, ty: *ty })
+}
+
+// What stands in parentheses after `keyword` in `text`.
+fn inside<'a>(text: &'a str, keyword: &str) -> Option<&'a str> {
+    text.strip_prefix(keyword)?.strip_suffix(")")
+}
+
+/// The heap type that `text` writes: `any`, `(shared any)`, `0`, `(exact 0)`.
+pub(crate) fn heap_type_of(text: &str) -> Option<HeapType> {
+    if let Some(name) = inside(text, "(shared ") {
+        return abstract_of(true, name);
+    }
+    if let Some(index) = inside(text, "(exact ") {
+        return index.parse::<u32>().ok().map(HeapType::Exact);
+    }
+    match text.parse::<u32>() {
+        Ok(index) => Some(HeapType::Concrete(index)),
+        Err(_) => abstract_of(false, text),
+    }
+}
+
+/// The reference type that `text` writes: `(ref any)`, `(ref null 0)`.
+pub(crate) fn ref_type_of(text: &str) -> Option<RefType> {
+    let referred = inside(text, "(ref ")?;
+    let (nullable, heap_type) = match referred.strip_prefix("null ") {
+        Some(heap_type) => (true, heap_type),
+        None => (false, referred),
+    };
+    Some(RefType {
+        nullable,
+        heap_type: heap_type_of(heap_type)?,
+    })
+}
+
+/// The value type that `text` writes.
+pub(crate) fn val_type_of(text: &str) -> Option<ValType> {
+    match text {
+        "i32" => Some(ValType::I32),
+        "i64" => Some(ValType::I64),
+        "f32" => Some(ValType::F32),
+        "f64" => Some(ValType::F64),
+        "v128" => Some(ValType::V128),
+        _ => ref_type_of(text).map(ValType::Ref),
+    }
+}
+
+/// The storage type that `text` writes.
+pub(crate) fn storage_type_of(text: &str) -> Option<StorageType> {
+    match text {
+        "i8" => Some(StorageType::I8),
+        "i16" => Some(StorageType::I16),
+        _ => val_type_of(text).map(StorageType::Val),
+    }
+}
+
+/// The field type that `text` writes: a storage type, or `(mut TYPE)`.
+pub(crate) fn field_type_of(text: &str) -> Option<FieldType> {
+    let (mutable, element_type) = match inside(text, "(mut ") {
+        Some(element_type) => (true, element_type),
+        None => (false, text),
+    };
+    Some(FieldType {
+        element_type: storage_type_of(element_type)?,
+        mutable,
+    })
+}

@@ -1,0 +1,157 @@
+use crate::case::{Case, list};
+use crate::fault::Fault;
+use std::fmt;
+
+/// The first difference of an answer from what a case wants.
+#[derive(Clone, Copy, Drop)]
+pub(crate) enum Difference<'a> {
+    /// The kind of the answer is none of those that may come.
+    Kind(&'a str),
+    /// Another line at this place, from 1.
+    Line {
+        /// The place of the line.
+        place: usize,
+        /// The line that is wanted, empty past the last.
+        wanted: &'a str,
+        /// The line of the answer, empty past the last.
+        given: &'a str,
+    },
+    /// No such line after those that are wanted before it.
+    NoLine(&'a str),
+    /// No such piece.
+    NoPiece(&'a str),
+    /// A piece that is to be absent.
+    Piece(&'a str),
+}
+
+impl fmt::Display for Difference<'_> {
+    fn fmt<W: fmt::Write>(&self, f: &mut fmt::Formatter<W>) -> fmt::Result {
+        match self {
+            Difference::Kind(given) => write!(f, "the answer is {given}"),
+            Difference::Line {
+                place,
+                wanted,
+                given,
+            } => write!(f, "line {place} is {given:?}, and {wanted:?} is wanted"),
+            Difference::NoLine(wanted) => write!(f, "no line {wanted:?}"),
+            Difference::NoPiece(wanted) => write!(f, "no piece {wanted:?}"),
+            Difference::Piece(given) => write!(f, "a piece {given:?}"),
+        }
+    }
+}
+
+/// Checks that `case` wants something that not every answer has, and no list that is empty.
+pub(crate) fn check_wanted(case: &Case) -> Result<(), Fault> {
+    let wanted = [&case.answer, &case.lines, &case.pieces, &case.may];
+    if wanted.iter().all(|texts| texts.is_none()) || begins_with_anything(list(&case.answer)) {
+        return Err(Fault::WantsNothing);
+    }
+    for texts in [
+        &case.answer,
+        &case.lines,
+        &case.pieces,
+        &case.absent,
+        &case.may,
+    ] {
+        if texts.as_ref().is_some_and(|texts| texts.is_empty()) {
+            return Err(Fault::WantsNothing);
+        }
+        if has_blank(list(texts)) {
+            return Err(Fault::EmptyPiece);
+        }
+    }
+    Ok(())
+}
+
+fn begins_with_anything(lines: &[String]) -> bool {
+    lines
+        .first()
+        .is_some_and(|line| line.as_str().trim() == ANYTHING)
+}
+
+fn has_blank(texts: &[String]) -> bool {
+    texts.iter().any(|text| text.as_str().trim().is_empty())
+}
+
+/// The first difference of the answer `answer` from what `case` wants: of its kind, then of all of its lines, then of single lines,
+/// of pieces, and of absent pieces.
+pub(crate) fn first_difference<'a>(answer: &'a str, case: &'a Case) -> Option<Difference<'a>> {
+    let kind = kind_of(answer);
+    if case.may.is_some() && !list(&case.may).iter().any(|may| may.as_str() == kind) {
+        return Some(Difference::Kind(kind));
+    }
+    if case.answer.is_some() {
+        let other = other_line(answer, list(&case.answer));
+        if other.is_some() {
+            return other;
+        }
+    }
+    missing_line(answer, list(&case.lines))
+        .or_else(|| missing_piece(answer, list(&case.pieces)))
+        .or_else(|| stray_piece(answer, list(&case.absent)))
+}
+
+/// The kind of an answer: the refusal that it tells, or `Ok`.
+pub(crate) fn kind_of(answer: &str) -> &str {
+    match answer.strip_prefix("refused: ") {
+        Some(refusal) => refusal.trim_end(),
+        None => "Ok",
+    }
+}
+
+// The line that stands for all lines that follow.
+const ANYTHING: &str = "...";
+
+// The first line of `answer` that isn't the line of its place in `wanted`.
+fn other_line<'a>(answer: &'a str, wanted: &'a [String]) -> Option<Difference<'a>> {
+    let mut place: usize = 0;
+    for line in answer.lines() {
+        let given = line.trim();
+        let line = wanted.get(place).map_or("", |line| line.as_str().trim());
+        if line == ANYTHING {
+            return None;
+        }
+        place = place.saturating_add(1);
+        if given != line {
+            return Some(Difference::Line {
+                place,
+                wanted: line,
+                given,
+            });
+        }
+    }
+    let line = wanted.get(place)?;
+    Some(Difference::Line {
+        place: place.saturating_add(1),
+        wanted: line.as_str(),
+        given: "",
+    })
+}
+
+// The first of `wanted` that doesn't follow those before it among the lines of `answer`.
+fn missing_line<'a>(answer: &'a str, wanted: &'a [String]) -> Option<Difference<'a>> {
+    let mut left = wanted;
+    for line in answer.lines() {
+        let Some((first, others)) = left.split_first() else {
+            return None;
+        };
+        if first.as_str().trim() == line.trim() {
+            left = others;
+        }
+    }
+    left.first().map(|line| Difference::NoLine(line.as_str()))
+}
+
+fn missing_piece<'a>(answer: &'a str, wanted: &'a [String]) -> Option<Difference<'a>> {
+    wanted
+        .iter()
+        .find(|piece| !answer.contains(piece.as_str()))
+        .map(|piece| Difference::NoPiece(piece.as_str()))
+}
+
+fn stray_piece<'a>(answer: &'a str, absent: &'a [String]) -> Option<Difference<'a>> {
+    absent
+        .iter()
+        .find(|piece| answer.contains(piece.as_str()))
+        .map(|piece| Difference::Piece(piece.as_str()))
+}

@@ -1,0 +1,55 @@
+//! The generator for C, and for all that calls C: a module of a configuration and an input, into the caller's memory.
+#![tactic(auto)]
+
+ghost use Rattle.smith_c.specs.Answers.{IsAnswered, IsExplained};
+ghost use Rattle.smith_request.specs.Made.{IsBinary, HasBinary, HasModule};
+ghost use Rattle.smith_request.specs.Refusals.{IsRefusal};
+
+mod answer;
+mod explanation;
+
+pub use crate::answer::Answer;
+use crate::answer::put;
+use crate::explanation::explain;
+use std::alloc::Global;
+
+/// Writes the module of a configuration and of `input` to the front of `out`, in the binary format.
+///
+/// `config` is the text of a JSON object, or empty for the default configuration.
+#[unsafe(no_mangle)]
+pub extern "C" fn smith_binary(alloc: Global, config: &[u8], input: &[u8], out: &mut [u8]) -> Answer
+    ensures { IsAnswered (IsBinary config.now input.now) (IsRefusal config.now input.now) out.old out.new result }
+{
+    match smith_request::binary(alloc, config, input) {
+        Ok(bytes) => put(answer::MADE, bytes.as_slice(), out),
+        Err(refusal) => Answer::without_output(refusal.status()),
+    }
+}
+
+/// Writes that module in the text format. No clause says which text it is.
+#[unsafe(no_mangle)]
+pub extern "C" fn smith_text(alloc: Global, config: &[u8], input: &[u8], out: &mut [u8]) -> Answer
+    ensures { IsAnswered (λ text. HasModule config.now input.now) (IsRefusal config.now input.now) out.old out.new result }
+{
+    match smith_request::text(alloc, config, input) {
+        Ok(text) => put(answer::MADE, text.as_str().as_bytes(), out),
+        Err(refusal) => Answer::without_output(refusal.status()),
+    }
+}
+
+/// Writes why there is no such module, in words, and answers the number of that refusal. Writes nothing where there is a
+/// module. No clause says which words they are.
+#[unsafe(no_mangle)]
+pub extern "C" fn smith_refusal(
+    alloc: Global,
+    config: &[u8],
+    input: &[u8],
+    out: &mut [u8],
+) -> Answer
+    ensures { IsExplained (HasBinary config.now input.now) (IsRefusal config.now input.now) out.old out.new result }
+{
+    match smith_request::binary(alloc, config, input) {
+        Ok(_) => Answer::without_output(answer::MADE),
+        Err(refusal) => explain(alloc, &refusal, out),
+    }
+}

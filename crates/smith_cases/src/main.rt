@@ -1,0 +1,51 @@
+//! Answers cases, each a JSON object on a line of standard input, and prints which of them are answered as they want.
+//!
+//! For each case there is a line `ok NAME`, or `not ok NAME: ` and the first difference. The last line counts, and the status is 1
+//! where a case is not ok. A case is answered twice, one of checksums once, and two answers that differ are not ok. Lines of blanks,
+//! and lines that begin with `#`, are passed over. The crate's own cases are in `stdin`; in this folder they are tried in some two
+//! minutes, before any proof, by
+//!
+//! ```sh
+//! rt try --seconds 600 < stdin
+//! ```
+//!
+//! The head of `smith_answers` says what each key of a case means.
+#![tactic(auto)]
+
+#[cfg(test)]
+mod tests;
+
+use smith_answers::judge;
+use std::io;
+use std::process::ExitCode;
+
+fn main(rt: HostRuntime) -> io::Result<ExitCode> {
+    let alloc = rt.alloc();
+    let mut right: u64 = 0;
+    let mut wrong: u64 = 0;
+    for line in rt.lines(alloc) {
+        let line = line?;
+        if is_passed_over(line.as_str()) {
+            continue;
+        }
+        let mut report = String::new(alloc);
+        let count = if judge(alloc, line.as_str(), &mut report)? {
+            &mut right
+        } else {
+            &mut wrong
+        };
+        *count = count.saturating_add(1);
+        print!(rt; "{report}")?;
+    }
+    println!(rt; "{right} ok, {wrong} not ok")?;
+    Ok(if wrong == 0 {
+        ExitCode::SUCCESS
+    } else {
+        ExitCode::FAILURE
+    })
+}
+
+// Whether `line` has no case.
+fn is_passed_over(line: &str) -> bool {
+    line.trim().is_empty() || line.starts_with('#')
+}

@@ -1,0 +1,50 @@
+-- Why there is no module, and the number that says so.
+use Rattle.std.specs.Prelude.{◌≢◌, ℕ, List, Ok, Err}
+use Rattle.std.specs.Str.{IsUtf8}
+use Rattle.std.specs.String.{string_bytes}
+use Rattle.smith_binary.specs.Faults.{IsFault}
+use Rattle.smith_binary.specs.declared.error.EncodeError.TheVariants as encoding
+use Rattle.smith_bytes.specs.declared.error.Error.{Error}
+use Rattle.smith_bytes.specs.declared.error.Error.TheVariants as errors
+use Rattle.smith_definitions.specs.Module.{Parts}
+use Rattle.smith_encode.specs.TooLong.{IsTooLong}
+use Rattle.smith_json.specs.Objects.{ReadsText}
+use Rattle.smith_json.specs.declared.refusal.Fault.{Fault}
+use Rattle.smith_json.specs.declared.refusal.Fault.TheVariants.{OutOfMemory, NotAnObject, UnknownField, RepeatedField, WrongType, OutOfRange, TextAfter}
+use Rattle.smith_request.specs.Made.{AnswersText}
+use Rattle.smith_request.specs.declared.refusal.Refusal.{Refusal}
+use Rattle.smith_request.specs.declared.refusal.Refusal.TheVariants.{NotUtf8, Config, Module, Encoding}
+
+-- a configuration's text and an input may be refused so
+abbrev pub IsRefusal : List ℕ → List ℕ → Refusal → Type 0
+IsRefusal text input NotUtf8 = IsUtf8 text → ⊥
+IsRefusal text input (Config refusal) = refusal.fault ≢ OutOfMemory → ReadsText text (Err (refusal.fault, string_bytes refusal.field))
+IsRefusal text input (Module e) = AnswersText text input (Err e)
+IsRefusal text input (Encoding e) = (parts : Parts) × AnswersText text input (Ok parts) × IsFault (IsTooLong parts) e
+
+-- the number of what is wrong with a configuration's text
+abbrev pub fault_status : Fault → ℕ
+fault_status OutOfMemory = 2
+fault_status NotAnObject = 3
+fault_status UnknownField = 3
+fault_status RepeatedField = 3
+fault_status WrongType = 3
+fault_status OutOfRange = 3
+fault_status TextAfter = 3
+
+-- the number of why a module wasn't drawn
+abbrev pub error_status : Error → ℕ
+error_status errors.Memory = 2
+error_status (errors.Config _) = 4
+error_status (errors.IncorrectFormat _) = 5
+error_status errors.EmptyChoose = 6
+error_status errors.NotEnoughData = 6
+error_status (errors.Shape _ _) = 6
+
+-- the number of a refusal
+abbrev pub status_of : Refusal → ℕ
+status_of NotUtf8 = 3
+status_of (Config refusal) = fault_status refusal.fault
+status_of (Module e) = error_status e
+status_of (Encoding encoding.Memory) = 2
+status_of (Encoding encoding.TooLong) = 7

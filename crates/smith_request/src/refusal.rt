@@ -1,0 +1,66 @@
+ghost use Rattle.std.specs.Prelude.{◌≡◌};
+ghost use Rattle.smith_request.specs.Refusals.{fault_status, error_status, status_of};
+
+use smith_binary::EncodeError;
+use smith_bytes::Error;
+use smith_json::{ConfigRefusal, Fault};
+use std::fmt;
+
+/// Why there is no module.
+#[derive(Debug, Drop)]
+pub enum Refusal {
+    /// The text of the configuration isn't UTF-8.
+    NotUtf8,
+    /// The text of the configuration is refused.
+    Config(ConfigRefusal),
+    /// The configuration, or the want of memory, allows no module.
+    Module(Error),
+    /// The module can't be written.
+    Encoding(EncodeError),
+}
+
+impl Refusal {
+    /// The number of the refusal, from 2.
+    pub fn status(&self) -> u32
+        ensures { result ≡ status_of self.now }
+    {
+        match self {
+            Refusal::NotUtf8 => 3,
+            Refusal::Config(refusal) => fault_status(refusal.fault),
+            Refusal::Module(error) => error_status(error),
+            Refusal::Encoding(EncodeError::Memory) => 2,
+            Refusal::Encoding(EncodeError::TooLong) => 7,
+        }
+    }
+}
+
+fn fault_status(fault: Fault) -> u32
+    ensures { result ≡ fault_status fault }
+{
+    match fault {
+        Fault::OutOfMemory => 2,
+        _ => 3,
+    }
+}
+
+fn error_status(error: &Error) -> u32
+    ensures { result ≡ error_status error.now }
+{
+    match error {
+        Error::Memory => 2,
+        Error::Config(_) => 4,
+        Error::IncorrectFormat(_) => 5,
+        Error::EmptyChoose | Error::NotEnoughData | Error::Shape(_, _) => 6,
+    }
+}
+
+impl fmt::Display for Refusal {
+    fn fmt<W: fmt::Write>(&self, f: &mut fmt::Formatter<W>) -> fmt::Result {
+        match self {
+            Refusal::NotUtf8 => f.write_str("the configuration isn't UTF-8"),
+            Refusal::Config(refusal) => write!(f, "configuration, {refusal}"),
+            Refusal::Module(error) => write!(f, "{error}"),
+            Refusal::Encoding(error) => write!(f, "{error}"),
+        }
+    }
+}
