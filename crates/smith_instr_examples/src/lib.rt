@@ -1,0 +1,6 @@
+//! Instructions and bodies that meet the rules of typing, and ones that do not. The clauses are proved, and nothing calls these
+//! functions.
+#![tactic(auto)]
+
+mod instructions;
+mod sequences;
