@@ -11,6 +11,9 @@ use Rattle.smith_types.specs.declared.composite_type.StorageType.TheVariants.{I8
 use Rattle.smith_types.specs.declared.composite_type.CompositeInnerType.TheVariants.{Array}
 use Rattle.smith_types.specs.declared.entity_type.MemoryType.{MemoryType}
 use Rattle.smith_types.specs.declared.entity_type.TableType.{TableType}
+use Rattle.smith_types.specs.Instructions.{kind_bits}
+use Rattle.smith_types.specs.declared.instruction_kind.InstructionKind.{InstructionKind}
+use Rattle.smith_types.specs.declared.instruction_kind.InstructionKinds.{InstructionKinds}
 use Rattle.smith_instr.specs.Contexts.{BodyContext}
 use Rattle.smith_instr.specs.declared.instr.Instr.{Instr}
 use Rattle.smith_instr.specs.declared.instr.Instr.TheVariants as instr
@@ -69,3 +72,7 @@ number n = instr.I32Const (pos n)
 
 abbrev pub add : Instr
 add = instr.Numeric (numeric.I32Binary Add)
+
+-- the set of this kind alone
+abbrev pub kinds_of : InstructionKind → InstructionKinds
+kinds_of kind = record { 0 = kind_bits kind }

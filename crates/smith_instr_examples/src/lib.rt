@@ -2,5 +2,6 @@
 //! functions.
 #![tactic(auto)]
 
+mod enabled;
 mod instructions;
 mod sequences;
