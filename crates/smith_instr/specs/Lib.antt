@@ -7,3 +7,4 @@ pub mod AggregateTypes
 pub mod InstrTypes
 pub mod Sequences
 pub mod Enabled
+pub mod Laws

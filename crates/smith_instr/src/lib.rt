@@ -6,6 +6,8 @@ mod aggregate;
 mod atomic;
 mod control;
 mod instr;
+/// Laws: functions that do nothing, whose clauses say what holds.
+pub mod laws;
 mod memory;
 mod numeric;
 mod reference;

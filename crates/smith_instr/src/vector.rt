@@ -18,7 +18,8 @@ pub enum LaneShape {
     F64x2,
 }
 
-/// The lane that is extracted, and how its integer is extended: the standard's section Structure, Vector Instructions, extract_lane.
+/// The lane that is extracted, and how its integer is extended: the standard's section Structure, Vector Instructions,
+/// extract_lane.
 #[derive(Clone, Copy)]
 pub enum LaneExtract {
     I8x16S,
