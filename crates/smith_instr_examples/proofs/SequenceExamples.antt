@@ -4,12 +4,13 @@ use Rattle.std.specs.List.{AllZip}
 use Rattle.std.proofs.lemmas.Option.{same_Some}
 use Rattle.std.proofs.lemmas.List.Elements.{All-nil, All-push}
 use Rattle.smith_types.specs.Expressions.{IsDefaultable}
-use Rattle.smith_types.specs.Subtyping.{IsValBelow}
+use Rattle.smith_types.specs.Subtyping.{IsValBelow, itself}
 use Rattle.smith_types.specs.declared.value_type.ValType.{ValType}
-use Rattle.smith_types.specs.declared.value_type.ValType.TheVariants.{I32, I64}
+use Rattle.smith_types.specs.declared.value_type.ValType.TheVariants.{I32, I64, Ref}
+use Rattle.smith_types.specs.Flags.{funcref}
 use Rattle.smith_instr.specs.Contexts.{BodyContext, labelled, IsValid, AreValid, IsBlockType}
 use Rattle.smith_instr.specs.InstrTypes.{HasInstrType}
-use Rattle.smith_instr.specs.Sequences.{Stacked, CountsAs, IsStep, AreTyped, IsBodyTyped, nothing, step, block, loop, if_alone, if_else, try_table}
+use Rattle.smith_instr.specs.Sequences.{Stacked, stacked, CountsAs, IsStep, AreTyped, IsBodyTyped, nothing, step, block, loop, if_alone, if_else, try_table}
 use Rattle.smith_instr.specs.declared.control.BlockType.{BlockType}
 use Rattle.smith_instr.specs.declared.control.BlockType.TheVariants as blocks
 use Rattle.smith_instr.specs.declared.instr.Instr.{Instr}
@@ -222,3 +223,25 @@ no_if (try_table is fits caught inner framed rest) = cc
 pub if_for_a_result : IsBodyTyped (function_of [] (I32 ∷ [])) (number 1 ∷ instr.If (blocks.Value I32) ∷ number 2 ∷ instr.End ∷ []) → ⊥
 unfolding is_plain
 if_for_a_result body = let (a, first, rest) = step_of refl body.typed in no_if rest
+
+pub to_above : AreTyped (function_of [] []) [] (stacked (some_func ∷ []) []) (stacked (Ref funcref ∷ []) [])
+to_above = nothing (record {
+  below = (record { heap = itself; nullable = λ is. refl }, tt);
+  valid = valid_one (function_of [] []) (Ref funcref) (refl, record { heap_type = (tt, λ never. cc); nullable = λ is. refl });
+}) refl
+
+pub to_below : AreTyped (function_of [] []) [] (stacked (Ref funcref ∷ []) []) (stacked (some_func ∷ []) []) → ⊥
+to_below typed = let never : ◌≡◌ {A = Bool} false true = (end_of typed).below.0.nullable refl in cc
+
+pub set_before : IsBodyTyped (function_of (some_func ∷ []) []) (instr.Unreachable ∷ instr.LocalSet 0 ∷ instr.LocalGet 0 ∷ instr.Drop ∷ [])
+set_before =
+    let context = labelled (function_of (some_func ∷ []) []) [] in
+    let valid = valid_one context some_func (refl, record { heap_type = (tt, λ never. cc); nullable = λ is. refl }) in
+    let none = valid_none context in
+    record {
+      set = 0 ∷ [];
+      typed = step (one context instr.Unreachable [] (some_func ∷ []) [] [] [] ([], refl, valid) valid refl)
+          (step (one context (instr.LocalSet 0) (some_func ∷ []) [] [] [] (0 ∷ []) (some_func, refl, (refl, refl)) none refl)
+          (step (one context (instr.LocalGet 0) [] (some_func ∷ []) [] (0 ∷ []) (0 ∷ []) (some_func, (refl, inr (inr (0, omega arith, refl))), (refl, refl)) valid refl)
+          (step (one context instr.Drop (some_func ∷ []) [] [] (0 ∷ []) (0 ∷ []) (some_func, (refl, refl)) none refl) (finished context [] (0 ∷ []) none))));
+    }

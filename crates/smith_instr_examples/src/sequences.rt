@@ -1,11 +1,12 @@
 ghost use Rattle.std.specs.Prelude.{List, [], ◌∷◌};
-ghost use Rattle.smith_types.specs.declared.value_type.ValType.TheVariants.{I32, I64};
+ghost use Rattle.smith_types.specs.declared.value_type.ValType.TheVariants.{I32, I64, Ref};
+ghost use Rattle.smith_types.specs.Flags.{funcref};
 ghost use Rattle.smith_instr.specs.declared.instr.Instr.TheVariants as instr;
 ghost use Rattle.smith_instr.specs.declared.control.BlockType.TheVariants as block;
 ghost use Rattle.smith_types.specs.declared.value_type.ValType.{ValType};
 ghost use Rattle.smith_instr.specs.Contexts.{BodyContext, labelled};
 ghost use Rattle.smith_instr.specs.InstrTypes.{HasInstrType};
-ghost use Rattle.smith_instr.specs.Sequences.{IsBodyTyped};
+ghost use Rattle.smith_instr.specs.Sequences.{stacked, AreTyped, IsBodyTyped};
 ghost use Rattle.smith_instr_examples.specs.ExampleBodies.{function_of, some_func, number, add};
 
 fn sums()
@@ -22,7 +23,13 @@ fn ends()
 
 fn locals()
     ensures with_a_default { IsBodyTyped (function_of (I32 ∷ []) (I32 ∷ [])) (instr.LocalGet 0 ∷ []) }
+    ensures read_after_it_is_set { IsBodyTyped (function_of (some_func ∷ []) []) (instr.Unreachable ∷ instr.LocalSet 0 ∷ instr.LocalGet 0 ∷ instr.Drop ∷ []) }
     ensures read_before_it_is_set { ¬ IsBodyTyped (function_of (some_func ∷ []) []) (instr.LocalGet 0 ∷ instr.Drop ∷ []) }
+{}
+
+fn weakening()
+    ensures to_a_type_above { AreTyped (function_of [] []) [] (stacked (some_func ∷ []) []) (stacked (Ref funcref ∷ []) []) }
+    ensures to_a_type_below { ¬ AreTyped (function_of [] []) [] (stacked (Ref funcref ∷ []) []) (stacked (some_func ∷ []) []) }
 {}
 
 fn branches()
