@@ -6,6 +6,7 @@ mod aggregate;
 mod atomic;
 mod control;
 mod instr;
+mod kind;
 /// Laws: functions that do nothing, whose clauses say what holds.
 pub mod laws;
 mod memory;
