@@ -1,5 +1,5 @@
 /// How the integer of a packed field is extended: the standard's section Structure, Aggregate Instructions.
-#[derive(Clone, Copy)]
+#[derive(Clone, Copy, Debug)]
 pub enum Extension {
     /// Not at all, where the field isn't packed.
     Unpacked,
@@ -11,7 +11,7 @@ pub enum Extension {
 
 /// An aggregate instruction: the standard's section Structure, Aggregate Instructions. Types, segments and fields are given by
 /// their indices.
-#[derive(Clone, Copy)]
+#[derive(Clone, Copy, Debug)]
 pub enum AggregateInstr {
     /// `struct.new` of a struct type.
     StructNew(u32),

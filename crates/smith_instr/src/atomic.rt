@@ -1,5 +1,5 @@
 /// The value of an atomic access, and the bytes of memory that it concerns: the threads proposal.
-#[derive(Clone, Copy)]
+#[derive(Clone, Copy, Debug)]
 pub enum AtomicWidth {
     I32,
     I64,
@@ -11,7 +11,7 @@ pub enum AtomicWidth {
 }
 
 /// How an atomic access updates a value: the threads proposal.
-#[derive(Clone, Copy)]
+#[derive(Clone, Copy, Debug)]
 pub enum AtomicUpdate {
     Add,
     Sub,
@@ -22,7 +22,7 @@ pub enum AtomicUpdate {
 }
 
 /// An atomic access to memory: the threads proposal.
-#[derive(Clone, Copy)]
+#[derive(Clone, Copy, Debug)]
 pub enum AtomicAccess {
     /// `memory.atomic.notify`.
     Notify,

@@ -1,7 +1,7 @@
 use smith_types::{RefType, ValType};
 
 /// The type of a block: the standard's section Structure, Control Instructions.
-#[derive(Clone, Copy)]
+#[derive(Clone, Copy, Debug)]
 pub enum BlockType {
     /// Neither parameters nor results.
     Empty,
@@ -12,7 +12,7 @@ pub enum BlockType {
 }
 
 /// A clause of `try_table`: the standard's section Structure, Control Instructions.
-#[derive(Clone, Copy)]
+#[derive(Clone, Copy, Debug)]
 pub enum Catch {
     /// `catch`: an exception of a tag goes to a label with its values.
     One { tag: u32, label: u32 },
@@ -25,7 +25,7 @@ pub enum Catch {
 }
 
 /// The immediates of `br_on_cast` and `br_on_cast_fail`: the standard's section Structure, Control Instructions.
-#[derive(Clone, Copy)]
+#[derive(Clone, Copy, Debug)]
 pub struct BranchCast {
     /// The label that the branch goes to.
     pub label: u32,

@@ -10,7 +10,7 @@ use smith_types::{Items, ValType};
 
 /// An instruction: the standard's section Structure, Instructions, flat as in its text and binary formats. A block, loop, if or
 /// `try_table` goes to its `End`. Labels, functions, types and other entities are given by their indices.
-#[derive(Drop)]
+#[derive(Debug, Drop)]
 pub enum Instr {
     /// `unreachable`.
     Unreachable,

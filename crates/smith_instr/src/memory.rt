@@ -1,5 +1,5 @@
 /// The value that a load gives, and what it reads: the standard's section Structure, Memory Instructions.
-#[derive(Clone, Copy)]
+#[derive(Clone, Copy, Debug)]
 pub enum Load {
     I32,
     I64,
@@ -18,7 +18,7 @@ pub enum Load {
 }
 
 /// The value that a store takes, and what it writes: the standard's section Structure, Memory Instructions.
-#[derive(Clone, Copy)]
+#[derive(Clone, Copy, Debug)]
 pub enum Store {
     I32,
     I64,
@@ -32,7 +32,7 @@ pub enum Store {
 }
 
 /// Where a memory is read or written: the standard's section Structure, Memory Instructions.
-#[derive(Clone, Copy)]
+#[derive(Clone, Copy, Debug)]
 pub struct MemArg {
     /// The binary logarithm of the alignment.
     pub align: u32,
@@ -43,7 +43,7 @@ pub struct MemArg {
 }
 
 /// An instruction on a whole memory or on a data segment: the standard's section Structure, Memory Instructions.
-#[derive(Clone, Copy)]
+#[derive(Clone, Copy, Debug)]
 pub enum MemoryInstr {
     /// `memory.size` of a memory.
     Size(u32),

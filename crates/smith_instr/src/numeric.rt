@@ -1,5 +1,5 @@
 /// An operator on one integer: the standard's section Structure, Numeric Instructions, iunop.
-#[derive(Clone, Copy)]
+#[derive(Clone, Copy, Debug)]
 pub enum IntUnary {
     Clz,
     Ctz,
@@ -7,7 +7,7 @@ pub enum IntUnary {
 }
 
 /// An operator on two integers: ibinop.
-#[derive(Clone, Copy)]
+#[derive(Clone, Copy, Debug)]
 pub enum IntBinary {
     Add,
     Sub,
@@ -27,7 +27,7 @@ pub enum IntBinary {
 }
 
 /// A comparison of two integers: irelop.
-#[derive(Clone, Copy)]
+#[derive(Clone, Copy, Debug)]
 pub enum IntCompare {
     Eq,
     Ne,
@@ -42,7 +42,7 @@ pub enum IntCompare {
 }
 
 /// An operator on one float: funop.
-#[derive(Clone, Copy)]
+#[derive(Clone, Copy, Debug)]
 pub enum FloatUnary {
     Abs,
     Neg,
@@ -54,7 +54,7 @@ pub enum FloatUnary {
 }
 
 /// An operator on two floats: fbinop.
-#[derive(Clone, Copy)]
+#[derive(Clone, Copy, Debug)]
 pub enum FloatBinary {
     Add,
     Sub,
@@ -66,7 +66,7 @@ pub enum FloatBinary {
 }
 
 /// A comparison of two floats: frelop.
-#[derive(Clone, Copy)]
+#[derive(Clone, Copy, Debug)]
 pub enum FloatCompare {
     Eq,
     Ne,
@@ -77,7 +77,7 @@ pub enum FloatCompare {
 }
 
 /// A conversion between number types: cvtop, but for those that saturate.
-#[derive(Clone, Copy)]
+#[derive(Clone, Copy, Debug)]
 pub enum Conversion {
     I32WrapI64,
     I64ExtendI32S,
@@ -107,7 +107,7 @@ pub enum Conversion {
 }
 
 /// A conversion of a float to an integer that saturates: cvtop, trunc_sat.
-#[derive(Clone, Copy)]
+#[derive(Clone, Copy, Debug)]
 pub enum SaturatingConversion {
     I32TruncSatF32S,
     I32TruncSatF32U,
@@ -120,7 +120,7 @@ pub enum SaturatingConversion {
 }
 
 /// An extension of a sign within an integer: iunop, extendN_s.
-#[derive(Clone, Copy)]
+#[derive(Clone, Copy, Debug)]
 pub enum SignExtension {
     I32From8,
     I32From16,
@@ -130,7 +130,7 @@ pub enum SignExtension {
 }
 
 /// Arithmetic on integers of 128 bits, each as two of 64: the wide arithmetic proposal.
-#[derive(Clone, Copy)]
+#[derive(Clone, Copy, Debug)]
 pub enum WideArithmetic {
     Add128,
     Sub128,
@@ -139,7 +139,7 @@ pub enum WideArithmetic {
 }
 
 /// A numeric instruction without immediates: the standard's section Structure, Numeric Instructions.
-#[derive(Clone, Copy)]
+#[derive(Clone, Copy, Debug)]
 pub enum NumericInstr {
     I32Unary(IntUnary),
     I64Unary(IntUnary),

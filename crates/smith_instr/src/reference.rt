@@ -1,7 +1,7 @@
 use smith_types::{HeapType, RefType};
 
 /// A reference instruction: the standard's section Structure, Reference Instructions.
-#[derive(Clone, Copy)]
+#[derive(Clone, Copy, Debug)]
 pub enum ReferenceInstr {
     /// `ref.null` of a heap type.
     Null(HeapType),

@@ -1,5 +1,5 @@
 /// A table instruction: the standard's section Structure, Table Instructions.
-#[derive(Clone, Copy)]
+#[derive(Clone, Copy, Debug)]
 pub enum TableInstr {
     /// `table.get` of a table.
     Get(u32),

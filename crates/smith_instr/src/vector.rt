@@ -1,5 +1,5 @@
 /// The lanes of a vector of integers: the standard's section Structure, Vector Instructions, ishape.
-#[derive(Clone, Copy)]
+#[derive(Clone, Copy, Debug)]
 pub enum IntShape {
     I8x16,
     I16x8,
@@ -8,7 +8,7 @@ pub enum IntShape {
 }
 
 /// The lanes of a vector: the standard's section Structure, Vector Instructions, shape.
-#[derive(Clone, Copy)]
+#[derive(Clone, Copy, Debug)]
 pub enum LaneShape {
     I8x16,
     I16x8,
@@ -20,7 +20,7 @@ pub enum LaneShape {
 
 /// The lane that is extracted, and how its integer is extended: the standard's section Structure, Vector Instructions,
 /// extract_lane.
-#[derive(Clone, Copy)]
+#[derive(Clone, Copy, Debug)]
 pub enum LaneExtract {
     I8x16S,
     I8x16U,
@@ -33,7 +33,7 @@ pub enum LaneExtract {
 }
 
 /// An operator on one vector that concerns no floats: the standard's section Structure, Vector Instructions.
-#[derive(Clone, Copy)]
+#[derive(Clone, Copy, Debug)]
 pub enum VectorUnary {
     V128Not,
     I8x16Abs,
@@ -64,7 +64,7 @@ pub enum VectorUnary {
 }
 
 /// An operator on one vector that concerns floats: the standard's section Structure, Vector Instructions.
-#[derive(Clone, Copy)]
+#[derive(Clone, Copy, Debug)]
 pub enum VectorFloatUnary {
     F32x4Abs,
     F32x4Neg,
@@ -93,7 +93,7 @@ pub enum VectorFloatUnary {
 }
 
 /// An operator on two vectors that concerns no floats: the standard's section Structure, Vector Instructions.
-#[derive(Clone, Copy)]
+#[derive(Clone, Copy, Debug)]
 pub enum VectorBinary {
     V128And,
     V128AndNot,
@@ -190,7 +190,7 @@ pub enum VectorBinary {
 }
 
 /// An operator on two vectors that concerns floats: the standard's section Structure, Vector Instructions.
-#[derive(Clone, Copy)]
+#[derive(Clone, Copy, Debug)]
 pub enum VectorFloatBinary {
     F32x4Eq,
     F32x4Ne,
@@ -223,7 +223,7 @@ pub enum VectorFloatBinary {
 }
 
 /// A shift of each lane: the standard's section Structure, Vector Instructions, vishiftop.
-#[derive(Clone, Copy)]
+#[derive(Clone, Copy, Debug)]
 pub enum VectorShift {
     Shl,
     ShrS,
@@ -231,7 +231,7 @@ pub enum VectorShift {
 }
 
 /// A relaxed operator on one vector: the standard's section Structure, Vector Instructions. All concern floats.
-#[derive(Clone, Copy)]
+#[derive(Clone, Copy, Debug)]
 pub enum RelaxedFloatUnary {
     I32x4TruncF32x4S,
     I32x4TruncF32x4U,
@@ -240,7 +240,7 @@ pub enum RelaxedFloatUnary {
 }
 
 /// A relaxed operator on two vectors that concerns no floats: the standard's section Structure, Vector Instructions.
-#[derive(Clone, Copy)]
+#[derive(Clone, Copy, Debug)]
 pub enum RelaxedBinary {
     I8x16Swizzle,
     I16x8Q15MulrS,
@@ -248,7 +248,7 @@ pub enum RelaxedBinary {
 }
 
 /// A relaxed operator on two vectors that concerns floats: the standard's section Structure, Vector Instructions.
-#[derive(Clone, Copy)]
+#[derive(Clone, Copy, Debug)]
 pub enum RelaxedFloatBinary {
     F32x4Min,
     F32x4Max,
@@ -257,7 +257,7 @@ pub enum RelaxedFloatBinary {
 }
 
 /// A relaxed operator on three vectors that concerns no floats: the standard's section Structure, Vector Instructions.
-#[derive(Clone, Copy)]
+#[derive(Clone, Copy, Debug)]
 pub enum RelaxedTernary {
     I8x16Laneselect,
     I16x8Laneselect,
@@ -267,7 +267,7 @@ pub enum RelaxedTernary {
 }
 
 /// A relaxed operator on three vectors that concerns floats: the standard's section Structure, Vector Instructions.
-#[derive(Clone, Copy)]
+#[derive(Clone, Copy, Debug)]
 pub enum RelaxedFloatTernary {
     F32x4Madd,
     F32x4Nmadd,
@@ -277,7 +277,7 @@ pub enum RelaxedFloatTernary {
 
 /// A vector instruction that accesses no memory: the standard's section Structure, Vector Instructions. A lane is given by its
 /// index.
-#[derive(Clone, Copy)]
+#[derive(Clone, Copy, Debug)]
 pub enum VectorInstr {
     Unary(VectorUnary),
     FloatUnary(VectorFloatUnary),
@@ -308,7 +308,7 @@ pub enum VectorInstr {
 }
 
 /// A load of a vector: the standard's section Structure, Memory Instructions, vloadop.
-#[derive(Clone, Copy)]
+#[derive(Clone, Copy, Debug)]
 pub enum VectorLoad {
     V128,
     I8x8S,
