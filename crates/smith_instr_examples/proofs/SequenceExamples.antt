@@ -8,6 +8,9 @@ use Rattle.smith_types.specs.Subtyping.{IsValBelow, itself}
 use Rattle.smith_types.specs.declared.value_type.ValType.{ValType}
 use Rattle.smith_types.specs.declared.value_type.ValType.TheVariants.{I32, I64, Ref}
 use Rattle.smith_types.specs.Flags.{funcref}
+use Rattle.smith_types.specs.ExampleFeatures.{usual_features}
+use Rattle.smith_types.specs.ExampleTypes.{final_type}
+use Rattle.smith_types.specs.declared.composite_type.CompositeInnerType.TheVariants.{Func}
 use Rattle.smith_instr.specs.Contexts.{BodyContext, labelled, IsValid, AreValid, IsBlockType}
 use Rattle.smith_instr.specs.InstrTypes.{HasInstrType}
 use Rattle.smith_instr.specs.Sequences.{Stacked, stacked, CountsAs, IsStep, AreTyped, IsBodyTyped, nothing, step, block, loop, if_alone, if_else, try_table}
@@ -16,7 +19,7 @@ use Rattle.smith_instr.specs.declared.control.BlockType.TheVariants as blocks
 use Rattle.smith_instr.specs.declared.instr.Instr.{Instr}
 use Rattle.smith_instr.specs.declared.instr.Instr.TheVariants as instr
 use Rattle.smith_instr.proofs.SequenceLemmas.{one, framed, finished, count_as_themselves}
-use Rattle.smith_instr_examples.specs.ExampleBodies.{function_of, some_func, number, add}
+use Rattle.smith_instr_examples.specs.ExampleBodies.{weakens, function_of, some_func, number, add}
 
 -- an instruction that opens nothing
 pub is_plain : Instr → Bool
@@ -224,11 +227,30 @@ pub if_for_a_result : IsBodyTyped (function_of [] (I32 ∷ [])) (number 1 ∷ in
 unfolding is_plain
 if_for_a_result body = let (a, first, rest) = step_of refl body.typed in no_if rest
 
+funcref_valid : (context : BodyContext) → context.features ≡ usual_features → AreValid context (Ref funcref ∷ [])
+funcref_valid context is =
+    valid_one context (Ref funcref) (rw is refl, record { heap_type = (tt, λ never. cc); nullable = λ is. cc })
+
+weakened : (context : BodyContext) → context.features ≡ usual_features → CountsAs context (some_func ∷ []) (Ref funcref ∷ [])
+weakened context is = record { below = (record { heap = itself; nullable = λ is. refl }, tt); valid = funcref_valid context is }
+
 pub to_above : AreTyped (function_of [] []) [] (stacked (some_func ∷ []) []) (stacked (Ref funcref ∷ []) [])
-to_above = nothing (record {
-  below = (record { heap = itself; nullable = λ is. refl }, tt);
-  valid = valid_one (function_of [] []) (Ref funcref) (refl, record { heap_type = (tt, λ never. cc); nullable = λ is. refl });
-}) refl
+to_above = nothing (weakened (function_of [] []) refl) refl
+
+pub by_a_block : AreTyped (function_of [] []) (instr.Block (blocks.Func 4) ∷ instr.End ∷ []) (stacked (some_func ∷ []) []) (stacked (Ref funcref ∷ []) [])
+by_a_block =
+    let context = function_of [] [] in
+    let valid = funcref_valid context refl in
+    block {body = []} {more = []} {params = some_func ∷ []} {results = Ref funcref ∷ []} refl (weakens, (final_type (Func weakens), refl, refl), refl, refl)
+    (nothing (weakened (labelled context (Ref funcref ∷ [])) refl) refl) (framed context (some_func ∷ []) (Ref funcref ∷ []) [] [] [] [] valid refl) (finished context (Ref funcref ∷ []) [] valid)
+
+pub by_an_if : AreTyped (function_of [] []) (instr.If (blocks.Func 4) ∷ instr.End ∷ []) (stacked (some_func ∷ I32 ∷ []) []) (stacked (Ref funcref ∷ []) [])
+by_an_if =
+    let context = function_of [] [] in
+    let valid = funcref_valid context refl in
+    if_alone {body = []} {more = []} {params = some_func ∷ []} {results = Ref funcref ∷ []} refl (weakens, (final_type (Func weakens), refl, refl), refl, refl)
+    (nothing (weakened (labelled context (Ref funcref ∷ [])) refl) refl) (weakened context refl)
+    (framed context (some_func ∷ I32 ∷ []) (Ref funcref ∷ []) [] [] [] [] valid refl) (finished context (Ref funcref ∷ []) [] valid)
 
 pub to_below : AreTyped (function_of [] []) [] (stacked (Ref funcref ∷ []) []) (stacked (some_func ∷ []) []) → ⊥
 to_below typed = let never : ◌≡◌ {A = Bool} false true = (end_of typed).below.0.nullable refl in cc

@@ -1,14 +1,15 @@
 -- Contexts and instructions that the examples speak of.
 use Rattle.std.specs.Prelude.{ℕ, true, false, List, [], ◌∷◌, pos, None}
 use Rattle.smith_types.specs.ExampleFeatures.{usual_features}
-use Rattle.smith_types.specs.ExampleTypes.{final_type, plain_func, struct, taking, constant, variable, not_null, nullable, plain}
+use Rattle.smith_types.specs.ExampleTypes.{func, final_type, plain_func, struct, taking, constant, variable, not_null, nullable, plain}
 use Rattle.smith_types.specs.ExampleEntities.{constant_global, variable_global}
 use Rattle.smith_types.specs.Flags.{funcref}
 use Rattle.smith_types.specs.declared.value_type.AbstractHeapType.TheVariants as heap
 use Rattle.smith_types.specs.declared.value_type.ValType.{ValType}
 use Rattle.smith_types.specs.declared.value_type.ValType.TheVariants.{I32, I64, Ref}
 use Rattle.smith_types.specs.declared.composite_type.StorageType.TheVariants.{I8, Val}
-use Rattle.smith_types.specs.declared.composite_type.CompositeInnerType.TheVariants.{Array}
+use Rattle.smith_types.specs.declared.composite_type.CompositeInnerType.TheVariants.{Array, Func}
+use Rattle.smith_types.specs.declared.composite_type.FuncType.{FuncType}
 use Rattle.smith_types.specs.declared.entity_type.MemoryType.{MemoryType}
 use Rattle.smith_types.specs.declared.entity_type.TableType.{TableType}
 use Rattle.smith_types.specs.Instructions.{kind_bits}
@@ -32,14 +33,22 @@ wide_memory = record narrow_memory { memory64 = true }
 abbrev pub functions : TableType
 functions = record { element_type = funcref; minimum = 1; maximum = None; table64 = false; shared = false }
 
+-- a reference to a function that may not be null
+abbrev pub some_func : ValType
+some_func = Ref (not_null (plain heap.Func))
+
+-- what takes such a reference, and gives one that may be null
+abbrev pub weakens : FuncType
+weakens = func some_func (Ref funcref)
+
 -- a function without parameters, with these locals and results. There are a function type without parameters, one with an i32, a
--- struct of a constant packed field and a variable i64, and an array of variable i32; two functions, of which the last may be
+-- struct of a constant packed field and a variable i64, an array of variable i32, and a function type that weakens a reference; two functions, of which the last may be
 -- named by `ref.func`; memories of either width, a table, a constant global and a variable one, a tag with an i32, an element
 -- segment and a data segment
 abbrev pub function_of : List ValType → List ValType → BodyContext
 function_of locals results = record {
   features = usual_features;
-  types = final_type plain_func ∷ final_type (taking (I32 ∷ [])) ∷ final_type (struct (constant I8 ∷ variable (Val I64) ∷ [])) ∷ final_type (Array (record { 0 = variable (Val I32) })) ∷ [];
+  types = final_type plain_func ∷ final_type (taking (I32 ∷ [])) ∷ final_type (struct (constant I8 ∷ variable (Val I64) ∷ [])) ∷ final_type (Array (record { 0 = variable (Val I32) })) ∷ final_type (Func weakens) ∷ [];
   funcs = 0 ∷ 1 ∷ [];
   imported_funcs = 0;
   tables = functions ∷ [];
@@ -54,10 +63,6 @@ function_of locals results = record {
   labels = [];
   results = results;
 }
-
--- a reference to a function that may not be null
-abbrev pub some_func : ValType
-some_func = Ref (not_null (plain heap.Func))
 
 -- the reference to any exception
 abbrev pub exnref : ValType

@@ -29,6 +29,8 @@ fn locals()
 
 fn weakening()
     ensures to_a_type_above { AreTyped (function_of [] []) [] (stacked (some_func ∷ []) []) (stacked (Ref funcref ∷ []) []) }
+    ensures by_an_empty_block { AreTyped (function_of [] []) (instr.Block (block.Func 4) ∷ instr.End ∷ []) (stacked (some_func ∷ []) []) (stacked (Ref funcref ∷ []) []) }
+    ensures by_an_if_without_else { AreTyped (function_of [] []) (instr.If (block.Func 4) ∷ instr.End ∷ []) (stacked (some_func ∷ I32 ∷ []) []) (stacked (Ref funcref ∷ []) []) }
     ensures to_a_type_below { ¬ AreTyped (function_of [] []) [] (stacked (Ref funcref ∷ []) []) (stacked (some_func ∷ []) []) }
 {}
 
