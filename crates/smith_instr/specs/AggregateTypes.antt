@@ -36,7 +36,7 @@ pub record IsFieldAt (context : BodyContext) (ty index : ℕ) (field : FieldType
   pub structure : IsStructAt context.types ty fields
   pub there : slice_get fields index ≡ Some field
 
--- an element segment whose references may stand in an array of this element
+-- an element segment whose references an array of this element may hold
 pub record IsSegmentOf (context : BodyContext) (segment : ℕ) (element : FieldType) : Type 0 where
   pub held : RefType
   pub there : slice_get context.elements segment ≡ Some held

@@ -81,7 +81,7 @@ store_kind store.F32 = kind.Memory
 store_kind store.F64 = kind.Memory
 store_kind _ = kind.MemoryInt
 
--- the kind of an instruction: the section of chapter Structure, Instructions, in which it stands; atomic ones, of which the
+-- the kind of an instruction: its section of chapter Structure, Instructions; atomic ones, of which the
 -- standard has none, count among those of memories (own rule)
 abbrev pub instr_kind : Instr → InstructionKind
 instr_kind instr.Drop = kind.Parametric

@@ -48,8 +48,7 @@ IsTaken context values label = (taken : List ValType) × IsLabel context label t
 abbrev pub Leaves : BodyContext → List ValType → List ValType → List ValType → Type 0
 Leaves context operands results taken = (below : List ValType) × (operands ≡ below ++ taken) × AreValid context results
 
--- what a function gives, the function of the body may return (Validation, Control
--- Instructions, return_call)
+-- what a function gives, the function of the body may return (Validation, Control Instructions, return_call)
 abbrev pub ReturnsFrom : BodyContext → FuncType → Type 0
 ReturnsFrom context function = AreBelow context function.results context.results
 

@@ -24,7 +24,7 @@ pub record CountsAs (context : BodyContext) (values given : List ValType) : Type
   pub below : AreBelow context values given
   pub valid : AreValid context given
 
--- what takes these operands and gives these results may stand where values below the operands are on top, and what it gives
+-- what takes these operands and gives these results may come where values below the operands are on top, and what it gives
 -- counts as values above the results; the rest of the stack stays, and some locals are set (Validation, Instruction Sequences,
 -- frame and subsumption)
 pub record IsFramed (context : BodyContext) (operands results : List ValType) (set : List ℕ) (before after : Stacked) : Type 0 where

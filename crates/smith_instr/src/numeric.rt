@@ -141,24 +141,40 @@ pub enum WideArithmetic {
 /// A numeric instruction without immediates: the standard's section Structure, Numeric Instructions.
 #[derive(Clone, Copy, Debug)]
 pub enum NumericInstr {
+    /// A unary operator of `i32`.
     I32Unary(IntUnary),
+    /// A unary operator of `i64`.
     I64Unary(IntUnary),
+    /// A unary operator of `f32`.
     F32Unary(FloatUnary),
+    /// A unary operator of `f64`.
     F64Unary(FloatUnary),
+    /// A binary operator of `i32`.
     I32Binary(IntBinary),
+    /// A binary operator of `i64`.
     I64Binary(IntBinary),
+    /// A binary operator of `f32`.
     F32Binary(FloatBinary),
+    /// A binary operator of `f64`.
     F64Binary(FloatBinary),
     /// `i32.eqz`.
     I32Eqz,
     /// `i64.eqz`.
     I64Eqz,
+    /// A comparison of `i32`.
     I32Compare(IntCompare),
+    /// A comparison of `i64`.
     I64Compare(IntCompare),
+    /// A comparison of `f32`.
     F32Compare(FloatCompare),
+    /// A comparison of `f64`.
     F64Compare(FloatCompare),
+    /// A conversion that doesn't saturate.
     Convert(Conversion),
+    /// A conversion that saturates.
     Saturate(SaturatingConversion),
+    /// An extension of a sign.
     Extend(SignExtension),
+    /// Wide arithmetic.
     Wide(WideArithmetic),
 }

@@ -279,9 +279,13 @@ pub enum RelaxedFloatTernary {
 /// index.
 #[derive(Clone, Copy, Debug)]
 pub enum VectorInstr {
+    /// An operator on one vector, without floats.
     Unary(VectorUnary),
+    /// An operator on one vector, with floats.
     FloatUnary(VectorFloatUnary),
+    /// An operator on two vectors, without floats.
     Binary(VectorBinary),
+    /// An operator on two vectors, with floats.
     FloatBinary(VectorFloatBinary),
     /// `v128.bitselect`.
     Bitselect,
@@ -291,6 +295,7 @@ pub enum VectorInstr {
     AllTrue(IntShape),
     /// `bitmask` of a shape.
     Bitmask(IntShape),
+    /// A shift of the lanes of a shape.
     Shift(VectorShift, IntShape),
     /// `splat` of a shape.
     Splat(LaneShape),
@@ -300,10 +305,15 @@ pub enum VectorInstr {
     ReplaceLane(LaneShape, u8),
     /// `i8x16.shuffle`, with the lanes of both operands that the result takes.
     Shuffle([u8; 16]),
+    /// A relaxed operator on one vector, with floats.
     RelaxedFloatUnary(RelaxedFloatUnary),
+    /// A relaxed operator on two vectors, without floats.
     RelaxedBinary(RelaxedBinary),
+    /// A relaxed operator on two vectors, with floats.
     RelaxedFloatBinary(RelaxedFloatBinary),
+    /// A relaxed operator on three vectors, without floats.
     RelaxedTernary(RelaxedTernary),
+    /// A relaxed operator on three vectors, with floats.
     RelaxedFloatTernary(RelaxedFloatTernary),
 }
 
