@@ -1,0 +1,2 @@
+pub mod SequenceLemmas
+pub mod CompositionLemmas

@@ -1,0 +1,112 @@
+-- What an instruction may refer to: the section Validation, Contexts, of the WebAssembly Core Specification 3.0.
+use Rattle.std.specs.Prelude.{◌≡◌, ◌⊎◌, ℕ, ◌<◌, Bool, true, nat_le, List, [], ◌∷◌, length, slice_get, Some, All, if◌then◌else◌}
+use Rattle.std.specs.List.{AllZip, Contains}
+use Rattle.smith_types.specs.Features.{Features}
+use Rattle.smith_types.specs.Entities.{IsFuncAt}
+use Rattle.smith_types.specs.Expressions.{IsDefaultable, reference_to}
+use Rattle.smith_types.specs.Subtyping.{IsValBelow}
+use Rattle.smith_types.specs.ValidTypes.{IsValTypeValid, IsHeapTypeValid, IsRefTypeValid}
+use Rattle.smith_types.specs.declared.value_type.HeapType.{HeapType}
+use Rattle.smith_types.specs.declared.value_type.HeapType.TheVariants.{Concrete, Exact}
+use Rattle.smith_types.specs.declared.value_type.RefType.{RefType}
+use Rattle.smith_types.specs.declared.value_type.ValType.{ValType}
+use Rattle.smith_types.specs.declared.value_type.ValType.TheVariants.{I32, I64, Ref}
+use Rattle.smith_types.specs.declared.composite_type.FuncType.{FuncType}
+use Rattle.smith_types.specs.declared.composite_type.SubType.{SubType}
+use Rattle.smith_types.specs.declared.entity_type.GlobalType.{GlobalType}
+use Rattle.smith_types.specs.declared.entity_type.MemoryType.{MemoryType}
+use Rattle.smith_types.specs.declared.entity_type.TableType.{TableType}
+use Rattle.smith_instr.specs.declared.control.BlockType.{BlockType}
+use Rattle.smith_instr.specs.declared.control.BlockType.TheVariants as block
+
+-- the types and the index spaces, functions and tags by the indices of their types, element segments by their types, data
+-- segments by their number; the functions that `ref.func` may name; the locals, the parameters first; what a branch to each
+-- label takes, the innermost label first; and the results of the function. Imported functions come first
+pub record BodyContext : Type 0 where
+  pub features : Features
+  pub types : List SubType
+  pub funcs : List ℕ
+  pub imported_funcs : ℕ
+  pub tables : List TableType
+  pub memories : List MemoryType
+  pub globals : List GlobalType
+  pub tags : List ℕ
+  pub elements : List RefType
+  pub datas : ℕ
+  pub references : List ℕ
+  pub locals : List ValType
+  pub params : ℕ
+  pub labels : List (List ValType)
+  pub results : List ValType
+
+-- the context with one label more
+abbrev pub labelled : BodyContext → List ValType → BodyContext
+labelled context taken = record context { labels = taken ∷ context.labels }
+
+-- a value type that is valid (Validation, Value Types)
+abbrev pub IsValid : BodyContext → ValType → Type 0
+IsValid context value = IsValTypeValid context.features (length context.types) value
+
+-- value types that are (Validation, Result Types)
+abbrev pub AreValid : BodyContext → List ValType → Type 0
+AreValid context values = All (IsValid context) values
+
+-- a heap type that is valid (Validation, Heap Types)
+abbrev pub IsHeapValid : BodyContext → HeapType → Type 0
+IsHeapValid context heap_type = IsHeapTypeValid context.features (length context.types) heap_type
+
+-- a reference type that is valid (Validation, Reference Types)
+abbrev pub IsRefValid : BodyContext → RefType → Type 0
+IsRefValid context reference = IsRefTypeValid context.features (length context.types) reference
+
+-- types, each below the other's (Validation, Matching, Result Types)
+abbrev pub AreBelow : BodyContext → List ValType → List ValType → Type 0
+AreBelow context values others = AllZip (IsValBelow context.types) values others
+
+-- a local of this type, which is set: a parameter, one that has a default, or one that was set (Validation, Local Types;
+-- Functions)
+abbrev pub IsLocalSet : BodyContext → List ℕ → ℕ → ValType → Type 0
+IsLocalSet context set index value =
+    (slice_get context.locals index ≡ Some value) × ((index < context.params) ⊎ (IsDefaultable value ⊎ Contains set index))
+
+-- a function of this type
+abbrev pub IsFunction : BodyContext → ℕ → FuncType → Type 0
+IsFunction context index function = (ty : ℕ) × (slice_get context.funcs index ≡ Some ty) × IsFuncAt context.types ty function
+
+-- a tag whose exceptions hold these values (Validation, Tag Types)
+abbrev pub IsTag : BodyContext → ℕ → List ValType → Type 0
+IsTag context index values =
+    (ty : ℕ) × (slice_get context.tags index ≡ Some ty) × IsFuncAt context.types ty (record { params = values; results = [] })
+
+-- a reference that may be null
+abbrev pub nullable_to : HeapType → ValType
+nullable_to heap_type = Ref (record { nullable = true; heap_type = heap_type })
+
+-- the reference to a value that is created, or to a defined function, of a type: exact with custom descriptors (own rule)
+abbrev pub created_reference : BodyContext → ℕ → ValType
+created_reference context index = reference_to (if context.features.custom_descriptors then Exact index else Concrete index)
+
+-- the reference to a function whose type has this index: an imported one is not known exactly (own rule)
+abbrev pub reference_to_function : BodyContext → ℕ → ℕ → ValType
+reference_to_function context function index =
+    if nat_le context.imported_funcs function then created_reference context index else reference_to (Concrete index)
+
+-- the type of an address of a memory or a table (Validation, Address Types)
+abbrev pub address : Bool → ValType
+address wide = if wide then I64 else I32
+
+-- the parameters and the results of a block over types (Validation, Block Types)
+abbrev pub IsBlockTypeOver : Features → List SubType → BlockType → List ValType → List ValType → Type 0
+IsBlockTypeOver features types block.Empty params results = (params ≡ []) × (results ≡ [])
+IsBlockTypeOver features types (block.Value value) params results =
+    IsValTypeValid features (length types) value × (params ≡ []) × (results ≡ value ∷ [])
+IsBlockTypeOver features types (block.Func index) params results =
+    (function : FuncType) × IsFuncAt types index function × (params ≡ function.params) × (results ≡ function.results)
+
+-- the parameters and the results of a block
+abbrev pub IsBlockType : BodyContext → BlockType → List ValType → List ValType → Type 0
+IsBlockType context ty params results = IsBlockTypeOver context.features context.types ty params results
+
+-- operands and results are these
+abbrev pub To : List ValType → List ValType → List ValType → List ValType → Type 0
+To operands results these those = (operands ≡ these) × (results ≡ those)

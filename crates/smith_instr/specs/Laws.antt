@@ -1,0 +1,18 @@
+-- Laws of the rules of typing.
+use Rattle.std.specs.Prelude.{List, ◌++◌}
+use Rattle.smith_types.specs.declared.value_type.ValType.{ValType}
+use Rattle.smith_instr.specs.Contexts.{BodyContext}
+use Rattle.smith_instr.specs.Sequences.{Stacked, stacked, CountsAs, AreTyped}
+use Rattle.smith_instr.specs.declared.instr.Instr.{Instr}
+
+-- one sequence after another takes the first's stack to the second's
+abbrev pub SequencesCompose : Type 0
+SequencesCompose =
+    (context : BodyContext) (first second : List Instr) (before between after : Stacked)
+    → AreTyped context first before between → AreTyped context second between after → AreTyped context (first ++ second) before after
+
+-- what is typed from some values is typed from values that count as them
+abbrev pub SequencesTakeValuesBelow : Type 0
+SequencesTakeValuesBelow =
+    (context : BodyContext) (sequence : List Instr) (before after : Stacked) (values : List ValType)
+    → CountsAs context values before.stack → AreTyped context sequence before after → AreTyped context sequence (stacked values before.set) after

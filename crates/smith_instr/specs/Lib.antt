@@ -1,0 +1,10 @@
+pub mod Contexts
+pub mod NumericTypes
+pub mod ReferenceTypes
+pub mod MemoryTypes
+pub mod VectorTypes
+pub mod AggregateTypes
+pub mod InstrTypes
+pub mod Sequences
+pub mod Enabled
+pub mod Laws

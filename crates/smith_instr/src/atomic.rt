@@ -1,0 +1,41 @@
+/// The value of an atomic access, and the bytes of memory that it concerns: the threads proposal.
+#[derive(Clone, Copy, Debug)]
+pub enum AtomicWidth {
+    I32,
+    I64,
+    I32Of8,
+    I32Of16,
+    I64Of8,
+    I64Of16,
+    I64Of32,
+}
+
+/// How an atomic access updates a value: the threads proposal.
+#[derive(Clone, Copy, Debug)]
+pub enum AtomicUpdate {
+    Add,
+    Sub,
+    And,
+    Or,
+    Xor,
+    Exchange,
+}
+
+/// An atomic access to memory: the threads proposal.
+#[derive(Clone, Copy, Debug)]
+pub enum AtomicAccess {
+    /// `memory.atomic.notify`.
+    Notify,
+    /// `memory.atomic.wait32`.
+    Wait32,
+    /// `memory.atomic.wait64`.
+    Wait64,
+    /// An atomic load.
+    Load(AtomicWidth),
+    /// An atomic store.
+    Store(AtomicWidth),
+    /// A read, an update and a write at once.
+    Update(AtomicUpdate, AtomicWidth),
+    /// A compare and an exchange at once.
+    CompareExchange(AtomicWidth),
+}

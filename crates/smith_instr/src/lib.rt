@@ -1,0 +1,33 @@
+//! Instructions of function bodies as plain data, and the rules by which they are typed. The standard is the WebAssembly Core
+//! Specification 3.0.
+#![tactic(auto)]
+
+mod aggregate;
+mod atomic;
+mod control;
+mod instr;
+mod kind;
+/// Laws: functions that do nothing, whose clauses say what holds.
+pub mod laws;
+mod memory;
+mod numeric;
+mod reference;
+mod table;
+mod vector;
+
+pub use aggregate::{AggregateInstr, Extension};
+pub use atomic::{AtomicAccess, AtomicUpdate, AtomicWidth};
+pub use control::{BlockType, BranchCast, Catch};
+pub use instr::Instr;
+pub use memory::{Load, MemArg, MemoryInstr, Store};
+pub use numeric::{
+    Conversion, FloatBinary, FloatCompare, FloatUnary, IntBinary, IntCompare, IntUnary,
+    NumericInstr, SaturatingConversion, SignExtension, WideArithmetic,
+};
+pub use reference::ReferenceInstr;
+pub use table::TableInstr;
+pub use vector::{
+    IntShape, LaneExtract, LaneShape, RelaxedBinary, RelaxedFloatBinary, RelaxedFloatTernary,
+    RelaxedFloatUnary, RelaxedTernary, VectorBinary, VectorFloatBinary, VectorFloatUnary,
+    VectorInstr, VectorLoad, VectorShift, VectorUnary,
+};

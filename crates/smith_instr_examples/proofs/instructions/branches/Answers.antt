@@ -1,0 +1,7 @@
+use Rattle.std.proofs.Common.{[], refl}
+use Rattle.smith_types.specs.declared.value_type.AbstractHeapType.TheVariants as heap
+use Rattle.smith_types.specs.ExampleTypes.{not_null, plain}
+use Rattle.smith_instr_examples.proofs.instructions.branches.Goals as goal
+
+pub returns-clause-br_on_non_null : goal.returns-clause-br_on_non_null
+returns-clause-br_on_non_null c = ([], not_null (plain heap.Func), refl, (refl, refl))

@@ -1,0 +1,7 @@
+use Rattle.std.proofs.Common.{[], ◌∷◌, refl}
+use Rattle.smith_types.specs.declared.value_type.ValType.TheVariants.{I32}
+use Rattle.smith_types.specs.ExampleTypes.{final_type, taking}
+use Rattle.smith_instr_examples.proofs.instructions.calls.Goals as goal
+
+pub returns-clause-of_its_parameter : goal.returns-clause-of_its_parameter
+returns-clause-of_its_parameter c = (record { params = I32 ∷ []; results = [] }, (1, refl, (final_type (taking (I32 ∷ [])), refl, refl)), (refl, refl))

@@ -1,0 +1,7 @@
+//! Instructions and bodies that meet the rules of typing, and ones that do not. The clauses are proved, and nothing calls these
+//! functions.
+#![tactic(auto)]
+
+mod enabled;
+mod instructions;
+mod sequences;
