@@ -16,6 +16,8 @@ pub mod WalkLemmas
 pub mod KindCountLemmas
 pub mod PlaceLemmas
 pub mod FamilyLemmas
+pub mod GroundLemmas
+pub mod GroundedLemmas
 pub mod FeatureBitLemmas
 pub mod PartLemmas
 pub mod KindLemmas
