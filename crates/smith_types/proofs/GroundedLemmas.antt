@@ -1,7 +1,7 @@
 -- What is kept of types that ground others says which heap types structs ground.
-use Rattle.std.proofs.Common.{◌≡◌, ◌×◌, ◌↔◌, ℕ, zero, suc, ◌<◌, Bool, true, false, List, [], ◌∷◌, Some, IsTrue, get_or, length, refl, sym, ◌∙◌, ap, subst}
-use Rattle.std.specs.Prelude.{slice_get, All, Each, not, ◌&&◌, ◌||◌, if◌then◌else◌}
-use Rattle.std.specs.List.{list_any}
+use Rattle.std.proofs.Common.{◌≡◌, ◌↔◌, ℕ, zero, suc, ◌<◌, Bool, true, false, List, [], ◌∷◌, Some, IsTrue, get_or, length, refl, sym, ◌∙◌, ap, subst, arith, ◌≤◌}
+use Rattle.std.specs.Prelude.{slice_get, All, not, ◌&&◌, ◌||◌, if◌then◌else◌}
+use Rattle.std.specs.List.{list_any, AllByRecursion as Each}
 use Rattle.std.proofs.lemmas.List.Elements.{All-from_recursion, recursion_from_All}
 use Rattle.std.proofs.lemmas.Option.{slice_get-get_or, same_Some}
 use Rattle.smith_types.specs.declared.value_type.AbstractHeapType.{AbstractHeapType}
@@ -18,7 +18,7 @@ use Rattle.smith_types.specs.declared.ground.Ground.{Ground}
 use Rattle.smith_types.specs.declared.ground.GroundKinds.{GroundKinds}
 use Rattle.smith_types.specs.Kinds.{kind_of, shared}
 use Rattle.smith_types.specs.Types.{IsOrderly}
-use Rattle.smith_types.specs.Subtyping.{is_abstract_below, IsBelow, itself}
+use Rattle.smith_types.specs.Subtyping.{is_abstract_below, IsBelow, itself, IsInRange}
 use Rattle.smith_types.specs.Expressions.{IsDefaultable, field_values, unpacked}
 use Rattle.smith_types.specs.Grounded.{IsGroundedBy, IsGroundedByStructs, is_defaultable, are_defaultable, is_inner_ground, is_ground, is_ground_of, kind_at, IsGroundBelow, AreGrounds, AreGroundKinds}
 use Rattle.smith_types.proofs.GrowthLemmas.{IsBelow-trans}
@@ -175,3 +175,49 @@ abstract_grounded types now kinds descriptors s b view o h =
           let is : is_ground t ≡ true = ap is_ground same ∙ on in
           both_are (kind_at kinds s) (is_abstract_below heap.Struct b) (h.each s ∙ at_any (is_ground_of s) types i t at (kind_of_ground s t is shares)) (sym (struct_of t.composite_type.inner b is) ∙ below),
     )
+
+-- what is decided of a heap type, read as code reads it
+pub and_on : (k x r : Bool) → k ≡ true → r ≡ x → r ≡ (k && x)
+and_on k x r on is = rw on is
+
+pub and_off : (k x r : Bool) → k ≡ false → r ≡ false → r ≡ (k && x)
+and_off k x r off is = rw off is
+
+pub abstract_read : (types now : List SubType) (kinds : GroundKinds) (descriptors s : Bool) (b : AbstractHeapType) (h : HeapType) (r : Bool) → types ≡ now → IsOrderly types → AreGroundKinds types kinds → h ≡ Abstract s b → r ≡ (kind_at kinds s && is_abstract_below heap.Struct b)
+    → IsTrue r ↔ IsGroundedByStructs now descriptors h
+abstract_read types now kinds descriptors s b h r view o known is read =
+    subst (λ v. IsTrue r ↔ IsGroundedByStructs now descriptors v) (sym is)
+    (subst (λ v. IsTrue v ↔ IsGroundedByStructs now descriptors (Abstract s b)) (sym read) (abstract_grounded types now kinds descriptors s b view o known))
+
+stands : (types : List SubType) (j : ℕ) → j < length types → (t : SubType) × (slice_get types j ≡ Some t)
+stands [] j inside = absurd (omega arith)
+stands (t ∷ types) zero inside = (t, refl)
+stands (t ∷ types) (suc j) inside = stands types j (omega arith)
+
+pub entry_inside : (types now : List SubType) (grounds : List Ground) (j : ℕ) → types ≡ now → AreGrounds types grounds → j < length now → j < length grounds
+entry_inside types now grounds j view known inside =
+    let long : length types ≤ length grounds = known.long in
+    let same : length types ≡ length now = ap length view in
+    omega (arith, long, same, inside)
+
+pub concrete_read : (types now : List SubType) (grounds : List Ground) (descriptors : Bool) (j : ℕ) (h : HeapType) (entry d : Ground) → types ≡ now → IsOrderly types → AreGrounds types grounds → h ≡ Concrete j → IsInRange now h → entry ≡ get_or grounds j d
+    → IsTrue entry.below ↔ IsGroundedByStructs now descriptors h
+concrete_read types now grounds descriptors j h entry d view o known is range read =
+    let inside : j < length now = subst (IsInRange now) is range in
+    let (t, at) = stands types j (rw view inside) in
+    subst (λ v. IsTrue entry.below ↔ IsGroundedByStructs now descriptors v) (sym is)
+    (concrete_grounded types now grounds descriptors j entry view o known (entry_read grounds j entry d (entry_inside types now grounds j view known inside) read) t at)
+
+pub exact_read : (types now : List SubType) (grounds : List Ground) (descriptors : Bool) (j : ℕ) (h : HeapType) (entry d : Ground) → types ≡ now → IsOrderly types → AreGrounds types grounds → h ≡ Exact j → IsInRange now h → entry ≡ get_or grounds j d → descriptors ≡ true
+    → IsTrue entry.own ↔ IsGroundedByStructs now descriptors h
+exact_read types now grounds descriptors j h entry d view o known is range read on =
+    let inside : j < length now = subst (IsInRange now) is range in
+    let (t, at) = stands types j (rw view inside) in
+    subst (λ v. IsTrue entry.own ↔ IsGroundedByStructs now descriptors v) (sym is)
+    (subst (λ v. IsTrue entry.own ↔ IsGroundedByStructs now v (Exact j)) (sym on)
+    (exact_grounded types now grounds j entry view o known (entry_read grounds j entry d (entry_inside types now grounds j view known inside) read) t at))
+
+pub exact_off : (now : List SubType) (descriptors : Bool) (j : ℕ) (h : HeapType) → h ≡ Exact j → descriptors ≡ false → IsTrue descriptors ↔ IsGroundedByStructs now descriptors h
+exact_off now descriptors j h is off =
+    subst (λ v. IsTrue descriptors ↔ IsGroundedByStructs now descriptors v) (sym is)
+    (subst (λ v. IsTrue v ↔ IsGroundedByStructs now v (Exact j)) (sym off) (exact_ungrounded now j))

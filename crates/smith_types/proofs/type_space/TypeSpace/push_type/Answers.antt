@@ -12,8 +12,8 @@ use Rattle.smith_types.proofs.PlaceLemmas.{ArePlaces-longer}
 use Rattle.smith_types.proofs.GroundLemmas.{kinds_more}
 use Rattle.smith_types.proofs.type_space.TypeSpace.push_type.Goals as goal
 
-pub invariant_of-self-else-is_err : goal.invariant_of-self-else-is_err
-invariant_of-self-else-is_err c =
+pub invariant_of-self-2 : goal.invariant_of-self-2
+invariant_of-self-2 c =
     let types = c.self.inside.types.items in
     let added : List SubType = types ++ c.args.added ∷ [] in
     let follows : MayFollow types c.args.added = rw (ap (λ s. s.types) c.self.view_is) c.requires in
