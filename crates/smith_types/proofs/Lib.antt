@@ -18,6 +18,7 @@ pub mod PlaceLemmas
 pub mod FamilyLemmas
 pub mod GroundLemmas
 pub mod GroundedLemmas
+pub mod GroundGrowthLemmas
 pub mod FeatureBitLemmas
 pub mod PartLemmas
 pub mod KindLemmas
