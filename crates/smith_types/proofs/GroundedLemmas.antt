@@ -69,12 +69,12 @@ ground_fields (Array element) on = cc
 ground_fields (Func function) on = cc
 
 -- a struct type that grounds a heap type, by what is kept of it
-grounded_at : (types : List SubType) (descriptors : Bool) (heap_type : HeapType) (i : ℕ) (t : SubType) → slice_get types i ≡ Some t → is_ground t ≡ true → IsBelow types (if descriptors then Exact i else Concrete i) heap_type → IsGroundedBy types descriptors heap_type i
+pub grounded_at : (types : List SubType) (descriptors : Bool) (heap_type : HeapType) (i : ℕ) (t : SubType) → slice_get types i ≡ Some t → is_ground t ≡ true → IsBelow types (if descriptors then Exact i else Concrete i) heap_type → IsGroundedBy types descriptors heap_type i
 grounded_at types descriptors heap_type i t at on below =
     let (fields, is, defaults) = ground_fields t.composite_type.inner on in
     record { fields = fields; struct = (t, at, is); defaults = defaults; below = below }
 
-grounded_is : (types : List SubType) (descriptors : Bool) (heap_type : HeapType) (i : ℕ) → IsGroundedBy types descriptors heap_type i → (t : SubType) × (slice_get types i ≡ Some t) × (is_ground t ≡ true)
+pub grounded_is : (types : List SubType) (descriptors : Bool) (heap_type : HeapType) (i : ℕ) → IsGroundedBy types descriptors heap_type i → (t : SubType) × (slice_get types i ≡ Some t) × (is_ground t ≡ true)
 grounded_is types descriptors heap_type i h =
     let (t, at, is) = h.struct in
     (t, at, ap is_inner_ground is ∙ defaults_are h.fields (recursion_from_All IsDefaultable (field_values h.fields) h.defaults))
@@ -140,7 +140,7 @@ any_or : (a b : Bool) → b ≡ true → (a || b) ≡ true
 any_or true b on = refl
 any_or false b on = on
 
-at_any : (p : SubType → Bool) (xs : List SubType) (i : ℕ) (y : SubType) → slice_get xs i ≡ Some y → p y ≡ true → list_any p xs ≡ true
+pub at_any : (p : SubType → Bool) (xs : List SubType) (i : ℕ) (y : SubType) → slice_get xs i ≡ Some y → p y ≡ true → list_any p xs ≡ true
 at_any p [] i y at on = cc
 at_any p (x ∷ xs) zero y at on = let same : x ≡ y = same_Some x y at in let is : p x ≡ true = ap p same ∙ on in rw is refl
 at_any p (x ∷ xs) (suc i) y at on = any_or (p x) (list_any p xs) (at_any p xs i y at on)
