@@ -56,8 +56,8 @@ pub imports_grounded : (old new : Context) (heap_type : HeapType) → AreImports
 imports_grounded old new heap_type growth h =
     grounded_grown old new growth.features growth.types growth.funcs
     (λ function index inside.
-        let before : function < old.imported_funcs = let is = growth.imported in omega (arith, inside, is) in
-        let longer : length new.funcs ≡ length old.funcs + length growth.funcs.more = ap length growth.funcs.parts ∙ length-append old.funcs growth.funcs.more in
-        let after : function < new.imported_funcs = let is = growth.still_imported in omega (arith, inside, is, longer) in
-        import_pushes old function index before ∙ sym (import_pushes new function index after))
+    let before : function < old.imported_funcs = let is = growth.imported in omega (arith, inside, is) in
+    let longer : length new.funcs ≡ length old.funcs + length growth.funcs.more = ap length growth.funcs.parts ∙ length-append old.funcs growth.funcs.more in
+    let after : function < new.imported_funcs = let is = growth.still_imported in omega (arith, inside, is, longer) in
+    import_pushes old function index before ∙ sym (import_pushes new function index after))
     heap_type h

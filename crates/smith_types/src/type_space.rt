@@ -40,7 +40,9 @@ use crate::family::{Family, extend_families, join_family};
 use crate::ground::{Ground, GroundKinds, extend_grounds, join_grounds, no_grounds};
 use crate::matching::composite_type_is_match;
 use crate::place::{Place, last_counts, push_row};
-use crate::subtyping::{abstract_type_is_below, heap_type_is_below, ref_type_is_below, val_type_is_below};
+use crate::subtyping::{
+    abstract_type_is_below, heap_type_is_below, ref_type_is_below, val_type_is_below,
+};
 use crate::value_type::{AbstractHeapType, HeapType, RefType, ValType};
 use smith_bytes::Error;
 use std::alloc::Global;
@@ -242,7 +244,8 @@ impl TypeSpace {
     {
         match ty {
             HeapType::Abstract { shared, ty } => {
-                self.ground_kinds.has(shared) && abstract_type_is_below(AbstractHeapType::Struct, ty)
+                self.ground_kinds.has(shared)
+                    && abstract_type_is_below(AbstractHeapType::Struct, ty)
             }
             HeapType::Concrete(index) => self.grounds[index as usize].below,
             HeapType::Exact(index) => descriptors && self.grounds[index as usize].own,
