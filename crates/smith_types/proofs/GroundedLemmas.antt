@@ -37,7 +37,7 @@ not_true : (b : Bool) → not b ≡ true → b ≡ false
 not_true true e = cc
 not_true false e = refl
 
-default_for : (value : ValType) → is_defaultable value ≡ true → IsDefaultable value
+pub default_for : (value : ValType) → is_defaultable value ≡ true → IsDefaultable value
 default_for (Ref reference) e = e
 default_for I32 e = tt
 default_for I64 e = tt
@@ -53,7 +53,7 @@ default_is F32 e = refl
 default_is F64 e = refl
 default_is V128 e = refl
 
-defaults_each : (fields : List FieldType) → are_defaultable fields ≡ true → Each IsDefaultable (field_values fields)
+pub defaults_each : (fields : List FieldType) → are_defaultable fields ≡ true → Each IsDefaultable (field_values fields)
 defaults_each [] e = tt
 defaults_each (field ∷ fields) e =
     let (p, q) = both (is_defaultable (unpacked field.element_type)) (are_defaultable fields) e in
