@@ -11,7 +11,8 @@ use Rattle.smith_types.specs.declared.ground.GroundKinds.{GroundKinds}
 use Rattle.smith_types.specs.Types.{IsOrderly}
 use Rattle.smith_types.specs.Subtyping.{is_abstract_below, IsBelow}
 use Rattle.smith_types.specs.Features.{Features}
-use Rattle.smith_types.specs.Grounded.{IsGrounded, is_ground, is_ground_of, kind_at, AreGroundKinds}
+use Rattle.smith_types.specs.Grounded.{IsGrounded}
+use Rattle.smith_types.specs.Grounds.{is_ground, is_ground_of, kind_at, AreGroundKinds}
 use Rattle.smith_types.specs.declared.value_type.ValType.TheVariants.{Ref}
 use Rattle.smith_types.specs.declared.composite_type.StorageType.TheVariants.{Val}
 use Rattle.smith_types.specs.ExampleFeatures.{usual_features}

@@ -13,7 +13,7 @@ use Rattle.smith_types.specs.declared.ground.GroundKinds.{GroundKinds}
 use Rattle.smith_types.specs.Types.{IsOrderly}
 use Rattle.smith_types.specs.Space.{MayFollow}
 use Rattle.smith_types.specs.Subtyping.{IsBelow, itself}
-use Rattle.smith_types.specs.Grounded.{is_ground, IsGroundBelow, AreGrounds, IsMarking, is_ground_of, kind_at, kinds_with, AreGroundKinds}
+use Rattle.smith_types.specs.Grounds.{is_ground, IsGroundBelow, AreGrounds, IsMarking, is_ground_of, kind_at, kinds_with, AreGroundKinds}
 use Rattle.smith_types.proofs.ListLemmas.{slice_get-grown, slice_get-last, slice_get-push, slice_get-front}
 use Rattle.smith_types.proofs.GrowthLemmas.{IsBelow-grown, IsBelow-trans}
 use Rattle.smith_types.proofs.PathLemmas.{below_declared}

@@ -20,7 +20,8 @@ use Rattle.smith_types.specs.Kinds.{kind_of, shared}
 use Rattle.smith_types.specs.Types.{IsOrderly}
 use Rattle.smith_types.specs.Subtyping.{is_abstract_below, IsBelow, itself, IsInRange}
 use Rattle.smith_types.specs.Expressions.{IsDefaultable, field_values, unpacked}
-use Rattle.smith_types.specs.Grounded.{IsGroundedBy, IsGroundedByStructs, is_defaultable, are_defaultable, is_inner_ground, is_ground, is_ground_of, kind_at, IsGroundBelow, AreGrounds, AreGroundKinds}
+use Rattle.smith_types.specs.Grounded.{IsGroundedBy, IsGroundedByStructs, is_defaultable, are_defaultable}
+use Rattle.smith_types.specs.Grounds.{is_inner_ground, is_ground, is_ground_of, kind_at, IsGroundBelow, AreGrounds, AreGroundKinds}
 use Rattle.smith_types.proofs.GrowthLemmas.{IsBelow-trans}
 use Rattle.smith_types.proofs.PathLemmas.{exact_below}
 use Rattle.smith_types.proofs.WalkLemmas.{IsUnder, by_cases_from_below, below_from_by_cases, path_along, concrete_not_below_exact}

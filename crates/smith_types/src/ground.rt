@@ -2,7 +2,8 @@ ghost use Rattle.std.specs.Prelude.{◌≡◌, ◌++◌, ◌<◌, [], ◌∷◌,
 ghost use Rattle.smith_types.specs.Types.{IsOrderly};
 ghost use Rattle.smith_types.specs.Space.{MayFollow};
 ghost use Rattle.smith_types.specs.Expressions.{unpacked};
-ghost use Rattle.smith_types.specs.Grounded.{is_defaultable, are_defaultable, is_ground, kind_at, kinds_with, AreGrounds, IsMarking};
+ghost use Rattle.smith_types.specs.Grounded.{is_defaultable, are_defaultable};
+ghost use Rattle.smith_types.specs.Grounds.{is_ground, kind_at, kinds_with, AreGrounds, IsMarking};
 
 use crate::composite_type::{CompositeInnerType, FieldType, StorageType, SubType};
 use crate::value_type::ValType;

@@ -27,7 +27,8 @@ ghost use Rattle.smith_types.specs.Types.{IsAlike, IsOrderly, next_start, next_g
 ghost use Rattle.smith_types.specs.Space.{AreExtensible, HasDepth, MayFollow, extensible_from};
 ghost use Rattle.smith_types.specs.Places.{ArePlaces, IsLonger, depths_in};
 ghost use Rattle.smith_types.specs.Families.{direct_subtypes, AreFamilies};
-ghost use Rattle.smith_types.specs.Grounded.{AreGrounds, IsGroundedByStructs};
+ghost use Rattle.smith_types.specs.Grounded.{IsGroundedByStructs};
+ghost use Rattle.smith_types.specs.Grounds.{AreGrounds};
 ghost use Rattle.smith_types.specs.KindCounts.{indices_of_kind};
 ghost use Rattle.smith_types.specs.Sizes.{value_count};
 ghost use Rattle.smith_types.specs.Matching.{IsCompositeMatch, IsInnerInRange};
@@ -75,7 +76,7 @@ impl Model for TypeSpace {
     ghost use Rattle.smith_types.specs.Space.{Space, IsSound, extensible_from};
     ghost use Rattle.smith_types.specs.Places.{ArePlaces, depths_in};
     ghost use Rattle.smith_types.specs.Families.{AreFamilies};
-    ghost use Rattle.smith_types.specs.Grounded.{AreGrounds, AreGroundKinds};
+    ghost use Rattle.smith_types.specs.Grounds.{AreGrounds, AreGroundKinds};
 
     ghost Value = { Space };
 

@@ -1,4 +1,4 @@
-use Rattle.smith_types.specs.Grounded.{IsMarking}
+use Rattle.smith_types.specs.Grounds.{IsMarking}
 use Rattle.smith_types.proofs.GroundLemmas.{steps_left}
 use Rattle.smith_types.proofs.ground.mark_above.Given as goal
 

@@ -4,7 +4,7 @@ use Rattle.smith_types.specs.declared.composite_type.SubType.{SubType}
 use Rattle.smith_types.specs.Space.{MayFollow, IsSound, extensible_from}
 use Rattle.smith_types.specs.Places.{ArePlaces, depths_in}
 use Rattle.smith_types.specs.Families.{AreFamilies}
-use Rattle.smith_types.specs.Grounded.{AreGrounds}
+use Rattle.smith_types.specs.Grounds.{AreGrounds}
 use Rattle.smith_types.proofs.ListLemmas.{slice_get-last, push_front, push_whole}
 use Rattle.smith_types.proofs.ResultLemmas.{ok_of, err_of}
 use Rattle.smith_types.proofs.SpaceLemmas.{IsSound-type}
