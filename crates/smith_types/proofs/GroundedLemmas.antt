@@ -3,7 +3,7 @@ use Rattle.std.proofs.Common.{◌≡◌, ◌↔◌, ℕ, zero, suc, ◌<◌, Boo
 use Rattle.std.specs.Prelude.{slice_get, All, not, ◌&&◌, ◌||◌, if◌then◌else◌}
 use Rattle.std.specs.List.{list_any, AllByRecursion as Each}
 use Rattle.std.proofs.lemmas.List.Elements.{All-from_recursion, recursion_from_All}
-use Rattle.std.proofs.lemmas.Option.{slice_get-get_or, same_Some}
+use Rattle.std.proofs.lemmas.Option.{same_Some}
 use Rattle.smith_types.specs.declared.value_type.AbstractHeapType.{AbstractHeapType}
 use Rattle.smith_types.specs.declared.value_type.AbstractHeapType.TheVariants as heap
 use Rattle.smith_types.specs.declared.value_type.HeapType.{HeapType}
@@ -21,7 +21,7 @@ use Rattle.smith_types.specs.Types.{IsOrderly}
 use Rattle.smith_types.specs.Subtyping.{is_abstract_below, IsBelow, itself, IsInRange}
 use Rattle.smith_types.specs.Expressions.{IsDefaultable, field_values, unpacked}
 use Rattle.smith_types.specs.Grounded.{IsGroundedBy, IsGroundedByStructs, is_defaultable, are_defaultable}
-use Rattle.smith_types.specs.Grounds.{is_inner_ground, is_ground, is_ground_of, kind_at, IsGroundBelow, AreGrounds, AreGroundKinds}
+use Rattle.smith_types.specs.Grounds.{is_inner_ground, is_ground, is_ground_of, kind_at, AreGrounds, AreGroundKinds}
 use Rattle.smith_types.proofs.GrowthLemmas.{IsBelow-trans}
 use Rattle.smith_types.proofs.PathLemmas.{exact_below}
 use Rattle.smith_types.proofs.WalkLemmas.{IsUnder, by_cases_from_below, below_from_by_cases, path_along, concrete_not_below_exact}

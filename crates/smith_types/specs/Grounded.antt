@@ -1,6 +1,6 @@
 -- Heap types below which a reference that is not null can be had at once. A rule of this project, over the typing of constant
 -- expressions.
-use Rattle.std.specs.Prelude.{◌≡◌, ℕ, ◌⊎◌, Bool, true, not, List, slice_get, Some, All, if◌then◌else◌}
+use Rattle.std.specs.Prelude.{◌≡◌, ℕ, ◌⊎◌, Bool, true, List, slice_get, Some, All, if◌then◌else◌}
 use Rattle.std.specs.List.{list_all}
 use Rattle.smith_types.specs.Subtyping.{IsBelow, IsValBelow}
 use Rattle.smith_types.specs.Expressions.{Context, IsStructAt, IsDefaultable, field_values, unpacked, function_reference, reference_to}

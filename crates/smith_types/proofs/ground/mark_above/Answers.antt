@@ -1,5 +1,4 @@
-use Rattle.std.proofs.Common.{◌≡◌, ◌<◌, Some, length, refl, subst, arith, true}
-use Rattle.std.specs.Prelude.{slice_get}
+use Rattle.std.proofs.Common.{refl, subst, arith, true}
 use Rattle.std.proofs.lemmas.Option.{slice_get-get_or}
 use Rattle.smith_types.specs.Grounds.{IsMarking}
 use Rattle.smith_types.proofs.GroundLemmas.{entry_read, steps_less, marking_goes_on, marking_stops, marking_ends}
