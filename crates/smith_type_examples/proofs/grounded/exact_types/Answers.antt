@@ -1,4 +1,4 @@
-use Rattle.std.proofs.Common.{[], ◌∷◌, true, refl, inl, inr}
+use Rattle.std.proofs.Common.{[], ◌∷◌, true, refl, inl}
 use Rattle.smith_types.specs.declared.value_type.HeapType.TheVariants.{Concrete, Exact}
 use Rattle.smith_types.specs.Subtyping.{itself}
 use Rattle.smith_types.specs.ExampleTypes.{final_type, empty_struct}

@@ -1,9 +1,6 @@
-use Rattle.std.proofs.Common.{◌≡◌, ℕ, zero, suc, List, [], ◌∷◌, false, true, Some, None, refl, inl, inr, rules, arith, lit<, ap, sym, ◌∙◌}
+use Rattle.std.proofs.Common.{[], ◌∷◌, false, Some, None, refl, inl}
 use Rattle.smith_types.specs.declared.value_type.HeapType.TheVariants.{Concrete}
-use Rattle.smith_types.specs.declared.composite_type.SubType.{SubType}
 use Rattle.smith_types.specs.Subtyping.{itself}
-use Rattle.smith_types.specs.Grounded.{IsGroundedBy}
-use Rattle.smith_types.specs.Grounds.{is_ground}
 use Rattle.smith_types.specs.ExampleTypes.{open_type, empty_struct}
 use Rattle.smith_types.proofs.GroundedLemmas.{grounded_at}
 use Rattle.smith_type_examples.proofs.GroundExamples.{lower_not_grounded}
