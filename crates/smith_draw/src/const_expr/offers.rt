@@ -30,7 +30,8 @@ use super::node_choice::Choice;
 use super::references::{function_reference, gives, i31, is_below};
 use super::scope::Scope;
 use smith_types::{
-    AbstractHeapType, CompositeInnerType, FieldType, HeapType, RefType, ValType, are_defaultable, is_defaultable, unpacked,
+    AbstractHeapType, CompositeInnerType, FieldType, HeapType, RefType, ValType, are_defaultable,
+    is_defaultable, unpacked,
 };
 
 /// Goes past all that is offered where a value of the type `wanted` is drawn.
