@@ -63,7 +63,7 @@ pub(crate) enum Fault {
         column: usize,
     },
     /// Memory was refused, which is all that plain data is refused for.
-    #[error("out of memory")]
+    #[error("refused: Memory")]
     Memory,
 }
 

@@ -40,13 +40,30 @@ fn judged(alloc: Global, line: &str, case: &mut Case) -> Result<Option<String>, 
 // The first difference of the answer to `case`, which stands in `line`, over `input`.
 fn of_input(alloc: Global, line: &str, case: &Case, input: &[u8]) -> Result<Option<String>, Fault> {
     let given = answer(alloc, line, case, input)?;
-    if !is_recorded(case) && given != answer(alloc, line, case, input)? {
-        return Err(Fault::Unsteady);
+    if !is_recorded(case) {
+        check_steady(given.as_str(), answer(alloc, line, case, input)?.as_str())?;
     }
     match first_difference(given.as_str(), case) {
         Some(difference) => Ok(Some(format!(in alloc; "{difference}")?)),
         None => Ok(None),
     }
+}
+
+// Compares two answers to a case. A refusal for want of memory is none to compare.
+fn check_steady(first: &str, second: &str) -> Result<(), Fault> {
+    if first == second {
+        return Ok(());
+    }
+    Err(if lacks_memory(first) || lacks_memory(second) {
+        Fault::Memory
+    } else {
+        Fault::Unsteady
+    })
+}
+
+// Whether memory was refused to a call of an answer.
+fn lacks_memory(answer: &str) -> bool {
+    answer.contains("refused: Memory")
 }
 
 // Whether the answer is a checksum of many, which is made once.

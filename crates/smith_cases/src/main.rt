@@ -1,7 +1,7 @@
 //! Answers cases, each a JSON object on a line of standard input, and prints which of them are answered as they want.
 //!
 //! For each case there is a line `ok NAME`, or `not ok NAME: ` and the first difference. The last line counts, and the status is 1
-//! where a case is not ok. A case is answered twice, one of checksums once, and two answers that differ are not ok. Lines of blanks,
+//! where a case is not ok, or memory is refused, which the line `not ok: Memory while reading` reports where it isn't the answer of a call. A case is answered twice, one of checksums once, and two answers that differ are not ok. Lines of blanks,
 //! and lines that begin with `#`, are passed over. The crate's own cases are in `stdin`; in this folder they are tried in some two
 //! minutes, before any proof, by
 //!
@@ -20,6 +20,17 @@ use std::io;
 use std::process::ExitCode;
 
 fn main(rt: HostRuntime) -> io::Result<ExitCode> {
+    match answered(&rt) {
+        Err(error) if error.kind() == io::ErrorKind::OutOfMemory => {
+            println!(rt; "not ok: Memory while reading")?;
+            Ok(ExitCode::FAILURE)
+        }
+        ended => ended,
+    }
+}
+
+// Answers the cases of the standard input. An error is that of a line that can't be read or written, or want of memory for one.
+fn answered(rt: &HostRuntime) -> io::Result<ExitCode> {
     let alloc = rt.alloc();
     let mut right: u64 = 0;
     let mut wrong: u64 = 0;

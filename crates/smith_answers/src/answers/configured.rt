@@ -26,6 +26,7 @@ fn set_fields(alloc: Global, line: &str, config: &mut Config) -> Result<(), Faul
     }
     match read_config(alloc, &mut reader, config) {
         Ok(()) => Ok(()),
+        Err(refusal) if refusal.fault == smith_json::Fault::OutOfMemory => Err(Fault::Memory),
         Err(refusal) => Err(fault_of(refusal, line)),
     }
 }
