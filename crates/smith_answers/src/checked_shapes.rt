@@ -1,7 +1,7 @@
 //! Shapes that are checked, copied or drawn over, each by its name, with its parts in the form that `add_part` reads.
 
 /// The shapes, besides those of `shapes.rt`.
-pub(crate) const CHECKED_SHAPES: [(&str, &[&str]); 42] = [
+pub(crate) const CHECKED_SHAPES: [(&str, &[&str]); 43] = [
     (
         "an open array below an open array",
         &["group open array i8; open below 0 array i8"],
@@ -96,6 +96,7 @@ pub(crate) const CHECKED_SHAPES: [(&str, &[&str]); 42] = [
         &["global i32", "exports 9999", "export 9999 global 0"],
     ),
     ("a number", &["global i32"]),
+    ("a shared number", &["global shared i32"]),
     (
         "a number and a reference to no type",
         &["global i32", "global (ref null 9)"],

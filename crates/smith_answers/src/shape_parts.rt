@@ -25,7 +25,12 @@ use std::alloc::Global;
 pub(crate) fn add_part(alloc: Global, part: &str, shape: &mut Shape) -> Result<(), Fault> {
     let (word, rest) = split_word(part);
     match word {
-        "group" | "chain" | "cycle" | "wide" | "fan" => add_group(alloc, word, rest, &mut shape.groups),
+        "group" | "chain" | "cycle" | "wide" | "fan" => add_group(
+            alloc,
+            word,
+            rest,
+            &mut shape.groups,
+        ),
         "import" | "items" | "names" => add_imports(alloc, word, rest, &mut shape.imports),
         "export" | "exports" => add_exports(alloc, word, rest, &mut shape.exports),
         _ => define(known(entity_of(part))?, shape),

@@ -62,7 +62,10 @@ fn tell_equal(is_equal: bool, answer: &mut String) -> Result<(), Fault> {
 }
 
 fn is_copy(alloc: Global, copy: &Config, config: &Config) -> Result<bool, Fault> {
-    let (given, wanted) = (format!(in alloc; "{copy:?}")?, format!(in alloc; "{config:?}")?);
+    let (given, wanted) = (
+        format!(in alloc; "{copy:?}")?,
+        format!(in alloc; "{config:?}")?,
+    );
     Ok(given == wanted && has_same_shapes(copy, config))
 }
 

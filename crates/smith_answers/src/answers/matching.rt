@@ -58,10 +58,34 @@ fn answer_below(
     requires { IsSanitized over.now.config.now }
 {
     match call {
-        MatchingCall::Field => tell_matching!(arbitrary_matching_field_type, field_type_of, over, u, answer),
-        MatchingCall::Storage => tell_matching!(arbitrary_matching_storage_type, storage_type_of, over, u, answer),
-        MatchingCall::Val => tell_matching!(arbitrary_matching_val_type, val_type_of, over, u, answer),
-        MatchingCall::Ref => tell_matching!(arbitrary_matching_ref_type, ref_type_of, over, u, answer),
+        MatchingCall::Field => tell_matching!(
+            arbitrary_matching_field_type,
+            field_type_of,
+            over,
+            u,
+            answer
+        ),
+        MatchingCall::Storage => tell_matching!(
+            arbitrary_matching_storage_type,
+            storage_type_of,
+            over,
+            u,
+            answer
+        ),
+        MatchingCall::Val => tell_matching!(
+            arbitrary_matching_val_type,
+            val_type_of,
+            over,
+            u,
+            answer
+        ),
+        MatchingCall::Ref => tell_matching!(
+            arbitrary_matching_ref_type,
+            ref_type_of,
+            over,
+            u,
+            answer
+        ),
         _ => tell_matching!(arbitrary_matching_heap_type, heap_type_of, over, u, answer),
     }
 }
@@ -74,9 +98,27 @@ fn answer_above(
     answer: &mut String,
 ) -> Result<(), Fault> {
     match call {
-        MatchingCall::AboveVal => tell_matching!(arbitrary_super_type_of_val_type, val_type_of, over, u, answer),
-        MatchingCall::AboveRef => tell_matching!(arbitrary_super_type_of_ref_type, ref_type_of, over, u, answer),
-        _ => tell_matching!(arbitrary_super_type_of_heap_type, heap_type_of, over, u, answer),
+        MatchingCall::AboveVal => tell_matching!(
+            arbitrary_super_type_of_val_type,
+            val_type_of,
+            over,
+            u,
+            answer
+        ),
+        MatchingCall::AboveRef => tell_matching!(
+            arbitrary_super_type_of_ref_type,
+            ref_type_of,
+            over,
+            u,
+            answer
+        ),
+        _ => tell_matching!(
+            arbitrary_super_type_of_heap_type,
+            heap_type_of,
+            over,
+            u,
+            answer
+        ),
     }
 }
 
