@@ -15,6 +15,10 @@ pub(crate) enum Call {
     Parser(ParserCall),
     /// A subtype test.
     Subtype(SubtypeCall),
+    /// What a type space tells.
+    Space(SpaceCall),
+    /// Copies of the types and imports of a shape.
+    Copies,
     /// The recorded form of a set of answers.
     Recorded,
 }
@@ -33,6 +37,7 @@ pub(crate) enum ModuleCall {
 #[derive(Clone, Copy, PartialEq)]
 pub(crate) enum ConfigCall {
     Arbitrary,
+    Clone,
     Sanitize,
     Check,
     Features,
@@ -126,6 +131,7 @@ pub(crate) enum SourceCall {
 #[derive(Clone, Copy, PartialEq)]
 pub(crate) enum NameCall {
     LimitedStr,
+    LimitedString,
     UniqueString,
     UniqueKebabString,
     UniqueUrl,
@@ -139,6 +145,9 @@ pub(crate) enum ParserCall {
     Kinds,
     WithoutFloats,
     Contains,
+    NoKinds,
+    AllKinds,
+    DefaultKinds,
 }
 
 /// What is below what.
@@ -149,11 +158,21 @@ pub(crate) enum SubtypeCall {
     ValType,
 }
 
+/// What a type space tells.
+#[derive(Clone, Copy)]
+pub(crate) enum SpaceCall {
+    Depth,
+    Size,
+    Matches,
+    Pushed,
+    Listed,
+}
+
 /// The name of the call that recorded answers are made by.
 pub(crate) const RECORDED: &str = "recorded";
 
 // Each call by its name.
-const CALLS: [(&str, Call); 66] = [
+const CALLS: [(&str, Call); 77] = [
     ("Module::new", Call::Module(ModuleCall::New)),
     (
         "Module::new_internal",
@@ -169,6 +188,7 @@ const CALLS: [(&str, Call); 66] = [
         Call::Module(ModuleCall::EnsureTermination),
     ),
     ("Config::arbitrary", Call::Config(ConfigCall::Arbitrary)),
+    ("Config::clone", Call::Config(ConfigCall::Clone)),
     ("Config::sanitize", Call::Config(ConfigCall::Sanitize)),
     ("Config::check", Call::Config(ConfigCall::Check)),
     ("Config::features", Call::Config(ConfigCall::Features)),
@@ -331,6 +351,7 @@ const CALLS: [(&str, Call); 66] = [
     ),
     ("arbitrary_loop", Call::Source(SourceCall::ArbitraryLoop)),
     ("limited_str", Call::Name(NameCall::LimitedStr)),
+    ("limited_string", Call::Name(NameCall::LimitedString)),
     ("unique_string", Call::Name(NameCall::UniqueString)),
     (
         "unique_kebab_string",
@@ -354,6 +375,12 @@ const CALLS: [(&str, Call); 66] = [
         "InstructionKinds::contains",
         Call::Parser(ParserCall::Contains),
     ),
+    ("InstructionKinds::none", Call::Parser(ParserCall::NoKinds)),
+    ("InstructionKinds::all", Call::Parser(ParserCall::AllKinds)),
+    (
+        "InstructionKinds::default",
+        Call::Parser(ParserCall::DefaultKinds),
+    ),
     (
         "TypeSpace::heap_type_is_sub_type",
         Call::Subtype(SubtypeCall::HeapType),
@@ -366,6 +393,15 @@ const CALLS: [(&str, Call); 66] = [
         "TypeSpace::val_type_is_sub_type",
         Call::Subtype(SubtypeCall::ValType),
     ),
+    (
+        "TypeSpace::composite_type_matches",
+        Call::Space(SpaceCall::Matches),
+    ),
+    ("TypeSpace::depth", Call::Space(SpaceCall::Depth)),
+    ("TypeSpace::size_of", Call::Space(SpaceCall::Size)),
+    ("TypeSpace::push_type", Call::Space(SpaceCall::Pushed)),
+    ("list_types", Call::Space(SpaceCall::Listed)),
+    ("clone", Call::Copies),
     (RECORDED, Call::Recorded),
 ];
 

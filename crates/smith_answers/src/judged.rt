@@ -31,7 +31,9 @@ fn judged(alloc: Global, line: &str, case: &mut Case) -> Result<Option<String>, 
     let input = bytes_of(alloc, input)?;
     match case.inputs.as_ref().map(|inputs| inputs.as_str()) {
         None => of_input(alloc, line, case, input.as_slice()),
-        Some("each byte") => of_each_byte(alloc, line, case),
+        Some("each byte") => of_each_byte(alloc, line, case, Bytes::All),
+        Some("each even byte") => of_each_byte(alloc, line, case, Bytes::Even),
+        Some("each odd byte") => of_each_byte(alloc, line, case, Bytes::Odd),
         Some("each cut") => of_each_cut(alloc, line, case, input.as_slice()),
         Some(_) => Err(Fault::UnknownInputs),
     }
@@ -73,12 +75,36 @@ fn is_recorded(case: &Case) -> bool {
         .is_some_and(|call| call.as_str() == RECORDED)
 }
 
-// The first difference over all inputs of one byte.
-fn of_each_byte(alloc: Global, line: &str, case: &Case) -> Result<Option<String>, Fault> {
+// Which bytes are inputs.
+#[derive(Clone, Copy)]
+enum Bytes {
+    All,
+    Even,
+    Odd,
+}
+
+fn is_among(byte: u8, bytes: Bytes) -> bool {
+    match bytes {
+        Bytes::All => true,
+        Bytes::Even => byte % 2 == 0,
+        Bytes::Odd => byte % 2 == 1,
+    }
+}
+
+// The first difference over all inputs of one of `bytes`.
+fn of_each_byte(
+    alloc: Global,
+    line: &str,
+    case: &Case,
+    bytes: Bytes,
+) -> Result<Option<String>, Fault> {
     if case.input.is_some() {
         return Err(Fault::UselessKey);
     }
     for byte in 0..=u8::MAX {
+        if !is_among(byte, bytes) {
+            continue;
+        }
         if let Some(difference) = of_input(alloc, line, case, &[byte])? {
             return Ok(Some(format!(in alloc; "of the byte {byte:02x}: {difference}")?));
         }

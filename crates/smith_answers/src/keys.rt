@@ -59,9 +59,13 @@ fn keys_of(call: Call) -> Keys {
             ..NONE
         },
         Call::Parser(_) => Keys { args: true, ..NONE },
-        Call::Subtype(_) => Keys {
+        Call::Subtype(_) | Call::Space(_) => Keys {
             types: true,
             args: true,
+            ..NONE
+        },
+        Call::Copies => Keys {
+            shape: true,
             ..NONE
         },
         Call::Recorded => Keys {
@@ -78,10 +82,7 @@ fn keys_of_module(call: ModuleCall) -> Keys {
     Keys {
         config: is_configured,
         shapes: is_configured,
-        args: matches!(
-            call,
-            ModuleCall::NewInternal | ModuleCall::EnsureTermination
-        ),
+        args: is_configured,
         input: true,
         ..NONE
     }

@@ -7,13 +7,15 @@
 //!   `Module::new of Config::arbitrary` draws the configuration first and the module from what is left, and `recorded` makes
 //!   checksums of what generated inputs give.
 //! - `args` lists the arguments of the call: numbers in decimal, types and heap types as the text format writes them without its
-//!   abbreviations, `true` and `false`, names. What each means is said where the call is made, in `answers`.
+//!   abbreviations, function types and entities as shapes write them, `true` and `false`, names. What each means is said where the
+//!   call is made, in `answers`.
 //! - `config` holds the fields of the configuration that are not the default, as `smith_json` reads them.
 //! - `available-imports`, `exports` and `module-shape` name the shapes of the configuration, `shape` the shape that the call is
-//!   about, and `types` the shape whose types the call draws over or compares. The shapes are in `shapes.rt`.
+//!   about, and `types` the shape whose types the call draws over or compares. The shapes are in `shapes.rt` and
+//!   `checked_shapes.rt`.
 //! - `input` is the input in hexadecimal, with blanks between words; `00*512` stands for 512 bytes 00.
-//! - `inputs` is `each byte` for all inputs of one byte, or `each cut` for each front of `input`. What is wanted is then wanted of
-//!   each answer.
+//! - `inputs` is `each byte` for all inputs of one byte, `each even byte` or `each odd byte` for half of them, or `each cut` for each
+//!   front of `input`. What is wanted is then wanted of each answer.
 //!
 //! An answer is text: the text of a module as `smith_text` writes it, else a line for each value. A refusal is a line such as
 //! `refused: IncorrectFormat(TypeSize)`. After a draw, `left 2` says how many bytes are left, and `next 0102` which come first.
@@ -30,10 +32,12 @@ mod answers;
 mod arguments;
 mod call;
 mod case;
+mod checked_shapes;
 mod fault;
 mod input;
 mod judged;
 mod keys;
+mod large_parts;
 mod recorded;
 mod shape_parts;
 mod shapes;

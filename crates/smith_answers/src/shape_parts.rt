@@ -1,4 +1,5 @@
 use crate::fault::Fault;
+use crate::large_parts::{cycle_of, export_many, fan_of, wide_of};
 use crate::type_names::{field_type_of, ref_type_of, val_type_of};
 use smith_config::Shape;
 use smith_types::{
@@ -12,9 +13,11 @@ use std::alloc::Global;
 /// - `group TYPE; TYPE`, a recursive group. A type is `struct FIELD,FIELD`, `array FIELD` or `func PARAM,PARAM -> RESULT`, after
 ///   `open` where it isn't final and `below INDEX` where it has a supertype.
 /// - `chain COUNT`, a group of so many structs without fields, each but the first below the one before.
+/// - `cycle COUNT`, `wide COUNT`, `fan COUNT`, groups of many types or fields, and `exports COUNT`, which `large_parts.rt` explains.
 /// - `import MODULE NAME ENTITY`, an import by itself. An entity is `func INDEX`, `tag INDEX`, `table MINIMUM MAXIMUM REFERENCE`,
 ///   `memory MINIMUM MAXIMUM` or `global VALUE`. The maximum may be left out. The limits come after `shared` and `i64`, the value
-///   type after `shared` and `mut`, where the entity is so.
+///   type after `shared` and `mut`, where the entity is so. The limits of a memory come last after `pagesize 2^LOG2`, where it
+///   states the size of its pages.
 /// - `items MODULE NAME ENTITY; NAME ENTITY`, a group of imports of one module.
 /// - `names MODULE NAME,NAME ENTITY`, a group of imports of one module and type, without names where `-` stands for them.
 /// - an entity, which is defined.
@@ -22,28 +25,70 @@ use std::alloc::Global;
 pub(crate) fn add_part(alloc: Global, part: &str, shape: &mut Shape) -> Result<(), Fault> {
     let (word, rest) = split_word(part);
     match word {
-        "group" | "chain" => Ok(shape.groups.push(types_of(alloc, word, rest)?)?),
-        "import" | "items" | "names" => Ok(shape.imports.push(imports_of(alloc, word, rest)?)?),
-        "export" => Ok(shape.exports.push(export_of(alloc, rest)?)?),
+        "group" | "chain" | "cycle" | "wide" | "fan" => add_group(
+            alloc,
+            word,
+            rest,
+            &mut shape.groups,
+        ),
+        "import" | "items" | "names" => add_imports(alloc, word, rest, &mut shape.imports),
+        "export" | "exports" => add_exports(alloc, word, rest, &mut shape.exports),
         _ => define(known(entity_of(part))?, shape),
     }
 }
 
-// The types of a part that begins with `word`.
+// Adds to `groups` the types of a part that begins with `word`.
+fn add_group(
+    alloc: Global,
+    word: &str,
+    rest: &str,
+    groups: &mut Items<Items<SubType>>,
+) -> Result<(), Fault> {
+    Ok(groups.push(types_of(alloc, word, rest)?)?)
+}
+
 fn types_of(alloc: Global, word: &str, rest: &str) -> Result<Items<SubType>, Fault> {
     if word == "group" {
         return group_of(alloc, rest);
     }
-    chain_of(alloc, known(rest.parse::<u32>().ok())?)
+    let count = known(rest.parse::<u32>().ok())?;
+    match word {
+        "chain" => chain_of(alloc, count),
+        "cycle" => cycle_of(alloc, count),
+        "wide" => wide_of(alloc, count),
+        _ => fan_of(alloc, count),
+    }
 }
 
-// The imports of a part that begins with `word`.
+// Adds to `imports` those of a part that begins with `word`.
+fn add_imports(
+    alloc: Global,
+    word: &str,
+    rest: &str,
+    imports: &mut Items<Imports>,
+) -> Result<(), Fault> {
+    Ok(imports.push(imports_of(alloc, word, rest)?)?)
+}
+
 fn imports_of(alloc: Global, word: &str, rest: &str) -> Result<Imports, Fault> {
     match word {
         "import" => import_of(alloc, rest),
         "items" => items_of(alloc, rest),
         _ => names_of(alloc, rest),
     }
+}
+
+// Adds to `exports` those of a part that begins with `word`.
+fn add_exports(
+    alloc: Global,
+    word: &str,
+    rest: &str,
+    exports: &mut Items<(Name, ExportKind, u32)>,
+) -> Result<(), Fault> {
+    if word == "exports" {
+        return export_many(alloc, known(rest.parse::<u32>().ok())?, exports);
+    }
+    Ok(exports.push(export_of(alloc, rest)?)?)
 }
 
 // What is read, or the fault where nothing is.
@@ -74,7 +119,8 @@ fn chain_of(alloc: Global, count: u32) -> Result<Items<SubType>, Fault> {
     Ok(types)
 }
 
-fn open_struct(alloc: Global, supertype: Option<u32>) -> SubType {
+/// A struct without fields that isn't final, below the type `supertype` where that is given.
+pub(crate) fn open_struct(alloc: Global, supertype: Option<u32>) -> SubType {
     SubType {
         is_final: false,
         supertype,
@@ -121,7 +167,8 @@ fn inner_of(alloc: Global, text: &str) -> Result<CompositeInnerType, Fault> {
     }
 }
 
-fn function_of(alloc: Global, text: &str) -> Result<FuncType, Fault> {
+/// The function type that `text` writes: `i32,f64 -> i64`.
+pub(crate) fn function_of(alloc: Global, text: &str) -> Result<FuncType, Fault> {
     let Some((params, results)) = text.split_once("->") else {
         return Err(Fault::UnknownShape);
     };
@@ -196,7 +243,8 @@ fn names_of(alloc: Global, text: &str) -> Result<Imports, Fault> {
     })
 }
 
-fn entity_of(text: &str) -> Option<EntityType> {
+/// The entity that `text` writes.
+pub(crate) fn entity_of(text: &str) -> Option<EntityType> {
     let (word, rest) = split_word(text);
     match word {
         "func" => Some(EntityType::Func(rest.parse::<u32>().ok()?)),
@@ -245,14 +293,24 @@ fn table_of(text: &str) -> Option<TableType> {
 fn memory_of(text: &str) -> Option<MemoryType> {
     let (shared, text) = take_word(text, "shared ");
     let (memory64, text) = take_word(text, "i64 ");
+    let (page_size_log2, text) = page_size_of(text)?;
     let (minimum, maximum) = limits_of(text)?;
     Some(MemoryType {
         minimum,
         maximum,
         memory64,
         shared,
-        page_size_log2: None,
+        page_size_log2,
     })
+}
+
+// The binary logarithm of the size of a page, where `text` begins with one, and what follows.
+fn page_size_of(text: &str) -> Option<(Option<u32>, &str)> {
+    let Some(text) = text.strip_prefix("pagesize 2^") else {
+        return Some((None, text));
+    };
+    let (log2, text) = split_word(text);
+    Some((Some(log2.parse::<u32>().ok()?), text))
 }
 
 fn global_of(text: &str) -> Option<GlobalType> {

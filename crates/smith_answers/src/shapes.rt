@@ -1,3 +1,4 @@
+use crate::checked_shapes::CHECKED_SHAPES;
 use crate::fault::Fault;
 use crate::shape_parts::add_part;
 use smith_config::Shape;
@@ -5,7 +6,7 @@ use smith_types::Items;
 use std::alloc::Global;
 
 // Each shape by its name, with its parts in the form that `add_part` reads.
-const SHAPES: [(&str, &[&str]); 31] = [
+const SHAPES: [(&str, &[&str]); 41] = [
     ("nothing", &[]),
     (
         "a function without parameters and results",
@@ -23,13 +24,6 @@ const SHAPES: [(&str, &[&str]); 31] = [
     (
         "a struct below a struct",
         &["group open struct; open below 0 struct"],
-    ),
-    (
-        "a struct below a struct, and a function over them",
-        &[
-            "group open struct; open below 0 struct",
-            "group func i32,(ref 1) -> (ref 0)",
-        ],
     ),
     ("an empty group", &["group"]),
     (
@@ -150,15 +144,89 @@ const SHAPES: [(&str, &[&str]); 31] = [
             "export own-tag tag 1",
         ],
     ),
+    ("a final struct below itself", &["group below 0 struct"]),
+    (
+        "five imports",
+        &[
+            "group func ->",
+            "group func i32,i64 -> f32",
+            "import env foo func 1",
+            "import env bar memory 1",
+            "import env baz memory 1 10",
+            "import b qux tag 0",
+            "import b quux global i32",
+        ],
+    ),
+    (
+        "three globals to import",
+        &[
+            "import env one global i32",
+            "import env two global i32",
+            "import env three global i64",
+        ],
+    ),
+    (
+        "a reference to import that is never null",
+        &["import env one global (ref i31)"],
+    ),
+    (
+        "three exports of two constants",
+        &[
+            "global f32",
+            "global f32",
+            "export foo global 1",
+            "export bar global 0",
+            "export baz global 0",
+        ],
+    ),
+    (
+        "imports that are exported",
+        &[
+            "group func ->",
+            "import env one func 0",
+            "import a two global i64",
+            "export foo func 0",
+            "export bar func 0",
+            "export baz global 0",
+        ],
+    ),
+    (
+        "a constant reference to a number",
+        &["global (ref i31)", "export a global 0"],
+    ),
+    ("an import of no type", &["import env f func 0"]),
+    (
+        "a memory that is imported and exported as a",
+        &["import env memory memory 1", "export a memory 0"],
+    ),
+    (
+        "a memory that is imported and exported as b",
+        &["import env memory memory 1", "export b memory 0"],
+    ),
+    (
+        "a memory that is imported and exported as c",
+        &["import env memory memory 1", "export c memory 0"],
+    ),
 ];
+
+// The parts of the shape of the name `name` among `shapes`.
+fn parts_in(
+    shapes: &[(&'static str, &'static [&'static str])],
+    name: &str,
+) -> Option<&'static [&'static str]> {
+    shapes
+        .iter()
+        .find(|(other, _)| *other == name)
+        .map(|(_, parts)| *parts)
+}
 
 /// The shape of the name `name`.
 pub(crate) fn shape_named(alloc: Global, name: &str) -> Result<Shape, Fault> {
     let mut shape = nothing(alloc);
-    let Some((_, parts)) = SHAPES.iter().find(|(other, _)| *other == name) else {
+    let Some(parts) = parts_in(&SHAPES, name).or_else(|| parts_in(&CHECKED_SHAPES, name)) else {
         return Err(Fault::UnknownShape);
     };
-    for part in *parts {
+    for part in parts {
         add_part(alloc, part, &mut shape)?;
     }
     Ok(shape)

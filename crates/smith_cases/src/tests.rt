@@ -2,7 +2,7 @@ use smith_answers::judge;
 use std::test::Fail;
 
 // Each line, and what the report says after `not ok`.
-const WRONG: [(&str, &str); 27] = [
+const WRONG: [(&str, &str); 28] = [
     ("", " : no object of a case"),
     ("[]", " : no object of a case"),
     ("{}", " : no name"),
@@ -76,8 +76,12 @@ const WRONG: [(&str, &str); 27] = [
         " a: an unknown shape",
     ),
     (
-        r#"{"name": "a", "call": "Module::new", "args": ["1"], "may": ["Ok"]}"#,
+        r#"{"name": "a", "call": "Module::arbitrary", "args": ["1"], "may": ["Ok"]}"#,
         " a: a key of which the call has no use",
+    ),
+    (
+        r#"{"name": "a", "call": "Module::new", "args": ["left", "1"], "may": ["Ok"]}"#,
+        " a: argument 1 isn't one of the call",
     ),
     (
         r#"{"name": "a", "call": "Unstructured::arbitrary", "args": ["u7"], "may": ["Ok"]}"#,

@@ -1,7 +1,6 @@
 //! The examples of the README: what they show compiles and answers.
 
-use smith_config_rows::made_types::function;
-use smith_config_rows::repeated::told;
+use smith_types::{CompositeType, FuncType};
 use std::alloc::Global;
 use wasm_smith::{
     CompositeInnerType, Config, Error, Items, Module, SubType, Unstructured, ValType, spell,
@@ -46,10 +45,25 @@ fn seed(
     Ok(())
 }
 
-// A group of one function type that takes an i32.
+// A final type of functions that take an i32 and give nothing.
+fn takes_a_number(alloc: Global) -> Result<SubType, Error> {
+    Ok(SubType {
+        is_final: true,
+        supertype: None,
+        composite_type: CompositeType {
+            inner: CompositeInnerType::Func(FuncType {
+                params: Items::from_slice(alloc, &[ValType::I32])?,
+                results: Items::new(alloc),
+            }),
+            shared: false,
+        },
+    })
+}
+
+// A group of this type.
 fn one_group(alloc: Global) -> Result<Vec<Items<SubType>>, Error> {
     let mut group = Items::new(alloc);
-    group.push(function(alloc, true, &[ValType::I32], &[])?)?;
+    group.push(takes_a_number(alloc)?)?;
     let mut groups = Vec::new(alloc);
     groups.push(group)?;
     Ok(groups)
@@ -57,11 +71,9 @@ fn one_group(alloc: Global) -> Result<Vec<Items<SubType>>, Error> {
 
 // A corpus of what is found for the group.
 fn corpus_of(alloc: Global) -> Result<Vec<Items<u8>>, Error> {
+    let groups = one_group(alloc)?;
     let mut corpus = Vec::new(alloc);
-    told(
-        one_group(alloc)?,
-        |groups| seed(alloc, groups.as_slice(), &mut corpus),
-    )?;
+    seed(alloc, groups.as_slice(), &mut corpus)?;
     Ok(corpus)
 }
 
@@ -75,10 +87,8 @@ fn parameters_of_seeds(alloc: Global, corpus: &[Items<u8>]) -> Result<(usize, us
 }
 
 fn seeded(alloc: Global) -> Result<(usize, usize), Error> {
-    told(
-        corpus_of(alloc)?,
-        |corpus| parameters_of_seeds(alloc, corpus.as_slice()),
-    )
+    let corpus = corpus_of(alloc)?;
+    parameters_of_seeds(alloc, corpus.as_slice())
 }
 
 #[test]

@@ -21,6 +21,7 @@ pub(crate) fn answer_config(
     match call {
         ConfigCall::ShapeCheck => checked_shape(alloc, case, config, answer),
         ConfigCall::Spell => spelled(alloc, case, config, answer),
+        ConfigCall::Clone => tell_copy(alloc, config, answer),
         _ => told(call, config, answer),
     }
 }
@@ -49,6 +50,31 @@ fn tell_config_and_features(config: &Config, answer: &mut String) -> Result<(), 
     tell_features(config.features(), answer)
 }
 
+// Appends whether a copy of `config` is equal: whether the shapes are, and what the two print for debugging.
+fn tell_copy(alloc: Global, config: &Config, answer: &mut String) -> Result<(), Fault> {
+    let copy = config.clone(alloc)?;
+    tell_equal(is_copy(alloc, &copy, config)?, answer)
+}
+
+fn tell_equal(is_equal: bool, answer: &mut String) -> Result<(), Fault> {
+    writeln!(answer, "{}", if is_equal { "is equal" } else { "differs" })?;
+    Ok(())
+}
+
+fn is_copy(alloc: Global, copy: &Config, config: &Config) -> Result<bool, Fault> {
+    let (given, wanted) = (
+        format!(in alloc; "{copy:?}")?,
+        format!(in alloc; "{config:?}")?,
+    );
+    Ok(given == wanted && has_same_shapes(copy, config))
+}
+
+fn has_same_shapes(copy: &Config, config: &Config) -> bool {
+    copy.available_imports == config.available_imports
+        && copy.exports == config.exports
+        && copy.module_shape == config.module_shape
+}
+
 // Appends a line `FIELD: VALUE,` for each field.
 fn tell_config(config: &Config, answer: &mut String) -> Result<(), Fault> {
     writeln!(answer, "{config:#?}")?;
@@ -74,8 +100,8 @@ fn tell_features(features: WasmFeatures, answer: &mut String) -> Result<(), Faul
     Ok(())
 }
 
-// The shape under the key `shape`.
-fn shape_of(alloc: Global, case: &Case) -> Result<Shape, Fault> {
+/// The shape under the key `shape` of `case`.
+pub(crate) fn shape_of(alloc: Global, case: &Case) -> Result<Shape, Fault> {
     match &case.shape {
         Some(name) => shape_named(alloc, name.as_str()),
         None => Err(Fault::UnknownShape),

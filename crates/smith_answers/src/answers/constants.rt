@@ -5,13 +5,14 @@ ghost use Rattle.smith_types.specs.ValidTypes.{AreTypesValid};
 
 use crate::answers::spaces::{Over, number_global, spaces_of, with_globals};
 use crate::answers::told::{tell_refusal, tell_values};
-use crate::arguments::{at_most, flag, read};
+use crate::arguments::{at_most, flag, read, word};
 use crate::call::ConstantCall;
+use crate::case::Case;
 use crate::fault::Fault;
 use crate::type_names::{ref_type_of, val_type_of};
 use smith_bytes::Unstructured;
 use smith_draw::{arbitrary_const_expr, arbitrary_table_init, globals_for_const_expr};
-use smith_types::{are_types_valid, is_ref_type_valid, is_val_type_valid};
+use smith_types::{ConstInstr, are_types_valid, is_ref_type_valid, is_val_type_valid};
 
 /// Appends the constant expression that `call` draws.
 pub(crate) fn answer_constant(
@@ -32,7 +33,8 @@ pub(crate) fn answer_constant(
     }
 }
 
-// An expression of the value type that is the first argument. The second is whether it may read defined globals.
+// An expression of the value type that is the first argument. The second is whether it may read defined globals. Where there is a
+// third, `count`, only the number of instructions is told.
 fn answer_expression(
     over: &Over<'_>,
     u: &mut Unstructured<'_>,
@@ -40,7 +42,7 @@ fn answer_expression(
 ) -> Result<(), Fault>
     requires types { AreTypesValid (features_of over.now.config.now) over.now.types.now }
 {
-    at_most(over.case, 2)?;
+    at_most(over.case, 3)?;
     let wanted = read(over.case, 0, val_type_of)?;
     let allow_defined = flag(over.case, 1)?;
     if !is_val_type_valid(over.config.features(), over.types.types().len(), wanted) {
@@ -48,9 +50,21 @@ fn answer_expression(
     }
     let spaces = spaces_of(over.types);
     match arbitrary_const_expr(over.alloc, over.config, &spaces, wanted, allow_defined, u) {
-        Ok(drawn) => tell_values(drawn.as_slice(), answer),
+        Ok(drawn) => tell_expression(over.case, drawn.as_slice(), answer),
         Err(refusal) => tell_refusal(refusal, answer),
     }
+}
+
+// Appends the instructions `drawn`, or their number.
+fn tell_expression(case: &Case, drawn: &[ConstInstr], answer: &mut String) -> Result<(), Fault> {
+    if case.args().len() < 3 {
+        return tell_values(drawn, answer);
+    }
+    if word(case, 2)? != "count" {
+        return Err(Fault::Argument(2));
+    }
+    writeln!(answer, "{} instructions", drawn.len())?;
+    Ok(())
 }
 
 // The globals that a value of the type that is the first argument may be read of, among a variable and a constant that are

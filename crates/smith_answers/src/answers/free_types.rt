@@ -49,13 +49,15 @@ pub(crate) fn answer_free_type(
     requires passes { Passes over.now.config.now }
     requires sanitized { IsSanitized over.now.config.now }
 {
+    if matches!(call, FreeCall::RecGroup) {
+        return answer_groups(over, u, answer);
+    }
     let bounds = bounds_of(over)?;
     if bounds.must_share && !over.config.shared_everything_threads_enabled {
         return Err(Fault::NotCallable("no type may be shared"));
     }
     match call {
         FreeCall::Types => answer_types(over, u, answer),
-        FreeCall::RecGroup => answer_group(over, u, answer),
         FreeCall::CloneRecGroup => answer_clone(over, u, answer),
         FreeCall::SubOfSuper => answer_subtype_of_one(over, bounds, u, answer),
         FreeCall::Sub => answer_sub_type(over, bounds, u, answer),
@@ -77,21 +79,41 @@ fn answer_types(over: &Over<'_>, u: &mut Unstructured<'_>, answer: &mut String) 
     }
 }
 
-// A group, behind no other, that may be empty.
+// A group for each argument, which says whether the group may be empty. Without arguments one group that may be.
+fn answer_groups(
+    over: &Over<'_>,
+    u: &mut Unstructured<'_>,
+    answer: &mut String,
+) -> Result<(), Fault>
+    requires passes { Passes over.now.config.now }
+    requires sanitized { IsSanitized over.now.config.now }
+{
+    let mut types = TypeSpace::new(over.alloc);
+    if over.case.args().is_empty() {
+        add_group(over, true, &mut types, u)?;
+    }
+    for place in 0..over.case.args().len() {
+        add_group(over, flag(over.case, place)?, &mut types, u)?;
+    }
+    tell_types(&types, answer)
+}
+
+// Adds a group to `types`.
 #[tactic(auto, using(smith_draw::proofs::CallerLemmas::passes_but_imports))]
-fn answer_group(over: &Over<'_>, u: &mut Unstructured<'_>, answer: &mut String) -> Result<(), Fault>
+fn add_group(
+    over: &Over<'_>,
+    allow_empty: bool,
+    types: &mut TypeSpace,
+    u: &mut Unstructured<'_>,
+) -> Result<(), Fault>
     requires passes { Passes over.now.config.now }
     requires sanitized { IsSanitized over.now.config.now }
 {
     let Over { alloc, config, .. } = *over;
-    let mut types = TypeSpace::new(alloc);
     if types.types().len() >= config.max_types {
         return Err(Fault::NotCallable("no type is left"));
     }
-    match arbitrary_rec_group(alloc, config, &mut types, &Entities::none(), true, u) {
-        Ok(()) => tell_types(&types, answer),
-        Err(refusal) => tell_refusal(refusal, answer),
-    }
+    Ok(arbitrary_rec_group(alloc, config, types, &Entities::none(), allow_empty, u)?)
 }
 
 // A clone of one of the groups of the case, which may be empty.

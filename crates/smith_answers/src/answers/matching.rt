@@ -2,9 +2,10 @@ ghost use Rattle.smith_config.specs.Sanitized.{IsSanitized};
 
 use crate::answers::spaces::{Over, spaces_of};
 use crate::answers::told::tell_drawn;
-use crate::arguments::{at_most, number, read};
+use crate::arguments::{at_most, number, read, word};
 use crate::call::MatchingCall;
 use crate::fault::Fault;
+use crate::shape_parts::function_of;
 use crate::type_names::{field_type_of, heap_type_of, ref_type_of, storage_type_of, val_type_of};
 use smith_bytes::Unstructured;
 use smith_draw::{
@@ -25,52 +26,67 @@ pub(crate) fn answer_matching(
     requires { IsSanitized over.now.config.now }
 {
     at_most(over.case, 1)?;
-    let Over {
-        alloc,
-        case,
-        config,
-        ..
-    } = *over;
-    let spaces = spaces_of(over.types);
     match call {
         MatchingCall::Func => answer_function(over, u, answer),
         MatchingCall::Struct => answer_structure(over, u, answer),
-        MatchingCall::Field => {
-            let ty = read(case, 0, field_type_of)?;
-            tell_drawn(
-                arbitrary_matching_field_type(alloc, config, &spaces, ty, u),
-                answer,
-            )
+        MatchingCall::AboveVal | MatchingCall::AboveRef | MatchingCall::AboveHeap => {
+            answer_above(over, call, u, answer)
         }
-        MatchingCall::Storage => {
-            let ty = read(case, 0, storage_type_of)?;
-            tell_drawn(
-                arbitrary_matching_storage_type(alloc, config, &spaces, ty, u),
-                answer,
-            )
-        }
-        MatchingCall::Val => {
-            let ty = read(case, 0, val_type_of)?;
-            tell_drawn(
-                arbitrary_matching_val_type(alloc, config, &spaces, ty, u),
-                answer,
-            )
-        }
-        MatchingCall::Ref => {
-            let ty = read(case, 0, ref_type_of)?;
-            tell_drawn(
-                arbitrary_matching_ref_type(alloc, config, &spaces, ty, u),
-                answer,
-            )
-        }
-        MatchingCall::Heap => {
-            let ty = read(case, 0, heap_type_of)?;
-            tell_drawn(
-                arbitrary_matching_heap_type(alloc, config, &spaces, ty, u),
-                answer,
-            )
-        }
-        _ => answer_above(over, call, u, answer),
+        _ => answer_below(over, call, u, answer),
+    }
+}
+
+// Appends the type that `$draw` draws below or above the argument, which `$read` reads.
+macro_rules! tell_matching {
+    ($draw:ident, $read:expr, $over:expr, $u:expr, $answer:expr) => {{
+        let wanted = read($over.case, 0, $read)?;
+        let spaces = spaces_of($over.types);
+        tell_drawn(
+            $draw($over.alloc, $over.config, &spaces, wanted, $u),
+            $answer,
+        )
+    }};
+}
+
+// A type below the argument.
+fn answer_below(
+    over: &Over<'_>,
+    call: MatchingCall,
+    u: &mut Unstructured<'_>,
+    answer: &mut String,
+) -> Result<(), Fault>
+    requires { IsSanitized over.now.config.now }
+{
+    match call {
+        MatchingCall::Field => tell_matching!(
+            arbitrary_matching_field_type,
+            field_type_of,
+            over,
+            u,
+            answer
+        ),
+        MatchingCall::Storage => tell_matching!(
+            arbitrary_matching_storage_type,
+            storage_type_of,
+            over,
+            u,
+            answer
+        ),
+        MatchingCall::Val => tell_matching!(
+            arbitrary_matching_val_type,
+            val_type_of,
+            over,
+            u,
+            answer
+        ),
+        MatchingCall::Ref => tell_matching!(
+            arbitrary_matching_ref_type,
+            ref_type_of,
+            over,
+            u,
+            answer
+        ),
+        _ => tell_matching!(arbitrary_matching_heap_type, heap_type_of, over, u, answer),
     }
 }
 
@@ -81,47 +97,32 @@ fn answer_above(
     u: &mut Unstructured<'_>,
     answer: &mut String,
 ) -> Result<(), Fault> {
-    let Over {
-        alloc,
-        case,
-        config,
-        ..
-    } = *over;
-    let spaces = spaces_of(over.types);
     match call {
-        MatchingCall::AboveVal => {
-            let ty = read(case, 0, val_type_of)?;
-            tell_drawn(
-                arbitrary_super_type_of_val_type(alloc, config, &spaces, ty, u),
-                answer,
-            )
-        }
-        MatchingCall::AboveRef => {
-            let ty = read(case, 0, ref_type_of)?;
-            tell_drawn(
-                arbitrary_super_type_of_ref_type(alloc, config, &spaces, ty, u),
-                answer,
-            )
-        }
-        _ => {
-            let ty = read(case, 0, heap_type_of)?;
-            tell_drawn(
-                arbitrary_super_type_of_heap_type(alloc, config, &spaces, ty, u),
-                answer,
-            )
-        }
+        MatchingCall::AboveVal => tell_matching!(
+            arbitrary_super_type_of_val_type,
+            val_type_of,
+            over,
+            u,
+            answer
+        ),
+        MatchingCall::AboveRef => tell_matching!(
+            arbitrary_super_type_of_ref_type,
+            ref_type_of,
+            over,
+            u,
+            answer
+        ),
+        _ => tell_matching!(
+            arbitrary_super_type_of_heap_type,
+            heap_type_of,
+            over,
+            u,
+            answer
+        ),
     }
 }
 
-// The type whose index is the argument.
-fn type_of<'a>(over: &Over<'a>) -> Result<&'a CompositeInnerType, Fault> {
-    match over.types.types().get(number::<usize>(over.case, 0)?) {
-        Some(ty) => Ok(&ty.composite_type.inner),
-        None => Err(Fault::Argument(0)),
-    }
-}
-
-// A struct type that matches one of the case.
+// A struct type that matches the type of the case whose index is the argument.
 fn answer_structure(
     over: &Over<'_>,
     u: &mut Unstructured<'_>,
@@ -141,18 +142,27 @@ fn answer_structure(
     )
 }
 
-// A function type that matches one of the case.
+// The type whose index is the argument.
+fn type_of<'a>(over: &Over<'a>) -> Result<&'a CompositeInnerType, Fault> {
+    match over.types.types().get(number::<usize>(over.case, 0)?) {
+        Some(ty) => Ok(&ty.composite_type.inner),
+        None => Err(Fault::Argument(0)),
+    }
+}
+
+// A function type that matches the argument, which is written as in shapes: `func i32 -> i64`.
 fn answer_function(
     over: &Over<'_>,
     u: &mut Unstructured<'_>,
     answer: &mut String,
 ) -> Result<(), Fault> {
-    let CompositeInnerType::Func(function) = type_of(over)? else {
+    let Some(written) = word(over.case, 0)?.strip_prefix("func ") else {
         return Err(Fault::Argument(0));
     };
+    let function = function_of(over.alloc, written)?;
     let spaces = spaces_of(over.types);
     tell_drawn(
-        arbitrary_matching_func_type(over.alloc, over.config, &spaces, function, u),
+        arbitrary_matching_func_type(over.alloc, over.config, &spaces, &function, u),
         answer,
     )
 }

@@ -3,6 +3,7 @@
 mod configs;
 mod configured;
 mod constants;
+mod copies;
 mod draws;
 mod entities;
 mod free_types;
@@ -15,15 +16,18 @@ mod sources;
 mod spaces;
 mod subtypes;
 mod told;
+mod type_spaces;
 
 use crate::answers::configs::{answer_config, answer_drawn_config};
 use crate::answers::configured::set_config;
+use crate::answers::copies::answer_copies;
 use crate::answers::draws::answer_draw;
 use crate::answers::modules::answer_module;
 use crate::answers::names::answer_name;
 use crate::answers::parsers::answer_parser;
 use crate::answers::sources::answer_source;
 use crate::answers::subtypes::answer_subtype;
+use crate::answers::type_spaces::answer_space;
 use crate::call::{Call, ConfigCall, call_named};
 use crate::case::Case;
 use crate::fault::Fault;
@@ -62,6 +66,8 @@ fn append_answer(
         Call::Name(call) => answer_name(alloc, case, call, input, answer),
         Call::Parser(call) => answer_parser(case, call, answer),
         Call::Subtype(call) => answer_subtype(alloc, case, call, answer),
+        Call::Space(call) => answer_space(alloc, case, call, answer),
+        Call::Copies => answer_copies(alloc, case, answer),
         Call::Config(ConfigCall::Arbitrary) => answer_drawn_config(input, answer),
         _ => answer_configured(alloc, line, case, call, input, answer),
     }

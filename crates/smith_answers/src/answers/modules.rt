@@ -1,5 +1,5 @@
-use crate::answers::told::tell_refusal;
-use crate::arguments::{at_most, number, word};
+use crate::answers::told::{tell_refusal, tell_rest};
+use crate::arguments::{number, word};
 use crate::call::ModuleCall;
 use crate::case::Case;
 use crate::fault::Fault;
@@ -10,7 +10,9 @@ use std::alloc::Global;
 use std::mem;
 use wasm_smith::{DuplicateImportsBehavior, Module};
 
-/// Appends the text of the module that `call` makes, or its refusal. The configuration `config` is used up.
+/// Appends the text of the module that `call` makes, or its refusal. The configuration `config` is used up. Arguments of
+/// `Module::new`, and those of `Module::new_internal` after the first, name what is told afterwards: `debug` is a line of the module
+/// as it prints for debugging, `left` what the call leaves of the input.
 pub(crate) fn answer_module(
     alloc: Global,
     case: &Case,
@@ -20,11 +22,48 @@ pub(crate) fn answer_module(
     answer: &mut String,
 ) -> Result<(), Fault> {
     let behavior = behavior_of(case, call)?;
+    let details = details_of(case, call)?;
     let mut u = Unstructured::new(input);
     match made(alloc, call, behavior, config, &mut u) {
-        Ok(module) => told(alloc, case, call, module, answer),
-        Err(refusal) => tell_refusal(refusal, answer),
+        Ok(mut module) => tell_made(alloc, case, call, details, &mut module, answer)?,
+        Err(refusal) => tell_refusal(refusal, answer)?,
     }
+    tell_left(details, &u, answer)
+}
+
+// What is told beside the text of a module.
+#[derive(Clone, Copy)]
+struct Details {
+    debug: bool,
+    left: bool,
+}
+
+// The details that arguments of `case` name.
+fn details_of(case: &Case, call: ModuleCall) -> Result<Details, Fault> {
+    let mut details = Details {
+        debug: false,
+        left: false,
+    };
+    let first = match call {
+        ModuleCall::New => 0,
+        ModuleCall::NewInternal => 1,
+        _ => return Ok(details),
+    };
+    for (place, detail) in case.args().iter().enumerate().skip(first) {
+        match detail.as_str() {
+            "debug" => details.debug = true,
+            "left" => details.left = true,
+            _ => return Err(Fault::Argument(place)),
+        }
+    }
+    Ok(details)
+}
+
+fn tell_left(details: Details, u: &Unstructured<'_>, answer: &mut String) -> Result<(), Fault> {
+    if details.left {
+        return tell_rest(u, answer);
+    }
+    Ok(())
 }
 
 // The module that `call` makes, before it is made to terminate.
@@ -53,7 +92,6 @@ fn behavior_of(case: &Case, call: ModuleCall) -> Result<DuplicateImportsBehavior
     if call != ModuleCall::NewInternal {
         return Ok(DuplicateImportsBehavior::Allowed);
     }
-    at_most(case, 1)?;
     match word(case, 0)? {
         "Allowed" => Ok(DuplicateImportsBehavior::Allowed),
         "Disallowed" => Ok(DuplicateImportsBehavior::Disallowed),
@@ -69,17 +107,23 @@ fn of_drawn(alloc: Global, u: &mut Unstructured<'_>) -> Result<Module, Error> {
     }
 }
 
-fn told(
+// Appends the text of `module`, after what `call` makes of it and before its details.
+fn tell_made(
     alloc: Global,
     case: &Case,
     call: ModuleCall,
-    mut module: Module,
+    details: Details,
+    module: &mut Module,
     answer: &mut String,
 ) -> Result<(), Fault> {
     if call == ModuleCall::EnsureTermination {
-        terminate(alloc, case, &mut module, answer)?;
+        terminate(alloc, case, module, answer)?;
     }
-    tell_module(alloc, &module, answer)
+    tell_module(alloc, module, answer)?;
+    if details.debug {
+        writeln!(answer, "{module:?}")?;
+    }
+    Ok(())
 }
 
 fn tell_module(alloc: Global, module: &Module, answer: &mut String) -> Result<(), Fault> {

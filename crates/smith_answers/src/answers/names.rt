@@ -4,7 +4,8 @@ use crate::call::NameCall;
 use crate::case::Case;
 use crate::fault::Fault;
 use smith_bytes::{
-    Error, Unstructured, limited_str, unique_kebab_string, unique_string, unique_url,
+    Error, Unstructured, limited_str, limited_string, unique_kebab_string, unique_string,
+    unique_url,
 };
 use std::alloc::Global;
 use std::collections::HashSet;
@@ -49,6 +50,7 @@ fn drawn(
     u: &mut Unstructured<'_>,
 ) -> Result<String, Error> {
     match call {
+        NameCall::LimitedString => limited_string(alloc, most, u),
         NameCall::UniqueKebabString => unique_kebab_string(alloc, most, names, u),
         NameCall::UniqueUrl => unique_url(alloc, most, names, u),
         _ => unique_string(alloc, most, names, u),

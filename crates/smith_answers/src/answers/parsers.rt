@@ -6,25 +6,27 @@ use smith_config::MemoryOffsetChoices;
 use smith_types::{InstructionKind, InstructionKinds};
 use std::str::FromStr;
 
-/// Appends what `call` reads of the argument.
+/// Appends what `call` reads of the argument, or a set of kinds.
 pub(crate) fn answer_parser(
     case: &Case,
     call: ParserCall,
     answer: &mut String,
 ) -> Result<(), Fault> {
-    let text = word(case, 0)?;
     match call {
-        ParserCall::OffsetChoices => answer_choices(case, text, answer),
-        ParserCall::Kind => answer_kind(case, text, answer),
-        ParserCall::Kinds => answer_kinds(case, text, answer),
-        ParserCall::WithoutFloats => answer_without_floats(case, text, answer),
-        ParserCall::Contains => answer_contains(case, text, answer),
+        ParserCall::OffsetChoices => answer_choices(case, answer),
+        ParserCall::Kind => answer_each_kind(case, answer),
+        ParserCall::Kinds => answer_kinds(case, answer),
+        ParserCall::WithoutFloats => answer_without_floats(case, answer),
+        ParserCall::Contains => answer_contains(case, answer),
+        ParserCall::NoKinds => tell_set(case, InstructionKinds::none(), answer),
+        ParserCall::AllKinds => tell_set(case, InstructionKinds::all(), answer),
+        ParserCall::DefaultKinds => tell_set(case, InstructionKinds::default(), answer),
     }
 }
 
-fn answer_choices(case: &Case, text: &str, answer: &mut String) -> Result<(), Fault> {
+fn answer_choices(case: &Case, answer: &mut String) -> Result<(), Fault> {
     at_most(case, 1)?;
-    match MemoryOffsetChoices::from_str(text) {
+    match MemoryOffsetChoices::from_str(word(case, 0)?) {
         Ok(MemoryOffsetChoices(first, second, third)) => {
             writeln!(answer, "{first} {second} {third}")?;
         }
@@ -33,8 +35,16 @@ fn answer_choices(case: &Case, text: &str, answer: &mut String) -> Result<(), Fa
     Ok(())
 }
 
-fn answer_kind(case: &Case, text: &str, answer: &mut String) -> Result<(), Fault> {
-    at_most(case, 1)?;
+// The kind of each argument.
+fn answer_each_kind(case: &Case, answer: &mut String) -> Result<(), Fault> {
+    let _first = word(case, 0)?;
+    for name in case.args() {
+        answer_kind(name.as_str(), answer)?;
+    }
+    Ok(())
+}
+
+fn answer_kind(text: &str, answer: &mut String) -> Result<(), Fault> {
     match InstructionKind::from_str(text) {
         Ok(kind) => writeln!(answer, "{kind:?}")?,
         Err(fault) => writeln!(answer, "refused: part {}", fault.part)?,
@@ -42,26 +52,26 @@ fn answer_kind(case: &Case, text: &str, answer: &mut String) -> Result<(), Fault
     Ok(())
 }
 
-fn answer_kinds(case: &Case, text: &str, answer: &mut String) -> Result<(), Fault> {
+fn answer_kinds(case: &Case, answer: &mut String) -> Result<(), Fault> {
     at_most(case, 1)?;
-    match InstructionKinds::from_str(text) {
+    match InstructionKinds::from_str(word(case, 0)?) {
         Ok(kinds) => tell_kinds(kinds, answer),
         Err(fault) => Ok(writeln!(answer, "refused: part {}", fault.part)?),
     }
 }
 
-fn answer_without_floats(case: &Case, text: &str, answer: &mut String) -> Result<(), Fault> {
+fn answer_without_floats(case: &Case, answer: &mut String) -> Result<(), Fault> {
     at_most(case, 1)?;
-    match InstructionKinds::from_str(text) {
+    match InstructionKinds::from_str(word(case, 0)?) {
         Ok(kinds) => tell_kinds(kinds.without_floats(), answer),
         Err(_) => Err(Fault::Argument(0)),
     }
 }
 
 // Whether the kinds that the first argument names contain the kind that the second names.
-fn answer_contains(case: &Case, text: &str, answer: &mut String) -> Result<(), Fault> {
+fn answer_contains(case: &Case, answer: &mut String) -> Result<(), Fault> {
     at_most(case, 2)?;
-    let Ok(kinds) = InstructionKinds::from_str(text) else {
+    let Ok(kinds) = InstructionKinds::from_str(word(case, 0)?) else {
         return Err(Fault::Argument(0));
     };
     let Ok(kind) = InstructionKind::from_str(word(case, 1)?) else {
@@ -87,8 +97,16 @@ const KINDS: [InstructionKind; 12] = [
     InstructionKind::Aggregate,
 ];
 
-// Appends a line for each kind that `kinds` contains.
+fn tell_set(case: &Case, kinds: InstructionKinds, answer: &mut String) -> Result<(), Fault> {
+    at_most(case, 0)?;
+    tell_kinds(kinds, answer)
+}
+
+// Appends a line for each kind that `kinds` contains, or the line `no kinds`.
 fn tell_kinds(kinds: InstructionKinds, answer: &mut String) -> Result<(), Fault> {
+    if kinds == InstructionKinds::none() {
+        writeln!(answer, "no kinds")?;
+    }
     for kind in KINDS {
         if kinds.contains(kind) {
             writeln!(answer, "{kind:?}")?;

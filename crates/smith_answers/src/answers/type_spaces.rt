@@ -1,0 +1,165 @@
+ghost use Rattle.std.specs.Prelude.{◌<◌, ◌^◌, IsTrue, IfOk};
+ghost use Rattle.smith_types.specs.Matching.{IsInnerInRange};
+ghost use Rattle.smith_types.specs.Sizes.{IsTyped, size_in};
+
+use crate::answers::spaces::types_of;
+use crate::answers::told::{tell_refusal, tell_types, tell_values};
+use crate::arguments::{at_most, number, read, word};
+use crate::call::SpaceCall;
+use crate::case::Case;
+use crate::fault::Fault;
+use crate::shape_parts::entity_of;
+use crate::shapes::shape_named;
+use smith_draw::{TypeUse, list_types};
+use smith_types::{
+    CompositeInnerType, CompositeType, EntityType, StandingValue, SubType, TypeSpace,
+    all_values_hold,
+};
+use std::alloc::Global;
+
+/// Appends what the type space of `case` tells by `call`.
+pub(crate) fn answer_space(
+    alloc: Global,
+    case: &Case,
+    call: SpaceCall,
+    answer: &mut String,
+) -> Result<(), Fault> {
+    match call {
+        SpaceCall::Depth => answer_depth(&types_of(alloc, case)?, case, answer),
+        SpaceCall::Size => answer_size(&types_of(alloc, case)?, case, answer),
+        SpaceCall::Matches => answer_match(&types_of(alloc, case)?, case, answer),
+        SpaceCall::Pushed => answer_pushed(alloc, case, answer),
+        SpaceCall::Listed => answer_listed(alloc, &types_of(alloc, case)?, case, answer),
+    }
+}
+
+// The fault where a type is named that doesn't stand.
+const MISSING: Fault = Fault::NotCallable("a type doesn't stand");
+
+// The depth of the type of the index that is the argument.
+fn answer_depth(types: &TypeSpace, case: &Case, answer: &mut String) -> Result<(), Fault> {
+    at_most(case, 1)?;
+    let index: u32 = number(case, 0)?;
+    if index as usize >= types.types().len() {
+        return Err(MISSING);
+    }
+    writeln!(answer, "{}", types.depth(index))?;
+    Ok(())
+}
+
+// The size of the entity that is the argument, which is written as in shapes.
+fn answer_size(types: &TypeSpace, case: &Case, answer: &mut String) -> Result<(), Fault> {
+    at_most(case, 1)?;
+    let entity = read(case, 0, entity_of)?;
+    if !is_small(types, &entity) {
+        return Err(MISSING);
+    }
+    writeln!(answer, "{}", types.size_of(&entity))?;
+    Ok(())
+}
+
+// The most parameters, and the most results, of a function whose size is told.
+const MOST_VALUES: usize = 1000;
+
+// Whether the type of `entity` stands and is of few values.
+fn is_small(types: &TypeSpace, entity: &EntityType) -> bool
+    ensures typed { IsTrue result → IsTyped types.now.types entity.now }
+    ensures fits { IsTrue result → size_in types.now.types entity.now < 2 ^ 32 }
+{
+    let EntityType::Func(index) = entity else {
+        return true;
+    };
+    match types.types().get(*index as usize) {
+        Some(ty) => match &ty.composite_type.inner {
+            CompositeInnerType::Func(function) => {
+                function.params.len() <= MOST_VALUES && function.results.len() <= MOST_VALUES
+            }
+            _ => true,
+        },
+        None => false,
+    }
+}
+
+// Whether the type of the index that is the first argument matches that of the second.
+fn answer_match(types: &TypeSpace, case: &Case, answer: &mut String) -> Result<(), Fault> {
+    at_most(case, 2)?;
+    let (a, b) = (composite_at(types, case, 0)?, composite_at(types, case, 1)?);
+    let told = if types.composite_type_matches(a, b) {
+        "yes"
+    } else {
+        "no"
+    };
+    writeln!(answer, "{told}")?;
+    Ok(())
+}
+
+// The composite type of the index that is the argument at `place`, which refers to types that stand.
+#[tactic(auto, using(smith_types::proofs::ReferredTypeLemmas::inner_in_range))]
+fn composite_at<'a>(
+    types: &'a TypeSpace,
+    case: &Case,
+    place: usize,
+) -> Result<&'a CompositeType, Fault>
+    ensures { IfOk result (λ composite. IsInnerInRange types.now.types composite.now.inner) }
+{
+    let listed = types.types();
+    let Some(ty) = listed.get(number::<usize>(case, place)?) else {
+        return Err(Fault::Argument(place));
+    };
+    if !all_values_hold(&StandingValue { types: listed }, &ty.composite_type.inner) {
+        return Err(MISSING);
+    }
+    Ok(&ty.composite_type)
+}
+
+// The index of each type of the case as it is added, and then the types in their groups.
+fn answer_pushed(alloc: Global, case: &Case, answer: &mut String) -> Result<(), Fault> {
+    at_most(case, 0)?;
+    let Some(name) = &case.types else {
+        return Err(Fault::UnknownTypes);
+    };
+    let shape = shape_named(alloc, name.as_str())?;
+    let mut types = TypeSpace::new(alloc);
+    for group in shape.groups.as_slice() {
+        push_each(alloc, group.as_slice(), &mut types, answer)?;
+        types.push_group()?;
+    }
+    tell_types(&types, answer)
+}
+
+fn push_each(
+    alloc: Global,
+    group: &[SubType],
+    types: &mut TypeSpace,
+    answer: &mut String,
+) -> Result<(), Fault> {
+    for ty in group {
+        let added = ty.clone(alloc)?;
+        if !types.may_follow(&added) {
+            return Err(Fault::NotCallable("a type may not follow"));
+        }
+        let index = types.push_type(added)?;
+        writeln!(answer, "index {index}")?;
+    }
+    Ok(())
+}
+
+// The types of the case that are right for the use that the argument names.
+fn answer_listed(
+    alloc: Global,
+    types: &TypeSpace,
+    case: &Case,
+    answer: &mut String,
+) -> Result<(), Fault> {
+    at_most(case, 1)?;
+    let for_use = match word(case, 0)? {
+        "Tag" => TypeUse::Tag,
+        "ImportedFunc" => TypeUse::ImportedFunc,
+        "DefinedFunc" => TypeUse::DefinedFunc,
+        _ => return Err(Fault::Argument(0)),
+    };
+    match list_types(alloc, for_use, types.types()) {
+        Ok(indices) => tell_values(indices.as_slice(), answer),
+        Err(refusal) => tell_refusal(refusal, answer),
+    }
+}
