@@ -172,7 +172,7 @@ pub(crate) enum SpaceCall {
 pub(crate) const RECORDED: &str = "recorded";
 
 // Each call by its name.
-const CALLS: [(&str, Call); 77] = [
+static CALLS: [(&str, Call); 77] = [
     ("Module::new", Call::Module(ModuleCall::New)),
     (
         "Module::new_internal",

@@ -6,7 +6,7 @@ use smith_types::Items;
 use std::alloc::Global;
 
 // Each shape by its name, with its parts in the form that `add_part` reads.
-const SHAPES: [(&str, &[&str]); 41] = [
+static SHAPES: [(&str, &[&str]); 41] = [
     ("nothing", &[]),
     (
         "a function without parameters and results",

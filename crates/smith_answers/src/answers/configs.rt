@@ -4,7 +4,7 @@ use crate::call::ConfigCall;
 use crate::case::Case;
 use crate::fault::Fault;
 use crate::shapes::shape_named;
-use smith_bytes::{ConfigFault, Error, Unstructured, Which};
+use smith_bytes::{Error, Unstructured, Which};
 use smith_config::{Config, Shape};
 use smith_spell::spell;
 use smith_types::{Items, WasmFeatures};
@@ -21,14 +21,14 @@ pub(crate) fn answer_config(
     match call {
         ConfigCall::ShapeCheck => checked_shape(alloc, case, config, answer),
         ConfigCall::Spell => spelled(alloc, case, config, answer),
-        ConfigCall::Clone => tell_copy(alloc, config, answer),
+        ConfigCall::Clone => answer_copy(alloc, config, answer),
         _ => told(call, config, answer),
     }
 }
 
 fn told(call: ConfigCall, config: &mut Config, answer: &mut String) -> Result<(), Fault> {
     match call {
-        ConfigCall::Check => tell_check(config.check(), answer),
+        ConfigCall::Check => tell_check(config.check().map_err(Error::Config), answer),
         ConfigCall::Features => tell_features(config.features(), answer),
         _ => {
             config.sanitize();
@@ -39,7 +39,11 @@ fn told(call: ConfigCall, config: &mut Config, answer: &mut String) -> Result<()
 
 /// Appends the configuration that `input` draws, and its features.
 pub(crate) fn answer_drawn_config(input: &[u8], answer: &mut String) -> Result<(), Fault> {
-    match Config::arbitrary(&mut Unstructured::new(input)) {
+    tell_drawn_config(Config::arbitrary(&mut Unstructured::new(input)), answer)
+}
+
+fn tell_drawn_config(drawn: Result<Config, Error>, answer: &mut String) -> Result<(), Fault> {
+    match drawn {
         Ok(config) => tell_config_and_features(&config, answer),
         Err(refusal) => tell_refusal(refusal, answer),
     }
@@ -51,22 +55,36 @@ fn tell_config_and_features(config: &Config, answer: &mut String) -> Result<(), 
 }
 
 // Appends whether a copy of `config` is equal: whether the shapes are, and what the two print for debugging.
-fn tell_copy(alloc: Global, config: &Config, answer: &mut String) -> Result<(), Fault> {
-    let copy = config.clone(alloc)?;
-    tell_equal(is_copy(alloc, &copy, config)?, answer)
+fn answer_copy(alloc: Global, config: &Config, answer: &mut String) -> Result<(), Fault> {
+    tell_copy(alloc, config.clone(alloc), config, answer)
 }
 
-fn tell_equal(is_equal: bool, answer: &mut String) -> Result<(), Fault> {
+fn tell_copy(
+    alloc: Global,
+    copy: Result<Config, Error>,
+    config: &Config,
+    answer: &mut String,
+) -> Result<(), Fault> {
+    match copy {
+        Ok(copy) => tell_equal(alloc, &copy, config, answer),
+        Err(refusal) => tell_refusal(refusal, answer),
+    }
+}
+
+fn tell_equal(
+    alloc: Global,
+    copy: &Config,
+    config: &Config,
+    answer: &mut String,
+) -> Result<(), Fault> {
+    let prints_the_same = printed(alloc, copy)? == printed(alloc, config)?;
+    let is_equal = prints_the_same && has_same_shapes(copy, config);
     writeln!(answer, "{}", if is_equal { "is equal" } else { "differs" })?;
     Ok(())
 }
 
-fn is_copy(alloc: Global, copy: &Config, config: &Config) -> Result<bool, Fault> {
-    let (given, wanted) = (
-        format!(in alloc; "{copy:?}")?,
-        format!(in alloc; "{config:?}")?,
-    );
-    Ok(given == wanted && has_same_shapes(copy, config))
+fn printed(alloc: Global, config: &Config) -> Result<String, Fault> {
+    Ok(format!(in alloc; "{config:?}")?)
 }
 
 fn has_same_shapes(copy: &Config, config: &Config) -> bool {
@@ -78,15 +96,6 @@ fn has_same_shapes(copy: &Config, config: &Config) -> bool {
 // Appends a line `FIELD: VALUE,` for each field.
 fn tell_config(config: &Config, answer: &mut String) -> Result<(), Fault> {
     writeln!(answer, "{config:#?}")?;
-    Ok(())
-}
-
-// Appends what a check of a configuration says.
-fn tell_check(checked: Result<(), ConfigFault>, answer: &mut String) -> Result<(), Fault> {
-    match checked {
-        Ok(()) => writeln!(answer, "passes")?,
-        Err(fault) => writeln!(answer, "refused: {fault:?}")?,
-    }
     Ok(())
 }
 
@@ -127,11 +136,11 @@ fn checked_shape(
 ) -> Result<(), Fault> {
     let which = which_of(case)?;
     let shape = shape_of(alloc, case)?;
-    tell_shape_check(shape.check(alloc, which, config), answer)
+    tell_check(shape.check(alloc, which, config), answer)
 }
 
-// Appends what a check of a shape says.
-fn tell_shape_check(checked: Result<(), Error>, answer: &mut String) -> Result<(), Fault> {
+// Appends what a check says.
+fn tell_check(checked: Result<(), Error>, answer: &mut String) -> Result<(), Fault> {
     match checked {
         Ok(()) => Ok(writeln!(answer, "passes")?),
         Err(refusal) => tell_refusal(refusal, answer),

@@ -1,57 +1,72 @@
 use crate::answers::configs::shape_of;
 use crate::case::Case;
 use crate::fault::Fault;
-use smith_types::{CompositeInnerType, CompositeType, Imports, Items, SubType};
+use smith_bytes::Error;
+use smith_types::{CompositeInnerType, CompositeType, ImportItem, Imports, Items, SubType};
 use std::alloc::Global;
-
-// Appends whether a copy of `$value`, which is of the type `$name`, is equal.
-macro_rules! tell_copy {
-    ($name:literal, $alloc:expr, $value:expr, $answer:expr) => {{
-        let is_equal = $value.clone($alloc)? == *$value;
-        let told = if is_equal { "is equal" } else { "differs" };
-        writeln!($answer, "{} {}", $name, told)?;
-    }};
-}
 
 /// Appends a line for each group, type and import of the shape of `case`, and for each of their parts, that says whether a copy is
 /// equal. A group of imports is told first.
 pub(crate) fn answer_copies(alloc: Global, case: &Case, answer: &mut String) -> Result<(), Fault> {
     let shape = shape_of(alloc, case)?;
-    for group in shape.groups.as_slice() {
-        answer_group(alloc, group, answer)?;
-    }
+    answer_groups(alloc, shape.groups.as_slice(), answer)?;
     answer_imports(alloc, shape.imports.as_slice(), answer)
 }
 
-fn answer_group(alloc: Global, group: &Items<SubType>, answer: &mut String) -> Result<(), Fault> {
-    tell_copy!("Items<SubType>", alloc, group, answer);
-    for ty in group.as_slice() {
-        tell_copy!("SubType", alloc, ty, answer);
+// Appends whether `copy` is equal to `value`, which is of the type `name`.
+fn tell_copy<T: PartialEq + Drop>(
+    name: &str,
+    copy: Result<T, Error>,
+    value: &T,
+    answer: &mut String,
+) -> Result<(), Fault> {
+    let is_equal = copy? == *value;
+    let told = if is_equal { "is equal" } else { "differs" };
+    writeln!(answer, "{name} {told}")?;
+    Ok(())
+}
+
+fn answer_groups(
+    alloc: Global,
+    groups: &[Items<SubType>],
+    answer: &mut String,
+) -> Result<(), Fault> {
+    for group in groups {
+        tell_copy("Items<SubType>", group.clone(alloc), group, answer)?;
+        answer_types(alloc, group.as_slice(), answer)?;
+    }
+    Ok(())
+}
+
+fn answer_types(alloc: Global, types: &[SubType], answer: &mut String) -> Result<(), Fault> {
+    for ty in types {
+        tell_copy("SubType", ty.clone(alloc), ty, answer)?;
         answer_composite(alloc, &ty.composite_type, answer)?;
     }
     Ok(())
 }
 
-fn answer_composite(
-    alloc: Global,
-    composite: &CompositeType,
-    answer: &mut String,
-) -> Result<(), Fault> {
-    tell_copy!("CompositeType", alloc, composite, answer);
-    let inner = &composite.inner;
-    tell_copy!("CompositeInnerType", alloc, inner, answer);
-    match inner {
-        CompositeInnerType::Array(_) => {}
-        CompositeInnerType::Func(function) => tell_copy!("FuncType", alloc, function, answer),
-        CompositeInnerType::Struct(structure) => tell_copy!("StructType", alloc, structure, answer),
+fn answer_composite(alloc: Global, ty: &CompositeType, answer: &mut String) -> Result<(), Fault> {
+    tell_copy("CompositeType", ty.clone(alloc), ty, answer)?;
+    tell_copy(
+        "CompositeInnerType",
+        ty.inner.clone(alloc),
+        &ty.inner,
+        answer,
+    )?;
+    match &ty.inner {
+        CompositeInnerType::Array(_) => Ok(()),
+        CompositeInnerType::Func(func) => tell_copy("FuncType", func.clone(alloc), func, answer),
+        CompositeInnerType::Struct(structure) => {
+            tell_copy("StructType", structure.clone(alloc), structure, answer)
+        }
     }
-    Ok(())
 }
 
 fn answer_imports(alloc: Global, imports: &[Imports], answer: &mut String) -> Result<(), Fault> {
     for group in imports {
         writeln!(answer, "{group:?}")?;
-        tell_copy!("Imports", alloc, group, answer);
+        tell_copy("Imports", group.clone(alloc), group, answer)?;
         answer_parts(alloc, group, answer)?;
     }
     Ok(())
@@ -59,13 +74,17 @@ fn answer_imports(alloc: Global, imports: &[Imports], answer: &mut String) -> Re
 
 fn answer_parts(alloc: Global, group: &Imports, answer: &mut String) -> Result<(), Fault> {
     match group {
-        Imports::Single(import) => tell_copy!("Import", alloc, import, answer),
-        Imports::Compact1 { items, .. } => {
-            for item in items.as_slice() {
-                tell_copy!("ImportItem", alloc, item, answer);
-            }
+        Imports::Single(import) => tell_copy("Import", import.clone(alloc), import, answer),
+        Imports::Compact1 { items, .. } => answer_items(alloc, items.as_slice(), answer),
+        Imports::Compact2 { names, .. } => {
+            tell_copy("Items<Name>", names.clone(alloc), names, answer)
         }
-        Imports::Compact2 { names, .. } => tell_copy!("Items<Name>", alloc, names, answer),
+    }
+}
+
+fn answer_items(alloc: Global, items: &[ImportItem], answer: &mut String) -> Result<(), Fault> {
+    for item in items {
+        tell_copy("ImportItem", item.clone(alloc), item, answer)?;
     }
     Ok(())
 }

@@ -24,10 +24,8 @@ pub(crate) fn answer_module(
     let behavior = behavior_of(case, call)?;
     let details = details_of(case, call)?;
     let mut u = Unstructured::new(input);
-    match made(alloc, call, behavior, config, &mut u) {
-        Ok(mut module) => tell_made(alloc, case, call, details, &mut module, answer)?,
-        Err(refusal) => tell_refusal(refusal, answer)?,
-    }
+    let made = made(alloc, call, behavior, config, &mut u);
+    tell_made(alloc, case, call, details, made, answer)?;
     tell_left(details, &u, answer)
 }
 
@@ -107,8 +105,23 @@ fn of_drawn(alloc: Global, u: &mut Unstructured<'_>) -> Result<Module, Error> {
     }
 }
 
-// Appends the text of `module`, after what `call` makes of it and before its details.
+// Appends the text of the module that is made, or the refusal.
 fn tell_made(
+    alloc: Global,
+    case: &Case,
+    call: ModuleCall,
+    details: Details,
+    made: Result<Module, Error>,
+    answer: &mut String,
+) -> Result<(), Fault> {
+    match made {
+        Ok(mut module) => tell_whole(alloc, case, call, details, &mut module, answer),
+        Err(refusal) => tell_refusal(refusal, answer),
+    }
+}
+
+// Appends the text of `module`, after what `call` makes of it and before its details.
+fn tell_whole(
     alloc: Global,
     case: &Case,
     call: ModuleCall,

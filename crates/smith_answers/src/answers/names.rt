@@ -19,19 +19,33 @@ pub(crate) fn answer_name(
     input: &[u8],
     answer: &mut String,
 ) -> Result<(), Fault> {
-    let most: usize = number(case, 0)?;
     let mut u = Unstructured::new(input);
     if call == NameCall::LimitedStr {
-        writeln!(answer, "{:?}", limited_str(most, &mut u))?;
-        return tell_rest(&u, answer);
+        writeln!(answer, "{:?}", limited_str(number(case, 0)?, &mut u))?;
+    } else {
+        answer_made_name(alloc, case, call, &mut u, answer)?;
     }
-    let mut names = names_of(alloc, case)?;
-    match drawn(alloc, call, most, &mut names, &mut u) {
-        Ok(name) => writeln!(answer, "{:?}", name.as_str())?,
-        Err(refusal) => tell_refusal(refusal, answer)?,
-    }
-    tell_names(alloc, &names, answer)?;
     tell_rest(&u, answer)
+}
+
+fn answer_made_name(
+    alloc: Global,
+    case: &Case,
+    call: NameCall,
+    u: &mut Unstructured<'_>,
+    answer: &mut String,
+) -> Result<(), Fault> {
+    let mut names = names_of(alloc, case)?;
+    let drawn = drawn(alloc, call, number(case, 0)?, &mut names, u);
+    tell_name(drawn, answer)?;
+    tell_names(alloc, &names, answer)
+}
+
+fn tell_name(drawn: Result<String, Error>, answer: &mut String) -> Result<(), Fault> {
+    match drawn {
+        Ok(name) => Ok(writeln!(answer, "{:?}", name.as_str())?),
+        Err(refusal) => tell_refusal(refusal, answer),
+    }
 }
 
 fn names_of(alloc: Global, case: &Case) -> Result<HashSet<String>, Fault> {

@@ -3,9 +3,10 @@ use crate::arguments::{at_most, number, word};
 use crate::call::SourceCall;
 use crate::case::Case;
 use crate::fault::Fault;
-use smith_bytes::{Arbitrary, Error, Unstructured, arbitrary_loop};
+use smith_bytes::{Arbitrary, Error, Int, Unstructured, arbitrary_loop};
 use std::alloc::Global;
 use std::fmt::Display;
+use std::str::FromStr;
 
 /// Appends what `call` draws of `input`, and what it leaves.
 pub(crate) fn answer_source(
@@ -55,17 +56,22 @@ fn answer_value(case: &Case, u: &mut Unstructured<'_>, answer: &mut String) -> R
     }
 }
 
-// Appends the number of type `$int` that is drawn between the second and the third argument.
-macro_rules! tell_in_range {
-    ($int:ty, $case:expr, $u:expr, $answer:expr) => {{
-        let least: $int = number($case, 1)?;
-        let most: $int = number($case, 2)?;
-        if most < least {
-            return Err(Fault::Argument(2));
-        }
-        writeln!($answer, "{}", $u.int_in_range(least..=most))?;
-        Ok(())
-    }};
+// Appends the number of the type `T` that is drawn between the second and the third argument.
+fn tell_in_range<T: Int + FromStr + Display + Drop>(
+    case: &Case,
+    u: &mut Unstructured<'_>,
+    answer: &mut String,
+) -> Result<(), Fault>
+where
+    T::Err: Drop,
+{
+    let least: T = number(case, 1)?;
+    let most: T = number(case, 2)?;
+    if most.widen() < least.widen() {
+        return Err(Fault::Argument(2));
+    }
+    writeln!(answer, "{}", u.int_in_range(least..=most))?;
+    Ok(())
 }
 
 // A number of the type that is the first argument.
@@ -76,12 +82,12 @@ fn answer_in_range(
 ) -> Result<(), Fault> {
     at_most(case, 3)?;
     match word(case, 0)? {
-        "u8" => tell_in_range!(u8, case, u, answer),
-        "u16" => tell_in_range!(u16, case, u, answer),
-        "u32" => tell_in_range!(u32, case, u, answer),
-        "u64" => tell_in_range!(u64, case, u, answer),
-        "u128" => tell_in_range!(u128, case, u, answer),
-        "usize" => tell_in_range!(usize, case, u, answer),
+        "u8" => tell_in_range::<u8>(case, u, answer),
+        "u16" => tell_in_range::<u16>(case, u, answer),
+        "u32" => tell_in_range::<u32>(case, u, answer),
+        "u64" => tell_in_range::<u64>(case, u, answer),
+        "u128" => tell_in_range::<u128>(case, u, answer),
+        "usize" => tell_in_range::<usize>(case, u, answer),
         _ => Err(Fault::Argument(0)),
     }
 }
