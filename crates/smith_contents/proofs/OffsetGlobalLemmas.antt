@@ -55,22 +55,49 @@ offset_tell config context wide orderly =
     let globals = readable_globals context (address_type wide) in
     tell_unless context wide config.disallow_traps globals (readable_tell context wide globals (readable_listed context orderly (address_type wide)))
 
-module _ (wide : Bool) (globals : List GlobalType) (index : ℕ) (d : GlobalType) where
-  turn : (b : Bool) → index < length globals → tells_offset wide (get_or globals index d) ≡ b
-      → telling_from wide index (drop index globals) ≡ offered_if b index ++ telling_from wide (index + 1) (drop (index + 1) globals)
-  turn b inside is =
-      at_drop_more (telling_from wide index) globals index d inside
-      ∙ ap (λ (c : Bool). offered_if c index ++ telling_from wide (index + 1) (drop (index + 1) globals)) is
+-- the globals before an index were counted
+pub record IsCounting (wide : Bool) (globals : List GlobalType) (index count : ℕ) : Type 0 where
+  pub counted : count + length (telling_from wide index (drop index globals)) ≡ length (telling_from wide 0 globals)
+  pub within : count ≤ index
 
+module _ {wide : Bool} {globals : List GlobalType} {index : ℕ} (d : GlobalType) where
   -- one more tells an offset, or does not
-  pub telling_more : index < length globals → tells_offset wide (get_or globals index d) ≡ true
-      → telling_from wide index (drop index globals) ≡ index ∷ telling_from wide (index + 1) (drop (index + 1) globals)
-  telling_more inside is = turn true inside is
+  telling_turn : (b : Bool) → index < length globals → tells_offset wide (get_or globals index d) ≡ b
+      → offered_if b index ++ telling_from wide (index + 1) (drop (index + 1) globals) ≡ telling_from wide index (drop index globals)
+  telling_turn b inside is =
+      sym (at_drop_more (telling_from wide index) globals index d inside
+      ∙ ap (λ (c : Bool). offered_if c index ++ telling_from wide (index + 1) (drop (index + 1) globals)) is)
 
-  pub telling_skip : index < length globals → tells_offset wide (get_or globals index d) ≡ false
-      → telling_from wide index (drop index globals) ≡ telling_from wide (index + 1) (drop (index + 1) globals)
-  telling_skip inside is = turn false inside is
+  pub counting_skip : {count : ℕ} → IsCounting wide globals index count → index < length globals → tells_offset wide (get_or globals index d) ≡ false → IsCounting wide globals (index + 1) count
+  counting_skip {count = count} now inside is = record {
+    counted = ap (λ (telling : List ℕ). count + length telling) (telling_turn false inside is) ∙ now.counted;
+    within = omega (arith, now.within);
+  }
 
--- behind the last there is none
-pub telling_end : (wide : Bool) (globals : List GlobalType) (index : ℕ) → length globals ≤ index → telling_from wide index (drop index globals) ≡ []
-telling_end wide globals index done = at_drop_all (telling_from wide index) globals index done
+  pub counting_more : {count : ℕ} → IsCounting wide globals index count → index < length globals → tells_offset wide (get_or globals index d) ≡ true → IsCounting wide globals (index + 1) (count + 1)
+  counting_more {count = count} now inside is = record {
+    counted = omega (arith, now.counted, ap (λ (telling : List ℕ). length telling) (telling_turn true inside is));
+    within = omega (arith, now.within);
+  }
+
+  -- the place that is left is past a global, or at it
+  pub finding_skip : (left found : ℕ) → get_or (telling_from wide index (drop index globals)) left 0 ≡ found → index < length globals → tells_offset wide (get_or globals index d) ≡ false
+      → get_or (telling_from wide (index + 1) (drop (index + 1) globals)) left 0 ≡ found
+  finding_skip left found now inside is = ap (λ (telling : List ℕ). get_or telling left 0) (telling_turn false inside is) ∙ now
+
+  pub finding_here : (left found : ℕ) → get_or (telling_from wide index (drop index globals)) left 0 ≡ found → index < length globals → tells_offset wide (get_or globals index d) ≡ true → left ≡ 0 → index ≡ found
+  finding_here left found now inside is first = ap (λ (telling : List ℕ). get_or telling 0 0) (telling_turn true inside is) ∙ (rw first at now)
+
+  pub finding_more : (left found : ℕ) → get_or (telling_from wide index (drop index globals)) left 0 ≡ found → index < length globals → tells_offset wide (get_or globals index d) ≡ true → 0 < left
+      → get_or (telling_from wide (index + 1) (drop (index + 1) globals)) (left - 1) 0 ≡ found
+  finding_more zero found now inside is some = absurd (omega arith)
+  finding_more (suc left) found now inside is some = ap (λ (telling : List ℕ). get_or telling (suc left) 0) (telling_turn true inside is) ∙ now
+
+-- all were looked at
+pub counting_done : {wide : Bool} {globals : List GlobalType} {index count : ℕ} → IsCounting wide globals index count → length globals ≤ index → count ≡ length (telling_from wide 0 globals)
+counting_done {wide = wide} {globals = globals} {index = index} {count = count} now done =
+    let none : length (telling_from wide index (drop index globals)) ≡ 0 = at_drop_all (λ (rest : List GlobalType). length (telling_from wide index rest)) globals index done in
+    omega (arith, none, now.counted)
+
+pub finding_done : (wide : Bool) (globals : List GlobalType) (index left found : ℕ) → get_or (telling_from wide index (drop index globals)) left 0 ≡ found → length globals ≤ index → 0 ≡ found
+finding_done wide globals index left found now done = sym (at_drop_all (λ (rest : List GlobalType). get_or (telling_from wide index rest) left 0) globals index done) ∙ now

@@ -128,9 +128,10 @@ fn count_telling(globals: &[GlobalType], wide: bool) -> usize
 {
     let mut count = 0;
     for index in 0..globals.len() {
-        if tells_offset(globals[index], wide) {
-            count += 1;
+        if !tells_offset(globals[index], wide) {
+            continue;
         }
+        count += 1;
     }
     count
 }
