@@ -3,7 +3,7 @@ use Rattle.std.proofs.Common.{◌≡◌, ℕ, zero, suc, ◌+◌, ◌-◌, ◌<�
 use Rattle.std.specs.Prelude.{◌&&◌, not, All, IsTrue}
 use Rattle.std.proofs.lemmas.List.{at_drop_more, at_drop_all}
 use Rattle.std.proofs.lemmas.List.Elements.{All-nil}
-use Rattle.smith_types.specs.Expressions.{Context}
+use Rattle.smith_types.specs.Expressions.{Context, IsVisible}
 use Rattle.smith_types.specs.Segments.{address_type}
 use Rattle.smith_types.specs.Types.{IsOrderly}
 use Rattle.smith_types.specs.declared.composite_type.SubType.{SubType}
@@ -46,7 +46,7 @@ telling_readable context wide =
     (λ index global. ap (λ (b : Bool). offered_if (not global.mutable && b) index) (below global.val_type)) 0 (take context.visible context.globals)
 
 tell_unless : (context : Context) (wide b : Bool) (globals : List ℕ) → TellOffsets context wide globals → TellOffsets context wide (cond b [] globals)
-tell_unless context wide true globals tell = All-nil _
+tell_unless context wide true globals tell = All-nil (λ index. IsVisible context index (address_type wide))
 tell_unless context wide false globals tell = tell
 
 -- they tell an offset, where there are any
@@ -76,7 +76,9 @@ module _ {wide : Bool} {globals : List GlobalType} {index : ℕ} (d : GlobalType
 
   pub counting_more : {count : ℕ} → IsCounting wide globals index count → index < length globals → tells_offset wide (get_or globals index d) ≡ true → IsCounting wide globals (index + 1) (count + 1)
   counting_more {count = count} now inside is = record {
-    counted = omega (arith, now.counted, ap (λ (telling : List ℕ). length telling) (telling_turn true inside is));
+    counted =
+        let one : suc (length (telling_from wide (index + 1) (drop (index + 1) globals))) ≡ length (telling_from wide index (drop index globals)) = ap (λ (telling : List ℕ). length telling) (telling_turn true inside is) in
+        omega (arith, one, now.counted);
     within = omega (arith, now.within);
   }
 
@@ -91,7 +93,9 @@ module _ {wide : Bool} {globals : List GlobalType} {index : ℕ} (d : GlobalType
   pub finding_more : (left found : ℕ) → get_or (telling_from wide index (drop index globals)) left 0 ≡ found → index < length globals → tells_offset wide (get_or globals index d) ≡ true → 0 < left
       → get_or (telling_from wide (index + 1) (drop (index + 1) globals)) (left - 1) 0 ≡ found
   finding_more zero found now inside is some = absurd (omega arith)
-  finding_more (suc left) found now inside is some = ap (λ (telling : List ℕ). get_or telling (suc left) 0) (telling_turn true inside is) ∙ now
+  finding_more (suc left) found now inside is some =
+      let less : suc left - 1 ≡ left = omega arith in
+      rw less (ap (λ (telling : List ℕ). get_or telling (suc left) 0) (telling_turn true inside is) ∙ now)
 
 -- all were looked at
 pub counting_done : {wide : Bool} {globals : List GlobalType} {index count : ℕ} → IsCounting wide globals index count → length globals ≤ index → count ≡ length (telling_from wide 0 globals)
