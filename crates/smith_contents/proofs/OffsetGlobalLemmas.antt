@@ -60,7 +60,7 @@ pub record IsCounting (wide : Bool) (globals : List GlobalType) (index count : �
   pub counted : count + length (telling_from wide index (drop index globals)) ≡ length (telling_from wide 0 globals)
   pub within : count ≤ index
 
-module _ {wide : Bool} {globals : List GlobalType} {index : ℕ} (d : GlobalType) where
+module _ (wide : Bool) (globals : List GlobalType) (index : ℕ) (d : GlobalType) where
   -- one more tells an offset, or does not
   telling_turn : (b : Bool) → index < length globals → tells_offset wide (get_or globals index d) ≡ b
       → offered_if b index ++ telling_from wide (index + 1) (drop (index + 1) globals) ≡ telling_from wide index (drop index globals)
