@@ -21,8 +21,7 @@ pub(crate) fn answer_constant(
     call: ConstantCall,
     u: &mut Unstructured<'_>,
     answer: &mut String,
-) -> Result<(), Fault>
-{
+) -> Result<(), Fault> {
     if !are_types_valid(over.config.features(), over.types) {
         return Err(Fault::NotCallable("the types aren't valid"));
     }
