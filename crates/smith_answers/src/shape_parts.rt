@@ -10,16 +10,18 @@ use std::alloc::Global;
 
 /// Adds to `shape` the part that `part` writes, which is one of:
 ///
-/// - `group TYPE; TYPE`, a recursive group. A type is `struct FIELD,FIELD`, `array FIELD` or `func PARAM,PARAM -> RESULT`, after
-///   `open` where it isn't final and `below INDEX` where it has a supertype.
+/// - `group TYPE; TYPE`, a recursive group. A type is `struct FIELD,FIELD`, `array FIELD` or
+///   `func PARAM,PARAM -> RESULT`, after `open` where it isn't final and `below INDEX` where it has a supertype.
 /// - `chain COUNT`, a group of so many structs without fields, each but the first below the one before.
-/// - `cycle COUNT`, `wide COUNT`, `fan COUNT`, groups of many types or fields, and `exports COUNT`, which `large_parts.rt` explains.
-/// - `import MODULE NAME ENTITY`, an import by itself. An entity is `func INDEX`, `tag INDEX`, `table MINIMUM MAXIMUM REFERENCE`,
-///   `memory MINIMUM MAXIMUM` or `global VALUE`. The maximum may be left out. The limits come after `shared` and `i64`, the value
-///   type after `shared` and `mut`, where the entity is so. The limits of a memory come last after `pagesize 2^LOG2`, where it
-///   states the size of its pages.
+/// - `cycle COUNT`, `wide COUNT`, `fan COUNT`, groups of many types or fields, and `exports COUNT`, which
+///   `large_parts.rt` explains.
+/// - `import MODULE NAME ENTITY`, an import by itself. An entity is `func INDEX`, `tag INDEX`,
+///   `table MINIMUM MAXIMUM REFERENCE`, `memory MINIMUM MAXIMUM` or `global VALUE`. The maximum may be left out. The
+///   limits come after `shared` and `i64`, the value type after `shared` and `mut`, where the entity is so. The limits
+///   of a memory come last after `pagesize 2^LOG2`, where it states the size of its pages.
 /// - `items MODULE NAME ENTITY; NAME ENTITY`, a group of imports of one module.
-/// - `names MODULE NAME,NAME ENTITY`, a group of imports of one module and type, without names where `-` stands for them.
+/// - `names MODULE NAME,NAME ENTITY`, a group of imports of one module and type, without names where `-` stands for
+///   them.
 /// - an entity, which is defined.
 /// - `export NAME KIND INDEX`.
 pub(crate) fn add_part(alloc: Global, part: &str, shape: &mut Shape) -> Result<(), Fault> {
