@@ -57,8 +57,8 @@ fn referring(alloc: Global, to: u32, supertype: Option<u32>) -> Result<SubType, 
     Ok(struct_of(false, supertype, fields))
 }
 
-/// A group of `count` structs that refer to the first type, each but the first below the one before, and of as many structs below the
-/// last of these, to which they refer. Each of the latter is matched along the whole chain.
+/// A group of `count` structs that refer to the first type, each but the first below the one before, and of as many
+/// structs below the last of these, to which they refer. Each of the latter is matched along the whole chain.
 pub(crate) fn fan_of(alloc: Global, count: u32) -> Result<Items<SubType>, Fault> {
     let mut types = Items::new(alloc);
     for index in 0..count {

@@ -10,43 +10,55 @@ use std::alloc::Global;
 
 /// Adds to `shape` the part that `part` writes, which is one of:
 ///
-/// - `group TYPE; TYPE`, a recursive group. A type is `struct FIELD,FIELD`, `array FIELD` or `func PARAM,PARAM -> RESULT`, after
-///   `open` where it isn't final and `below INDEX` where it has a supertype.
+/// - `group TYPE; TYPE`, a recursive group. A type is `struct FIELD,FIELD`, `array FIELD` or
+///   `func PARAM,PARAM -> RESULT`, after `open` where it isn't final and `below INDEX` where it has a supertype.
 /// - `chain COUNT`, a group of so many structs without fields, each but the first below the one before.
-/// - `cycle COUNT`, `wide COUNT`, `fan COUNT`, groups of many types or fields, and `exports COUNT`, which `large_parts.rt` explains.
-/// - `import MODULE NAME ENTITY`, an import by itself. An entity is `func INDEX`, `tag INDEX`, `table MINIMUM MAXIMUM REFERENCE`,
-///   `memory MINIMUM MAXIMUM` or `global VALUE`. The maximum may be left out. The limits come after `shared` and `i64`, the value
-///   type after `shared` and `mut`, where the entity is so. The limits of a memory come last after `pagesize 2^LOG2`, where it
-///   states the size of its pages.
+/// - `cycle COUNT`, `wide COUNT`, `fan COUNT`, groups of many types or fields, and `exports COUNT`, which
+///   `large_parts.rt` explains.
+/// - `import MODULE NAME ENTITY`, an import by itself. An entity is `func INDEX`, `tag INDEX`,
+///   `table MINIMUM MAXIMUM REFERENCE`, `memory MINIMUM MAXIMUM` or `global VALUE`. The maximum may be left out. The
+///   limits come after `shared` and `i64`, the value type after `shared` and `mut`, where the entity is so. The limits
+///   of a memory come last after `pagesize 2^LOG2`, where it states the size of its pages.
 /// - `items MODULE NAME ENTITY; NAME ENTITY`, a group of imports of one module.
-/// - `names MODULE NAME,NAME ENTITY`, a group of imports of one module and type, without names where `-` stands for them.
+/// - `names MODULE NAME,NAME ENTITY`, a group of imports of one module and type, without names where `-` stands for
+///   them.
 /// - an entity, which is defined.
 /// - `export NAME KIND INDEX`.
 pub(crate) fn add_part(alloc: Global, part: &str, shape: &mut Shape) -> Result<(), Fault> {
     let (word, rest) = split_word(part);
-    match word {
-        "group" | "chain" | "cycle" | "wide" | "fan" => add_group(
-            alloc,
-            word,
-            rest,
-            &mut shape.groups,
-        ),
-        "import" | "items" | "names" => add_imports(alloc, word, rest, &mut shape.imports),
-        "export" | "exports" => add_exports(alloc, word, rest, &mut shape.exports),
-        _ => define(known(entity_of(part))?, shape),
+    match list_of_word(word) {
+        List::Groups => push(&mut shape.groups, types_of(alloc, word, rest)),
+        List::Imports => push(&mut shape.imports, imports_of(alloc, word, rest)),
+        List::Exports => add_exports(alloc, word, rest, &mut shape.exports),
+        List::Definitions => add_definition(part, shape),
     }
 }
 
-// Adds to `groups` the types of a part that begins with `word`.
-fn add_group(
-    alloc: Global,
-    word: &str,
-    rest: &str,
-    groups: &mut Items<Items<SubType>>,
-) -> Result<(), Fault> {
-    Ok(groups.push(types_of(alloc, word, rest)?)?)
+// The lists of a shape that parts are added to.
+#[derive(Clone, Copy)]
+enum List {
+    Groups,
+    Imports,
+    Exports,
+    Definitions,
 }
 
+// The list that a part is added to which begins with `word`.
+fn list_of_word(word: &str) -> List {
+    match word {
+        "group" | "chain" | "cycle" | "wide" | "fan" => List::Groups,
+        "import" | "items" | "names" => List::Imports,
+        "export" | "exports" => List::Exports,
+        _ => List::Definitions,
+    }
+}
+
+// Adds `item` to `items`, where it is read.
+fn push<T: Drop>(items: &mut Items<T>, item: Result<T, Fault>) -> Result<(), Fault> {
+    Ok(items.push(item?)?)
+}
+
+// The types of a part that begins with `word`.
 fn types_of(alloc: Global, word: &str, rest: &str) -> Result<Items<SubType>, Fault> {
     if word == "group" {
         return group_of(alloc, rest);
@@ -60,16 +72,7 @@ fn types_of(alloc: Global, word: &str, rest: &str) -> Result<Items<SubType>, Fau
     }
 }
 
-// Adds to `imports` those of a part that begins with `word`.
-fn add_imports(
-    alloc: Global,
-    word: &str,
-    rest: &str,
-    imports: &mut Items<Imports>,
-) -> Result<(), Fault> {
-    Ok(imports.push(imports_of(alloc, word, rest)?)?)
-}
-
+// The imports of a part that begins with `word`.
 fn imports_of(alloc: Global, word: &str, rest: &str) -> Result<Imports, Fault> {
     match word {
         "import" => import_of(alloc, rest),
@@ -88,7 +91,7 @@ fn add_exports(
     if word == "exports" {
         return export_many(alloc, known(rest.parse::<u32>().ok())?, exports);
     }
-    Ok(exports.push(export_of(alloc, rest)?)?)
+    push(exports, export_of(alloc, rest))
 }
 
 // What is read, or the fault where nothing is.
@@ -323,15 +326,16 @@ fn global_of(text: &str) -> Option<GlobalType> {
     })
 }
 
-fn define(entity: EntityType, shape: &mut Shape) -> Result<(), Fault> {
-    match entity {
-        EntityType::Func(index) => shape.funcs.push(index)?,
-        EntityType::Tag(index) => shape.tags.push(index)?,
-        EntityType::Table(table) => shape.tables.push(table)?,
-        EntityType::Memory(memory) => shape.memories.push(memory)?,
-        EntityType::Global(global) => shape.globals.push(global)?,
+// Adds to `shape` the entity that `part` writes.
+fn add_definition(part: &str, shape: &mut Shape) -> Result<(), Fault> {
+    match entity_of(part) {
+        Some(EntityType::Func(index)) => push(&mut shape.funcs, Ok(index)),
+        Some(EntityType::Tag(index)) => push(&mut shape.tags, Ok(index)),
+        Some(EntityType::Table(table)) => push(&mut shape.tables, Ok(table)),
+        Some(EntityType::Memory(memory)) => push(&mut shape.memories, Ok(memory)),
+        Some(EntityType::Global(global)) => push(&mut shape.globals, Ok(global)),
+        None => Err(Fault::UnknownShape),
     }
-    Ok(())
 }
 
 fn export_of(alloc: Global, text: &str) -> Result<(Name, ExportKind, u32), Fault> {

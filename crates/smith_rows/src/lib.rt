@@ -1,5 +1,5 @@
-//! What stays a test beside the worked cases of `smith_cases`: the README's examples of the library, what outlives a loan, and the
-//! texts of errors.
+//! What stays a test beside the worked cases of `smith_cases`: the README's examples of the library, what outlives a
+//! loan, and the texts of errors.
 #![tactic(auto)]
 
 #[cfg(test)]

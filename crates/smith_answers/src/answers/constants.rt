@@ -21,8 +21,7 @@ pub(crate) fn answer_constant(
     call: ConstantCall,
     u: &mut Unstructured<'_>,
     answer: &mut String,
-) -> Result<(), Fault>
-{
+) -> Result<(), Fault> {
     if !are_types_valid(over.config.features(), over.types) {
         return Err(Fault::NotCallable("the types aren't valid"));
     }
@@ -44,8 +43,8 @@ fn wanted_of(over: &Over<'_>) -> Result<ValType, Fault>
     Ok(wanted)
 }
 
-// An expression of the value type that is the first argument. The second is whether it may read defined globals. Where there is a
-// third, `count`, only the number of instructions is told.
+// An expression of the value type that is the first argument. The second is whether it may read defined globals.
+// Where there is a third, `count`, only the number of instructions is told.
 fn answer_expression(
     over: &Over<'_>,
     u: &mut Unstructured<'_>,
@@ -99,8 +98,9 @@ fn tell_instructions(case: &Case, drawn: &[ConstInstr], answer: &mut String) -> 
     Ok(())
 }
 
-// The globals that a value of the type that is the first argument may be read of, among a variable and a constant that are
-// imported and a constant that is defined, all of an i32. The second argument is whether defined ones may be read.
+// The globals that a value of the type that is the first argument may be read of, among a variable and a constant
+// that are imported and a constant that is defined, all of an i32. The second argument is whether defined ones may be
+// read.
 fn answer_globals(over: &Over<'_>, answer: &mut String) -> Result<(), Fault>
     requires types { AreTypesValid (features_of over.now.config.now) over.now.types.now }
 {

@@ -5,8 +5,8 @@ use smith_bytes::Error;
 use smith_types::{CompositeInnerType, CompositeType, ImportItem, Imports, Items, SubType};
 use std::alloc::Global;
 
-/// Appends a line for each group, type and import of the shape of `case`, and for each of their parts, that says whether a copy is
-/// equal. A group of imports is told first.
+/// Appends a line for each group, type and import of the shape of `case`, and for each of their parts, that says
+/// whether a copy is equal. A group of imports is told first.
 pub(crate) fn answer_copies(alloc: Global, case: &Case, answer: &mut String) -> Result<(), Fault> {
     let shape = shape_of(alloc, case)?;
     answer_groups(alloc, shape.groups.as_slice(), answer)?;

@@ -10,9 +10,9 @@ use std::alloc::Global;
 use std::mem;
 use wasm_smith::{DuplicateImportsBehavior, Module};
 
-/// Appends the text of the module that `call` makes, or its refusal. The configuration `config` is used up. Arguments of
-/// `Module::new`, and those of `Module::new_internal` after the first, name what is told afterwards: `debug` is a line of the module
-/// as it prints for debugging, `left` what the call leaves of the input.
+/// Appends the text of the module that `call` makes, or its refusal. The configuration `config` is used up. Arguments
+/// of `Module::new`, and those of `Module::new_internal` after the first, name what is told afterwards: `debug` is a
+/// line of the module as it prints for debugging, `left` what the call leaves of the input.
 pub(crate) fn answer_module(
     alloc: Global,
     case: &Case,

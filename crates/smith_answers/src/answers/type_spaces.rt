@@ -12,7 +12,7 @@ use crate::shape_parts::entity_of;
 use crate::shapes::shape_named;
 use smith_draw::{TypeUse, list_types};
 use smith_types::{
-    CompositeInnerType, CompositeType, EntityType, StandingValue, SubType, TypeSpace,
+    CompositeInnerType, CompositeType, EntityType, Items, StandingValue, SubType, TypeSpace,
     all_values_hold,
 };
 use std::alloc::Global;
@@ -25,11 +25,23 @@ pub(crate) fn answer_space(
     answer: &mut String,
 ) -> Result<(), Fault> {
     match call {
-        SpaceCall::Depth => answer_depth(&types_of(alloc, case)?, case, answer),
-        SpaceCall::Size => answer_size(&types_of(alloc, case)?, case, answer),
-        SpaceCall::Matches => answer_match(&types_of(alloc, case)?, case, answer),
         SpaceCall::Pushed => answer_pushed(alloc, case, answer),
-        SpaceCall::Listed => answer_listed(alloc, &types_of(alloc, case)?, case, answer),
+        _ => answer_over(alloc, &types_of(alloc, case)?, case, call, answer),
+    }
+}
+
+fn answer_over(
+    alloc: Global,
+    types: &TypeSpace,
+    case: &Case,
+    call: SpaceCall,
+    answer: &mut String,
+) -> Result<(), Fault> {
+    match call {
+        SpaceCall::Depth => answer_depth(types, case, answer),
+        SpaceCall::Size => answer_size(types, case, answer),
+        SpaceCall::Matches => answer_match(types, case, answer),
+        _ => answer_listed(alloc, types, case, answer),
     }
 }
 
@@ -119,15 +131,18 @@ fn answer_pushed(alloc: Global, case: &Case, answer: &mut String) -> Result<(), 
         return Err(Fault::UnknownTypes);
     };
     let shape = shape_named(alloc, name.as_str())?;
+    push_groups(alloc, shape.groups.as_slice(), answer)
+}
+
+fn push_groups(alloc: Global, groups: &[Items<SubType>], answer: &mut String) -> Result<(), Fault> {
     let mut types = TypeSpace::new(alloc);
-    for group in shape.groups.as_slice() {
-        push_each(alloc, group.as_slice(), &mut types, answer)?;
-        types.push_group()?;
+    for group in groups {
+        push_group(alloc, group.as_slice(), &mut types, answer)?;
     }
     tell_types(&types, answer)
 }
 
-fn push_each(
+fn push_group(
     alloc: Global,
     group: &[SubType],
     types: &mut TypeSpace,
@@ -141,7 +156,7 @@ fn push_each(
         let index = types.push_type(added)?;
         writeln!(answer, "index {index}")?;
     }
-    Ok(())
+    Ok(types.push_group()?)
 }
 
 // The types of the case that are right for the use that the argument names.
