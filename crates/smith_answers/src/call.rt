@@ -1,7 +1,7 @@
 /// A call of a case.
 #[derive(Clone, Copy)]
 pub(crate) enum Call {
-    /// A module, told by its text.
+    /// A module, told by its text or its binary.
     Module(ModuleCall),
     /// A configuration, or a check of one or of a shape.
     Config(ConfigCall),
@@ -27,6 +27,7 @@ pub(crate) enum ModuleCall {
     Arbitrary,
     NewOfDrawn,
     EnsureTermination,
+    Encode,
 }
 
 /// What is asked of a configuration, or under it.
@@ -153,7 +154,7 @@ pub(crate) enum SubtypeCall {
 pub(crate) const RECORDED: &str = "recorded";
 
 // Each call by its name.
-const CALLS: [(&str, Call); 66] = [
+const CALLS: [(&str, Call); 67] = [
     ("Module::new", Call::Module(ModuleCall::New)),
     (
         "Module::new_internal",
@@ -168,6 +169,7 @@ const CALLS: [(&str, Call); 66] = [
         "Module::ensure_termination",
         Call::Module(ModuleCall::EnsureTermination),
     ),
+    ("encode", Call::Module(ModuleCall::Encode)),
     ("Config::arbitrary", Call::Config(ConfigCall::Arbitrary)),
     ("Config::sanitize", Call::Config(ConfigCall::Sanitize)),
     ("Config::check", Call::Config(ConfigCall::Check)),

@@ -80,7 +80,7 @@ fn keys_of_module(call: ModuleCall) -> Keys {
         shapes: is_configured,
         args: matches!(
             call,
-            ModuleCall::NewInternal | ModuleCall::EnsureTermination
+            ModuleCall::NewInternal | ModuleCall::EnsureTermination | ModuleCall::Encode
         ),
         input: true,
         ..NONE

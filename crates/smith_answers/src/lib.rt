@@ -4,8 +4,9 @@
 //!
 //! - `name` says what the case shows.
 //! - `call` names the call as Rust does, such as `Module::new`, `spell` or `arbitrary_const_expr`; `call.rt` lists them.
-//!   `Module::new of Config::arbitrary` draws the configuration first and the module from what is left, and `recorded` makes
-//!   checksums of what generated inputs give.
+//!   `Module::new of Config::arbitrary` draws the configuration first and the module from what is left, `encode` adds
+//!   fuel to the module of `Module::new` for each argument and encodes it, and `recorded` makes checksums of what generated inputs
+//!   give.
 //! - `args` lists the arguments of the call: numbers in decimal, types and heap types as the text format writes them without its
 //!   abbreviations, `true` and `false`, names. What each means is said where the call is made, in `answers`.
 //! - `config` holds the fields of the configuration that are not the default, as `smith_json` reads them.
@@ -15,7 +16,8 @@
 //! - `inputs` is `each byte` for all inputs of one byte, or `each cut` for each front of `input`. What is wanted is then wanted of
 //!   each answer.
 //!
-//! An answer is text: the text of a module as `smith_text` writes it, else a line for each value. A refusal is a line such as
+//! An answer is text: the text of a module as `smith_text` writes it; of `encode` the line `8 bytes, SHA-256 93a4..`, and the bytes
+//! after the word `binary` where they are at most 200; else a line for each value. A refusal is a line such as
 //! `refused: IncorrectFormat(TypeSize)`. After a draw, `left 2` says how many bytes are left, and `next 0102` which come first.
 //! A case wants at least one of the first four of these, none of them empty, and blanks around lines don't count:
 //!

@@ -5,7 +5,7 @@ use smith_types::Items;
 use std::alloc::Global;
 
 // Each shape by its name, with its parts in the form that `add_part` reads.
-const SHAPES: [(&str, &[&str]); 31] = [
+const SHAPES: [(&str, &[&str]); 32] = [
     ("nothing", &[]),
     (
         "a function without parameters and results",
@@ -110,6 +110,14 @@ const SHAPES: [(&str, &[&str]); 31] = [
     (
         "a constant reference to no function",
         &["global (ref nofunc)", "export g global 0"],
+    ),
+    (
+        "a constant reference to a struct of such a reference",
+        &[
+            "group struct (ref 0)",
+            "global (ref 0)",
+            "export g global 0",
+        ],
     ),
     (
         "each kind to import",

@@ -1,3 +1,4 @@
+use crate::answers::binaries::tell_binary;
 use crate::answers::told::tell_refusal;
 use crate::arguments::{at_most, number, word};
 use crate::call::ModuleCall;
@@ -10,7 +11,8 @@ use std::alloc::Global;
 use std::mem;
 use wasm_smith::{DuplicateImportsBehavior, Module};
 
-/// Appends the text of the module that `call` makes, or its refusal. The configuration `config` is used up.
+/// Appends the text of the module that `call` makes, or its binary where `call` encodes it, or the refusal. The configuration
+/// `config` is used up.
 pub(crate) fn answer_module(
     alloc: Global,
     case: &Case,
@@ -76,10 +78,18 @@ fn told(
     mut module: Module,
     answer: &mut String,
 ) -> Result<(), Fault> {
-    if call == ModuleCall::EnsureTermination {
+    if takes_fuel(call) {
         terminate(alloc, case, &mut module, answer)?;
     }
-    tell_module(alloc, &module, answer)
+    match call {
+        ModuleCall::Encode => tell_binary(alloc, &module, answer),
+        _ => tell_module(alloc, &module, answer),
+    }
+}
+
+// Whether the arguments of `call` are fuel that is added to the module.
+fn takes_fuel(call: ModuleCall) -> bool {
+    matches!(call, ModuleCall::EnsureTermination | ModuleCall::Encode)
 }
 
 fn tell_module(alloc: Global, module: &Module, answer: &mut String) -> Result<(), Fault> {
