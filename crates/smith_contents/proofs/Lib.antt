@@ -19,6 +19,5 @@ pub mod ExportsFitLemmas
 pub mod ExportsLoop
 pub mod OfferedIndexLemmas
 pub mod OfferedKindLemmas
-pub mod OffsetGlobalLemmas
 pub mod PassiveDataLemmas
 pub mod StartLemmas

@@ -7,7 +7,6 @@ pub mod Start
 pub mod OfferedIndices
 pub mod ElementSegments
 pub mod OfferedKinds
-pub mod OffsetGlobals
 pub mod DrawnElements
 pub mod DataSegments
 pub mod DataTargets

@@ -16,7 +16,6 @@ ghost use Rattle.smith_contents.specs.DataTargets.{TellOffsets, AreTargets, IsDa
 ghost use Rattle.smith_contents.specs.PassiveData.{SpellsPassive};
 
 use crate::data_targets::{Targets, offer_memories};
-use crate::offset_globals::OffsetGlobals;
 use smith_bytes::{Count, Error, Unstructured, Why, goes_on};
 use smith_config::Config;
 use smith_draw::{Spaces, arbitrary_offset};
@@ -110,7 +109,7 @@ fn draw_constant(
 #[tactic(auto, unfolding(crate::specs::DataSegments::placed_at))]
 fn draw_offset(
     no_traps: bool,
-    globals: &OffsetGlobals<'_>,
+    globals: &[u32],
     memory: MemoryType,
     init: Items<u8>,
     u: &mut Unstructured<'_>,
@@ -124,7 +123,7 @@ fn draw_offset(
     if place == 0 {
         return draw_constant(no_traps, memory, init, u);
     }
-    (Offset::Global(globals.at(place - 1)), init)
+    (Offset::Global(globals[place - 1]), init)
 }
 
 /// Draws a segment that copies `init` into one of the memories of `targets`.
@@ -233,7 +232,7 @@ fn draw_data(
         }
         return Ok(Items::new(alloc));
     }
-    let targets = Targets::new(config, spaces, offered);
+    let targets = Targets::new(alloc, config, spaces, offered)?;
     draw_segments(alloc, config, &targets, u)
 }
 

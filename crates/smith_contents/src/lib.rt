@@ -16,7 +16,6 @@ mod exported;
 mod exports;
 mod offered_indices;
 mod offered_kinds;
-mod offset_globals;
 mod start;
 
 pub use bodies::arbitrary_bodies;
