@@ -16,8 +16,10 @@
  * thread-safe then, and gives all of it back. It uses the stack, more of it for deeper modules, so give a thread the usual 8 MiB. Do
  * not call from a signal handler.
  *
- * The module is valid, and is the one that the definitions of this project give: both are proved for every input. Nothing checks
- * that a caller in C keeps the rules above.
+ * The module is the one that the definitions of this project give. But for raw bodies it is valid by the WebAssembly Core
+ * Specification 3.0 and, for proposals beyond it that the configuration turns on (by default shared memories and compact imports),
+ * by rules of this project; docs/DEFINITIONS.md lists both. What smith_binary writes is a binary of it. All this is proved for
+ * every input. Nothing checks that a caller in C keeps the rules above.
  */
 #ifndef SMITH_H
 #define SMITH_H
@@ -52,7 +54,7 @@ struct smith_answer smith_binary(const uint8_t *config, size_t config_length,
                                  const uint8_t *input, size_t input_length,
                                  uint8_t *out, size_t out_length);
 
-/* Writes the module in the text format. The status is any of the above but SMITH_TOO_LONG. */
+/* Writes the module in the text format. The status is any of the above; SMITH_TOO_LONG does not occur in this version. */
 struct smith_answer smith_text(const uint8_t *config, size_t config_length,
                                const uint8_t *input, size_t input_length,
                                uint8_t *out, size_t out_length);
