@@ -1,9 +1,10 @@
 //! Answers cases, each a JSON object on a line of standard input, and prints which of them are answered as they want.
 //!
 //! For each case there is a line `ok NAME`, or `not ok NAME: ` and the first difference. The last line counts, and the status is 1
-//! where a case is not ok, or memory is refused, which the line `not ok: Memory while reading` reports where it isn't the answer of a call. A case is answered twice, one of checksums once, and two answers that differ are not ok. Lines of blanks,
-//! and lines that begin with `#`, are passed over. The crate's own cases are in `stdin`; in this folder they are tried in some two
-//! minutes, before any proof, by
+//! where a case is not ok. Where memory is refused outside of a call, the last line is `not ok: Memory while reading` and the status
+//! is 1 too. A case is answered twice, one of checksums once, and two answers that differ are not ok. Lines of blanks, and lines that
+//! begin with `#`, are passed over. The crate's own cases are in `stdin`; in this folder they are tried in some two minutes, before
+//! any proof, by
 //!
 //! ```sh
 //! rt try --seconds 600 < stdin

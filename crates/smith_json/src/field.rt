@@ -218,7 +218,7 @@ pub static FIELDS: [Field; 70] = [
     Field {
         name: "disallow-traps",
         kind: FieldKind::Flag,
-        about: "Whether active segments stay inside their tables and memories, so that no module traps while it is instantiated.",
+        about: "Whether active segments stay inside their tables and memories, so that none of them traps. A start function may trap.",
     },
     Field {
         name: "allow-invalid-funcs",
