@@ -26,11 +26,11 @@ constant_placed config context table drawn most offset hint within same valid in
 }
 
 -- the value of a global, which is read only where something may trap
-pub global_placed : (config : Config) (context : Context) (table : TableType) {globals seen : List ℕ} (bytes : List ℕ) {after : List ℕ} {index : ℕ} → TellOffsets context table.table64 globals → (IsTrue config.disallow_traps → globals ≡ []) → 0 < length globals → seen ≡ globals
-    → chosen_at 0 seen bytes ≡ (index, after) → IsPlaced config context table (Global index) None
-global_placed config context table {globals = globals} bytes tell none some same chosen =
+pub global_placed : (config : Config) (context : Context) (table : TableType) {globals : List ℕ} (bytes : List ℕ) {after : List ℕ} {index : ℕ} → TellOffsets context table.table64 globals → (IsTrue config.disallow_traps → globals ≡ []) → 0 < length globals
+    → chosen_at 0 globals bytes ≡ (index, after) → IsPlaced config context table (Global index) None
+global_placed config context table {globals = globals} bytes tell none some chosen =
     let Tells = λ (global : ℕ). IsVisible context global (address_type table.table64) in
     record {
-      valid = drawn_is Tells _ (chosen_of Tells 0 globals bytes some tell) (rw same at chosen);
+      valid = drawn_is Tells _ (chosen_of Tells 0 globals bytes some tell) chosen;
       inside = λ on. absurd (omega (arith, some, ap length (none on)));
     }

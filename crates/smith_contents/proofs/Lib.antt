@@ -19,5 +19,6 @@ pub mod ExportsFitLemmas
 pub mod ExportsLoop
 pub mod OfferedIndexLemmas
 pub mod OfferedKindLemmas
+pub mod OffsetGlobalLemmas
 pub mod PassiveDataLemmas
 pub mod StartLemmas

@@ -7,6 +7,7 @@ pub mod Start
 pub mod OfferedIndices
 pub mod ElementSegments
 pub mod OfferedKinds
+pub mod OffsetGlobals
 pub mod DrawnElements
 pub mod DataSegments
 pub mod DataTargets

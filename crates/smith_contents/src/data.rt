@@ -16,6 +16,7 @@ ghost use Rattle.smith_contents.specs.DataTargets.{TellOffsets, AreTargets, IsDa
 ghost use Rattle.smith_contents.specs.PassiveData.{SpellsPassive};
 
 use crate::data_targets::{Targets, offer_memories};
+use crate::offset_globals::OffsetGlobals;
 use smith_bytes::{Count, Error, Unstructured, Why, goes_on};
 use smith_config::Config;
 use smith_draw::{Spaces, arbitrary_offset};
@@ -109,7 +110,7 @@ fn draw_constant(
 #[tactic(auto, unfolding(crate::specs::DataSegments::placed_at))]
 fn draw_offset(
     no_traps: bool,
-    globals: &[u32],
+    globals: &OffsetGlobals<'_>,
     memory: MemoryType,
     init: Items<u8>,
     u: &mut Unstructured<'_>,
@@ -123,7 +124,7 @@ fn draw_offset(
     if place == 0 {
         return draw_constant(no_traps, memory, init, u);
     }
-    (Offset::Global(globals[place - 1]), init)
+    (Offset::Global(globals.at(place - 1)), init)
 }
 
 /// Draws a segment that copies `init` into one of the memories of `targets`.
@@ -232,7 +233,7 @@ fn draw_data(
         }
         return Ok(Items::new(alloc));
     }
-    let targets = Targets::new(alloc, config, spaces, offered)?;
+    let targets = Targets::new(config, spaces, offered);
     draw_segments(alloc, config, &targets, u)
 }
 

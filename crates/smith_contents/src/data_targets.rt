@@ -3,14 +3,15 @@ ghost use Rattle.smith_bytes.specs.Source.{KeepsPieces};
 ghost use Rattle.smith_draw.specs.Choices.{chosen_at};
 ghost use Rattle.smith_draw.specs.ConstScopes.{AreSpacesValid, seen_by};
 ghost use Rattle.smith_draw.specs.Drawing.{AlwaysDraws};
-ghost use Rattle.smith_contents.specs.DataSegments.{counts_at, counting_at, offset_globals, globals_for, no_memory, targets_of};
-ghost use Rattle.smith_contents.specs.DataTargets.{TellOffsets, AreTargets, indexed};
+ghost use Rattle.smith_contents.specs.DataSegments.{counts_at, counting_at, globals_for, no_memory, targets_of};
+ghost use Rattle.smith_contents.specs.DataTargets.{AreTargets, indexed};
 
 use crate::offered_indices::OfferedIndices;
+use crate::offset_globals::OffsetGlobals;
 use smith_bytes::{Error, Unstructured};
 use smith_config::Config;
-use smith_draw::{Spaces, globals_for_const_expr};
-use smith_types::{Items, MemoryType, ValType};
+use smith_draw::Spaces;
+use smith_types::MemoryType;
 use std::alloc::Global;
 use std::marker::Model;
 
@@ -21,9 +22,9 @@ pub(crate) struct Targets<'a> {
     /// Those of `memories` that segments may be copied into.
     offered: OfferedIndices,
     /// The globals that may tell an offset into a memory of 32 bits.
-    globals32: Items<u32>,
+    globals32: OffsetGlobals<'a>,
     /// The globals that may tell an offset into a memory of 64 bits.
-    globals64: Items<u32>,
+    globals64: OffsetGlobals<'a>,
 }
 
 impl<'a> Model for Targets<'a> {
@@ -39,25 +40,23 @@ impl<'a> Model for Targets<'a> {
 }
 
 impl<'a> Targets<'a> {
-    /// Lists the globals of `spaces` that may tell where, beside those of its memories whose indices are `offered`.
+    /// Counts the globals of `spaces` that may tell where, beside those of its memories whose indices are `offered`.
     pub(crate) fn new(
-        alloc: Global,
         config: &Config,
         spaces: &'a Spaces<'_>,
         offered: OfferedIndices,
-    ) -> Result<Targets<'a>, Error>
+    ) -> Targets<'a>
         requires standing { AreSpacesValid config.now spaces.now }
         requires within { All (λ index. index < length spaces.now.entities.memories.now) offered.offered }
-        ensures exact { IfOk result (λ targets. targets ≡ targets_of config.now (seen_by config.now spaces.now true) (indexed spaces.now.entities.memories.now offered.offered)) }
-        ensures targets { IfOk result (AreTargets config.now (seen_by config.now spaces.now true) spaces.now.entities.memories.now) }
-        ensures memory { IfErr result (λ e. e ≡ Error.Memory) }
+        ensures exact { result ≡ targets_of config.now (seen_by config.now spaces.now true) (indexed spaces.now.entities.memories.now offered.offered) }
+        ensures targets { AreTargets config.now (seen_by config.now spaces.now true) spaces.now.entities.memories.now result }
     {
-        Ok(Targets {
+        Targets {
             memories: spaces.entities.memories,
             offered,
-            globals32: offset_globals(alloc, config, spaces, false)?,
-            globals64: offset_globals(alloc, config, spaces, true)?,
-        })
+            globals32: OffsetGlobals::new(config, spaces, false),
+            globals64: OffsetGlobals::new(config, spaces, true),
+        }
     }
 
     /// Whether segments may be copied into no memory.
@@ -78,13 +77,13 @@ impl<'a> Targets<'a> {
     }
 
     /// The globals that may tell an offset: of 64 bits where `wide` is set, else of 32 bits.
-    pub(crate) fn globals_for(&self, wide: bool) -> &[u32]
+    pub(crate) fn globals_for(&self, wide: bool) -> &OffsetGlobals<'a>
         ensures { result.now ≡ globals_for self.now wide }
     {
         if wide {
-            return self.globals64.as_slice();
+            return &self.globals64;
         }
-        self.globals32.as_slice()
+        &self.globals32
     }
 }
 
@@ -120,26 +119,4 @@ pub(crate) fn offer_memories(
         offered.offer();
     }
     Ok(offered)
-}
-
-/// Lists the globals that may tell an offset: of 64 bits where `wide` is set, else of 32 bits.
-fn offset_globals(
-    alloc: Global,
-    config: &Config,
-    spaces: &Spaces<'_>,
-    wide: bool,
-) -> Result<Items<u32>, Error>
-    requires { AreSpacesValid config.now spaces.now }
-    ensures exact { IfOk result (λ globals. globals ≡ offset_globals config.now (seen_by config.now spaces.now true) wide) }
-    ensures tell { IfOk result (TellOffsets (seen_by config.now spaces.now true) wide) }
-    ensures none { IsTrue config.now.disallow_traps → IfOk result (λ globals. globals ≡ []) }
-    ensures memory { IfErr result (λ e. e ≡ Error.Memory) }
-{
-    if config.disallow_traps {
-        return Ok(Items::new(alloc));
-    }
-    if wide {
-        return globals_for_const_expr(alloc, config, spaces, ValType::I64, true);
-    }
-    globals_for_const_expr(alloc, config, spaces, ValType::I32, true)
 }

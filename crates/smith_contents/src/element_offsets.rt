@@ -1,49 +1,18 @@
-ghost use Rattle.std.specs.Prelude.{◌≡◌, ◌+◌, ◌-◌, ◌<◌, ◌≤◌, ℕ, true, [], Some, IsTrue, IfOk, IfErr};
+ghost use Rattle.std.specs.Prelude.{◌≡◌, ◌+◌, ◌-◌, ◌<◌, ◌≤◌, ℕ, true, Some, IsTrue};
 ghost use Rattle.smith_types.specs.Entities.{most_elements};
 ghost use Rattle.smith_types.specs.Expressions.{Context};
-ghost use Rattle.smith_types.specs.Features.{Features};
-ghost use Rattle.smith_types.specs.Segments.{address_type, IsOffsetValid, IsOffsetInside};
-ghost use Rattle.smith_types.specs.ValidTypes.{IsValTypeValid};
+ghost use Rattle.smith_types.specs.Segments.{IsOffsetValid, IsOffsetInside};
 ghost use Rattle.smith_draw.specs.ConstScopes.{AreSpacesValid, seen_by};
-ghost use Rattle.smith_draw.specs.Drawing.{AlwaysDraws, Draws};
-ghost use Rattle.smith_contents.specs.DataTargets.{TellOffsets};
+ghost use Rattle.smith_draw.specs.Drawing.{AlwaysDraws};
 ghost use Rattle.smith_contents.specs.DrawnElements.{FitsAddresses, IsPlaced, IsKindDrawn};
-ghost use Rattle.smith_contents.specs.ElementSegments.{offset_globals, most_offset, constant_offset, hint_at, constant_offset_at, is_global_wanted_at, table_offset_at, kind_at};
+ghost use Rattle.smith_contents.specs.ElementSegments.{most_offset, constant_offset, hint_at, constant_offset_at, is_global_wanted_at, table_offset_at, kind_at};
 
 use crate::element_kinds::KindChoice;
-use smith_bytes::{Error, Unstructured};
+use crate::offset_globals::OffsetGlobals;
+use smith_bytes::Unstructured;
 use smith_config::Config;
-use smith_draw::{Spaces, arbitrary_offset, choose, globals_for_const_expr};
-use smith_types::{ElementKind, Items, Offset, TableType, ValType};
-use std::alloc::Global;
-
-/// The type of the addresses of a table: i64 where `wide` is set, else i32.
-fn address_type(wide: bool) -> ValType
-    ensures exact { result ≡ address_type wide }
-    ensures valid { (features : Features) (end : ℕ) → IsValTypeValid features end result }
-{
-    if wide { ValType::I64 } else { ValType::I32 }
-}
-
-/// Lists the globals that an offset into `table` may be read from.
-fn offset_globals(
-    alloc: Global,
-    config: &Config,
-    spaces: &Spaces<'_>,
-    table: &TableType,
-) -> Result<Items<u32>, Error>
-    requires { AreSpacesValid config.now spaces.now }
-    ensures exact { IfOk result (λ globals. globals ≡ offset_globals config.now (seen_by config.now spaces.now true) table.now) }
-    ensures tell { IfOk result (TellOffsets (seen_by config.now spaces.now true) table.now.table64) }
-    ensures none { IsTrue config.now.disallow_traps → IfOk result (λ globals. globals ≡ []) }
-    ensures memory { IfErr result (λ e. e ≡ Error.Memory) }
-{
-    if config.disallow_traps {
-        return Ok(Items::new(alloc));
-    }
-    let address = address_type(table.table64);
-    globals_for_const_expr(alloc, config, spaces, address, true)
-}
+use smith_draw::{Spaces, arbitrary_offset};
+use smith_types::{ElementKind, Offset, TableType};
 
 /// The greatest constant offset into `table`.
 fn most_offset(config: &Config, table: &TableType) -> u64
@@ -131,51 +100,48 @@ fn is_global_wanted(count: usize, u: &mut Unstructured<'_>) -> bool
 
 #[tactic(auto, unfolding(crate::specs::ElementSegments::table_offset_at))]
 fn draw_table_offset(
-    alloc: Global,
     config: &Config,
     spaces: &Spaces<'_>,
     table: &TableType,
     u: &mut Unstructured<'_>,
-) -> Result<(Offset, Option<u64>), Error>
+) -> (Offset, Option<u64>)
     requires standing { AreSpacesValid config.now spaces.now }
     requires fits { table.now.minimum ≤ most_elements table.now.table64 }
-    ensures draws { Draws (table_offset_at config.now (seen_by config.now spaces.now true) table.now u.old) result u.old u.new }
-    ensures placed { IfOk result (λ drawn. IsPlaced config.now (seen_by config.now spaces.now true) table.now drawn.0 drawn.1) }
+    ensures draws { AlwaysDraws (table_offset_at config.now (seen_by config.now spaces.now true) table.now u.old) result u.old u.new }
+    ensures placed { IsPlaced config.now (seen_by config.now spaces.now true) table.now result.0 result.1 }
 {
-    let globals = offset_globals(alloc, config, spaces, table)?;
+    let globals = OffsetGlobals::new(config, spaces, table.table64);
     if !is_global_wanted(globals.len(), u) {
-        return Ok(draw_constant(config, table, u));
+        return draw_constant(config, table, u);
     }
-    let global = choose(globals.as_slice(), u);
-    Ok((Offset::Global(global), None))
+    (Offset::Global(globals.choose(u)), None)
 }
 
 /// Draws the mode of a segment of the kind `choice`, and how many elements are to fit, or no limit.
 #[tactic(auto, unfolding(crate::specs::ElementSegments::kind_at))]
 pub(crate) fn draw_kind(
-    alloc: Global,
     config: &Config,
     spaces: &Spaces<'_>,
     choice: KindChoice,
     u: &mut Unstructured<'_>,
-) -> Result<(ElementKind, Option<u64>), Error>
+) -> (ElementKind, Option<u64>)
     requires standing { AreSpacesValid config.now spaces.now }
     requires fits { FitsAddresses choice }
-    ensures draws { Draws (kind_at config.now (seen_by config.now spaces.now true) choice u.old) result u.old u.new }
-    ensures placed { IfOk result (IsKindDrawn config.now (seen_by config.now spaces.now true) choice) }
+    ensures draws { AlwaysDraws (kind_at config.now (seen_by config.now spaces.now true) choice u.old) result u.old u.new }
+    ensures placed { IsKindDrawn config.now (seen_by config.now spaces.now true) choice result }
 {
     match choice {
-        KindChoice::Passive => Ok((ElementKind::Passive, None)),
-        KindChoice::Declared => Ok((ElementKind::Declared, None)),
+        KindChoice::Passive => (ElementKind::Passive, None),
+        KindChoice::Declared => (ElementKind::Declared, None),
         KindChoice::Active(index, table) => {
-            let (offset, hint) = draw_table_offset(alloc, config, spaces, &table, u)?;
-            Ok((
+            let (offset, hint) = draw_table_offset(config, spaces, &table, u);
+            (
                 ElementKind::Active {
                     table: index,
                     offset,
                 },
                 hint,
-            ))
+            )
         }
     }
 }

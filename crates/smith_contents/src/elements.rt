@@ -59,7 +59,7 @@ fn draw_segment(
     ensures left { KeepsPieces u.old u.new }
 {
     let choice = kinds.choose(u);
-    let (kind, hint) = draw_kind(alloc, config, spaces, choice, u)?;
+    let (kind, hint) = draw_kind(config, spaces, choice, u);
     let ty = draw_item_type(alloc, config, spaces, choice, u)?;
     let most = most_items(config, hint, total);
     let items = draw_items(alloc, config, spaces, ty, most, u)?;

@@ -16,6 +16,7 @@ mod exported;
 mod exports;
 mod offered_indices;
 mod offered_kinds;
+mod offset_globals;
 mod start;
 
 pub use bodies::arbitrary_bodies;

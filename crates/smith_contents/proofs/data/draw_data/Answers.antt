@@ -9,7 +9,7 @@ use Rattle.smith_contents.proofs.data.draw_data.Goals as goal
 pub returns-clause-fit : goal.returns-clause-fit
 returns-clause-fit c =
     let context = seen_by c.args.config.now c.args.spaces.now true in
-    c.draw_segments.ensures.fit context c.args.spaces.now.entities.memories.now c.in_ok-targets.ensures.targets
+    c.draw_segments.ensures.fit context c.args.spaces.now.entities.memories.now c.new-targets.ensures.targets
 
 pub returns-clause-most : goal.returns-clause-most
 returns-clause-most c =

@@ -9,7 +9,7 @@ returns-clause-targets c =
     let context = seen_by c.args.config.now c.args.spaces.now true in
     record {
       stand = indexed_stand c.args.spaces.now.entities.memories.now c.args.offered.offered c.requires.within;
-      globals = λ wide. both_tell context wide _ _ c.in_ok-offset_globals.ensures.tell c.in_ok-offset_globals-2.ensures.tell;
-      none = λ on wide. both_none wide _ _ (c.in_ok-offset_globals.ensures.none on) (c.in_ok-offset_globals-2.ensures.none on);
+      globals = λ wide. both_tell context wide _ _ c.new.ensures.tell c.new-2.ensures.tell;
+      none = λ on wide. both_none wide _ _ (c.new.ensures.none on) (c.new-2.ensures.none on);
       bulk = λ on. on;
     }
