@@ -1,10 +1,12 @@
 -- Data segments that are drawn may stand in a module: they are valid, and where nothing may trap, what they copy fits.
-use Rattle.std.proofs.Common.{◌≡◌, ℕ, ◌<◌, ◌≤◌, Bool, true, false, cond, List, [], length, refl, subst, arith}
-use Rattle.std.specs.Prelude.{◌↔◌, All, IsTrue}
+use Rattle.std.proofs.Common.{◌≡◌, ◌⊎◌, inl, inr, ℕ, ◌<◌, ◌≤◌, Bool, true, false, cond, List, [], length, refl, subst, arith}
+use Rattle.std.specs.Prelude.{◌↔◌, All, IsTrue, IfSome, Option, Some, None}
 use Rattle.std.specs.List.{Contains}
 use Rattle.std.proofs.lemmas.List.Elements.{All-contains_itself, All-weaker}
 use Rattle.smith_bytes.proofs.GrownLemmas.{grow_most, grow_least}
+use Rattle.smith_types.specs.Entities.{IsMemoryValid, page_log2}
 use Rattle.smith_types.specs.Expressions.{Context, IsVisible}
+use Rattle.smith_types.specs.Features.{Features}
 use Rattle.smith_types.specs.Segments.{IsOffsetValid, IsOffsetInside, address_type}
 use Rattle.smith_types.specs.Subtyping.{IsValBelow}
 use Rattle.smith_types.specs.declared.composite_type.SubType.{SubType}
@@ -16,9 +18,10 @@ use Rattle.smith_types.specs.declared.value_type.ValType.TheVariants.{I32, I64, 
 use Rattle.smith_config.specs.declared.config.Config.{Config}
 use Rattle.smith_draw.specs.Choices.{chosen_at}
 use Rattle.smith_draw.specs.ConstScopes.{IsReadable}
+use Rattle.smith_draw.proofs.FloatLemmas.{stands_in}
 use Rattle.smith_draw.proofs.SupertypeLemmas.{chosen_of}
 use Rattle.smith_draw.proofs.ValueTypeLemmas.{drawn_is}
-use Rattle.smith_contents.specs.DataSegments.{Targets, Indexed, no_memory, least_bytes, segment_at, segments_at}
+use Rattle.smith_contents.specs.DataSegments.{Targets, Indexed, HasPages, no_memory, least_bytes, segment_at, segments_at}
 use Rattle.smith_contents.specs.DataTargets.{StandsIn, TellOffsets, IsDataFit}
 
 -- what holds of all memories that count holds of the one that is chosen
@@ -74,3 +77,13 @@ segments_most config targets bytes = grow_most (λ _. segment_at config targets)
 pub segments_least : (config : Config) (targets : Targets) (bytes : List ℕ) → config.min_data_segments ≤ config.max_data_segments → config.min_data_segments ≤ length (segments_at config targets bytes).0
 unfolding segments_at
 segments_least config targets bytes ordered = grow_least (λ _. segment_at config targets) config.min_data_segments config.max_data_segments [] bytes (omega arith)
+
+-- a valid memory has pages of 64 KiB, or of the bytes that it states
+page_fits : (features : Features) (stated : Option ℕ) → IfSome stated (λ log2. ((log2 ≡ 0) ⊎ (log2 ≡ 16)) × IsTrue features.custom_page_sizes) → page_log2 stated ≤ 16
+page_fits features None size = omega arith
+page_fits features (Some log2) size = elim size.0 [ inl bytes ↦ omega (arith, bytes) | inr pages ↦ omega (arith, pages) ]
+
+-- and so has each memory that segments may be copied into
+pub target_pages : (features : Features) (memories : List MemoryType) (targets : List Indexed) → All (IsMemoryValid features) memories → All (StandsIn memories) targets → All HasPages targets
+target_pages features memories targets valid stand =
+    All-weaker (StandsIn memories) HasPages (λ one at. page_fits features one.1.page_size_log2 (stands_in (IsMemoryValid features) memories one.0 one.1 at valid).page_size) targets stand

@@ -1,10 +1,15 @@
 use Rattle.std.proofs.Common.{◌≤◌, List, length, true}
 use Rattle.std.proofs.lemmas.Result.{IfOk-weaker}
 use Rattle.smith_types.specs.declared.segments.DataSegment.{DataSegment}
+use Rattle.smith_config.specs.Features.{features_of}
 use Rattle.smith_draw.specs.ConstScopes.{seen_by}
 use Rattle.smith_draw.proofs.ValueTypeLemmas.{drawn_is}
-use Rattle.smith_contents.proofs.DataSegmentLemmas.{segments_most, segments_least}
+use Rattle.smith_contents.proofs.DataSegmentLemmas.{segments_most, segments_least, target_pages}
 use Rattle.smith_contents.proofs.data.draw_data.Goals as goal
+
+pub draw_segments-requires-clause-pages : goal.draw_segments-requires-clause-pages
+draw_segments-requires-clause-pages c =
+    target_pages (features_of c.args.config.now) c.args.spaces.now.entities.memories.now _ c.requires.memories c.new-targets.ensures.targets.stand
 
 pub returns-clause-fit : goal.returns-clause-fit
 returns-clause-fit c =
