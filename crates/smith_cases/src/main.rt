@@ -3,7 +3,7 @@
 //! For each case there is a line `ok NAME`, or `not ok NAME: ` and the first difference. The last line counts, and the status is 1
 //! where a case is not ok. Where memory is refused outside of a call, the last line is `not ok: Memory while reading` and the status
 //! is 1 too. A case is answered twice, one of checksums once, and two answers that differ are not ok. Lines of blanks, and lines that
-//! begin with `#`, are passed over. The crate's own cases are in `stdin`; in this folder they are tried in some two minutes, before
+//! begin with `#`, are passed over. The crate's own cases are in `stdin`; in this folder they are tried in some four minutes, before
 //! any proof, by
 //!
 //! ```sh
