@@ -1,7 +1,7 @@
-use crate::tried::{Ended, Tried, refusals};
 use smith_bytes::{Error, Which};
 use smith_config::{Config, Shape};
 use smith_config_rows::made_shapes::{one_of_each, ping_and_memory};
+use smith_memory::{Ended, Tried, refusals};
 use std::alloc::Global;
 use std::test::Fail;
 

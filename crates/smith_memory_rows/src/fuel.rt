@@ -1,6 +1,6 @@
-use crate::tried::{Ended, Tried, refusals};
 use smith_bytes::{Error, Unstructured};
 use smith_config::Config;
+use smith_memory::{Ended, Tried, refusals};
 use std::alloc::Global;
 use std::test::Fail;
 use wasm_smith::Module;

@@ -7,15 +7,11 @@ mod binaries;
 mod configurations;
 #[cfg(test)]
 mod fuel;
-/// The memory of a process, used up.
-pub mod hoard;
 #[cfg(test)]
 mod modules;
 #[cfg(test)]
 mod names;
 #[cfg(test)]
 mod spelled;
-/// Calls that are tried with more and more memory.
-pub mod tried;
 #[cfg(test)]
 mod types;

@@ -1,7 +1,7 @@
-use crate::tried::{Ended, Tried, is_piece, refusals};
 use smith_bytes::{Error, Unstructured};
 use smith_config::Config;
 use smith_config_rows::made_shapes::{one_of_each, ping_and_memory, three_memories};
+use smith_memory::{Ended, Tried, is_piece, refusals};
 use std::alloc::Global;
 use std::test::Fail;
 use wasm_smith::Module;

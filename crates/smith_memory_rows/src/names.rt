@@ -1,5 +1,5 @@
-use crate::tried::{Ended, Tried, is_piece, refusals};
 use smith_bytes::{Error, Unstructured, unique_kebab_string, unique_string, unique_url};
+use smith_memory::{Ended, Tried, is_piece, refusals};
 use std::alloc::{AllocError, Global};
 use std::collections::HashSet;
 use std::test::Fail;

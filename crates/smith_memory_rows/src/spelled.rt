@@ -1,7 +1,7 @@
-use crate::tried::{Ended, Tried, refusals};
 use smith_bytes::Error;
 use smith_config::Config;
 use smith_config_rows::made_types::function;
+use smith_memory::{Ended, Tried, refusals};
 use smith_spell::spell;
 use smith_types::{Items, SubType, ValType};
 use std::alloc::Global;

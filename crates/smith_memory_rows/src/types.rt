@@ -1,6 +1,6 @@
-use crate::tried::{Ended, Tried, refusals};
 use smith_bytes::Error;
 use smith_config_rows::made_types::empty_struct;
+use smith_memory::{Ended, Tried, refusals};
 use smith_types::TypeSpace;
 use std::alloc::Global;
 use std::test::Fail;

@@ -2,6 +2,8 @@
 //! standard output how much of each kind it has.
 #![tactic(auto)]
 
+#[cfg(test)]
+mod hostile_tests;
 mod line;
 mod program;
 mod run;

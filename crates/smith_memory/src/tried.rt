@@ -27,13 +27,13 @@ pub fn refusals<T: Tried>(alloc: Global, step: usize, call: &mut T) -> Result<us
     let Some(mut hoard) = Hoard::new(alloc, MOST_TRIES)? else {
         return Err(Fail::new("the memory of this machine takes too many blocks"));
     };
-    for refusals in 0..MOST_TRIES {
-        if !hoard.leave(alloc, refusals.saturating_mul(step)) {
+    for count in 0..MOST_TRIES {
+        if !hoard.leave(alloc, count.saturating_mul(step)) {
             return Err(Fail::new("there are too many blocks"));
         }
         match call.ended(alloc) {
             Ended::Refused => {}
-            Ended::Given => return Ok(refusals),
+            Ended::Given => return Ok(count),
             Ended::Wrong(what) => return Err(Fail::new(what)),
         }
     }
