@@ -1,6 +1,6 @@
 use smith_bytes::{Error, Which};
 use smith_config::{Config, Shape};
-use smith_config_rows::made_shapes::{one_of_each, ping_and_memory};
+use smith_config_rows::made_shapes::{one_of_each, ping_and_memory, three_memories};
 use smith_memory::{Ended, Tried, refusals};
 use std::alloc::Global;
 use std::test::Fail;
@@ -56,7 +56,7 @@ fn refusals_of(alloc: Global, shape: Shape, which: Which) -> Result<usize, Fail>
         shape,
         which,
     };
-    checking.config.max_memories = 2;
+    checking.config.max_memories = 3;
     refusals(alloc, 16, &mut checking)
 }
 
@@ -65,5 +65,6 @@ fn checks(rt: HostRuntime) -> Result<(), Fail> {
     let alloc = rt.alloc();
     assert!(rt; refusals_of(alloc, one_of_each(alloc)?, Which::Exports)? > 0);
     assert!(rt; refusals_of(alloc, ping_and_memory(alloc)?, Which::AvailableImports)? > 0);
+    assert!(rt; refusals_of(alloc, three_memories(alloc)?, Which::ModuleShape)? > 0);
     Ok(())
 }

@@ -14,9 +14,11 @@ struct Counting {
 
 impl Tried for Counting {
     fn ended(&mut self, alloc: Global) -> Ended {
-        let room = self.module.globals().len() < u32::MAX as usize;
-        if !room || !are_equal(&self.module, &self.copy) {
+        if !are_equal(&self.module, &self.copy) {
             return Ended::Wrong("the module is another");
+        }
+        if self.module.globals().len() >= u32::MAX as usize {
+            return Ended::Wrong("there are too many globals");
         }
         match self.module.ensure_termination(alloc, 5) {
             Ok(0) => Ended::Given,

@@ -78,39 +78,45 @@ fn set_minimums(config: &mut Config) {
 }
 
 // The number of refusals before there is enough memory.
-fn refusals_of(
-    alloc: Global,
-    asked: Asked,
-    input: &'static [u8],
-    step: usize,
-) -> Result<usize, Fail> {
+fn refusals_of(alloc: Global, asked: Asked, input: &'static [u8]) -> Result<usize, Fail> {
     let mut drawing = Drawing {
         config: Config::default(),
         input,
     };
     set_asked(alloc, &mut drawing.config, asked)?;
-    refusals(alloc, step, &mut drawing)
+    refusals(alloc, 64, &mut drawing)
 }
 
-// An input that is used up early, imports in a group, spelled types, and bytes of all kinds.
+// A group that is cloned past the end of the input.
+const CLONE: &[u8] = &[1, 1, 0, 0, 0, 0, 1];
+
+// A passive segment.
+const SEGMENT: &[u8] = &[0, 0, 0, 0, 0, 0, 0, 0, 1, 0, 0, 0, 1, 1, 0];
+
+// Two imports in a group.
 const GROUP: &[u8] = &[0, 1, 255, 255, 255, 255, 0, 0, 0, 1, 1, 98, 1, 0, 0];
 
+// An array, and a struct that refers to it.
 const SPELLED: &[u8] = &[1, 1, 1, 0, 0, 0, 1, 1, 1, 1, 2, 1, 2, 5, 1, 0, 1, 0, 0, 0];
 
-const COUNTED: &[u8] = &[
+// Types, functions and more.
+const EACH: &[u8] = &[
     1, 1, 1, 1, 0, 0, 0, 0, 0, 0, 1, 1, 0, 1, 1, 1, 1, 1, 0, 1, 1, 0, 1, 0, 1, 1, 1, 1, 0, 1, 1, 1,
-    1, 1, 0, 1, 1, 0, 1, 0, 1, 1, 1, 1, 0, 1, 1, 1, 1, 1, 0, 1, 1, 0, 1, 0, 1, 1, 1, 1, 0, 1, 1, 1,
 ];
+
+const ZEROS: &[u8] = &[0; 512];
 
 #[test]
 fn modules_without_shapes(rt: HostRuntime) -> Result<(), Fail> {
     for (asked, input) in [
         (Asked::Nothing, [].as_slice()),
+        (Asked::Nothing, CLONE),
+        (Asked::Nothing, SEGMENT),
         (Asked::Nothing, SPELLED),
         (Asked::Imports, GROUP),
-        (Asked::EachPart, COUNTED),
+        (Asked::EachPart, EACH),
     ] {
-        let refusals = refusals_of(rt.alloc(), asked, input, 64)?;
+        let refusals = refusals_of(rt.alloc(), asked, input)?;
         assert!(rt; refusals > 0, "at {asked:?}");
     }
     Ok(())
@@ -118,8 +124,12 @@ fn modules_without_shapes(rt: HostRuntime) -> Result<(), Fail> {
 
 #[test]
 fn modules_with_shapes(rt: HostRuntime) -> Result<(), Fail> {
-    for asked in [Asked::AvailableImports, Asked::Exports, Asked::ModuleShape] {
-        let refusals = refusals_of(rt.alloc(), asked, &[1, 1], 64)?;
+    for (asked, input) in [
+        (Asked::AvailableImports, [1, 1].as_slice()),
+        (Asked::Exports, &[]),
+        (Asked::ModuleShape, ZEROS),
+    ] {
+        let refusals = refusals_of(rt.alloc(), asked, input)?;
         assert!(rt; refusals > 0, "at {asked:?}");
     }
     Ok(())

@@ -33,14 +33,15 @@ impl Read for Trickle {
         if self.reads == self.fails_at {
             return Err(io::Error::from(ErrorKind::Other));
         }
-        match (self.rest, buffer) {
-            ([first, rest @ ..], [place, ..]) => {
-                *place = *first;
-                self.rest = rest;
-                Ok(1)
-            }
-            _ => Ok(0),
+        let Some((first, rest)) = self.rest.split_first() else {
+            return Ok(0);
+        };
+        if buffer.is_empty() {
+            return Ok(0);
         }
+        buffer[0] = *first;
+        self.rest = rest;
+        Ok(1)
     }
 }
 
@@ -74,14 +75,15 @@ impl Write for Page {
         if self.writes == self.fails_at {
             return Err(io::Error::from(ErrorKind::Other));
         }
-        match (piece, self.line.get_mut(self.length)) {
-            ([first, ..], Some(place)) => {
-                *place = *first;
-                self.length = self.length.wrapping_add(1);
-                Ok(1)
-            }
-            _ => Ok(0),
+        let Some(first) = piece.first() else {
+            return Ok(0);
+        };
+        if self.length >= MOST_BYTES {
+            return Ok(0);
         }
+        self.line[self.length] = *first;
+        self.length += 1;
+        Ok(1)
     }
 
     fn flush(&mut self) -> io::Result<()> {
