@@ -1,7 +1,7 @@
 /// A call of a case.
 #[derive(Clone, Copy)]
 pub(crate) enum Call {
-    /// A module, told by its text.
+    /// A module, told by its text or its binary.
     Module(ModuleCall),
     /// A configuration, or a check of one or of a shape.
     Config(ConfigCall),
@@ -31,6 +31,7 @@ pub(crate) enum ModuleCall {
     Arbitrary,
     NewOfDrawn,
     EnsureTermination,
+    Encode,
 }
 
 /// What is asked of a configuration, or under it.
@@ -172,7 +173,7 @@ pub(crate) enum SpaceCall {
 pub(crate) const RECORDED: &str = "recorded";
 
 // Each call by its name.
-static CALLS: [(&str, Call); 77] = [
+static CALLS: [(&str, Call); 78] = [
     ("Module::new", Call::Module(ModuleCall::New)),
     (
         "Module::new_internal",
@@ -187,6 +188,7 @@ static CALLS: [(&str, Call); 77] = [
         "Module::ensure_termination",
         Call::Module(ModuleCall::EnsureTermination),
     ),
+    ("encode", Call::Module(ModuleCall::Encode)),
     ("Config::arbitrary", Call::Config(ConfigCall::Arbitrary)),
     ("Config::clone", Call::Config(ConfigCall::Clone)),
     ("Config::sanitize", Call::Config(ConfigCall::Sanitize)),

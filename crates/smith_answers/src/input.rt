@@ -1,4 +1,5 @@
 use crate::fault::Fault;
+use hex::FromHexError;
 use std::alloc::Global;
 
 /// The bytes of `text`: words between blanks, each hexadecimal bytes, or `BYTES*COUNT`, which stands for so many copies of the bytes.
@@ -21,8 +22,10 @@ fn append_word(alloc: Global, word: &str, bytes: &mut Vec<u8>) -> Result<(), Fau
     if copies > MOST_COPIES {
         return Err(Fault::Input);
     }
-    let Ok(part) = hex::decode(alloc, digits) else {
-        return Err(Fault::Input);
+    let part = match hex::decode(alloc, digits) {
+        Ok(part) => part,
+        Err(FromHexError::OutOfMemory) => return Err(Fault::Memory),
+        Err(_) => return Err(Fault::Input),
     };
     for _ in 0..copies {
         bytes.extend_from_slice(part.as_slice())?;

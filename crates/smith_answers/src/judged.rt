@@ -42,13 +42,28 @@ fn judged(alloc: Global, line: &str, case: &mut Case) -> Result<Option<String>, 
 // The first difference of the answer to `case`, which stands in `line`, over `input`.
 fn of_input(alloc: Global, line: &str, case: &Case, input: &[u8]) -> Result<Option<String>, Fault> {
     let given = answer(alloc, line, case, input)?;
-    if !is_recorded(case) && given != answer(alloc, line, case, input)? {
-        return Err(Fault::Unsteady);
+    if !is_recorded(case) {
+        check_steady(given.as_str(), answer(alloc, line, case, input)?.as_str())?;
     }
     match first_difference(given.as_str(), case) {
         Some(difference) => Ok(Some(format!(in alloc; "{difference}")?)),
         None => Ok(None),
     }
+}
+
+// Checks that `again`, the answer of the second run, is `given`. Memory may run out in one of them alone.
+fn check_steady(given: &str, again: &str) -> Result<(), Fault> {
+    if given == again {
+        return Ok(());
+    }
+    if is_out_of_memory(given) || is_out_of_memory(again) {
+        return Err(Fault::Memory);
+    }
+    Err(Fault::Unsteady)
+}
+
+fn is_out_of_memory(answer: &str) -> bool {
+    answer.lines().any(|line| line == "refused: Memory")
 }
 
 // Whether the answer is a checksum of many, which is made once.

@@ -6,7 +6,7 @@ use smith_types::Items;
 use std::alloc::Global;
 
 // Each shape by its name, with its parts in the form that `add_part` reads.
-static SHAPES: [(&str, &[&str]); 41] = [
+static SHAPES: [(&str, &[&str]); 42] = [
     ("nothing", &[]),
     (
         "a function without parameters and results",
@@ -104,6 +104,14 @@ static SHAPES: [(&str, &[&str]); 41] = [
     (
         "a constant reference to no function",
         &["global (ref nofunc)", "export g global 0"],
+    ),
+    (
+        "a constant reference to a struct of such a reference",
+        &[
+            "group struct (ref 0)",
+            "global (ref 0)",
+            "export g global 0",
+        ],
     ),
     (
         "each kind to import",

@@ -11,5 +11,5 @@ mod refusal;
 mod value;
 
 pub use field::{FIELDS, Field, FieldKind};
-pub use read::{config, read_config};
+pub use read::{config, read_config, read_text};
 pub use refusal::{ConfigRefusal, Fault, Refusal};

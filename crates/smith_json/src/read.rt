@@ -29,8 +29,13 @@ pub fn config(alloc: Global, text: &str) -> Result<Config, ConfigRefusal>
     }
 }
 
-/// Reads an object from `text`, and refuses what follows it.
-fn read_text(alloc: Global, text: &str, config: &mut Config) -> Result<(), Refusal>
+/// Reads an object from `text`, which holds no more, and sets the fields of `config` that its members name.
+///
+/// # Errors
+///
+/// Refuses the text at its first fault, reading from the start. The members before the fault are set then. The place of the fault is
+/// an offset in `text`, of which [`Refusal::in_text`] makes a line and a column.
+pub fn read_text(alloc: Global, text: &str, config: &mut Config) -> Result<(), Refusal>
     ensures ok { OnOk result (ReadsAlone config.old text.now (Ok (config.new, []))) }
     ensures refused { IfErr result (λ refusal. refusal.fault ≢ Fault.OutOfMemory → ReadsAlone config.old text.now (Err (refusal.fault, string_bytes refusal.field))) }
 {

@@ -1,10 +1,9 @@
 use crate::asked::Asked;
 use crate::failure::Failure;
 use crate::words::{ARBITRARY, CONFIG};
-use json::{Reader, Scratch};
 use smith_bytes::Unstructured;
 use smith_config::{Config, MemoryOffsetChoices};
-use smith_json::{FIELDS, Fault, Field, FieldKind, Refusal, read_config};
+use smith_json::{FIELDS, Field, FieldKind, read_text};
 use smith_output::OutputFault;
 use smith_types::InstructionKinds;
 use std::alloc::Global;
@@ -38,35 +37,13 @@ fn set_from_file(alloc: Global, asked: &Asked<'_, '_>, config: &mut Config) -> R
     let Some(text) = &asked.config else {
         return Ok(());
     };
-    match read_over(alloc, text.as_str(), config) {
+    match read_text(alloc, text.as_str(), config) {
         Ok(()) => Ok(()),
         Err(refusal) => {
             let path = String::from_str(alloc, asked.matches.get_str(CONFIG).unwrap_or(""))?;
             Err(Failure::Config(path, refusal.in_text(text.as_str())))
         }
     }
-}
-
-/// Sets the fields that the object of `text` names.
-fn read_over(alloc: Global, text: &str, config: &mut Config) -> Result<(), Refusal> {
-    let mut scratch = Scratch::new(alloc);
-    let Ok(mut reader) = Reader::new(text, &mut scratch) else {
-        return refused(alloc, Fault::OutOfMemory, 0);
-    };
-    read_config(alloc, &mut reader, config)?;
-    let offset = reader.offset();
-    match reader.next() {
-        None => Ok(()),
-        Some(_) => refused(alloc, Fault::TextAfter, offset),
-    }
-}
-
-fn refused(alloc: Global, fault: Fault, offset: usize) -> Result<(), Refusal> {
-    Err(Refusal {
-        fault,
-        field: String::new(alloc),
-        offset,
-    })
 }
 
 /// Sets the fields that are words.
@@ -108,7 +85,7 @@ fn is_set(
         FieldKind::OffsetChoices => Ok(is_choices_set(value, config)),
         _ => {
             let text = format!(in alloc; "{{\"{}\":{value}}}", field.name)?;
-            Ok(is_plain(value) && read_over(alloc, text.as_str(), config).is_ok())
+            Ok(is_plain(value) && read_text(alloc, text.as_str(), config).is_ok())
         }
     }
 }

@@ -1,5 +1,6 @@
 //! The answers to calls, each as text.
 
+mod binaries;
 mod configs;
 mod configured;
 mod constants;

@@ -1,3 +1,4 @@
+use crate::answers::binaries::tell_binary;
 use crate::answers::told::{tell_refusal, tell_rest};
 use crate::arguments::{number, word};
 use crate::call::ModuleCall;
@@ -10,9 +11,10 @@ use std::alloc::Global;
 use std::mem;
 use wasm_smith::{DuplicateImportsBehavior, Module};
 
-/// Appends the text of the module that `call` makes, or its refusal. The configuration `config` is used up. Arguments
-/// of `Module::new`, and those of `Module::new_internal` after the first, name what is told afterwards: `debug` is a
-/// line of the module as it prints for debugging, `left` what the call leaves of the input.
+/// Appends the text of the module that `call` makes, or its binary where `call` encodes it, or the refusal. The
+/// configuration `config` is used up. Arguments of `Module::new`, and those of `Module::new_internal` after the first,
+/// name what is told afterwards: `debug` is a line of the module as it prints for debugging, `left` what the call leaves
+/// of the input.
 pub(crate) fn answer_module(
     alloc: Global,
     case: &Case,
@@ -129,14 +131,22 @@ fn tell_whole(
     module: &mut Module,
     answer: &mut String,
 ) -> Result<(), Fault> {
-    if call == ModuleCall::EnsureTermination {
+    if takes_fuel(call) {
         terminate(alloc, case, module, answer)?;
     }
-    tell_module(alloc, module, answer)?;
+    match call {
+        ModuleCall::Encode => tell_binary(alloc, module, answer)?,
+        _ => tell_module(alloc, module, answer)?,
+    }
     if details.debug {
         writeln!(answer, "{module:?}")?;
     }
     Ok(())
+}
+
+// Whether the arguments of `call` are fuel that is added to the module.
+fn takes_fuel(call: ModuleCall) -> bool {
+    matches!(call, ModuleCall::EnsureTermination | ModuleCall::Encode)
 }
 
 fn tell_module(alloc: Global, module: &Module, answer: &mut String) -> Result<(), Fault> {

@@ -1,0 +1,32 @@
+use crate::answers::told::tell_bytes;
+use crate::fault::Fault;
+use sha2::{Digest, Sha256};
+use smith_encode::encode;
+use std::alloc::Global;
+use wasm_smith::Module;
+
+// The most bytes of a binary that is told whole.
+const MOST_BYTES: usize = 200;
+
+/// Appends the number of bytes of `module` in the binary format and their checksum, and the bytes in hexadecimal where they are at
+/// most 200; or the refusal.
+pub(crate) fn tell_binary(
+    alloc: Global,
+    module: &Module,
+    answer: &mut String,
+) -> Result<(), Fault> {
+    match encode(alloc, module) {
+        Ok(bytes) => tell_bytes_whole(alloc, bytes.as_slice(), answer),
+        Err(refusal) => Ok(writeln!(answer, "refused: {refusal:?}")?),
+    }
+}
+
+fn tell_bytes_whole(alloc: Global, bytes: &[u8], answer: &mut String) -> Result<(), Fault> {
+    let count = bytes.len();
+    let checksum = hex::encode(alloc, Sha256::digest(bytes))?;
+    writeln!(answer, "{count} bytes, SHA-256 {checksum}")?;
+    if count <= MOST_BYTES {
+        tell_bytes("binary", bytes, answer)?;
+    }
+    Ok(())
+}
