@@ -2,6 +2,8 @@
 //! standard output how much of each kind it has.
 #![tactic(auto)]
 
+#[cfg(test)]
+mod hostile_tests;
 mod line;
 mod program;
 mod run;
@@ -15,13 +17,15 @@ use crate::program::{exit_status, run_words};
 use crate::run::RunFault;
 use crate::sink::FromWrite;
 use crate::source::FromRead;
+use std::io::ErrorKind;
 use std::process::ExitCode;
 use std::{env, io};
+use wasm_smith::Error;
 
 fn main(rt: HostRuntime) -> ExitCode {
-    let Ok(asked) = read_words(&rt) else {
-        let _ = eprintln!(rt; "{}", RunFault::Read);
-        return ExitCode::FAILURE;
+    let asked = match read_words(&rt) {
+        Ok(asked) => asked,
+        Err(error) => return tell_unread(&rt, &error),
     };
     let mut source = FromRead::new(rt.stdin());
     let mut sink = FromWrite::new(rt.stdout());
@@ -30,6 +34,16 @@ fn main(rt: HostRuntime) -> ExitCode {
         let _ = eprintln!(rt; "{fault}");
     }
     ExitCode::from(exit_status(&ended))
+}
+
+/// Tells that the words weren't read: for want of memory as a module is refused, else as a failed read.
+fn tell_unread(rt: &HostRuntime, error: &io::Error) -> ExitCode {
+    if error.kind() == ErrorKind::OutOfMemory {
+        let _ = print!(rt; "{}", line::line(&Err(Error::Memory)));
+    } else {
+        let _ = eprintln!(rt; "{}", RunFault::Read);
+    }
+    ExitCode::FAILURE
 }
 
 /// Reads the words after the program's name. A word that isn't UTF-8 is a failure.

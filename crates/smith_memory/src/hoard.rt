@@ -1,0 +1,86 @@
+use std::alloc::{AllocError, Global};
+
+// The bytes of a slot: too few for the C library to map the slot by itself.
+const SLOT: usize = 1 << 16;
+
+// The bytes between two slots, which keep them apart when they are freed.
+const GAP: usize = 64;
+
+// The bytes of the largest block that is asked for, more than a process can address.
+const LARGEST: usize = 1 << 46;
+
+// The bytes of the smallest block.
+const SMALLEST: usize = 16;
+
+// The most blocks that the memory of a process is taken in.
+const MOST_BLOCKS: usize = 30_000;
+
+// The most blocks that are kept: after each step the blocks that the call gave back are taken too.
+const MOST_KEPT: usize = 100_000;
+
+/// The memory that the process can have, taken in blocks that nobody touches. Some slots are set aside, which are given back one by
+/// one. All of it is given back when the hoard is dropped.
+#[derive(Drop)]
+pub struct Hoard {
+    kept: Vec<Vec<u8>>,
+    slots: Vec<Vec<u8>>,
+    gaps: Vec<Vec<u8>>,
+}
+
+impl Hoard {
+    /// Takes all memory of the process but for `slots` slots. None where more than 30,000 blocks would be needed.
+    pub fn new(alloc: Global, slots: usize) -> Result<Option<Hoard>, AllocError> {
+        let mut hoard = Hoard {
+            kept: Vec::with_capacity(alloc, MOST_KEPT)?,
+            slots: Vec::with_capacity(alloc, slots)?,
+            gaps: Vec::with_capacity(alloc, slots)?,
+        };
+        hoard.set_aside(alloc, slots)?;
+        let is_taken = hoard.take(alloc, LARGEST) && hoard.kept.len() <= MOST_BLOCKS;
+        Ok(if is_taken { Some(hoard) } else { None })
+    }
+
+    fn set_aside(&mut self, alloc: Global, slots: usize) -> Result<(), AllocError> {
+        for _ in 0..slots {
+            self.slots.push(Vec::with_capacity(alloc, SLOT)?)?;
+            self.gaps.push(Vec::with_capacity(alloc, GAP)?)?;
+        }
+        Ok(())
+    }
+
+    // Takes all memory, in blocks of at most `size` bytes, the largest first. False where there are too many blocks.
+    fn take(&mut self, alloc: Global, size: usize) -> bool {
+        let mut size = size;
+        for _ in 0..MOST_KEPT {
+            if self.kept.len() >= MOST_KEPT {
+                return false;
+            }
+            match Vec::with_capacity(alloc, size) {
+                Ok(block) => {
+                    if self.kept.push(block).is_err() {
+                        return false;
+                    }
+                }
+                Err(_) if size <= SMALLEST => return true,
+                Err(_) => size /= 2,
+            }
+        }
+        false
+    }
+
+    /// Takes what was given back since, and leaves one piece of at most `bytes` bytes, at most 64 KiB. False where no slot is left, or
+    /// there are too many blocks.
+    pub fn leave(&mut self, alloc: Global, bytes: usize) -> bool {
+        if !self.take(alloc, SLOT) {
+            return false;
+        }
+        let Some(slot) = self.slots.pop() else {
+            return false;
+        };
+        drop(slot);
+        match Vec::with_capacity(alloc, SLOT.saturating_sub(bytes)) {
+            Ok(block) => self.kept.push(block).is_ok(),
+            Err(_) => false,
+        }
+    }
+}

@@ -1,0 +1,11 @@
+//! The memory of a process, used up, and calls that are tried with more and more of it.
+//!
+//! The standard allocator refuses nothing while there is memory, so a test of a call under want of memory first takes all that the
+//! process can have. Blocks that nobody touches take address space alone.
+#![tactic(auto)]
+
+mod hoard;
+mod tried;
+
+pub use hoard::Hoard;
+pub use tried::{Ended, Tried, is_piece, refusals};

@@ -1,0 +1,62 @@
+use smith_bytes::{Error, Unstructured};
+use smith_config::Config;
+use smith_memory::{Ended, Tried, refusals};
+use std::alloc::Global;
+use std::test::Fail;
+use wasm_smith::Module;
+
+// A counter of fuel that is added to `module`. `copy` is the same module, and stays as it is.
+#[derive(Drop)]
+struct Counting {
+    module: Module,
+    copy: Module,
+}
+
+impl Tried for Counting {
+    fn ended(&mut self, alloc: Global) -> Ended {
+        if !are_equal(&self.module, &self.copy) {
+            return Ended::Wrong("the module is another");
+        }
+        if self.module.globals().len() >= u32::MAX as usize {
+            return Ended::Wrong("there are too many globals");
+        }
+        match self.module.ensure_termination(alloc, 5) {
+            Ok(0) => Ended::Given,
+            Err(Error::Memory) => Ended::Refused,
+            _ => Ended::Wrong("the counter is another"),
+        }
+    }
+}
+
+// Whether what a counter adds to is equal, and what it must not change.
+fn are_equal(one: &Module, other: &Module) -> bool {
+    one.globals() == other.globals()
+        && one.defined_globals() == other.defined_globals()
+        && one.fuel_globals() == other.fuel_globals()
+        && one.exports() == other.exports()
+        && one.code().len() == other.code().len()
+        && one.types() == other.types()
+}
+
+// A module of a function that takes a number.
+fn function(alloc: Global) -> Result<Module, Error> {
+    let mut config = Config::default();
+    config.gc_enabled = false;
+    config.max_types = 1;
+    config.max_funcs = 1;
+    Module::new(
+        alloc,
+        config,
+        &mut Unstructured::new(&[1, 1, 0, 0, 0, 0, 0, 0, 1]),
+    )
+}
+
+#[test]
+fn counters(rt: HostRuntime) -> Result<(), Fail> {
+    let mut counting = Counting {
+        module: function(rt.alloc())?,
+        copy: function(rt.alloc())?,
+    };
+    assert!(rt; refusals(rt.alloc(), 16, &mut counting)? > 0);
+    Ok(())
+}

@@ -1,0 +1,21 @@
+//! Calls under want of memory: each answers `Memory` and no other value until there is enough memory for it, and leaves what it must.
+#![tactic(auto)]
+
+#[cfg(test)]
+mod binaries;
+#[cfg(test)]
+mod configurations;
+#[cfg(test)]
+mod fuel;
+#[cfg(test)]
+mod made_shapes;
+#[cfg(test)]
+mod made_types;
+#[cfg(test)]
+mod modules;
+#[cfg(test)]
+mod names;
+#[cfg(test)]
+mod spelled;
+#[cfg(test)]
+mod types;

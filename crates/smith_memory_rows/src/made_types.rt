@@ -1,0 +1,39 @@
+use smith_bytes::Error;
+use smith_types::{
+    CompositeInnerType, CompositeType, FuncType, Items, StructType, SubType, ValType,
+};
+use std::alloc::Global;
+
+/// Makes a struct type without fields, below the type `supertype` where that is given.
+pub(crate) fn empty_struct(alloc: Global, is_final: bool, supertype: Option<u32>) -> SubType {
+    SubType {
+        is_final,
+        supertype,
+        composite_type: CompositeType {
+            inner: CompositeInnerType::Struct(StructType {
+                fields: Items::new(alloc),
+            }),
+            shared: false,
+        },
+    }
+}
+
+/// Makes a function type that takes `params` and gives `results`.
+pub(crate) fn function(
+    alloc: Global,
+    is_final: bool,
+    params: &[ValType],
+    results: &[ValType],
+) -> Result<SubType, Error> {
+    Ok(SubType {
+        is_final,
+        supertype: None,
+        composite_type: CompositeType {
+            inner: CompositeInnerType::Func(FuncType {
+                params: Items::from_slice(alloc, params)?,
+                results: Items::from_slice(alloc, results)?,
+            }),
+            shared: false,
+        },
+    })
+}

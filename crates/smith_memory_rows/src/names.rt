@@ -1,0 +1,80 @@
+use smith_bytes::{Error, Unstructured, unique_kebab_string, unique_string, unique_url};
+use smith_memory::{Ended, Tried, is_piece, refusals};
+use std::alloc::{AllocError, Global};
+use std::collections::HashSet;
+use std::test::Fail;
+
+#[derive(Clone, Copy, Debug)]
+enum Kind {
+    Text,
+    Kebab,
+    Url,
+}
+
+// The names that stand before the draw. The set is full: one more makes it grow.
+const NAMES: [&str; 3] = ["a", "b", "a-name-of-many-letters-that-stands-already"];
+
+// What is drawn: a name of fifteen characters at most.
+const INPUT: &[u8] = &[
+    15, 97, 98, 99, 100, 101, 102, 103, 104, 105, 106, 107, 108, 109, 110, 111, 112,
+];
+
+// A name that is drawn beside those that stand.
+#[derive(Drop)]
+struct Naming {
+    kind: Kind,
+    names: HashSet<String>,
+}
+
+impl Tried for Naming {
+    fn ended(&mut self, alloc: Global) -> Ended {
+        let mut u = Unstructured::new(INPUT);
+        let answer = named(alloc, self.kind, &mut self.names, &mut u);
+        if !u
+            .peek_bytes(u.len())
+            .is_some_and(|left| is_piece(left, INPUT))
+        {
+            return Ended::Wrong("the source is no piece of the input");
+        }
+        let stand = NAMES.iter().all(|name| self.names.contains(*name));
+        match answer {
+            Ok(_) if stand && self.names.len() == NAMES.len() + 1 => Ended::Given,
+            Err(Error::Memory) if stand && self.names.len() == NAMES.len() => Ended::Refused,
+            _ => Ended::Wrong("the names are others"),
+        }
+    }
+}
+
+fn named(
+    alloc: Global,
+    kind: Kind,
+    names: &mut HashSet<String>,
+    u: &mut Unstructured<'_>,
+) -> Result<String, Error> {
+    match kind {
+        Kind::Text => unique_string(alloc, 100, names, u),
+        Kind::Kebab => unique_kebab_string(alloc, 100, names, u),
+        Kind::Url => unique_url(alloc, 100, names, u),
+    }
+}
+
+fn standing(alloc: Global) -> Result<HashSet<String>, AllocError> {
+    let mut names = HashSet::new(alloc);
+    for name in NAMES {
+        let _ = names.insert(String::from_str(alloc, name)?)?;
+    }
+    Ok(names)
+}
+
+#[test]
+fn names(rt: HostRuntime) -> Result<(), Fail> {
+    for kind in [Kind::Text, Kind::Kebab, Kind::Url] {
+        let mut naming = Naming {
+            kind,
+            names: standing(rt.alloc())?,
+        };
+        let refusals = refusals(rt.alloc(), 16, &mut naming)?;
+        assert!(rt; refusals > 0, "at {kind:?}");
+    }
+    Ok(())
+}

@@ -1,0 +1,103 @@
+use crate::made_types::function;
+use smith_bytes::Error;
+use smith_config::Config;
+use smith_memory::{Ended, Tried, refusals};
+use smith_spell::spell;
+use smith_types::{
+    ArrayType, CompositeInnerType, CompositeType, FieldType, HeapType, Items, RefType, StorageType,
+    StructType, SubType, ValType,
+};
+use std::alloc::Global;
+use std::test::Fail;
+
+// Groups and functions that are spelled.
+#[derive(Drop)]
+struct Spelling {
+    config: Config,
+    groups: Vec<Items<SubType>>,
+    funcs: &'static [u32],
+}
+
+impl Tried for Spelling {
+    fn ended(&mut self, alloc: Global) -> Ended {
+        match spell(alloc, &self.config, self.groups.as_slice(), self.funcs) {
+            Ok(Some(_)) => Ended::Given,
+            Ok(None) => Ended::Wrong("nothing is spelled"),
+            Err(Error::Memory) => Ended::Refused,
+            Err(_) => Ended::Wrong("a spelling is refused for another reason"),
+        }
+    }
+}
+
+// A group of the type `ty` alone.
+fn add_group(alloc: Global, groups: &mut Vec<Items<SubType>>, ty: SubType) -> Result<(), Error> {
+    let mut group = Items::new(alloc);
+    group.push(ty)?;
+    groups.push(group)?;
+    Ok(())
+}
+
+// A final type of this structure.
+fn final_type(inner: CompositeInnerType) -> SubType {
+    SubType {
+        is_final: true,
+        supertype: None,
+        composite_type: CompositeType {
+            inner,
+            shared: false,
+        },
+    }
+}
+
+const BYTE: FieldType = FieldType {
+    element_type: StorageType::I8,
+    mutable: false,
+};
+
+// A variable reference to the first type.
+const FIRST: FieldType = FieldType {
+    element_type: StorageType::Val(ValType::Ref(RefType {
+        nullable: true,
+        heap_type: HeapType::Concrete(0),
+    })),
+    mutable: true,
+};
+
+// An array of bytes, and a struct that refers to it.
+fn array_and_struct(alloc: Global) -> Result<Vec<Items<SubType>>, Error> {
+    let mut groups = Vec::new(alloc);
+    let array = CompositeInnerType::Array(ArrayType(BYTE));
+    add_group(alloc, &mut groups, final_type(array))?;
+    let fields = Items::from_slice(alloc, &[FIRST])?;
+    let refers = CompositeInnerType::Struct(StructType { fields });
+    add_group(alloc, &mut groups, final_type(refers))?;
+    Ok(groups)
+}
+
+// Functions without parameters and results.
+fn functions(alloc: Global) -> Result<Vec<Items<SubType>>, Error> {
+    let mut groups = Vec::new(alloc);
+    add_group(alloc, &mut groups, function(alloc, true, &[], &[])?)?;
+    Ok(groups)
+}
+
+fn refusals_of(
+    alloc: Global,
+    groups: Vec<Items<SubType>>,
+    funcs: &'static [u32],
+) -> Result<usize, Fail> {
+    let mut spelling = Spelling {
+        config: Config::default(),
+        groups,
+        funcs,
+    };
+    refusals(alloc, 16, &mut spelling)
+}
+
+#[test]
+fn spellings(rt: HostRuntime) -> Result<(), Fail> {
+    let alloc = rt.alloc();
+    assert!(rt; refusals_of(alloc, functions(alloc)?, &[0])? > 0);
+    assert!(rt; refusals_of(alloc, array_and_struct(alloc)?, &[])? > 0);
+    Ok(())
+}
