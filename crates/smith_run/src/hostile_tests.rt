@@ -140,12 +140,15 @@ fn each_write_fails_in_turn(rt: HostRuntime) {
     for input in INPUTS {
         let mut whole = Page::failing_at(0);
         assert_eq!(rt; ended(rt.alloc(), input, 0, &mut whole), Ok(Outcome::Made));
-        for write in 1..=whole.length {
-            let mut page = Page::failing_at(write);
+        for written in 0..whole.length {
+            let mut page = Page::failing_at(written + 1);
             let ended = ended(rt.alloc(), input, 0, &mut page);
-            assert_eq!(rt; ended, Err(RunFault::Write), "at {write}");
-            assert_eq!(rt; page.length.saturating_add(1), write);
-            assert!(rt; whole.written().starts_with(page.written()), "at {write}");
+            assert_eq!(rt; ended, Err(RunFault::Write), "after {written}");
+            assert_eq!(rt; page.length, written);
+            assert!(rt;
+                whole.written().starts_with(page.written()),
+                "after {written}"
+            );
         }
     }
 }
