@@ -64,9 +64,9 @@ pub record IsFunctionTable (context : BodyContext) (index : ℕ) (wide : Bool) :
 abbrev pub IsCatch : BodyContext → Catch → Type 0
 IsCatch context (catch.One tag label) = (values : List ValType) × IsTag context tag values × IsTaken context values label
 IsCatch context (catch.OneRef tag label) =
-    (values : List ValType) × IsTag context tag values × IsTaken context (values ++ nullable_to (Abstract false abstract.Exn) ∷ []) label
+    (values : List ValType) × IsTag context tag values × IsTaken context (values ++ reference_to (Abstract false abstract.Exn) ∷ []) label
 IsCatch context (catch.All label) = IsTaken context [] label
-IsCatch context (catch.AllRef label) = IsTaken context (nullable_to (Abstract false abstract.Exn) ∷ []) label
+IsCatch context (catch.AllRef label) = IsTaken context (reference_to (Abstract false abstract.Exn) ∷ []) label
 
 -- the type of a reference that was not cast: not null where the cast would have taken null (Validation, Conventions, Types,
 -- type difference)

@@ -102,7 +102,7 @@ fn branches()
 {}
 
 fn clauses()
-    ensures with_the_reference { IsCatch (labelled (function_of [] []) (I32 ∷ exnref ∷ [])) (catch.OneRef 0 0) }
+    ensures with_the_reference { IsCatch (labelled (function_of [] []) (I32 ∷ reference_to (Abstract false heap.Exn) ∷ [])) (catch.OneRef 0 0) }
     ensures without_the_reference { ¬ IsCatch (labelled (function_of [] []) (I32 ∷ [])) (catch.OneRef 0 0) }
     ensures all { IsCatch (labelled (function_of [] []) []) (catch.All 0) }
 {}
