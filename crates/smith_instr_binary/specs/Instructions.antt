@@ -2,7 +2,7 @@
 -- start, its instructions and its end in order, so a flat list is spelled instruction by instruction; which lists are the blocks of
 -- the standard is said in Nesting. Atomic instructions are those of the threads proposal.
 use Rattle.std.specs.Prelude.{ℕ, List, [], ◌∷◌}
-use Rattle.smith_binary.specs.Numbers.{IsUnsigned, IsSigned, IsLittleEndian, IsVector}
+use Rattle.smith_binary.specs.Numbers.{IsSigned, IsLittleEndian, IsVector}
 use Rattle.smith_binary.specs.Pieces.{IsByte, Joined, Each, IsList}
 use Rattle.smith_sections.specs.Types.{IsValType}
 use Rattle.smith_sections.specs.Instructions.{IsIndex, IsPrefixed}

@@ -1,5 +1,5 @@
 -- What the format has no room for.
-use Rattle.std.specs.Prelude.{ℕ, ◌^◌, ◌≤◌, ◌⊎◌, List, Any}
+use Rattle.std.specs.Prelude.{◌^◌, ◌≤◌, ◌⊎◌, List, Any}
 use Rattle.smith_types.specs.declared.value_type.ValType.{ValType}
 use Rattle.smith_sections.specs.Long.{IsLongContent, IsLongList, IsNeverLong}
 use Rattle.smith_instr.specs.declared.instr.Instr.{Instr}

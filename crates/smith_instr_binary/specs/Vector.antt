@@ -4,24 +4,7 @@ use Rattle.smith_binary.specs.Pieces.{Is, IsByte, Joined}
 use Rattle.smith_sections.specs.Instructions.{IsPrefixed}
 use Rattle.smith_instr.specs.declared.vector.VectorInstr.{VectorInstr}
 use Rattle.smith_instr.specs.declared.vector.VectorInstr.TheVariants as vector
-use Rattle.smith_instr_binary.specs.VectorNumbers.{
-  all_true_number,
-  bitmask_number,
-  extract_number,
-  relaxed_binary_number,
-  relaxed_float_binary_number,
-  relaxed_float_ternary_number,
-  relaxed_float_unary_number,
-  relaxed_ternary_number,
-  replace_number,
-  shift_number,
-  shl_number,
-  splat_number,
-  vector_binary_number,
-  vector_float_binary_number,
-  vector_float_unary_number,
-  vector_unary_number,
-}
+use Rattle.smith_instr_binary.specs.VectorNumbers.{all_true_number, bitmask_number, extract_number, relaxed_binary_number, relaxed_float_binary_number, relaxed_float_ternary_number, relaxed_float_unary_number, relaxed_ternary_number, replace_number, shift_number, splat_number, vector_binary_number, vector_float_binary_number, vector_float_unary_number, vector_unary_number}
 
 -- an instruction of a number, after the prefix of vectors
 abbrev pub IsNumbered : ℕ → List ℕ → Type 0
