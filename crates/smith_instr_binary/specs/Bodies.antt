@@ -1,0 +1,15 @@
+-- Bodies of functions: the section Binary Format, Modules, Code Section, of the WebAssembly Core Specification 3.0.
+use Rattle.std.specs.Prelude.{ℕ, List}
+use Rattle.smith_binary.specs.Pieces.{Joined, IsSized}
+use Rattle.smith_types.specs.declared.value_type.ValType.{ValType}
+use Rattle.smith_sections.specs.Codes.{IsLocals}
+use Rattle.smith_instr.specs.declared.instr.Instr.{Instr}
+use Rattle.smith_instr_binary.specs.Instructions.{IsExpr}
+
+-- what a body holds: its locals, in runs of one type, then its expression
+abbrev pub IsFunc : List ValType → List Instr → List ℕ → Type 0
+IsFunc locals instructions = Joined (IsLocals locals) (IsExpr instructions)
+
+-- a body: the number of its bytes, then what it holds
+abbrev pub IsFuncBody : List ValType → List Instr → List ℕ → Type 0
+IsFuncBody locals instructions = IsSized (IsFunc locals instructions)

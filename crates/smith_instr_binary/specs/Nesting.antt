@@ -1,0 +1,24 @@
+-- Which flat lists of instructions are those of the standard, where a block holds its instructions: the sections Binary Format,
+-- Instructions, Control Instructions and Expressions, of the WebAssembly Core Specification 3.0.
+use Rattle.std.specs.Prelude.{◌≡◌, Bool, true, false, Option, Some, None, List, [], ◌∷◌}
+use Rattle.smith_instr.specs.declared.instr.Instr.{Instr}
+use Rattle.smith_instr.specs.declared.instr.Instr.TheVariants as instr
+
+-- the blocks that are not at their end after an instruction, the innermost first: whether each may still have an `else`. There
+-- are none where an `else` or an `end` belongs to no block
+abbrev pub blocks_after : Instr → List Bool → Option (List Bool)
+blocks_after (instr.Block ty) blocks = Some (false ∷ blocks)
+blocks_after (instr.Loop ty) blocks = Some (false ∷ blocks)
+blocks_after (instr.TryTable ty clauses) blocks = Some (false ∷ blocks)
+blocks_after (instr.If ty) blocks = Some (true ∷ blocks)
+blocks_after instr.Else (true ∷ blocks) = Some (false ∷ blocks)
+blocks_after instr.Else (false ∷ blocks) = None
+blocks_after instr.Else [] = None
+blocks_after instr.End (block ∷ blocks) = Some blocks
+blocks_after instr.End [] = None
+blocks_after _ blocks = Some blocks
+
+-- instructions from which these blocks on each block comes to its end
+abbrev pub AreNested : List Bool → List Instr → Type 0
+AreNested blocks [] = blocks ≡ []
+AreNested blocks (instruction ∷ more) = (next : List Bool) × (blocks_after instruction blocks ≡ Some next) × AreNested next more

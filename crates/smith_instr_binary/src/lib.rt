@@ -1,0 +1,22 @@
+//! Instructions and bodies of functions in the binary format of the WebAssembly Core Specification 3.0 (chapter Binary Format,
+//! Instructions).
+//!
+//! What proposals outside the standard add is written in the encoding of the proposal: atomic accesses to memory (threads), the
+//! shared i31 (shared-everything-threads), and wide arithmetic.
+#![tactic(auto)]
+
+mod aggregate;
+mod atomic;
+mod bodies;
+mod control;
+mod instructions;
+mod memory;
+mod numeric;
+mod opcodes;
+mod references;
+mod vector;
+mod vector_numbers;
+
+pub use bodies::encode_body;
+pub use instructions::{encode_expr, encode_instr};
+pub use smith_binary::{EncodeError, Sink};
