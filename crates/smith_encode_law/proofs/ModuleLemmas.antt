@@ -36,7 +36,7 @@ run_is_unambiguous = record {
       record { item = ap (λ (n : ℕ). (n, x.1)) one.first ∙ ap (λ (t : ValType). (y.0, t)) one.second; after = one.after };
 }
 
-locals_are_unambiguous : IsUnambiguous IsLocals
+pub locals_are_unambiguous : IsUnambiguous IsLocals
 locals_are_unambiguous = record {
   one = λ x y piece more rest other h k e.
       let one = (list_is_unambiguous run_is_unambiguous).one h.runs k.runs piece more rest other h.form k.form e in

@@ -71,7 +71,7 @@ heap_head (Concrete index) b = 0x40 ≤ b → 0x80 ≤ b
 heap_head (Exact index) b = b ≡ 0x62
 
 -- an integer from 0 on does not begin as one byte below 0 does
-positive_begins : (bits n : ℕ) (piece : List ℕ) → IsSigned bits (pos n) piece → Begins (λ (b : ℕ). 0x40 ≤ b → 0x80 ≤ b) piece
+pub positive_begins : (bits n : ℕ) (piece : List ℕ) → IsSigned bits (pos n) piece → Begins (λ (b : ℕ). 0x40 ≤ b → 0x80 ≤ b) piece
 unfolding IsSigned
 positive_begins bits n [] h = absurd h
 positive_begins bits n (byte ∷ []) (inl h) = record { head = byte; tail = []; whole = refl; test = λ low. absurd (omega (arith, h.low)) }
@@ -160,7 +160,7 @@ ref_begins reference piece (IsRefType.full h) = begins_as _ _ piece (λ b t. (om
 ref_begins reference piece (IsRefType.short n h) = begins_as _ _ piece (λ b t. (omega arith, omega arith)) (alone_begins reference.heap_type piece h)
 
 -- the first byte of a value type
-abbrev val_head : ValType → ℕ → Type 0
+abbrev pub val_head : ValType → ℕ → Type 0
 val_head I32 b = b ≡ 0x7F
 val_head I64 b = b ≡ 0x7E
 val_head F32 b = b ≡ 0x7D
@@ -168,7 +168,7 @@ val_head F64 b = b ≡ 0x7C
 val_head V128 b = b ≡ 0x7B
 val_head (Ref reference) b = (0x63 ≤ b) × (b ≤ 0x74)
 
-val_begins : (value : ValType) (piece : List ℕ) → IsValType value piece → Begins (val_head value) piece
+pub val_begins : (value : ValType) (piece : List ℕ) → IsValType value piece → Begins (val_head value) piece
 val_begins I32 piece h = byte_begins _ 0x7F piece refl h
 val_begins I64 piece h = byte_begins _ 0x7E piece refl h
 val_begins F32 piece h = byte_begins _ 0x7D piece refl h

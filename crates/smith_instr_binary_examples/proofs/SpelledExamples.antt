@@ -1,0 +1,64 @@
+-- Bytes that spell the parts of examples, and what instructions have.
+use Rattle.std.proofs.Common.{◌≡◌, ℕ, ◌^◌, ◌<◌, Bool, true, false, Option, Some, None, List, [], ◌∷◌, ◌++◌, length, refl, arith}
+use Rattle.smith_binary.specs.Numbers.{IsUnsigned}
+use Rattle.smith_binary.specs.Pieces.{Each}
+use Rattle.smith_binary.proofs.NumberLemmas.{unsigned_last}
+use Rattle.smith_sections.specs.Instructions.{IsIndex, IsPrefixed}
+use Rattle.smith_encode_law.proofs.CheckLemmas.{both}
+use Rattle.smith_instr.specs.declared.instr.Instr.{Instr}
+use Rattle.smith_instr.specs.declared.instr.Instr.TheVariants as instr
+use Rattle.smith_instr_binary.specs.Instructions.{IsInstr}
+use Rattle.smith_instr_binary.specs.Memory.{IsMemArg}
+use Rattle.smith_instr_binary.specs.Nesting.{blocks_after, AreNested}
+use Rattle.smith_instr_binary_examples.specs.ExampleInstructions.{load_word}
+
+-- an integer in one byte
+pub small : (bits n : ℕ) → n < 128 → n < 2 ^ bits → IsUnsigned bits n (n ∷ [])
+small bits n low room = (unsigned_last bits n low room).spelled
+
+pub index : (n : ℕ) → n < 128 → IsIndex n (n ∷ [])
+index n low = small 32 n low (omega arith)
+
+-- a prefix and a number in one byte
+pub prefixed : (prefix n : ℕ) → n < 128 → IsPrefixed prefix n (prefix ∷ n ∷ [])
+prefixed prefix n low = both (prefix ∷ []) (n ∷ []) refl (index n low)
+
+-- no item, and one item more
+pub no_item : {A : Type 0} (Item : A → List ℕ → Type 0) → Each Item [] []
+unfolding Each
+no_item Item = refl
+
+pub more_items : {A : Type 0} (Item : A → List ℕ → Type 0) (x : A) (xs : List A) (one other : List ℕ) → Item x one → Each Item xs other → Each Item (x ∷ xs) (one ++ other)
+unfolding Each
+more_items Item x xs one other h rest = both one other h rest
+
+-- a load in the first memory
+pub loaded : (align offset : ℕ) → align < 64 → offset < 128 → IsInstr (load_word align offset 0) (0x28 ∷ align ∷ offset ∷ [])
+loaded align offset narrow low =
+    both (0x28 ∷ []) (align ∷ offset ∷ []) refl
+    (IsMemArg.first_memory refl narrow (both (align ∷ []) (offset ∷ []) (index align (omega arith)) (small 64 offset low (omega arith))))
+
+-- the alignment of a load, and the table of an indirect call
+abbrev pub align_of : Instr → ℕ
+align_of (instr.Load op at) = at.align
+align_of _ = 0
+
+abbrev pub table_of : Instr → ℕ
+table_of (instr.CallIndirect table ty) = table
+table_of _ = 0
+
+-- whether blocks come to their ends
+unfoldable pub nests : List Bool → List Instr → Bool
+nests [] [] = true
+nests (block ∷ blocks) [] = false
+nests blocks (x ∷ xs) = elim (blocks_after x blocks) [ None ↦ false | Some next ↦ nests next xs ]
+
+none_left : (blocks : List Bool) → blocks ≡ [] → nests blocks [] ≡ true
+unfolding nests
+none_left [] e = refl
+none_left (block ∷ blocks) e = absurd cc
+
+pub nested_nests : (blocks : List Bool) (xs : List Instr) → AreNested blocks xs → nests blocks xs ≡ true
+unfolding nests
+nested_nests blocks [] h = none_left blocks h
+nested_nests blocks (x ∷ xs) h = rw h.1 (nested_nests h.0 xs h.2)

@@ -1,0 +1,8 @@
+//! Bytes that spell instructions and bodies, and ones that do not. The clauses are proved, and nothing calls these functions. What
+//! is written is compared with what another encoder wrote.
+#![tactic(auto)]
+
+mod bodies;
+mod instructions;
+#[cfg(test)]
+mod tests;

@@ -1,0 +1,100 @@
+use smith_instr::{
+    BlockType, Instr, IntBinary, Load, MemArg, NumericInstr, SaturatingConversion, VectorInstr,
+};
+use smith_instr_binary::{EncodeError, Sink, encode_body, encode_expr, encode_instr};
+use smith_types::{Items, ValType};
+use std::alloc::Global;
+use std::test::Fail;
+
+const RESULT: BlockType = BlockType::Value(ValType::I32);
+
+// The body of bytes that wabt 1.0.32 wrote for
+//
+//     (func (param i32) (result i32) (local i32 i64)
+//       block (result i32) local.get 0 br_table 0 0 1 end
+//       local.get 0 if (result i32) local.get 0 i32.load 1 offset=300 align=2 else i32.const -77 end i32.div_s
+//       i32.const 3 call_indirect (type 0) i64.const 1234567890123 local.set 2
+//       f64.const 1.5 i32.trunc_sat_f64_u select (result i32))
+const BYTES: [u8; 62] = [
+    0x3D, 0x02, 0x01, 0x7F, 0x01, 0x7E, 0x02, 0x7F, 0x20, 0x00, 0x0E, 0x02, 0x00, 0x00, 0x01, 0x0B,
+    0x20, 0x00, 0x04, 0x7F, 0x20, 0x00, 0x28, 0x41, 0x01, 0xAC, 0x02, 0x05, 0x41, 0xB3, 0x7F, 0x0B,
+    0x6D, 0x41, 0x03, 0x11, 0x00, 0x00, 0x42, 0xCB, 0x89, 0xEC, 0x8F, 0xF7, 0x23, 0x21, 0x02, 0x44,
+    0x00, 0x00, 0x00, 0x00, 0x00, 0x00, 0xF8, 0x3F, 0xFC, 0x03, 0x1C, 0x01, 0x7F, 0x0B,
+];
+
+// What comes before the division.
+fn branches(alloc: Global) -> Result<Vec<Instr>, Fail> {
+    let mut body = Vec::new(alloc);
+    body.push(Instr::Block(RESULT))?;
+    body.push(Instr::LocalGet(0))?;
+    body.push(Instr::BrTable(Items::from_slice(alloc, &[0, 0])?, 1))?;
+    body.push(Instr::End)?;
+    body.push(Instr::LocalGet(0))?;
+    body.push(Instr::If(RESULT))?;
+    body.push(Instr::LocalGet(0))?;
+    let at = MemArg {
+        align: 1,
+        offset: 300,
+        memory: 1,
+    };
+    body.push(Instr::Load(Load::I32, at))?;
+    body.push(Instr::Else)?;
+    body.push(Instr::I32Const(-77))?;
+    body.push(Instr::End)?;
+    Ok(body)
+}
+
+fn body(alloc: Global) -> Result<Vec<Instr>, Fail> {
+    let mut body = branches(alloc)?;
+    body.push(Instr::Numeric(NumericInstr::I32Binary(IntBinary::DivS)))?;
+    body.push(Instr::I32Const(3))?;
+    body.push(Instr::CallIndirect { table: 0, ty: 0 })?;
+    body.push(Instr::I64Const(1_234_567_890_123))?;
+    body.push(Instr::LocalSet(2))?;
+    body.push(Instr::F64Const(0x3FF8_0000_0000_0000))?;
+    let op = SaturatingConversion::I32TruncSatF64U;
+    body.push(Instr::Numeric(NumericInstr::Saturate(op)))?;
+    body.push(Instr::SelectTyped(ValType::I32))?;
+    Ok(body)
+}
+
+#[test]
+fn bodies_are_those_of_another_encoder(rt: HostRuntime) -> Result<(), Fail> {
+    let instructions = body(rt.alloc())?;
+    let mut sink = Sink::new(rt.alloc());
+    let locals = [ValType::I32, ValType::I64];
+    encode_body(&mut sink, &locals, instructions.as_slice())?;
+    assert_eq!(rt; sink.as_slice(), BYTES.as_slice());
+    Ok(())
+}
+
+#[test]
+fn expressions_have_their_end(rt: HostRuntime) -> Result<(), Fail> {
+    let mut sink = Sink::new(rt.alloc());
+    encode_expr(&mut sink, &[Instr::Nop])?;
+    assert_eq!(rt; sink.as_slice(), [0x01, 0x0B].as_slice());
+    Ok(())
+}
+
+#[test]
+fn lanes_of_a_shuffle_are_bytes(rt: HostRuntime) -> Result<(), Fail> {
+    let lanes = [0, 1, 2, 3, 4, 5, 6, 7, 8, 9, 10, 11, 12, 13, 14, 31];
+    let mut sink = Sink::new(rt.alloc());
+    encode_instr(&mut sink, &Instr::Vector(VectorInstr::Shuffle(lanes)))?;
+    assert_eq!(rt; sink.as_slice().len(), 18);
+    assert_eq!(rt; sink.as_slice().last(), Some(&31));
+    Ok(())
+}
+
+#[test]
+fn alignments_of_seven_bits_are_refused(rt: HostRuntime) -> Result<(), Fail> {
+    let at = MemArg {
+        align: 64,
+        offset: 0,
+        memory: 0,
+    };
+    let mut sink = Sink::new(rt.alloc());
+    let answer = encode_instr(&mut sink, &Instr::Load(Load::I32, at));
+    assert_eq!(rt; answer, Err(EncodeError::TooLong));
+    Ok(())
+}

@@ -1,0 +1,12 @@
+pub mod ImmediateLemmas
+pub mod InstructionLemmas
+pub mod ListedLemmas
+pub mod LongRows
+pub mod NestingLemmas
+pub mod OpcodeLemmas
+pub mod RowLemmas
+pub mod ShapeLemmas
+pub mod ShortRows
+pub mod VectorListedLemmas
+pub mod VectorRows
+pub mod ViewLemmas

@@ -1,0 +1,86 @@
+ghost use Rattle.std.specs.Prelude.{◌≡◌, false, is_err};
+
+use smith_instr::{BlockType, BranchCast, Catch};
+use smith_text::{Sink, TextForm};
+use std::fmt;
+
+// Writes the type of a block after a space, or nothing where it is empty.
+fn write_block_type<S: Sink>(ty: BlockType, sink: &mut S) -> fmt::Result
+    requires open { S.failed sink.old ≡ false }
+    ensures fault { S.failed sink.new ≡ is_err result }
+{
+    match ty {
+        BlockType::Empty => Ok(()),
+        BlockType::Value(value) => {
+            sink.write_str(" (result ")?;
+            value.write_text(sink)?;
+            sink.write_str(")")
+        }
+        BlockType::Func(index) => write!(sink, " (type {index})"),
+    }
+}
+
+/// Writes the start of a block.
+pub(crate) fn write_block<S: Sink>(keyword: &str, ty: BlockType, sink: &mut S) -> fmt::Result
+    requires open { S.failed sink.old ≡ false }
+    ensures fault { S.failed sink.new ≡ is_err result }
+{
+    sink.write_str(keyword)?;
+    write_block_type(ty, sink)
+}
+
+// Writes a clause of `try_table` after a space.
+fn write_catch<S: Sink>(clause: Catch, sink: &mut S) -> fmt::Result
+    requires open { S.failed sink.old ≡ false }
+    ensures fault { S.failed sink.new ≡ is_err result }
+{
+    match clause {
+        Catch::One { tag, label } => write!(sink, " (catch {tag} {label})"),
+        Catch::OneRef { tag, label } => write!(sink, " (catch_ref {tag} {label})"),
+        Catch::All { label } => write!(sink, " (catch_all {label})"),
+        Catch::AllRef { label } => write!(sink, " (catch_all_ref {label})"),
+    }
+}
+
+/// Writes the start of a `try_table`.
+pub(crate) fn write_try_table<S: Sink>(
+    ty: BlockType,
+    clauses: &[Catch],
+    sink: &mut S,
+) -> fmt::Result
+    requires open { S.failed sink.old ≡ false }
+    ensures fault { S.failed sink.new ≡ is_err result }
+{
+    write_block("try_table", ty, sink)?;
+    for clause in clauses {
+        write_catch(*clause, sink)?;
+    }
+    Ok(())
+}
+
+/// Writes `br_table`.
+pub(crate) fn write_branch_table<S: Sink>(labels: &[u32], last: u32, sink: &mut S) -> fmt::Result
+    requires open { S.failed sink.old ≡ false }
+    ensures fault { S.failed sink.new ≡ is_err result }
+{
+    sink.write_str("br_table")?;
+    for label in labels {
+        write!(sink, " {label}")?;
+    }
+    write!(sink, " {last}")
+}
+
+/// Writes a branch on a cast.
+pub(crate) fn write_branch_cast<S: Sink>(
+    keyword: &str,
+    cast: BranchCast,
+    sink: &mut S,
+) -> fmt::Result
+    requires open { S.failed sink.old ≡ false }
+    ensures fault { S.failed sink.new ≡ is_err result }
+{
+    write!(sink, "{keyword} {} ", cast.label)?;
+    cast.from.write_text(sink)?;
+    sink.write_str(" ")?;
+    cast.to.write_text(sink)
+}

@@ -1,0 +1,86 @@
+ghost use Rattle.std.specs.Prelude.{◌≡◌, false, is_err};
+
+use crate::atomic::write_atomic;
+use crate::control::{write_block, write_branch_cast, write_branch_table, write_try_table};
+use crate::memory::{
+    load_keyword, store_keyword, vector_load_keyword, write_access, write_lane_access, write_memory,
+};
+use crate::numeric::write_numeric;
+use crate::references::{write_aggregate, write_reference, write_table};
+use crate::vector::write_vector;
+use smith_instr::{BlockType, Instr};
+use smith_text::{Sink, TextForm};
+use smith_types::ConstInstr;
+use std::fmt;
+
+/// Writes `instruction` in its plain form, without a line's end: the standard's section Text Format, Instructions.
+///
+/// Indices are numbers, and blocks have no labels of their own.
+pub fn write_instr<S: Sink>(instruction: &Instr, sink: &mut S) -> fmt::Result
+    requires open { S.failed sink.old ≡ false }
+    ensures fault { S.failed sink.new ≡ is_err result }
+{
+    match instruction {
+        Instr::Unreachable => sink.write_str("unreachable"),
+        Instr::Nop => sink.write_str("nop"),
+        Instr::Block(ty) => write_block("block", *ty, sink),
+        Instr::Loop(ty) => write_block("loop", *ty, sink),
+        Instr::If(ty) => write_block("if", *ty, sink),
+        Instr::Else => sink.write_str("else"),
+        Instr::End => sink.write_str("end"),
+        Instr::TryTable(ty, clauses) => write_try_table(*ty, clauses.as_slice(), sink),
+        Instr::Throw(tag) => write!(sink, "throw {tag}"),
+        Instr::ThrowRef => sink.write_str("throw_ref"),
+        Instr::Br(label) => write!(sink, "br {label}"),
+        Instr::BrIf(label) => write!(sink, "br_if {label}"),
+        Instr::BrTable(labels, last) => write_branch_table(labels.as_slice(), *last, sink),
+        Instr::BrOnNull(label) => write!(sink, "br_on_null {label}"),
+        Instr::BrOnNonNull(label) => write!(sink, "br_on_non_null {label}"),
+        Instr::BrOnCast(cast) => write_branch_cast("br_on_cast", *cast, sink),
+        Instr::BrOnCastFail(cast) => write_branch_cast("br_on_cast_fail", *cast, sink),
+        Instr::Return => sink.write_str("return"),
+        Instr::Call(function) => write!(sink, "call {function}"),
+        Instr::CallIndirect { table, ty } => { write!(sink, "call_indirect {table} (type {ty})") }
+        Instr::CallRef(ty) => write!(sink, "call_ref {ty}"),
+        Instr::ReturnCall(function) => write!(sink, "return_call {function}"),
+        Instr::ReturnCallIndirect { table, ty } => {
+            write!(sink, "return_call_indirect {table} (type {ty})")
+        }
+        Instr::ReturnCallRef(ty) => write!(sink, "return_call_ref {ty}"),
+        Instr::Drop => sink.write_str("drop"),
+        Instr::Select => sink.write_str("select"),
+        Instr::SelectTyped(ty) => write_block("select", BlockType::Value(*ty), sink),
+        Instr::LocalGet(local) => write!(sink, "local.get {local}"),
+        Instr::LocalSet(local) => write!(sink, "local.set {local}"),
+        Instr::LocalTee(local) => write!(sink, "local.tee {local}"),
+        Instr::GlobalGet(global) => write!(sink, "global.get {global}"),
+        Instr::GlobalSet(global) => write!(sink, "global.set {global}"),
+        Instr::I32Const(value) => ConstInstr::I32Const(*value).write_text(sink),
+        Instr::I64Const(value) => ConstInstr::I64Const(*value).write_text(sink),
+        Instr::F32Const(bits) => ConstInstr::F32Const(*bits).write_text(sink),
+        Instr::F64Const(bits) => ConstInstr::F64Const(*bits).write_text(sink),
+        Instr::V128Const(bits) => ConstInstr::V128Const(*bits).write_text(sink),
+        Instr::Numeric(op) => write_numeric(*op, sink),
+        Instr::Reference(op) => write_reference(*op, sink),
+        Instr::Table(op) => write_table(*op, sink),
+        Instr::Load(op, at) => write_access(load_keyword(*op), *at, sink),
+        Instr::Store(op, at) => write_access(store_keyword(*op), *at, sink),
+        Instr::Memory(op) => write_memory(*op, sink),
+        Instr::Aggregate(op) => write_aggregate(*op, sink),
+        Instr::Vector(op) => write_vector(*op, sink),
+        Instr::VectorLoad(op, at) => write_access(vector_load_keyword(*op), *at, sink),
+        Instr::VectorStore(at) => write_access("v128.store", *at, sink),
+        Instr::VectorLoadLane {
+            log2_bytes,
+            at,
+            lane,
+        } => write_lane_access("load", *log2_bytes, *at, *lane, sink),
+        Instr::VectorStoreLane {
+            log2_bytes,
+            at,
+            lane,
+        } => write_lane_access("store", *log2_bytes, *at, *lane, sink),
+        Instr::Atomic(access, at) => write_atomic(*access, *at, sink),
+        Instr::AtomicFence => sink.write_str("atomic.fence"),
+    }
+}
