@@ -6,7 +6,7 @@ use Rattle.smith_instr_binary.specs.Atomic.{atomic_number}
 use Rattle.smith_instr_binary.specs.Numeric.{saturating_number, wide_number}
 use Rattle.smith_instr_binary_law.proofs.RowLemmas.{rows_of}
 use Rattle.smith_instr_binary_law.proofs.ShapeLemmas.{Shape}
-use Rattle.smith_instr_binary_law.proofs.ShapeLemmas.Shape as form
+use Rattle.smith_instr_binary_law.proofs.ShapeLemmas.{Shape as form}
 use Rattle.smith_instr.specs.declared.numeric.SaturatingConversion.{SaturatingConversion}
 use Rattle.smith_instr.specs.declared.numeric.SaturatingConversion.TheVariants as saturate
 use Rattle.smith_instr.specs.declared.numeric.WideArithmetic.{WideArithmetic}

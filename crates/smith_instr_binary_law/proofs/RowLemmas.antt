@@ -3,7 +3,7 @@ use Rattle.std.proofs.Common.{ℕ, true, false, List, [], ◌∷◌}
 use Rattle.std.specs.Prelude.{◌==◌, map}
 use Rattle.smith_instr.specs.declared.instr.Instr.TheVariants as instr
 use Rattle.smith_instr_binary_law.proofs.ShapeLemmas.{Shape}
-use Rattle.smith_instr_binary_law.proofs.ShapeLemmas.Shape as form
+use Rattle.smith_instr_binary_law.proofs.ShapeLemmas.{Shape as form}
 
 -- the rows of instructions by their numbers
 abbrev pub rows_of : {A : Type 0} → (A → ℕ) → (A → Shape) → List A → List (ℕ × Shape)

@@ -4,7 +4,7 @@ use Rattle.smith_instr_binary.specs.Memory.{load_opcode, store_opcode}
 use Rattle.smith_instr_binary.specs.Numeric.{int_unary_opcode, int_binary_opcode, int_compare_opcode, float_unary_opcode, float_binary_opcode, float_compare_opcode, conversion_opcode, extension_opcode}
 use Rattle.smith_instr_binary_law.proofs.RowLemmas.{rows_of}
 use Rattle.smith_instr_binary_law.proofs.ShapeLemmas.{Shape}
-use Rattle.smith_instr_binary_law.proofs.ShapeLemmas.Shape as form
+use Rattle.smith_instr_binary_law.proofs.ShapeLemmas.{Shape as form}
 use Rattle.smith_instr.specs.declared.numeric.IntUnary.{IntUnary}
 use Rattle.smith_instr.specs.declared.numeric.IntUnary.TheVariants as int_unary
 use Rattle.smith_instr.specs.declared.numeric.IntBinary.{IntBinary}

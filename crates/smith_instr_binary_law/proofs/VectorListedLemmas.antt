@@ -4,7 +4,7 @@ use Rattle.smith_instr_binary.specs.Memory.{vector_load_number}
 use Rattle.smith_instr_binary.specs.VectorNumbers.{vector_unary_number, vector_float_unary_number, vector_binary_number, vector_float_binary_number, all_true_number, bitmask_number, shift_number, splat_number, extract_number, replace_number, relaxed_float_unary_number, relaxed_binary_number, relaxed_float_binary_number, relaxed_ternary_number, relaxed_float_ternary_number}
 use Rattle.smith_instr_binary_law.proofs.OpcodeLemmas.Opcode.{long}
 use Rattle.smith_instr_binary_law.proofs.ListedLemmas.{Listed, shape_at}
-use Rattle.smith_instr_binary_law.proofs.ShapeLemmas.Shape as form
+use Rattle.smith_instr_binary_law.proofs.ShapeLemmas.{Shape as form}
 use Rattle.smith_instr.specs.declared.vector.VectorLoad.{VectorLoad}
 use Rattle.smith_instr.specs.declared.vector.VectorLoad.TheVariants as vector_load
 use Rattle.smith_instr.specs.declared.vector.VectorUnary.{VectorUnary}
