@@ -60,5 +60,7 @@ none_left (block ∷ blocks) e = absurd cc
 
 pub nested_nests : (blocks : List Bool) (xs : List Instr) → AreNested blocks xs → nests blocks xs ≡ true
 unfolding nests
-nested_nests blocks [] h = none_left blocks h
-nested_nests blocks (x ∷ xs) h = rw h.1 (nested_nests h.0 xs h.2)
+nested_nests [] [] h = refl
+nested_nests (block ∷ blocks) [] h = none_left (block ∷ blocks) h
+nested_nests [] (x ∷ xs) h = rw (nests, h.1) (nested_nests h.0 xs h.2)
+nested_nests (block ∷ blocks) (x ∷ xs) h = rw (nests, h.1) (nested_nests h.0 xs h.2)
