@@ -5,6 +5,7 @@
 mod aggregate;
 mod atomic;
 mod control;
+mod enabled;
 mod instr;
 mod kind;
 /// Laws: functions that do nothing, whose clauses say what holds.
@@ -12,6 +13,7 @@ pub mod laws;
 mod memory;
 mod numeric;
 mod reference;
+mod signature;
 mod table;
 mod vector;
 

@@ -1,0 +1,410 @@
+-- What was drawn, one part after another.
+use Rattle.std.proofs.Common.{◌≡◌, ℕ, zero, suc, ◌+◌, ◌-◌, ◌*◌, ◌<◌, ◌≤◌, List, [], ◌∷◌, ◌++◌, length, replicate, take, get_or, refl, sym, subst, ap, ◌∙◌, append_assoc, arith, length-append}
+use Rattle.std.specs.Prelude.{option_to_list, Option, All}
+use Rattle.std.specs.List.{AllZip}
+use Rattle.std.proofs.Math.Seq.{take-append_seam}
+use Rattle.std.proofs.lemmas.List.{append-nil, take_more, length-replicate}
+use Rattle.std.proofs.lemmas.List.Elements.{All-nil, All-push, All-append, All-take}
+use Rattle.smith_types.specs.Subtyping.{IsValBelow}
+use Rattle.smith_types.specs.declared.value_type.ValType.{ValType}
+use Rattle.smith_types.specs.declared.value_type.ValType.TheVariants.{I32}
+use Rattle.smith_instr.specs.Contexts.{BodyContext, labelled, IsValid, AreValid, AreBelow, IsBlockType}
+use Rattle.smith_instr.specs.InstrTypes.{sets, HasInstrType}
+use Rattle.smith_instr.specs.Sequences.{stacked, IsFramed, IsStep, AreTyped, IsBodyTyped, nothing, step, block, loop, if_else}
+use Rattle.smith_instr.specs.declared.control.BlockType.{BlockType}
+use Rattle.smith_instr.specs.declared.instr.Instr.{Instr}
+use Rattle.smith_instr.specs.declared.instr.Instr.TheVariants as instr
+use Rattle.smith_instr.proofs.SequenceLemmas.{below_themselves, finished}
+use Rattle.smith_instr.proofs.CompositionLemmas.{typed_append}
+use Rattle.smith_code.specs.Scopes.{context_of, bare, where_stands, widest, most, AreLabels, IsAllowedIn}
+use Rattle.smith_code.specs.Nodes.{block_cost, IsNode, HasHeadType, head_sets, head_instruction, opened, label_of}
+use Rattle.smith_code.specs.Drawn.{IsDrawn, IsWritten, IsOpened, IsEnded, IsLeaf}
+use Rattle.smith_code.specs.declared.node.Head.{Head}
+use Rattle.smith_code.specs.declared.node.Head.TheVariants as heads
+use Rattle.smith_code.specs.declared.node.Node.{Node}
+use Rattle.smith_code.specs.declared.node.Opening.{Opening}
+use Rattle.smith_code.specs.declared.node.Opening.TheVariants as opening
+use Rattle.smith_code.specs.declared.scope.Scope.{Scope}
+use Rattle.smith_code.specs.declared.scope.Draft.{Draft}
+
+-- values on top of others are valid
+pub joined_valid : (context : BodyContext) (base values : List ValType) → AreValid context base → AreValid context values → AreValid context (base ++ values)
+joined_valid context base values below valid = All-append (IsValid context) base values below valid
+
+pub one_allowed : (scope : Scope) (instruction : Instr) → IsAllowedIn scope instruction → All (IsAllowedIn scope) (instruction ∷ [])
+one_allowed scope instruction allowed = All-push (IsAllowedIn scope) [] instruction (All-nil (IsAllowedIn scope)) allowed
+
+both_allowed : (scope : Scope) (first second : List Instr) → All (IsAllowedIn scope) first → All (IsAllowedIn scope) second → All (IsAllowedIn scope) (first ++ second)
+both_allowed scope first second = All-append (IsAllowedIn scope) first second
+
+ends_allowed : (scope : Scope) → IsAllowedIn scope instr.End
+ends_allowed scope = record { features_on = tt; kind_allowed = tt }
+
+else_allowed : (scope : Scope) → IsAllowedIn scope instr.Else
+else_allowed scope = record { features_on = tt; kind_allowed = tt }
+
+-- one instruction on top of any stack
+pub one : (context : BodyContext) (instruction : Instr) (operands results given base : List ValType) (set set' : List ℕ)
+    → HasInstrType context set instruction operands results → AreBelow context results given → AreValid context given → set' ≡ set ++ sets instruction
+    → IsStep context instruction (stacked (base ++ operands) set) (stacked (base ++ given) set')
+one context instruction operands results given base set set' typed below valid then = record {
+  operands = operands;
+  results = results;
+  typed = typed;
+  framed = record {
+    rest = base;
+    taken = operands;
+    given = given;
+    under = refl;
+    accepted = below_themselves context.types operands;
+    offered = record { below = below; valid = valid };
+    over = refl;
+    set_then = then;
+  };
+}
+
+-- an instruction without operands
+pub leaf_drawn : {scope : Scope} {wanted : ValType} {old new : Draft} (instruction : Instr) → IsLeaf (where_stands scope old) old.set.items wanted instruction
+    → IsValid (bare scope) wanted → IsAllowedIn scope instruction → new.out ≡ old.out ++ instruction ∷ [] → new.set.items ≡ old.set.items → new.labels.items ≡ old.labels.items → new.fuel ≡ old.fuel → IsDrawn scope [] (wanted ∷ []) 1 old new
+leaf_drawn {scope = scope} {wanted = wanted} {old = old} {new = new} instruction leaf valid allowed longer set labels fuel =
+    let context = where_stands scope old in
+    let none : new.set.items ≡ old.set.items ++ sets instruction = rw (leaf.sets_none, append-nil) set in
+    let len : length new.out ≡ length old.out + 1 = rw longer (simp length-append refl) in
+    record {
+      more = instruction ∷ [];
+      longer = longer;
+      typed = λ base under.
+          let wanted_valid = All-push (IsValid (bare scope)) [] wanted (All-nil (IsValid (bare scope))) valid in
+          step (one context instruction [] (leaf.value ∷ []) (wanted ∷ []) base old.set.items new.set.items leaf.typed (leaf.below, tt) wanted_valid none)
+          (finished context (base ++ wanted ∷ []) new.set.items (joined_valid context base (wanted ∷ []) under wanted_valid));
+      allowed = one_allowed scope instruction allowed;
+      set = [];
+      set_more = rw append-nil set;
+      same = labels;
+      spent = omega arith;
+      short = rw fuel (omega arith);
+    }
+
+pub drawn_none : (scope : Scope) (draft : Draft) → IsDrawn scope [] [] 0 draft draft
+drawn_none scope draft = record {
+  more = [];
+  longer = sym (append-nil draft.out);
+  typed = λ base under. finished (where_stands scope draft) (base ++ []) draft.set.items (joined_valid (bare scope) base [] under (All-nil (IsValid (bare scope))));
+  allowed = All-nil (IsAllowedIn scope);
+  set = [];
+  set_more = sym (append-nil draft.set.items);
+  same = refl;
+  spent = omega arith;
+  short = omega arith;
+}
+
+-- one part after another
+pub drawn_then : {scope : Scope} {a b c : List ValType} {m n : ℕ} {old middle new : Draft} → IsDrawn scope a b m old middle → IsDrawn scope b c n middle new → IsDrawn scope a c (m + n) old new
+drawn_then {scope = scope} {b = b} {c = c} {old = old} {middle = middle} {new = new} first second =
+    let spent = first.spent in
+    let spent' = second.spent in
+    let short = first.short in
+    let short' = second.short in
+    let next : (base : List ValType) → AreValid (bare scope) base → AreTyped (where_stands scope old) second.more (stacked (base ++ b) middle.set.items) (stacked (base ++ c) new.set.items) =
+    λ base under. rw first.same at (second.typed base under) in
+    record {
+      more = first.more ++ second.more;
+      longer = second.longer ∙ (ap (λ (xs : List Instr). xs ++ second.more) first.longer ∙ append_assoc old.out first.more second.more);
+      typed = λ base under. typed_append (first.typed base under) (next base under);
+      allowed = both_allowed scope first.more second.more first.allowed second.allowed;
+      set = first.set ++ second.set;
+      set_more = second.set_more ∙ (ap (λ (xs : List ℕ). xs ++ second.set) first.set_more ∙ append_assoc old.set.items first.set second.set);
+      same = second.same ∙ first.same;
+      spent = omega arith;
+      short = omega arith;
+    }
+
+-- on top of more values
+drawn_above : {scope : Scope} {a b : List ValType} {n : ℕ} {old new : Draft} (below : List ValType) → AreValid (bare scope) below → IsDrawn scope a b n old new → IsDrawn scope (below ++ a) (below ++ b) n old new
+drawn_above {scope = scope} {a = a} {b = b} below valid drawn = record {
+  more = drawn.more;
+  longer = drawn.longer;
+  typed = λ base under. rw (← append_assoc base below a, ← append_assoc base below b) (drawn.typed (base ++ below) (joined_valid (bare scope) base below under valid));
+  allowed = drawn.allowed;
+  set = drawn.set;
+  set_more = drawn.set_more;
+  same = drawn.same;
+  spent = drawn.spent;
+  short = drawn.short;
+}
+
+-- values after others
+pub drawn_more : {scope : Scope} {a b : List ValType} {m n : ℕ} {old middle new : Draft} → AreValid (bare scope) a → IsDrawn scope [] a m old middle → IsDrawn scope [] b n middle new → IsDrawn scope [] (a ++ b) (m + n) old new
+drawn_more {a = a} valid first second = drawn_then first (rw append-nil at (drawn_above a valid second))
+
+-- at a greater cost
+pub drawn_within : {scope : Scope} {a b : List ValType} {m n : ℕ} {old new : Draft} → m ≤ n → IsDrawn scope a b m old new → IsDrawn scope a b n old new
+drawn_within less drawn =
+    let short = drawn.short in
+    record {
+      more = drawn.more;
+      longer = drawn.longer;
+      typed = drawn.typed;
+      allowed = drawn.allowed;
+      set = drawn.set;
+      set_more = drawn.set_more;
+      same = drawn.same;
+      spent = drawn.spent;
+      short = omega arith;
+    }
+
+-- the labels of what is drawn over are the labels of what was drawn
+pub labels_kept : {scope : Scope} {a b : List ValType} {n : ℕ} {old new : Draft} → IsDrawn scope a b n old new → AreLabels scope old.labels.items → AreLabels scope new.labels.items
+labels_kept {scope = scope} drawn labels = subst (AreLabels scope) (sym drawn.same) labels
+
+-- one turn of the loop over operands
+pub drawn_turn : {scope : Scope} (operands : List ValType) (n : ℕ) (d : ValType) {old middle new : Draft} → AreValid (bare scope) operands → n < length operands → IsDrawn scope [] (take n operands) (length (take n operands)) old middle
+    → IsDrawn scope [] (get_or operands n d ∷ []) 1 middle new → IsDrawn scope [] (take (n + 1) operands) (length (take (n + 1) operands)) old new
+drawn_turn {scope = scope} operands n d valid inside first second =
+    let len : length (take n operands) + 1 ≤ length (take n operands ++ get_or operands n d ∷ []) = simp length-append (omega arith) in
+    rw (take_more operands n d inside) (drawn_within len (drawn_more (All-take (IsValid (bare scope)) n operands valid) first second))
+
+replicated : {A : Type 0} (n : ℕ) (x : A) → replicate n x ++ x ∷ [] ≡ x ∷ replicate n x
+replicated zero x = refl
+replicated (suc n) x = ap (λ (xs : List _). x ∷ xs) (replicated n x)
+
+-- values are dropped from the top
+drops : (context : BodyContext) (base dropped : List ValType) (set : List ℕ) → AreValid context base → AreValid context dropped → AreTyped context (replicate (length dropped) instr.Drop) (stacked (base ++ dropped) set) (stacked base set)
+drops context base [] set valid spare = rw append-nil (finished context base set valid)
+drops context base (value ∷ dropped) set valid spare =
+    let value_valid : IsValid context value = spare 0 value (omega arith) in
+    let rest_valid : AreValid context dropped = λ k d inside. spare (suc k) d (omega arith) in
+    let last : IsStep context instr.Drop (stacked (base ++ value ∷ []) set) (stacked (base ++ []) set) =
+    one context instr.Drop (value ∷ []) [] [] base set set (value, (refl, refl)) tt (All-nil (IsValid context)) (sym (append-nil set)) in
+    let first : AreTyped context (replicate (length dropped) instr.Drop) (stacked (base ++ value ∷ dropped) set) (stacked (base ++ value ∷ []) set) =
+    rw append_assoc at (drops context (base ++ value ∷ []) dropped set (All-push (IsValid context) base value valid value_valid) rest_valid) in
+    subst (λ (xs : List Instr). AreTyped context xs (stacked (base ++ value ∷ dropped) set) (stacked base set)) (replicated (length dropped) instr.Drop)
+    (typed_append first (step (rw append-nil at last) (finished context base set valid)))
+
+all_allowed : (scope : Scope) (count : ℕ) → (0 < count → IsAllowedIn scope instr.Drop) → All (IsAllowedIn scope) (replicate count instr.Drop)
+all_allowed scope zero allowed = All-nil (IsAllowedIn scope)
+all_allowed scope (suc count) allowed =
+    let drop : IsAllowedIn scope instr.Drop = allowed (omega arith) in
+    both_allowed scope (instr.Drop ∷ []) (replicate count instr.Drop) (one_allowed scope instr.Drop drop) (all_allowed scope count (λ some. drop))
+
+-- values that are dropped
+pub dropped_drawn : {scope : Scope} {old new : Draft} (values dropped : List ValType) → AreValid (bare scope) values → AreValid (bare scope) dropped → (0 < length dropped → IsAllowedIn scope instr.Drop)
+    → new.out ≡ old.out ++ replicate (length dropped) instr.Drop → new.set.items ≡ old.set.items → new.labels.items ≡ old.labels.items → new.fuel ≡ old.fuel
+    → IsDrawn scope (values ++ dropped) values (length dropped) old new
+dropped_drawn {scope = scope} {old = old} {new = new} values dropped valid spare allowed out set labels fuel =
+    let len : length new.out ≡ length old.out + length dropped = rw out (simp (length-append, length-replicate) refl) in
+    record {
+      more = replicate (length dropped) instr.Drop;
+      longer = out;
+      typed = λ base under. rw (← append_assoc base values dropped, set) (drops (where_stands scope old) (base ++ values) dropped old.set.items (joined_valid (bare scope) base values under valid) spare);
+      allowed = all_allowed scope (length dropped) allowed;
+      set = [];
+      set_more = rw append-nil set;
+      same = labels;
+      spent = omega arith;
+      short = rw fuel (omega arith);
+    }
+
+-- an instruction after its operands
+pub written_drawn : {scope : Scope} {old new : Draft} (instruction : Instr) (operands results values : List ValType) (set : Option ℕ) → HasInstrType (where_stands scope old) old.set.items instruction operands results → AreBelow (bare scope) results values
+    → AreValid (bare scope) values → IsAllowedIn scope instruction → sets instruction ≡ option_to_list set → IsWritten instruction set old new → IsDrawn scope operands values 1 old new
+written_drawn {scope = scope} {old = old} {new = new} instruction operands results values set typed below valid allowed local written =
+    let context = where_stands scope old in
+    let fuel = written.fuel in
+    let then : new.set.items ≡ old.set.items ++ sets instruction = written.set_more ∙ ap (λ (set : List ℕ). old.set.items ++ set) (sym local) in
+    let len : length new.out ≡ length old.out + 1 = rw written.out (simp length-append refl) in
+    record {
+      more = instruction ∷ [];
+      longer = written.out;
+      typed = λ base under. step (one context instruction operands results values base old.set.items new.set.items typed below valid then)
+          (finished context (base ++ values) new.set.items (joined_valid context base values under valid));
+      allowed = one_allowed scope instruction allowed;
+      set = sets instruction;
+      set_more = then;
+      same = written.same;
+      spent = omega arith;
+      short = rw fuel (omega arith);
+    }
+
+pay : (w n g o m f : ℕ) → n ≤ 4 * w + 4 → 0 < f → m + (4 * w + 4) * g ≤ o + n + (4 * w + 4) * (f - 1) → m + (4 * w + 4) * g ≤ o + 0 + (4 * w + 4) * f
+pay w n g o m zero few paid short = absurd (omega arith)
+pay w n g o m (suc f) few paid short =
+    let less : suc f - 1 ≡ f = omega arith in
+    let short' : m + (4 * w + 4) * g ≤ o + n + (4 * w + 4) * f = rw less at short in
+    omega arith
+
+-- what one unit of fuel pays for
+pub paid_for : {scope : Scope} {a b : List ValType} {n : ℕ} {old new : Draft} → n ≤ most scope.types.now.types → 0 < old.fuel → IsDrawn scope a b n (record old { fuel = old.fuel - 1 }) new → IsDrawn scope a b 0 old new
+paid_for {scope = scope} {n = n} {old = old} {new = new} few paid drawn =
+    let spent = drawn.spent in
+    record {
+      more = drawn.more;
+      longer = drawn.longer;
+      typed = drawn.typed;
+      allowed = drawn.allowed;
+      set = drawn.set;
+      set_more = drawn.set_more;
+      same = drawn.same;
+      spent = omega arith;
+      short = pay (widest scope.types.now.types) n new.fuel (length old.out) (length new.out) old.fuel few paid drawn.short;
+    }
+
+-- a node: its operands, its head, and what is dropped
+pub node_drawn : {scope : Scope} {values : List ValType} {node : Node} {old middle after new : Draft} → IsNode (where_stands scope old) old.set.items values node → (0 < node.drops → IsAllowedIn scope instr.Drop) → 0 < old.fuel
+    → IsDrawn scope [] node.operands (length node.operands) (record old { fuel = old.fuel - 1 }) middle
+    → ((operands given values : List ValType) → HasHeadType (where_stands scope middle) middle.set.items node.head operands given → AreBelow (bare scope) given values → AreValid (bare scope) values → head_sets node.head ≡ option_to_list node.sets
+    → IsDrawn scope operands values (block_cost scope.types.now.types) middle after)
+    → new.out ≡ after.out ++ replicate node.drops instr.Drop → new.set.items ≡ after.set.items → new.labels.items ≡ after.labels.items → new.fuel ≡ after.fuel
+    → IsDrawn scope [] values 0 old new
+node_drawn {scope = scope} {values = values} {node = node} {old = old} {middle = middle} {after = after} {new = new} fits may_drop paid operands tops out set labels fuel =
+    let stood : HasHeadType (context_of scope old.labels.items) (old.set.items ++ operands.set) node.head node.operands fits.results = fits.typed operands.set in
+    let at_set : HasHeadType (context_of scope old.labels.items) middle.set.items node.head node.operands fits.results =
+    subst (λ (set : List ℕ). HasHeadType (context_of scope old.labels.items) set node.head node.operands fits.results) (sym operands.set_more) stood in
+    let stands : HasHeadType (where_stands scope middle) middle.set.items node.head node.operands fits.results =
+    subst (λ (labels : List (List ValType)). HasHeadType (context_of scope labels) middle.set.items node.head node.operands fits.results) (sym operands.same) at_set in
+    let both = joined_valid (bare scope) values fits.dropped fits.given fits.spare in
+    let top = tops node.operands fits.results (values ++ fits.dropped) stands fits.below both fits.sets_local in
+    let allowed : 0 < length fits.dropped → IsAllowedIn scope instr.Drop = rw fits.drops may_drop in
+    let out' : new.out ≡ after.out ++ replicate (length fits.dropped) instr.Drop = rw fits.drops out in
+    let few = fits.few in
+    let same = fits.drops in
+    paid_for {n = length node.operands + block_cost scope.types.now.types + length fits.dropped} (omega arith) paid (drawn_then (drawn_then operands top) (dropped_drawn values fits.dropped fits.given fits.spare allowed out' set labels fuel))
+
+-- what was set before is left
+height_left : (xs ys zs : List ℕ) → zs ≡ xs ++ ys → take (length xs) zs ≡ xs
+height_left xs ys zs is = rw is (take-append_seam xs ys)
+
+pub around : (context : BodyContext) (params results values base : List ValType) (set after : List ℕ) → AreBelow context results values → AreValid context values → after ≡ set → IsFramed context params results [] (stacked (base ++ params) set) (stacked (base ++ values) after)
+around context params results values base set after below valid left = record {
+  rest = base;
+  taken = params;
+  given = values;
+  under = refl;
+  accepted = below_themselves context.types params;
+  offered = record { below = below; valid = valid };
+  over = refl;
+  set_then = rw append-nil left;
+}
+
+-- an instruction as a head
+pub plain_drawn : {scope : Scope} {old new : Draft} (head : Head) (instruction : Instr) (operands results values : List ValType) (set : Option ℕ) → head ≡ heads.Plain instruction → HasHeadType (where_stands scope old) old.set.items head operands results
+    → AreBelow (bare scope) results values → AreValid (bare scope) values → IsAllowedIn scope (head_instruction head) → head_sets head ≡ option_to_list set → IsWritten instruction set old new → IsDrawn scope operands values (block_cost scope.types.now.types) old new
+plain_drawn {scope = scope} {old = old} head instruction operands results values set is typed below valid allowed local written =
+    let typed' : HasInstrType (where_stands scope old) old.set.items instruction operands results = rw is at typed in
+    let local' : sets instruction ≡ option_to_list set = rw is at local in
+    let allowed' : IsAllowedIn scope instruction = rw is at allowed in
+    drawn_within (omega arith) (written_drawn instruction operands results values set typed' below valid allowed' local' written)
+
+-- a block or loop around what is drawn in it
+enclosed : (opening : Opening) (context : BodyContext) (ty : BlockType) (body : List Instr) (params results values base : List ValType) (set inner after : List ℕ) → IsBlockType context ty params results → AreBelow context results values → AreValid context values → AreValid context base → after ≡ set
+    → AreTyped (labelled context (label_of opening params results)) body (stacked params set) (stacked results inner)
+    → AreTyped context (opened opening ty ∷ (body ++ instr.End ∷ [])) (stacked (base ++ params) set) (stacked (base ++ values) after)
+enclosed opening.Block context ty body params results values base set inner after fits below valid under left typed =
+    block refl fits typed (around context params results values base set after below valid left) (finished context (base ++ values) after (joined_valid context base values under valid))
+enclosed opening.Loop context ty body params results values base set inner after fits below valid under left typed =
+    loop refl fits typed (around context params results values base set after below valid left) (finished context (base ++ values) after (joined_valid context base values under valid))
+
+pub enclosed_drawn : {scope : Scope} {old entered inside new : Draft} (opening : Opening) (ty : BlockType) (params results values : List ValType) → IsBlockType (bare scope) ty params results → AreBelow (bare scope) results values → AreValid (bare scope) values
+    → IsAllowedIn scope (opened opening ty) → length params + length results ≤ widest scope.types.now.types → IsOpened (opened opening ty) (label_of opening params results) old entered → IsDrawn scope params results (length params + length results) entered inside
+    → (height : ℕ) → height ≡ length old.set.items → IsEnded instr.End height inside new → new.labels.items ≡ old.labels.items → IsDrawn scope params values (block_cost scope.types.now.types) old new
+enclosed_drawn {scope = scope} {old = old} {entered = entered} {inside = inside} {new = new} opening ty params results values fits below valid allowed few start drawn height high ended labels =
+    let end : IsEnded instr.End (length old.set.items) inside new = rw high at ended in
+    let context = where_stands scope old in
+    let none = All-nil (IsValid (bare scope)) in
+    let typed : AreTyped (context_of scope entered.labels.items) drawn.more (stacked params entered.set.items) (stacked results inside.set.items) = drawn.typed [] none in
+    let inner : AreTyped (labelled context (label_of opening params results)) drawn.more (stacked params old.set.items) (stacked results inside.set.items) = rw (start.labels, start.set) at typed in
+    let left : new.set.items ≡ old.set.items = end.set ∙ height_left old.set.items drawn.set inside.set.items (drawn.set_more ∙ ap (λ (xs : List ℕ). xs ++ drawn.set) start.set) in
+    let spent = drawn.spent in
+    let short = drawn.short in
+    let out : new.out ≡ old.out ++ (opened opening ty ∷ (drawn.more ++ instr.End ∷ [])) = rw (end.out, drawn.longer, start.out) (simp append_assoc refl) in
+    let len : length new.out ≡ length inside.out + 1 = rw end.out (simp length-append refl) in
+    let len' : length entered.out ≡ length old.out + 1 = rw start.out (simp length-append refl) in
+    let same = start.fuel in
+    let same' = end.fuel in
+    record {
+      more = opened opening ty ∷ (drawn.more ++ instr.End ∷ []);
+      longer = out;
+      typed = λ base under. enclosed opening context ty drawn.more params results values base old.set.items inside.set.items new.set.items fits below valid under left inner;
+      allowed = both_allowed scope (opened opening ty ∷ []) (drawn.more ++ instr.End ∷ []) (one_allowed scope (opened opening ty) allowed)
+          (both_allowed scope drawn.more (instr.End ∷ []) drawn.allowed (one_allowed scope instr.End (ends_allowed scope)));
+      set = [];
+      set_more = rw append-nil left;
+      same = labels;
+      spent = omega arith;
+      short = rw (same', ← same) (omega arith);
+    }
+
+pub if_drawn : {scope : Scope} {old entered first other last new : Draft} (ty : BlockType) (params results values : List ValType) → IsBlockType (bare scope) ty params results → AreBelow (bare scope) results values → AreValid (bare scope) values
+    → IsAllowedIn scope (instr.If ty) → length params + length results ≤ widest scope.types.now.types → IsOpened (instr.If ty) results old entered → IsDrawn scope params results (length params + length results) entered first
+    → (height : ℕ) → height ≡ length old.set.items → IsEnded instr.Else height first other → other.labels.items ≡ first.labels.items → IsDrawn scope params results (length params + length results) other last
+    → IsEnded instr.End height last new → new.labels.items ≡ old.labels.items → IsDrawn scope (params ++ I32 ∷ []) values (block_cost scope.types.now.types) old new
+if_drawn {scope = scope} {old = old} {entered = entered} {first = first} {other = other} {last = last} {new = new} ty params results values fits below valid allowed few start drawn height high split between drawn' ended labels =
+    let middle : IsEnded instr.Else (length old.set.items) first other = rw high at split in
+    let end : IsEnded instr.End (length old.set.items) last new = rw high at ended in
+    let context = where_stands scope old in
+    let typed : AreTyped (context_of scope entered.labels.items) drawn.more (stacked params entered.set.items) (stacked results first.set.items) = drawn.typed [] (All-nil (IsValid (bare scope))) in
+    let inner : AreTyped (labelled context results) drawn.more (stacked params old.set.items) (stacked results first.set.items) = rw (start.labels, start.set) at typed in
+    let reset : other.set.items ≡ old.set.items = middle.set ∙ height_left old.set.items drawn.set first.set.items (drawn.set_more ∙ ap (λ (xs : List ℕ). xs ++ drawn.set) start.set) in
+    let labels' : other.labels.items ≡ results ∷ old.labels.items = between ∙ (drawn.same ∙ start.labels) in
+    let typed' : AreTyped (context_of scope other.labels.items) drawn'.more (stacked params other.set.items) (stacked results last.set.items) = drawn'.typed [] (All-nil (IsValid (bare scope))) in
+    let inner' : AreTyped (labelled context results) drawn'.more (stacked params old.set.items) (stacked results last.set.items) = rw (labels', reset) at typed' in
+    let left : new.set.items ≡ old.set.items = end.set ∙ height_left old.set.items drawn'.set last.set.items (drawn'.set_more ∙ ap (λ (xs : List ℕ). xs ++ drawn'.set) reset) in
+    let spent = drawn.spent in
+    let short = drawn.short in
+    let spent' = drawn'.spent in
+    let short' = drawn'.short in
+    let out : new.out ≡ old.out ++ (instr.If ty ∷ (drawn.more ++ instr.Else ∷ (drawn'.more ++ instr.End ∷ []))) = rw (end.out, drawn'.longer, middle.out, drawn.longer, start.out) (simp append_assoc refl) in
+    let len : length new.out ≡ length last.out + 1 = rw end.out (simp length-append refl) in
+    let len' : length entered.out ≡ length old.out + 1 = rw start.out (simp length-append refl) in
+    let len'' : length other.out ≡ length first.out + 1 = rw middle.out (simp length-append refl) in
+    let same = start.fuel in
+    let same' = end.fuel in
+    let same'' = middle.fuel in
+    let most' : length first.out + most scope.types.now.types * first.fuel ≤ length entered.out + (length params + length results) + most scope.types.now.types * old.fuel = rw same at short in
+    let most'' : length last.out + most scope.types.now.types * last.fuel ≤ length other.out + (length params + length results) + most scope.types.now.types * first.fuel = rw same'' at short' in
+    record {
+      more = instr.If ty ∷ (drawn.more ++ instr.Else ∷ (drawn'.more ++ instr.End ∷ []));
+      longer = out;
+      typed = λ base under. if_else refl fits inner inner' (record {
+        rest = base;
+        taken = params ++ I32 ∷ [];
+        given = values;
+        under = refl;
+        accepted = below_themselves scope.types.now.types (params ++ I32 ∷ []);
+        offered = record { below = below; valid = valid };
+        over = refl;
+        set_then = rw append-nil left;
+      }) (finished context (base ++ values) new.set.items (joined_valid context base values under valid));
+      allowed = both_allowed scope (instr.If ty ∷ []) (drawn.more ++ instr.Else ∷ (drawn'.more ++ instr.End ∷ [])) (one_allowed scope (instr.If ty) allowed)
+          (both_allowed scope drawn.more (instr.Else ∷ (drawn'.more ++ instr.End ∷ [])) drawn.allowed
+          (both_allowed scope (instr.Else ∷ []) (drawn'.more ++ instr.End ∷ []) (one_allowed scope instr.Else (else_allowed scope))
+          (both_allowed scope drawn'.more (instr.End ∷ []) drawn'.allowed (one_allowed scope instr.End (ends_allowed scope)))));
+      set = [];
+      set_more = rw append-nil left;
+      same = labels;
+      spent = omega arith;
+      short = rw same' (omega arith);
+    }
+
+-- a block that was opened has labels as before it, and its own
+pub opened_labels : {scope : Scope} {old entered : Draft} {instruction : Instr} (label : List ValType) → IsOpened instruction label old entered → AreLabels scope old.labels.items → AreValid (bare scope) label → length label ≤ widest scope.types.now.types → AreLabels scope entered.labels.items
+opened_labels {scope = scope} {old = old} label start labels valid few = rw start.labels (record {
+  valid = All-append (AreValid (bare scope)) (label ∷ []) old.labels.items (All-push (AreValid (bare scope)) [] label (All-nil (AreValid (bare scope))) valid) labels.valid;
+  few = All-append (λ (label : List ValType). length label ≤ widest scope.types.now.types) (label ∷ []) old.labels.items (All-push (λ (label : List ValType). length label ≤ widest scope.types.now.types) [] label (All-nil (λ (label : List ValType). length label ≤ widest scope.types.now.types)) few) labels.few;
+})
+
+-- what is drawn after nothing is a body
+pub body_typed : {scope : Scope} {start new : Draft} → IsDrawn scope [] scope.results.now (length scope.results.now) start new → start.out ≡ [] → start.set.items ≡ [] → start.labels.items ≡ scope.results.now ∷ [] → IsBodyTyped (bare scope) new.out
+body_typed {scope = scope} {start = start} {new = new} drawn empty unset alone =
+    let typed : AreTyped (context_of scope start.labels.items) drawn.more (stacked [] start.set.items) (stacked scope.results.now new.set.items) = drawn.typed [] (All-nil (IsValid (bare scope))) in
+    let standing : AreTyped (context_of scope (scope.results.now ∷ [])) drawn.more (stacked [] []) (stacked scope.results.now new.set.items) = rw (alone, unset) at typed in
+    record { set = new.set.items; typed = rw (drawn.longer, empty) standing }
+
+pub body_allowed : {scope : Scope} {start new : Draft} → IsDrawn scope [] scope.results.now (length scope.results.now) start new → start.out ≡ [] → All (IsAllowedIn scope) new.out
+body_allowed drawn empty = rw (drawn.longer, empty) drawn.allowed
+
+pub body_short : {scope : Scope} {start new : Draft} → IsDrawn scope [] scope.results.now (length scope.results.now) start new → start.out ≡ [] → length new.out ≤ length scope.results.now + most scope.types.now.types * start.fuel
+body_short {scope = scope} {start = start} {new = new} drawn empty =
+    let short = drawn.short in
+    let none : length start.out ≡ 0 = rw empty refl in
+    omega arith

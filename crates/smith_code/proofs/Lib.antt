@@ -1,0 +1,10 @@
+pub mod OfferedLemmas
+pub mod OfferLemmas
+pub mod AmongLemmas
+pub mod ReferenceLemmas
+pub mod NodeLemmas
+pub mod RowLemmas
+pub mod LeafLemmas
+pub mod DrawnLemmas
+pub mod ResultLemmas
+pub mod BodyLemmas

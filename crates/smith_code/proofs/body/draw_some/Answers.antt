@@ -1,0 +1,14 @@
+use Rattle.std.proofs.Common.{refl}
+use Rattle.smith_code.proofs.DrawnLemmas.{body_typed, body_allowed, body_short}
+use Rattle.smith_code.proofs.body.draw_some.Goals as goal
+
+pub returns-clause-typed : goal.returns-clause-typed
+returns-clause-typed c =
+    body_typed c.in_ok-draw_whole.ensures.drawn c.new.ensures c.new-2.ensures.items
+    (rw (c.in_ok-push.ensures.items, c.new-labels.ensures.items, c.in_ok-from_slice.ensures.ok) refl)
+
+pub returns-clause-allowed : goal.returns-clause-allowed
+returns-clause-allowed c = body_allowed c.in_ok-draw_whole.ensures.drawn c.new.ensures
+
+pub returns-clause-short : goal.returns-clause-short
+returns-clause-short c = body_short c.in_ok-draw_whole.ensures.drawn c.new.ensures

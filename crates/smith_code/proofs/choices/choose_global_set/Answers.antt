@@ -1,0 +1,9 @@
+use Rattle.smith_code.specs.Scopes.{where_stands}
+use Rattle.smith_code.proofs.ResultLemmas.{ok_like}
+use Rattle.smith_code.proofs.OfferLemmas.{mutable_there}
+use Rattle.smith_code.proofs.NodeLemmas.{global_set_node}
+use Rattle.smith_code.proofs.choices.choose_global_set.Goals as goal
+
+pub returns-clause-node : goal.returns-clause-node
+returns-clause-node c =
+    ok_like _ c.plain-2.result (global_set_node (where_stands c.args.scope.now c.args.draft.now) c.args.draft.now.set.items c.in-Some.index _ c.requires.scope.globals (mutable_there (where_stands c.args.scope.now c.args.draft.now) c.in-Some.index c.in-Some.ensures.offered)) c.plain-2.ensures.exact

@@ -1,0 +1,49 @@
+use Rattle.std.proofs.Common.{◌+◌, ◌*◌, [], length, take}
+use Rattle.smith_bytes.specs.Source.{KeepsPieces}
+use Rattle.smith_code.specs.Drawn.{IsDrawn}
+use Rattle.smith_code.specs.Scopes.{AreLabels}
+use Rattle.smith_code.proofs.drawn.+body.Given as goal
+
+abbrev pub decreases-draw_value : goal.decreases-draw_value
+decreases-draw_value l = 8 * l.depth
+
+abbrev pub decreases-draw_statement : goal.decreases-draw_statement
+decreases-draw_statement l = 8 * l.depth
+
+abbrev pub decreases-draw_values : goal.decreases-draw_values
+decreases-draw_values l = 8 * l.depth + 1
+
+abbrev pub decreases-draw_statements : goal.decreases-draw_statements
+decreases-draw_statements l = 8 * l.depth + 1
+
+abbrev pub decreases-draw_inside : goal.decreases-draw_inside
+decreases-draw_inside l = 8 * l.depth + 2
+
+abbrev pub decreases-draw_enclosed : goal.decreases-draw_enclosed
+decreases-draw_enclosed l = 8 * l.depth + 3
+
+abbrev pub decreases-draw_if : goal.decreases-draw_if
+decreases-draw_if l = 8 * l.depth + 3
+
+abbrev pub decreases-draw_head : goal.decreases-draw_head
+decreases-draw_head l = 8 * l.depth + 4
+
+abbrev pub decreases-draw_node : goal.decreases-draw_node
+decreases-draw_node l = 8 * l.depth + 5
+
+abbrev pub invariant-draw_values-loop-value : goal.invariant-draw_values-loop-value
+invariant-draw_values-loop-value l = record {
+  drawn : IsDrawn l.scope [] (take l.value-index l.wanted) (length (take l.value-index l.wanted)) l.fn.draft l.draft;
+  labels : AreLabels l.scope l.draft.labels.items;
+  kept : KeepsPieces l.fn.u l.u;
+}
+
+abbrev pub decreases-draw_statements-loop-draft : goal.decreases-draw_statements-loop-draft
+decreases-draw_statements-loop-draft l = l.draft.fuel
+
+abbrev pub invariant-draw_statements-loop-draft : goal.invariant-draw_statements-loop-draft
+invariant-draw_statements-loop-draft l = record {
+  drawn : IsDrawn l.scope [] [] 0 l.fn.draft l.draft;
+  labels : AreLabels l.scope l.draft.labels.items;
+  kept : KeepsPieces l.fn.u l.u;
+}

@@ -1,0 +1,12 @@
+use Rattle.std.proofs.Common.{◌<◌, length, arith}
+use Rattle.smith_code.specs.Scopes.{where_stands}
+use Rattle.smith_code.proofs.RowLemmas.{load_row}
+use Rattle.smith_code.proofs.memories.choose_load.Goals as goal
+
+pub returns-clause-offer : goal.returns-clause-offer
+returns-clause-offer c =
+    let inside : c.int_in_range.result < length c.loads_of-rows.result.now = omega (arith, c.int_in_range.ensures.within, c.new.ensures.end, c.if-rows-eq0.false) in
+    let aligned = rw c.log2_bytes.ensures at c.in-Some.ensures.aligned in
+    rw (c.in_ok-node.ensures.exact, c.address.ensures)
+    (load_row c.loads_of-rows.result.now c.int_in_range.result _ c.args.wanted c.loads_of-rows.ensures inside (where_stands c.args.scope.now c.args.draft.now) c.args.draft.now.set.items
+    c.in-Some.access.at c.in-Some.access.wide c.requires.wanted c.in-Some.ensures.access aligned)

@@ -1,0 +1,9 @@
+use Rattle.std.proofs.Common.{◌<◌, length, arith}
+use Rattle.smith_code.proofs.RowLemmas.{numeric_row}
+use Rattle.smith_code.proofs.numeric.choose_row.Goals as goal
+
+pub returns-clause-offer : goal.returns-clause-offer
+returns-clause-offer c = λ context set.
+    let inside : c.int_in_range.result < length c.args.rows.now = omega (arith, c.int_in_range.ensures.within, c.new.ensures.end, c.if-rows-eq0.false) in
+    rw (c.in_ok-node.ensures.exact, c.operands.ensures, c.saturating_sub-drops.ensures, c.results.ensures)
+    (numeric_row c.args.rows.now c.int_in_range.result _ c.args.wanted c.requires.rows inside context set)

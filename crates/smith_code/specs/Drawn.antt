@@ -1,0 +1,56 @@
+-- What each step of drawing a body adds to the instructions so far.
+use Rattle.std.specs.Prelude.{◌≡◌, ℕ, ◌+◌, ◌*◌, ◌≤◌, Option, List, [], ◌∷◌, ◌++◌, length, take, option_to_list, All}
+use Rattle.smith_types.specs.Subtyping.{IsValBelow}
+use Rattle.smith_types.specs.declared.value_type.ValType.{ValType}
+use Rattle.smith_instr.specs.Contexts.{BodyContext, IsValid, AreValid}
+use Rattle.smith_instr.specs.InstrTypes.{sets, HasInstrType}
+use Rattle.smith_instr.specs.Sequences.{stacked, AreTyped}
+use Rattle.smith_instr.specs.declared.instr.Instr.{Instr}
+use Rattle.smith_code.specs.Scopes.{bare, where_stands, most, IsAllowedIn}
+use Rattle.smith_code.specs.declared.scope.Draft.{Draft}
+use Rattle.smith_code.specs.declared.scope.Scope.{Scope}
+
+-- instructions come after the old ones that take operands of these types from the top of any stack, and leave values of those;
+-- the labels are the same, and not more instructions than `cost` are not paid for by fuel
+pub record IsDrawn (scope : Scope) (operands values : List ValType) (cost : ℕ) (old new : Draft) : Type 0 where
+  pub more : List Instr
+  pub longer : new.out ≡ old.out ++ more
+  pub typed : (base : List ValType) → AreValid (bare scope) base
+      → AreTyped (where_stands scope old) more (stacked (base ++ operands) old.set.items) (stacked (base ++ values) new.set.items)
+  pub allowed : All (IsAllowedIn scope) more
+  pub set : List ℕ
+  pub set_more : new.set.items ≡ old.set.items ++ set
+  pub same : new.labels.items ≡ old.labels.items
+  pub spent : new.fuel ≤ old.fuel
+  pub short : length new.out + most scope.types.now.types * new.fuel ≤ length old.out + cost + most scope.types.now.types * old.fuel
+
+-- an instruction is written, and the local is set
+pub record IsWritten (instruction : Instr) (set : Option ℕ) (old new : Draft) : Type 0 where
+  pub out : new.out ≡ old.out ++ instruction ∷ []
+  pub set_more : new.set.items ≡ old.set.items ++ option_to_list set
+  pub same : new.labels.items ≡ old.labels.items
+  pub fuel : new.fuel ≡ old.fuel
+
+-- a block is opened that has this label
+pub record IsOpened (instruction : Instr) (label : List ValType) (old new : Draft) : Type 0 where
+  pub out : new.out ≡ old.out ++ instruction ∷ []
+  pub set : new.set.items ≡ old.set.items
+  pub labels : new.labels.items ≡ label ∷ old.labels.items
+  pub fuel : new.fuel ≡ old.fuel
+
+-- the first part of an if ends, or a block does: of the locals that were set, `height` are left
+pub record IsEnded (instruction : Instr) (height : ℕ) (old new : Draft) : Type 0 where
+  pub out : new.out ≡ old.out ++ instruction ∷ []
+  pub set : new.set.items ≡ take height old.set.items
+  pub fuel : new.fuel ≡ old.fuel
+
+-- an instruction that gives a value below this type without operands
+pub record IsLeaf (context : BodyContext) (set : List ℕ) (wanted : ValType) (instruction : Instr) : Type 0 where
+  pub value : ValType
+  pub typed : HasInstrType context set instruction [] (value ∷ [])
+  pub below : IsValBelow context.types value wanted
+  pub sets_none : sets instruction ≡ []
+
+-- a constant of this type, null, or `unreachable`
+abbrev pub IsConstant : ValType → Instr → Type 0
+IsConstant wanted instruction = (context : BodyContext) (set : List ℕ) → IsValid context wanted → IsLeaf context set wanted instruction

@@ -1,0 +1,83 @@
+-- What a body is drawn over.
+use Rattle.std.specs.Prelude.{ℕ, ◌+◌, ◌*◌, ◌≤◌, ◌-◌, ◌^◌, min, max, List, [], ◌∷◌, length, All}
+use Rattle.smith_types.specs.FeatureBits.{features_in}
+use Rattle.smith_types.specs.Types.{IsOrderly}
+use Rattle.smith_types.specs.Entities.{IsFuncAt, IsFuncValid}
+use Rattle.smith_types.specs.ValidTypes.{IsValTypeValid}
+use Rattle.smith_types.specs.declared.value_type.ValType.{ValType}
+use Rattle.smith_types.specs.declared.composite_type.CompositeInnerType.{CompositeInnerType}
+use Rattle.smith_types.specs.declared.composite_type.CompositeInnerType.TheVariants as inner
+use Rattle.smith_types.specs.declared.composite_type.FuncType.{FuncType}
+use Rattle.smith_types.specs.declared.composite_type.SubType.{SubType}
+use Rattle.smith_types.specs.declared.entity_type.GlobalType.{GlobalType}
+use Rattle.smith_instr.specs.Contexts.{BodyContext, AreValid}
+use Rattle.smith_instr.specs.Enabled.{IsEnabled}
+use Rattle.smith_instr.specs.declared.instr.Instr.{Instr}
+use Rattle.smith_code.specs.declared.scope.Scope.{Scope}
+use Rattle.smith_code.specs.declared.scope.Draft.{Draft}
+
+-- the context of what a body may refer to, where it has these labels
+abbrev pub context_of : Scope → List (List ValType) → BodyContext
+context_of scope labels = record {
+  features = features_in scope.features;
+  types = scope.types.now.types;
+  funcs = scope.funcs.now;
+  imported_funcs = scope.imported_funcs;
+  tables = scope.tables.now;
+  memories = scope.memories.now;
+  globals = scope.globals.now;
+  tags = scope.tags.now;
+  elements = scope.elements.now;
+  datas = scope.datas;
+  references = scope.references.now;
+  locals = scope.locals.now;
+  params = scope.params;
+  labels = labels;
+  results = scope.results.now;
+}
+
+-- the context of a scope without labels
+abbrev pub bare : Scope → BodyContext
+bare scope = context_of scope []
+
+-- the context that a draft has reached
+abbrev pub where_stands : Scope → Draft → BodyContext
+where_stands scope draft = context_of scope draft.labels.items
+
+-- an instruction that may be used in a scope
+abbrev pub IsAllowedIn : Scope → Instr → Type 0
+IsAllowedIn scope instruction = IsEnabled (features_in scope.features) scope.kinds instruction
+
+-- of a number of items, those that have an index (Structure, Indices)
+abbrev pub indexed : ℕ → ℕ
+indexed count = min count (2 ^ 32 - 1)
+
+-- how many parameters and results a function has
+abbrev pub func_size : CompositeInnerType → ℕ
+func_size (inner.Func function) = length function.params + length function.results
+func_size _ = 0
+
+-- the greater of 3 and the most parameters and results of a function
+unfoldable pub widest : List SubType → ℕ
+widest [] = 3
+widest (t ∷ types) = max (func_size t.composite_type.inner) (widest types)
+
+-- the most instructions for one unit of fuel
+abbrev pub most : List SubType → ℕ
+most types = 4 * widest types + 4
+
+-- what a body may refer to is valid
+pub record IsScope (context : BodyContext) : Type 0 where
+  pub orderly : IsOrderly context.types
+  pub funcs : All (IsFuncValid context.types) context.funcs
+  pub globals : All (λ (global : GlobalType). IsValTypeValid context.features (length context.types) global.val_type) context.globals
+  pub locals : AreValid context context.locals
+  pub results : AreValid context context.results
+  pub results_few : length context.results ≤ widest context.types
+  pub params_valid : (index : ℕ) (function : FuncType) → IsFuncAt context.types index function → AreValid context function.params
+  pub results_valid : (index : ℕ) (function : FuncType) → IsFuncAt context.types index function → AreValid context function.results
+
+-- what a branch to each label takes is valid, and not more than a function has
+pub record AreLabels (scope : Scope) (labels : List (List ValType)) : Type 0 where
+  pub valid : All (AreValid (bare scope)) labels
+  pub few : All (λ (label : List ValType). length label ≤ widest scope.types.now.types) labels

@@ -1,0 +1,68 @@
+ghost use Rattle.std.specs.Prelude.{◌≡◌, [], ◌∷◌, IfOk, IfErr};
+ghost use Rattle.smith_bytes.specs.Source.{KeepsPieces};
+ghost use Rattle.smith_instr.specs.Contexts.{IsValid};
+ghost use Rattle.smith_code.specs.Nodes.{IsNode, IsOffer};
+ghost use Rattle.smith_code.specs.Scopes.{IsScope, bare, where_stands};
+
+use crate::funcs::func_type_at;
+use crate::node::{Node, Opening, block};
+use crate::scope::{Draft, Scope, indexed};
+use smith_bytes::{Error, Unstructured};
+use smith_instr::BlockType;
+use smith_types::ValType;
+use std::alloc::Global;
+
+fn draw_opening(u: &mut Unstructured<'_>) -> Option<Opening>
+    ensures { KeepsPieces u.old u.new }
+{
+    match u.int_in_range(0..=2u8) {
+        0 => Some(Opening::Block),
+        1 => Some(Opening::Loop),
+        _ => None,
+    }
+}
+
+/// Chooses a block that gives a value of the type `wanted`.
+pub(crate) fn choose_block(
+    alloc: Global,
+    scope: &Scope<'_>,
+    wanted: ValType,
+    draft: &Draft,
+    u: &mut Unstructured<'_>,
+) -> Result<Option<Node>, Error>
+    requires wanted { IsValid (bare scope.now) wanted }
+    ensures offer { IsOffer (where_stands scope.now draft.now) draft.now.set.items (wanted ∷ []) result }
+    ensures memory { IfErr result (λ e. e ≡ Error.Memory) }
+    ensures left { KeepsPieces u.old u.new }
+{
+    let opening = draw_opening(u);
+    let node = block(alloc, opening, BlockType::Value(wanted), &[], &[wanted], 0)?;
+    Ok(Some(node))
+}
+
+/// Chooses a block whose results are dropped: of a function type, or without parameters and results.
+pub(crate) fn choose_any_block(
+    alloc: Global,
+    scope: &Scope<'_>,
+    draft: &Draft,
+    u: &mut Unstructured<'_>,
+) -> Result<Node, Error>
+    requires scope { IsScope (bare scope.now) }
+    ensures node { IfOk result (IsNode (where_stands scope.now draft.now) draft.now.set.items []) }
+    ensures memory { IfErr result (λ e. e ≡ Error.Memory) }
+    ensures left { KeepsPieces u.old u.new }
+{
+    let opening = draw_opening(u);
+    let index = u.int_in_range(0..=indexed(scope.types.types().len()));
+    match func_type_at(scope, index) {
+        Some(function) => block(
+            alloc,
+            opening,
+            BlockType::Func(index as u32),
+            function.params.as_slice(),
+            function.results.as_slice(),
+            function.results.len(),
+        ),
+        None => block(alloc, opening, BlockType::Empty, &[], &[], 0),
+    }
+}

@@ -1,0 +1,74 @@
+ghost use Rattle.std.specs.Prelude.{◌≡◌, ◌≤◌, ◌+◌, ◌*◌, All, length, IfOk, IfErr};
+ghost use Rattle.smith_bytes.specs.Source.{KeepsPieces};
+ghost use Rattle.smith_instr.specs.Sequences.{IsBodyTyped};
+ghost use Rattle.smith_code.specs.Scopes.{IsAllowedIn, IsScope, bare, most};
+
+use crate::drawn::draw_whole;
+use crate::scope::{Draft, Scope};
+use smith_bytes::{Error, Unstructured};
+use smith_instr::Instr;
+use smith_types::Items;
+use std::alloc::Global;
+
+/// The most instructions that take one another's results or enclose one another.
+const DEPTH: u32 = 40;
+
+/// Draws the body of a function over `scope`, its last `end` aside: the standard's section Structure, Functions.
+///
+/// `fuel` is the number of instructions that may be chosen with operands, or with instructions inside. Without fuel the body is
+/// `unreachable`.
+///
+/// # Errors
+///
+/// `Memory` where memory is refused, and nothing else.
+pub fn draw_body(
+    alloc: Global,
+    scope: &Scope<'_>,
+    fuel: usize,
+    u: &mut Unstructured<'_>,
+) -> Result<Items<Instr>, Error>
+    requires scope { IsScope (bare scope.now) }
+    ensures typed { IfOk result (IsBodyTyped (bare scope.now)) }
+    ensures allowed { IfOk result (All (IsAllowedIn scope.now)) }
+    ensures short { IfOk result (λ body. length body ≤ 1 + length scope.now.results.now + most scope.now.types.now.types * fuel) }
+    ensures refusal { IfErr result (λ e. e ≡ Error.Memory) }
+    ensures left { KeepsPieces u.old u.new }
+{
+    if fuel == 0 {
+        let mut body = Items::new(alloc);
+        body.push(Instr::Unreachable)?;
+        return Ok(body);
+    }
+    draw_some(alloc, scope, fuel, u)
+}
+
+fn draw_some(
+    alloc: Global,
+    scope: &Scope<'_>,
+    fuel: usize,
+    u: &mut Unstructured<'_>,
+) -> Result<Items<Instr>, Error>
+    requires scope { IsScope (bare scope.now) }
+    ensures typed { IfOk result (IsBodyTyped (bare scope.now)) }
+    ensures allowed { IfOk result (All (IsAllowedIn scope.now)) }
+    ensures short { IfOk result (λ body. length body ≤ length scope.now.results.now + most scope.now.types.now.types * fuel) }
+    ensures refusal { IfErr result (λ e. e ≡ Error.Memory) }
+    ensures left { KeepsPieces u.old u.new }
+{
+    let mut labels = Vec::new(alloc);
+    labels.push(Items::from_slice(alloc, scope.results)?)?;
+    let mut draft = Draft {
+        out: Items::new(alloc),
+        set: Vec::new(alloc),
+        labels,
+        fuel,
+    };
+    draw_whole(alloc, scope, DEPTH, &mut draft, u)?;
+    let Draft {
+        out,
+        set: _,
+        labels: _,
+        fuel: _,
+    } = draft;
+    Ok(out)
+}

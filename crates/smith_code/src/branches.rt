@@ -1,0 +1,161 @@
+ghost use Rattle.std.specs.Prelude.{◌≡◌, ◌<◌, List, [], All, length, min, IfOk, IfErr};
+ghost use Rattle.smith_bytes.specs.Source.{KeepsPieces};
+ghost use Rattle.smith_types.specs.declared.value_type.ValType.{ValType as Val};
+ghost use Rattle.smith_instr.specs.Contexts.{AreValid};
+ghost use Rattle.smith_instr.specs.InstrTypes.{IsTaken};
+ghost use Rattle.smith_code.specs.Nodes.{IsNode};
+ghost use Rattle.smith_code.specs.Offered.{are_below};
+ghost use Rattle.smith_code.specs.Scopes.{AreLabels, IsScope, bare, context_of, where_stands};
+
+use crate::locals::is_below;
+use crate::node::{Node, conditional, plain};
+use crate::offer::{Offer, choose_offered};
+use crate::scope::{Draft, Scope};
+use smith_bytes::{Error, Unstructured};
+use smith_instr::Instr;
+use smith_types::{Items, ValType};
+use std::alloc::Global;
+
+/// Chooses a branch that does not come back, to any label or out of the function.
+pub(crate) fn choose_leaving(
+    alloc: Global,
+    scope: &Scope<'_>,
+    draft: &Draft,
+    u: &mut Unstructured<'_>,
+) -> Result<Node, Error>
+    requires scope { IsScope (bare scope.now) }
+    requires labels { AreLabels scope.now draft.now.labels.items }
+    ensures node { (values : List Val) → AreValid (bare scope.now) values → IfOk result (IsNode (where_stands scope.now draft.now) draft.now.set.items values) }
+    ensures memory { IfErr result (λ e. e ≡ Error.Memory) }
+    ensures left { KeepsPieces u.old u.new }
+{
+    let count = draft.labels.len().min(64);
+    if count == 0 || u.arbitrary() {
+        return plain(alloc, scope.results, Instr::Return, 0);
+    }
+    let index = u.int_in_range(0..=count - 1);
+    let taken = draft.labels[index].as_slice();
+    plain(alloc, taken, Instr::Br(index as u32), 0)
+}
+
+/// Chooses a branch that may come back, to any label.
+pub(crate) fn choose_branch(
+    alloc: Global,
+    scope: &Scope<'_>,
+    draft: &Draft,
+    u: &mut Unstructured<'_>,
+) -> Result<Node, Error>
+    requires scope { IsScope (bare scope.now) }
+    requires labels { AreLabels scope.now draft.now.labels.items }
+    ensures node { IfOk result (IsNode (where_stands scope.now draft.now) draft.now.set.items []) }
+    ensures memory { IfErr result (λ e. e ≡ Error.Memory) }
+    ensures left { KeepsPieces u.old u.new }
+{
+    let count = draft.labels.len().min(64);
+    if count == 0 {
+        return plain(alloc, &[], Instr::Nop, 0);
+    }
+    let index = u.int_in_range(0..=count - 1);
+    let taken = draft.labels[index].as_slice();
+    conditional(alloc, taken, Instr::BrIf(index as u32), taken.len())
+}
+
+/// The labels to which values of the types `taken` may go.
+#[derive(Clone, Copy)]
+struct TargetOffer<'a> {
+    scope: &'a Scope<'a>,
+    labels: &'a [Items<ValType>],
+    taken: &'a [ValType],
+}
+
+impl<'a> Offer for TargetOffer<'a> {
+    ghost use Rattle.std.specs.Prelude.{length, min};
+    ghost use Rattle.smith_instr.specs.Contexts.{AreValid};
+    ghost use Rattle.smith_code.specs.Offered.{is_target};
+    ghost use Rattle.smith_code.specs.Scopes.{AreLabels, IsScope, bare};
+
+    ghost ready = { λ self. IsScope (bare self.scope.now) × AreLabels self.scope.now self.labels.now × AreValid (bare self.scope.now) self.taken.now };
+
+    ghost size = { λ self. min (length self.labels.now) 64 };
+
+    ghost test = { λ self index. is_target (bare self.scope.now).types self.labels.now self.taken.now index };
+
+    fn count(&self) -> usize {
+        self.labels.len().min(64)
+    }
+
+    fn is_offered(&self, index: usize) -> bool {
+        are_below(self.scope, self.taken, self.labels[index].as_slice())
+    }
+}
+
+/// Whether `values` are below `wanted`, one by one.
+fn are_below(scope: &Scope<'_>, values: &[ValType], wanted: &[ValType]) -> bool
+    requires scope { IsScope (bare scope.now) }
+    requires values { AreValid (bare scope.now) values.now }
+    requires wanted { AreValid (bare scope.now) wanted.now }
+    ensures { result ≡ are_below (bare scope.now).types values.now wanted.now }
+{
+    if values.len() != wanted.len() {
+        return false;
+    }
+    for index in 0..values.len() {
+        if !is_below(scope, values[index], wanted[index]) {
+            return false;
+        }
+    }
+    true
+}
+
+fn draw_targets<'a>(
+    alloc: Global,
+    scope: &'a Scope<'a>,
+    labels: &'a [Items<ValType>],
+    taken: &'a [ValType],
+    u: &mut Unstructured<'_>,
+) -> Result<Items<u32>, Error>
+    requires scope { IsScope (bare scope.now) }
+    requires labels { AreLabels scope.now labels.now }
+    requires taken { AreValid (bare scope.now) taken.now }
+    ensures taken { IfOk result (All (IsTaken (context_of scope.now labels.now) taken.now)) }
+    ensures memory { IfErr result (λ e. e ≡ Error.Memory) }
+    ensures left { KeepsPieces u.old u.new }
+{
+    let mut targets = Items::new(alloc);
+    for _ in 0..u.int_in_range(0..=7u8) {
+        let offer = TargetOffer {
+            scope,
+            labels,
+            taken,
+        };
+        let Some(index) = choose_offered(&offer, u) else {
+            return Ok(targets);
+        };
+        targets.push(index as u32)?;
+    }
+    Ok(targets)
+}
+
+/// Chooses a branch that does not come back, to one of several labels.
+pub(crate) fn choose_table(
+    alloc: Global,
+    scope: &Scope<'_>,
+    draft: &Draft,
+    u: &mut Unstructured<'_>,
+) -> Result<Node, Error>
+    requires scope { IsScope (bare scope.now) }
+    requires labels { AreLabels scope.now draft.now.labels.items }
+    ensures node { (values : List Val) → AreValid (bare scope.now) values → IfOk result (IsNode (where_stands scope.now draft.now) draft.now.set.items values) }
+    ensures memory { IfErr result (λ e. e ≡ Error.Memory) }
+    ensures left { KeepsPieces u.old u.new }
+{
+    let labels = draft.labels.as_slice();
+    let count = labels.len().min(64);
+    if count == 0 {
+        return plain(alloc, scope.results, Instr::Return, 0);
+    }
+    let index = u.int_in_range(0..=count - 1);
+    let taken = labels[index].as_slice();
+    let targets = draw_targets(alloc, scope, labels, taken, u)?;
+    conditional(alloc, taken, Instr::BrTable(targets, index as u32), 0)
+}

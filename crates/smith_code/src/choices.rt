@@ -1,0 +1,266 @@
+ghost use Rattle.std.specs.Prelude.{◌≡◌, ◌<◌, [], ◌∷◌, length, IfOk, IfErr, IfSome};
+ghost use Rattle.smith_bytes.specs.Source.{KeepsPieces};
+ghost use Rattle.smith_instr.specs.Contexts.{IsValid};
+ghost use Rattle.smith_code.specs.Nodes.{IsNode, IsNodeAllowed, IsOffer};
+ghost use Rattle.smith_code.specs.Scopes.{AreLabels, IsScope, bare, where_stands};
+
+use crate::blocks::{choose_any_block, choose_block};
+use crate::branches::{choose_branch, choose_leaving, choose_table};
+use crate::funcs::{choose_callable, function_of};
+use crate::globals::choose_mutable;
+use crate::locals::choose_local;
+use crate::memories::{choose_load, choose_memory, choose_store};
+use crate::node::{Node, is_node_allowed, plain, setter};
+use crate::numeric::{choose_numeric, choose_select};
+use crate::scope::{Draft, Scope, indexed};
+use smith_bytes::{Error, Unstructured};
+use smith_instr::Instr;
+use smith_types::ValType;
+use std::alloc::Global;
+
+/// Chooses a node that is allowed, and gives a value of the type `wanted`, or none.
+pub(crate) fn choose_allowed(
+    alloc: Global,
+    scope: &Scope<'_>,
+    wanted: ValType,
+    draft: &Draft,
+    u: &mut Unstructured<'_>,
+) -> Result<Option<Node>, Error>
+    requires scope { IsScope (bare scope.now) }
+    requires labels { AreLabels scope.now draft.now.labels.items }
+    requires wanted { IsValid (bare scope.now) wanted }
+    ensures offer { IsOffer (where_stands scope.now draft.now) draft.now.set.items (wanted ∷ []) result }
+    ensures allowed { IfOk result (λ chosen. IfSome chosen (IsNodeAllowed scope.now)) }
+    ensures memory { IfErr result (λ e. e ≡ Error.Memory) }
+    ensures left { KeepsPieces u.old u.new }
+{
+    let chosen = choose_value(alloc, scope, wanted, draft, u)?;
+    match chosen {
+        Some(node) => {
+            if is_node_allowed(scope, &node) {
+                return Ok(Some(node));
+            }
+            Ok(None)
+        }
+        None => Ok(None),
+    }
+}
+
+fn choose_value(
+    alloc: Global,
+    scope: &Scope<'_>,
+    wanted: ValType,
+    draft: &Draft,
+    u: &mut Unstructured<'_>,
+) -> Result<Option<Node>, Error>
+    requires scope { IsScope (bare scope.now) }
+    requires labels { AreLabels scope.now draft.now.labels.items }
+    requires wanted { IsValid (bare scope.now) wanted }
+    ensures offer { IsOffer (where_stands scope.now draft.now) draft.now.set.items (wanted ∷ []) result }
+    ensures memory { IfErr result (λ e. e ≡ Error.Memory) }
+    ensures left { KeepsPieces u.old u.new }
+{
+    match u.int_in_range(0..=15u8) {
+        1 | 2 | 3 | 4 | 5 => choose_numeric(alloc, wanted, u),
+        6 => choose_select(alloc, wanted),
+        7 => choose_tee(alloc, scope, wanted, draft, u),
+        8 | 9 => choose_call(alloc, scope, wanted, draft, u),
+        10 | 11 => choose_block(alloc, scope, wanted, draft, u),
+        12 => choose_leaving_for(alloc, scope, wanted, draft, u),
+        13 | 14 => choose_load(alloc, scope, wanted, draft, u),
+        15 => choose_memory(alloc, scope, wanted, draft, u),
+        _ => Ok(None),
+    }
+}
+
+fn choose_leaving_for(
+    alloc: Global,
+    scope: &Scope<'_>,
+    wanted: ValType,
+    draft: &Draft,
+    u: &mut Unstructured<'_>,
+) -> Result<Option<Node>, Error>
+    requires scope { IsScope (bare scope.now) }
+    requires labels { AreLabels scope.now draft.now.labels.items }
+    requires wanted { IsValid (bare scope.now) wanted }
+    ensures offer { IsOffer (where_stands scope.now draft.now) draft.now.set.items (wanted ∷ []) result }
+    ensures memory { IfErr result (λ e. e ≡ Error.Memory) }
+    ensures left { KeepsPieces u.old u.new }
+{
+    let node = choose_leaving(alloc, scope, draft, u)?;
+    Ok(Some(node))
+}
+
+fn choose_tee(
+    alloc: Global,
+    scope: &Scope<'_>,
+    wanted: ValType,
+    draft: &Draft,
+    u: &mut Unstructured<'_>,
+) -> Result<Option<Node>, Error>
+    requires scope { IsScope (bare scope.now) }
+    requires wanted { IsValid (bare scope.now) wanted }
+    ensures offer { IsOffer (where_stands scope.now draft.now) draft.now.set.items (wanted ∷ []) result }
+    ensures memory { IfErr result (λ e. e ≡ Error.Memory) }
+    ensures left { KeepsPieces u.old u.new }
+{
+    let Some(index) = choose_local(scope, wanted, u) else {
+        return Ok(None);
+    };
+    let value = scope.locals[index as usize];
+    let node = setter(alloc, index, value, Instr::LocalTee(index))?;
+    Ok(Some(node))
+}
+
+fn choose_call(
+    alloc: Global,
+    scope: &Scope<'_>,
+    wanted: ValType,
+    draft: &Draft,
+    u: &mut Unstructured<'_>,
+) -> Result<Option<Node>, Error>
+    requires scope { IsScope (bare scope.now) }
+    requires wanted { IsValid (bare scope.now) wanted }
+    ensures offer { IsOffer (where_stands scope.now draft.now) draft.now.set.items (wanted ∷ []) result }
+    ensures memory { IfErr result (λ e. e ≡ Error.Memory) }
+    ensures left { KeepsPieces u.old u.new }
+{
+    let Some(index) = choose_callable(scope, wanted, u) else {
+        return Ok(None);
+    };
+    let Some(function) = function_of(scope, index as usize) else {
+        return Ok(None);
+    };
+    let drops = function.results.len().saturating_sub(1);
+    let node = plain(alloc, function.params.as_slice(), Instr::Call(index), drops)?;
+    Ok(Some(node))
+}
+
+/// Chooses a node that gives nothing.
+pub(crate) fn choose_statement(
+    alloc: Global,
+    scope: &Scope<'_>,
+    draft: &Draft,
+    u: &mut Unstructured<'_>,
+) -> Result<Node, Error>
+    requires scope { IsScope (bare scope.now) }
+    requires labels { AreLabels scope.now draft.now.labels.items }
+    ensures node { IfOk result (IsNode (where_stands scope.now draft.now) draft.now.set.items []) }
+    ensures memory { IfErr result (λ e. e ≡ Error.Memory) }
+    ensures left { KeepsPieces u.old u.new }
+{
+    match u.int_in_range(0..=15u8) {
+        0 => plain(alloc, &[], Instr::Nop, 0),
+        1 | 2 => choose_drop(alloc, scope, draft, u),
+        3 | 4 => choose_global_set(alloc, scope, draft, u),
+        5 | 6 => choose_any_call(alloc, scope, draft, u),
+        7 | 8 => choose_any_block(alloc, scope, draft, u),
+        9 => choose_branch(alloc, scope, draft, u),
+        10 => choose_leaving(alloc, scope, draft, u),
+        11 => choose_table(alloc, scope, draft, u),
+        12 | 13 => choose_store(alloc, scope, draft, u),
+        14 => plain(alloc, &[], Instr::Unreachable, 0),
+        _ => choose_set(alloc, scope, draft, u),
+    }
+}
+
+/// Chooses a value that is dropped, of a number type or of the type of a local.
+fn choose_drop(
+    alloc: Global,
+    scope: &Scope<'_>,
+    draft: &Draft,
+    u: &mut Unstructured<'_>,
+) -> Result<Node, Error>
+    requires scope { IsScope (bare scope.now) }
+    ensures node { IfOk result (IsNode (where_stands scope.now draft.now) draft.now.set.items []) }
+    ensures memory { IfErr result (λ e. e ≡ Error.Memory) }
+    ensures left { KeepsPieces u.old u.new }
+{
+    let value = draw_dropped(scope, u);
+    plain(alloc, &[value], Instr::Drop, 0)
+}
+
+fn draw_dropped(scope: &Scope<'_>, u: &mut Unstructured<'_>) -> ValType
+    requires scope { IsScope (bare scope.now) }
+    ensures valid { IsValid (bare scope.now) result }
+    ensures left { KeepsPieces u.old u.new }
+{
+    let count = scope.locals.len();
+    match u.int_in_range(0..=count.saturating_add(3)) {
+        0 => ValType::I32,
+        1 => ValType::I64,
+        2 => ValType::F32,
+        3 => ValType::F64,
+        place => {
+            if place - 4 < count {
+                return scope.locals[place - 4];
+            }
+            ValType::I32
+        }
+    }
+}
+
+fn choose_set(
+    alloc: Global,
+    scope: &Scope<'_>,
+    draft: &Draft,
+    u: &mut Unstructured<'_>,
+) -> Result<Node, Error>
+    requires scope { IsScope (bare scope.now) }
+    ensures node { IfOk result (IsNode (where_stands scope.now draft.now) draft.now.set.items []) }
+    ensures memory { IfErr result (λ e. e ≡ Error.Memory) }
+    ensures left { KeepsPieces u.old u.new }
+{
+    let count = indexed(scope.locals.len());
+    if count == 0 {
+        return plain(alloc, &[], Instr::Nop, 0);
+    }
+    let index = u.int_in_range(0..=count - 1);
+    let value = scope.locals[index];
+    setter(alloc, index as u32, value, Instr::LocalSet(index as u32))
+}
+
+fn choose_global_set(
+    alloc: Global,
+    scope: &Scope<'_>,
+    draft: &Draft,
+    u: &mut Unstructured<'_>,
+) -> Result<Node, Error>
+    requires scope { IsScope (bare scope.now) }
+    ensures node { IfOk result (IsNode (where_stands scope.now draft.now) draft.now.set.items []) }
+    ensures memory { IfErr result (λ e. e ≡ Error.Memory) }
+    ensures left { KeepsPieces u.old u.new }
+{
+    let Some(index) = choose_mutable(scope, u) else {
+        return plain(alloc, &[], Instr::Nop, 0);
+    };
+    let value = scope.globals[index as usize].val_type;
+    plain(alloc, &[value], Instr::GlobalSet(index), 0)
+}
+
+fn choose_any_call(
+    alloc: Global,
+    scope: &Scope<'_>,
+    draft: &Draft,
+    u: &mut Unstructured<'_>,
+) -> Result<Node, Error>
+    requires scope { IsScope (bare scope.now) }
+    ensures node { IfOk result (IsNode (where_stands scope.now draft.now) draft.now.set.items []) }
+    ensures memory { IfErr result (λ e. e ≡ Error.Memory) }
+    ensures left { KeepsPieces u.old u.new }
+{
+    let count = indexed(scope.funcs.len());
+    if count == 0 {
+        return plain(alloc, &[], Instr::Nop, 0);
+    }
+    let index = u.int_in_range(0..=count - 1);
+    let Some(function) = function_of(scope, index) else {
+        return plain(alloc, &[], Instr::Nop, 0);
+    };
+    plain(
+        alloc,
+        function.params.as_slice(),
+        Instr::Call(index as u32),
+        function.results.len(),
+    )
+}

@@ -1,0 +1,312 @@
+ghost use Rattle.std.specs.Prelude.{◌≡◌, ◌++◌, ◌+◌, ◌<◌, ◌≤◌, [], ◌∷◌, List, length, IfErr, OnOk, option_to_list};
+ghost use Rattle.smith_bytes.specs.Source.{KeepsPieces};
+ghost use Rattle.smith_types.specs.declared.value_type.ValType.{ValType as Val};
+ghost use Rattle.smith_types.specs.declared.value_type.ValType.TheVariants.{I32};
+ghost use Rattle.smith_instr.specs.Contexts.{AreBelow, AreValid, IsBlockType, IsValid};
+ghost use Rattle.smith_instr.specs.declared.instr.Instr.TheVariants as instr;
+ghost use Rattle.smith_code.specs.Drawn.{IsDrawn};
+ghost use Rattle.smith_code.specs.Nodes.{
+  AreSidesValid,
+  HasHeadType,
+  IsHeadAllowed,
+  IsHeadValid,
+  IsNode,
+  IsNodeAllowed,
+  block_cost,
+  head_sets,
+  label_of,
+  opened,
+};
+ghost use Rattle.smith_code.specs.Scopes.{AreLabels, IsAllowedIn, IsScope, bare, where_stands};
+
+use crate::choices::{choose_allowed, choose_statement};
+use crate::leaf::draw_leaf;
+use crate::node::{Head, Node, Opening, Sides, is_node_allowed};
+use crate::scope::{Draft, Scope};
+use crate::written::{drop_values, write_else, write_end, write_opening, write_plain};
+use smith_bytes::{Error, Unstructured};
+use smith_instr::{BlockType, Instr};
+use smith_types::ValType;
+use std::alloc::Global;
+
+/// Draws a value of the type `wanted` after the instructions of `draft`, at most `depth` instructions deep.
+#[cycle(body)]
+fn draw_value(
+    alloc: Global,
+    scope: &Scope<'_>,
+    wanted: ValType,
+    depth: u32,
+    draft: &mut Draft,
+    u: &mut Unstructured<'_>,
+) -> Result<(), Error>
+    requires scope { IsScope (bare scope.now) }
+    requires labels { AreLabels scope.now draft.old.labels.items }
+    requires wanted { IsValid (bare scope.now) wanted }
+    ensures drawn { OnOk result (IsDrawn scope.now [] (wanted ∷ []) 1 draft.old draft.new) }
+    ensures memory { IfErr result (λ e. e ≡ Error.Memory) }
+    ensures left { KeepsPieces u.old u.new }
+{
+    if depth > 0 && draft.fuel > 0 {
+        if let Some(node) = choose_allowed(alloc, scope, wanted, draft, u)? {
+            return draw_node(alloc, scope, node, depth - 1, draft, u);
+        }
+    }
+    let leaf = draw_leaf(scope, wanted, draft, u);
+    draft.out.push(leaf)
+}
+
+/// Draws the operands of `node`, which takes one unit of fuel, and the rest of it.
+#[cycle(body)]
+fn draw_node(
+    alloc: Global,
+    scope: &Scope<'_>,
+    node: Node,
+    depth: u32,
+    draft: &mut Draft,
+    u: &mut Unstructured<'_>,
+) -> Result<(), Error>
+    requires scope { IsScope (bare scope.now) }
+    requires labels { AreLabels scope.now draft.old.labels.items }
+    requires valid { AreValid (bare scope.now) node.operands }
+    requires inside { IsHeadValid (bare scope.now).features (bare scope.now).types node.head }
+    requires allowed { IsNodeAllowed scope.now node }
+    requires paid { 0 < draft.old.fuel }
+    ensures drawn { (values : List Val) → IsNode (where_stands scope.now draft.old) draft.old.set.items values node → OnOk result (IsDrawn scope.now [] values 0 draft.old draft.new) }
+    ensures less { OnOk result (draft.new.fuel < draft.old.fuel) }
+    ensures memory { IfErr result (λ e. e ≡ Error.Memory) }
+    ensures left { KeepsPieces u.old u.new }
+{
+    let Node {
+        operands,
+        head,
+        sets,
+        drops,
+    } = node;
+    draft.fuel -= 1;
+    draw_values(alloc, scope, operands.as_slice(), depth, draft, u)?;
+    draw_head(alloc, scope, head, sets, depth, draft, u)?;
+    drop_values(drops, draft)
+}
+
+/// Draws what comes after operands, and sets the local `sets`.
+#[cycle(body)]
+fn draw_head(
+    alloc: Global,
+    scope: &Scope<'_>,
+    head: Head,
+    sets: Option<u32>,
+    depth: u32,
+    draft: &mut Draft,
+    u: &mut Unstructured<'_>,
+) -> Result<(), Error>
+    requires scope { IsScope (bare scope.now) }
+    requires labels { AreLabels scope.now draft.old.labels.items }
+    requires inside { IsHeadValid (bare scope.now).features (bare scope.now).types head }
+    requires allowed { IsHeadAllowed scope.now head }
+    ensures drawn { (operands given values : List Val) → HasHeadType (where_stands scope.now draft.old) draft.old.set.items head operands given → AreBelow (bare scope.now) given values → AreValid (bare scope.now) values → head_sets head ≡ option_to_list sets → OnOk result (IsDrawn scope.now operands values (block_cost scope.now.types.now.types) draft.old draft.new) }
+    ensures less { OnOk result (draft.new.fuel ≤ draft.old.fuel) }
+    ensures memory { IfErr result (λ e. e ≡ Error.Memory) }
+    ensures left { KeepsPieces u.old u.new }
+{
+    match head {
+        Head::Plain(instruction) => write_plain(instruction, sets, draft),
+        Head::Enclosed(opening, ty, sides) => {
+            draw_enclosed(alloc, scope, opening, ty, &sides, depth, draft, u)
+        }
+        Head::If(ty, sides) => draw_if(alloc, scope, ty, &sides, depth, draft, u),
+    }
+}
+
+/// Draws a block or loop whose type has `sides`.
+#[cycle(body)]
+fn draw_enclosed(
+    alloc: Global,
+    scope: &Scope<'_>,
+    opening: Opening,
+    ty: BlockType,
+    sides: &Sides,
+    depth: u32,
+    draft: &mut Draft,
+    u: &mut Unstructured<'_>,
+) -> Result<(), Error>
+    requires scope { IsScope (bare scope.now) }
+    requires labels { AreLabels scope.now draft.old.labels.items }
+    requires sides { AreSidesValid (bare scope.now).features (bare scope.now).types sides.now }
+    requires allowed { IsAllowedIn scope.now (opened opening ty) }
+    requires drops { 0 < length sides.now.params → IsAllowedIn scope.now instr.Drop }
+    ensures drawn { (values : List Val) → IsBlockType (bare scope.now) ty sides.now.params sides.now.results → AreBelow (bare scope.now) sides.now.results values → AreValid (bare scope.now) values → OnOk result (IsDrawn scope.now sides.now.params values (block_cost scope.now.types.now.types) draft.old draft.new) }
+    ensures less { OnOk result (draft.new.fuel ≤ draft.old.fuel) }
+    ensures memory { IfErr result (λ e. e ≡ Error.Memory) }
+    ensures left { KeepsPieces u.old u.new }
+{
+    let height = draft.set.len();
+    let label = label_of(opening, sides);
+    write_opening(alloc, opened(opening, ty), label, draft)?;
+    draw_inside(alloc, scope, sides, depth, draft, u)?;
+    write_end(height, draft)
+}
+
+fn opened(opening: Opening, ty: BlockType) -> Instr
+    ensures { result ≡ opened opening ty }
+{
+    match opening {
+        Opening::Block => Instr::Block(ty),
+        Opening::Loop => Instr::Loop(ty),
+    }
+}
+
+fn label_of<'a>(opening: Opening, sides: &'a Sides) -> &'a [ValType]
+    ensures { result.now ≡ label_of opening sides.now.params sides.now.results }
+{
+    match opening {
+        Opening::Block => sides.results.as_slice(),
+        Opening::Loop => sides.params.as_slice(),
+    }
+}
+
+/// Draws an `if` with its `else` whose type has `sides`.
+#[cycle(body)]
+fn draw_if(
+    alloc: Global,
+    scope: &Scope<'_>,
+    ty: BlockType,
+    sides: &Sides,
+    depth: u32,
+    draft: &mut Draft,
+    u: &mut Unstructured<'_>,
+) -> Result<(), Error>
+    requires scope { IsScope (bare scope.now) }
+    requires labels { AreLabels scope.now draft.old.labels.items }
+    requires sides { AreSidesValid (bare scope.now).features (bare scope.now).types sides.now }
+    requires allowed { IsAllowedIn scope.now (instr.If ty) }
+    requires drops { 0 < length sides.now.params → IsAllowedIn scope.now instr.Drop }
+    ensures drawn { (values : List Val) → IsBlockType (bare scope.now) ty sides.now.params sides.now.results → AreBelow (bare scope.now) sides.now.results values → AreValid (bare scope.now) values → OnOk result (IsDrawn scope.now (sides.now.params ++ I32 ∷ []) values (block_cost scope.now.types.now.types) draft.old draft.new) }
+    ensures less { OnOk result (draft.new.fuel ≤ draft.old.fuel) }
+    ensures memory { IfErr result (λ e. e ≡ Error.Memory) }
+    ensures left { KeepsPieces u.old u.new }
+{
+    let height = draft.set.len();
+    write_opening(alloc, Instr::If(ty), sides.results.as_slice(), draft)?;
+    draw_inside(alloc, scope, sides, depth, draft, u)?;
+    write_else(height, draft)?;
+    draw_inside(alloc, scope, sides, depth, draft, u)?;
+    write_end(height, draft)
+}
+
+/// Draws the inside of a block, from its parameters to its results.
+#[cycle(body)]
+fn draw_inside(
+    alloc: Global,
+    scope: &Scope<'_>,
+    sides: &Sides,
+    depth: u32,
+    draft: &mut Draft,
+    u: &mut Unstructured<'_>,
+) -> Result<(), Error>
+    requires scope { IsScope (bare scope.now) }
+    requires labels { AreLabels scope.now draft.old.labels.items }
+    requires params { AreValid (bare scope.now) sides.now.params }
+    requires results { AreValid (bare scope.now) sides.now.results }
+    requires drops { 0 < length sides.now.params → IsAllowedIn scope.now instr.Drop }
+    ensures drawn { OnOk result (IsDrawn scope.now sides.now.params sides.now.results (length sides.now.params + length sides.now.results) draft.old draft.new) }
+    ensures memory { IfErr result (λ e. e ≡ Error.Memory) }
+    ensures left { KeepsPieces u.old u.new }
+{
+    drop_values(sides.params.len(), draft)?;
+    draw_statements(alloc, scope, depth, draft, u)?;
+    draw_values(alloc, scope, sides.results.as_slice(), depth, draft, u)
+}
+
+/// Draws values of the types `wanted` in order.
+#[cycle(body)]
+fn draw_values(
+    alloc: Global,
+    scope: &Scope<'_>,
+    wanted: &[ValType],
+    depth: u32,
+    draft: &mut Draft,
+    u: &mut Unstructured<'_>,
+) -> Result<(), Error>
+    requires scope { IsScope (bare scope.now) }
+    requires labels { AreLabels scope.now draft.old.labels.items }
+    requires valid { AreValid (bare scope.now) wanted.now }
+    ensures drawn { OnOk result (IsDrawn scope.now [] wanted.now (length wanted.now) draft.old draft.new) }
+    ensures memory { IfErr result (λ e. e ≡ Error.Memory) }
+    ensures left { KeepsPieces u.old u.new }
+{
+    for value in wanted {
+        draw_value(alloc, scope, *value, depth, draft, u)?;
+    }
+    Ok(())
+}
+
+/// Draws instructions that leave the stack as it was, at most `depth` instructions deep.
+#[cycle(body)]
+fn draw_statement(
+    alloc: Global,
+    scope: &Scope<'_>,
+    depth: u32,
+    draft: &mut Draft,
+    u: &mut Unstructured<'_>,
+) -> Result<(), Error>
+    requires scope { IsScope (bare scope.now) }
+    requires labels { AreLabels scope.now draft.old.labels.items }
+    requires deep { 0 < depth }
+    requires paid { 0 < draft.old.fuel }
+    ensures drawn { OnOk result (IsDrawn scope.now [] [] 0 draft.old draft.new) }
+    ensures less { OnOk result (draft.new.fuel < draft.old.fuel) }
+    ensures memory { IfErr result (λ e. e ≡ Error.Memory) }
+    ensures left { KeepsPieces u.old u.new }
+{
+    let node = choose_statement(alloc, scope, draft, u)?;
+    if !is_node_allowed(scope, &node) {
+        draft.fuel = draft.fuel.saturating_sub(1);
+        return Ok(());
+    }
+    draw_node(alloc, scope, node, depth - 1, draft, u)
+}
+
+/// Draws instructions that leave the stack as it was, while there is fuel and the bytes want more.
+#[cycle(body)]
+fn draw_statements(
+    alloc: Global,
+    scope: &Scope<'_>,
+    depth: u32,
+    draft: &mut Draft,
+    u: &mut Unstructured<'_>,
+) -> Result<(), Error>
+    requires scope { IsScope (bare scope.now) }
+    requires labels { AreLabels scope.now draft.old.labels.items }
+    ensures drawn { OnOk result (IsDrawn scope.now [] [] 0 draft.old draft.new) }
+    ensures memory { IfErr result (λ e. e ≡ Error.Memory) }
+    ensures left { KeepsPieces u.old u.new }
+{
+    if depth == 0 {
+        return Ok(());
+    }
+    while draft.fuel > 0 {
+        if u.int_in_range(0..=3u8) == 0 {
+            return Ok(());
+        }
+        draw_statement(alloc, scope, depth, draft, u)?;
+    }
+    Ok(())
+}
+
+/// Draws the inside of a body, which leaves `scope`'s results.
+pub(crate) fn draw_whole(
+    alloc: Global,
+    scope: &Scope<'_>,
+    depth: u32,
+    draft: &mut Draft,
+    u: &mut Unstructured<'_>,
+) -> Result<(), Error>
+    requires scope { IsScope (bare scope.now) }
+    requires labels { AreLabels scope.now draft.old.labels.items }
+    ensures drawn { OnOk result (IsDrawn scope.now [] scope.now.results.now (length scope.now.results.now) draft.old draft.new) }
+    ensures memory { IfErr result (λ e. e ≡ Error.Memory) }
+    ensures left { KeepsPieces u.old u.new }
+{
+    draw_statements(alloc, scope, depth, draft, u)?;
+    draw_values(alloc, scope, scope.results, depth, draft, u)
+}

@@ -1,0 +1,278 @@
+ghost use Rattle.std.specs.Prelude.{◌≡◌, true, ◌<◌, ◌≤◌, ◌^◌, if◌then◌else◌, [], ◌∷◌, length, IfOk, IfErr, IfSome};
+ghost use Rattle.smith_bytes.specs.Draws.{choose_at};
+ghost use Rattle.smith_bytes.specs.Source.{KeepsPieces};
+ghost use Rattle.smith_instr.specs.Contexts.{IsValid, address};
+ghost use Rattle.smith_instr.specs.MemoryTypes.{IsAccess};
+ghost use Rattle.smith_code.specs.Nodes.{IsNode, IsOffer};
+ghost use Rattle.smith_code.specs.Offered.{is_address, is_addressed, offered};
+ghost use Rattle.smith_code.specs.Rows.{loads_of, stores};
+ghost use Rattle.smith_code.specs.Scopes.{IsScope, bare, indexed, where_stands};
+
+use crate::node::{Node, plain};
+use crate::offer::{Offer, choose_offered};
+use crate::scope::{Draft, Scope, indexed};
+use smith_bytes::{Error, Unstructured};
+use smith_instr::{Instr, Load, MemArg, MemoryInstr, Store};
+use smith_types::ValType;
+use std::alloc::Global;
+
+/// The loads that give a value of the type `wanted`.
+fn loads_of<'a>(wanted: ValType) -> &'a [Load]
+    ensures { result.now ≡ loads_of wanted }
+{
+    match wanted {
+        ValType::I32 => &[
+            Load::I32,
+            Load::I32From8S,
+            Load::I32From8U,
+            Load::I32From16S,
+            Load::I32From16U,
+        ],
+        ValType::I64 => &[
+            Load::I64,
+            Load::I64From8S,
+            Load::I64From8U,
+            Load::I64From16S,
+            Load::I64From16U,
+            Load::I64From32S,
+            Load::I64From32U,
+        ],
+        ValType::F32 => &[Load::F32],
+        ValType::F64 => &[Load::F64],
+        ValType::V128 | ValType::Ref(_) => &[],
+    }
+}
+
+fn stores<'a>() -> &'a [Store]
+    ensures { result.now ≡ stores }
+{
+    &[
+        Store::I32,
+        Store::I64,
+        Store::F32,
+        Store::F64,
+        Store::I32To8,
+        Store::I32To16,
+        Store::I64To8,
+        Store::I64To16,
+        Store::I64To32,
+    ]
+}
+
+/// Where a memory is accessed, and whether its addresses have 64 bits.
+#[derive(Clone, Copy)]
+struct Access {
+    at: MemArg,
+    wide: bool,
+}
+
+/// Draws where one of the memories is accessed, at an alignment of at most `2 ^ log2_bytes`, or none where there is no memory.
+fn draw_access(scope: &Scope<'_>, log2_bytes: u32, u: &mut Unstructured<'_>) -> Option<Access>
+    requires scope { IsScope (bare scope.now) }
+    ensures access { IfSome result (λ access. IsAccess scope.now.memories.now access.at access.wide) }
+    ensures aligned { IfSome result (λ access. access.at.align ≤ log2_bytes) }
+    ensures left { KeepsPieces u.old u.new }
+{
+    let count = indexed(scope.memories.len());
+    if count == 0 {
+        return None;
+    }
+    let index = u.int_in_range(0..=count - 1);
+    let align = u.int_in_range(0..=log2_bytes);
+    let wide = scope.memories[index].memory64;
+    let offset = draw_offset(wide, u);
+    let memory = index as u32;
+    Some(Access {
+        at: MemArg {
+            align,
+            offset,
+            memory,
+        },
+        wide,
+    })
+}
+
+fn draw_offset(wide: bool, u: &mut Unstructured<'_>) -> u64
+    ensures offset { result < (if wide then 2 ^ 64 else 2 ^ 32) }
+    ensures left { KeepsPieces u.old u.new }
+{
+    if wide {
+        return u.arbitrary();
+    }
+    let offset: u32 = u.arbitrary();
+    offset as u64
+}
+
+/// The type of an address of a memory.
+fn address(wide: bool) -> ValType
+    ensures { result ≡ address wide }
+{
+    if wide { ValType::I64 } else { ValType::I32 }
+}
+
+/// The memories whose addresses are of a wanted type.
+#[derive(Clone, Copy)]
+struct AddressOffer<'a> {
+    scope: &'a Scope<'a>,
+    wanted: ValType,
+}
+
+impl<'a> Offer for AddressOffer<'a> {
+    ghost use Rattle.std.specs.Prelude.{length};
+    ghost use Rattle.smith_code.specs.Offered.{is_addressed};
+    ghost use Rattle.smith_code.specs.Scopes.{bare, indexed};
+
+    ghost ready = { λ self. Unit {0} };
+
+    ghost size = { λ self. indexed (length self.scope.now.memories.now) };
+
+    ghost test = { λ self index. is_addressed (bare self.scope.now) self.wanted index };
+
+    fn count(&self) -> usize {
+        indexed(self.scope.memories.len())
+    }
+
+    fn is_offered(&self, index: usize) -> bool {
+        is_address(self.wanted, self.scope.memories[index].memory64)
+    }
+}
+
+fn is_address(value: ValType, wide: bool) -> bool
+    ensures { result ≡ is_address value wide }
+{
+    match value {
+        ValType::I32 => !wide,
+        ValType::I64 => wide,
+        _ => false,
+    }
+}
+
+/// Chooses a memory whose addresses are of the type `wanted`.
+fn choose_addressed(scope: &Scope<'_>, wanted: ValType, u: &mut Unstructured<'_>) -> Option<u32>
+    requires scope { IsScope (bare scope.now) }
+    ensures exact { choose_at (offered (is_addressed (bare scope.now) wanted) (indexed (length scope.now.memories.now))) u.old ≡ (result, u.new) }
+    ensures below { IfSome result (λ index. index < length scope.now.memories.now) }
+    ensures offered { IfSome result (λ index. is_addressed (bare scope.now) wanted index ≡ true) }
+    ensures left { KeepsPieces u.old u.new }
+{
+    let index = choose_offered(&AddressOffer { scope, wanted }, u)?;
+    Some(index as u32)
+}
+
+/// Chooses a load that gives a value of the type `wanted`.
+pub(crate) fn choose_load(
+    alloc: Global,
+    scope: &Scope<'_>,
+    wanted: ValType,
+    draft: &Draft,
+    u: &mut Unstructured<'_>,
+) -> Result<Option<Node>, Error>
+    requires scope { IsScope (bare scope.now) }
+    requires wanted { IsValid (bare scope.now) wanted }
+    ensures offer { IsOffer (where_stands scope.now draft.now) draft.now.set.items (wanted ∷ []) result }
+    ensures memory { IfErr result (λ e. e ≡ Error.Memory) }
+    ensures left { KeepsPieces u.old u.new }
+{
+    let rows = loads_of(wanted);
+    if rows.len() == 0 {
+        return Ok(None);
+    }
+    let op = rows[u.int_in_range(0..=rows.len() - 1)];
+    let Some(access) = draw_access(scope, op.log2_bytes(), u) else {
+        return Ok(None);
+    };
+    let node = plain(
+        alloc,
+        &[address(access.wide)],
+        Instr::Load(op, access.at),
+        0,
+    )?;
+    Ok(Some(node))
+}
+
+/// Chooses a store, or `nop` where there is no memory.
+pub(crate) fn choose_store(
+    alloc: Global,
+    scope: &Scope<'_>,
+    draft: &Draft,
+    u: &mut Unstructured<'_>,
+) -> Result<Node, Error>
+    requires scope { IsScope (bare scope.now) }
+    ensures node { IfOk result (IsNode (where_stands scope.now draft.now) draft.now.set.items []) }
+    ensures memory { IfErr result (λ e. e ≡ Error.Memory) }
+    ensures left { KeepsPieces u.old u.new }
+{
+    let rows = stores();
+    store_of(alloc, scope, rows[u.int_in_range(0..=8usize)], draft, u)
+}
+
+fn store_of(
+    alloc: Global,
+    scope: &Scope<'_>,
+    op: Store,
+    draft: &Draft,
+    u: &mut Unstructured<'_>,
+) -> Result<Node, Error>
+    requires scope { IsScope (bare scope.now) }
+    ensures node { IfOk result (IsNode (where_stands scope.now draft.now) draft.now.set.items []) }
+    ensures memory { IfErr result (λ e. e ≡ Error.Memory) }
+    ensures left { KeepsPieces u.old u.new }
+{
+    let Some(access) = draw_access(scope, op.log2_bytes(), u) else {
+        return plain(alloc, &[], Instr::Nop, 0);
+    };
+    let operands = [address(access.wide), op.value()];
+    plain(alloc, &operands, Instr::Store(op, access.at), 0)
+}
+
+/// Chooses the size or the growth of a memory, which gives a value of the type `wanted`.
+pub(crate) fn choose_memory(
+    alloc: Global,
+    scope: &Scope<'_>,
+    wanted: ValType,
+    draft: &Draft,
+    u: &mut Unstructured<'_>,
+) -> Result<Option<Node>, Error>
+    requires scope { IsScope (bare scope.now) }
+    ensures offer { IsOffer (where_stands scope.now draft.now) draft.now.set.items (wanted ∷ []) result }
+    ensures memory { IfErr result (λ e. e ≡ Error.Memory) }
+    ensures left { KeepsPieces u.old u.new }
+{
+    let Some(index) = choose_addressed(scope, wanted, u) else {
+        return Ok(None);
+    };
+    if u.arbitrary() {
+        return choose_growth(alloc, scope, wanted, index, draft);
+    }
+    choose_size(alloc, scope, wanted, index, draft)
+}
+
+fn choose_growth(
+    alloc: Global,
+    scope: &Scope<'_>,
+    wanted: ValType,
+    index: u32,
+    draft: &Draft,
+) -> Result<Option<Node>, Error>
+    requires addressed { is_addressed (bare scope.now) wanted index ≡ true }
+    ensures offer { IsOffer (where_stands scope.now draft.now) draft.now.set.items (wanted ∷ []) result }
+    ensures memory { IfErr result (λ e. e ≡ Error.Memory) }
+{
+    let node = plain(alloc, &[wanted], Instr::Memory(MemoryInstr::Grow(index)), 0)?;
+    Ok(Some(node))
+}
+
+fn choose_size(
+    alloc: Global,
+    scope: &Scope<'_>,
+    wanted: ValType,
+    index: u32,
+    draft: &Draft,
+) -> Result<Option<Node>, Error>
+    requires addressed { is_addressed (bare scope.now) wanted index ≡ true }
+    ensures offer { IsOffer (where_stands scope.now draft.now) draft.now.set.items (wanted ∷ []) result }
+    ensures memory { IfErr result (λ e. e ≡ Error.Memory) }
+{
+    let node = plain(alloc, &[], Instr::Memory(MemoryInstr::Size(index)), 0)?;
+    Ok(Some(node))
+}

@@ -1,0 +1,189 @@
+ghost use Rattle.std.specs.Prelude.{◌≡◌, ◌<◌, List, length, ◌∷◌, [], ◌++◌, replicate, Some, None, IfOk, IfErr, OnOk, IsTrue};
+ghost use Rattle.smith_types.specs.declared.value_type.ValType.{ValType as Val};
+ghost use Rattle.smith_types.specs.declared.value_type.ValType.TheVariants.{I32};
+ghost use Rattle.smith_instr.specs.declared.instr.Instr.TheVariants as instr;
+ghost use Rattle.smith_code.specs.Scopes.{IsAllowedIn};
+ghost use Rattle.smith_code.specs.Nodes.{
+  IsHeadAllowed,
+  IsNodeAllowed,
+  blocked,
+  head_instruction,
+  head_params,
+  node_of,
+  setting,
+};
+
+use crate::scope::Scope;
+use smith_bytes::Error;
+use smith_instr::{BlockType, Instr};
+use smith_types::{Items, ValType};
+use std::alloc::Global;
+
+/// The parameters and results of a block.
+#[derive(Drop)]
+pub(crate) struct Sides {
+    pub params: Items<ValType>,
+    pub results: Items<ValType>,
+}
+
+/// What opens a block, an `if` aside.
+#[derive(Clone, Copy)]
+pub(crate) enum Opening {
+    Block,
+    Loop,
+}
+
+/// What comes after operands.
+#[derive(Drop)]
+pub(crate) enum Head {
+    /// An instruction.
+    Plain(Instr),
+    /// A block or loop, with what is drawn in it.
+    Enclosed(Opening, BlockType, Sides),
+    /// An `if` with its `else`.
+    If(BlockType, Sides),
+}
+
+/// An instruction or a block, the operands that are drawn before it, and what is written after it.
+#[derive(Drop)]
+pub(crate) struct Node {
+    /// The types of the operands, in the order in which they are drawn.
+    pub operands: Items<ValType>,
+    /// What takes the operands.
+    pub head: Head,
+    /// The local that the instruction sets.
+    pub sets: Option<u32>,
+    /// How many of the results are dropped.
+    pub drops: usize,
+}
+
+/// Makes the node of `instruction`, which takes `operands`, and of whose results `drops` are dropped.
+pub(crate) fn plain(
+    alloc: Global,
+    operands: &[ValType],
+    instruction: Instr,
+    drops: usize,
+) -> Result<Node, Error>
+    ensures exact { IfOk result (λ node. node ≡ node_of operands.now instruction drops) }
+    ensures memory { IfErr result (λ e. e ≡ Error.Memory) }
+{
+    Ok(Node {
+        operands: Items::from_slice(alloc, operands)?,
+        head: Head::Plain(instruction),
+        sets: None,
+        drops,
+    })
+}
+
+/// Makes the node of `instruction`, which takes `operands` and a number above them, and of whose results `drops` are dropped.
+pub(crate) fn conditional(
+    alloc: Global,
+    operands: &[ValType],
+    instruction: Instr,
+    drops: usize,
+) -> Result<Node, Error>
+    ensures exact { IfOk result (λ node. node ≡ node_of (operands.now ++ I32 ∷ []) instruction drops) }
+    ensures memory { IfErr result (λ e. e ≡ Error.Memory) }
+{
+    let mut operands = Items::from_slice(alloc, operands)?;
+    operands.push(ValType::I32)?;
+    Ok(Node {
+        operands,
+        head: Head::Plain(instruction),
+        sets: None,
+        drops,
+    })
+}
+
+/// Makes the node of `instruction`, which sets the local `index`, of the type `value`.
+pub(crate) fn setter(
+    alloc: Global,
+    index: u32,
+    value: ValType,
+    instruction: Instr,
+) -> Result<Node, Error>
+    ensures exact { IfOk result (λ node. node ≡ setting index value instruction) }
+    ensures memory { IfErr result (λ e. e ≡ Error.Memory) }
+{
+    Ok(Node {
+        operands: Items::from_slice(alloc, &[value])?,
+        head: Head::Plain(instruction),
+        sets: Some(index),
+        drops: 0,
+    })
+}
+
+/// Makes the node of a block from `params` to `results`, an `if` where there is no other `opening`, of whose results `drops` are
+/// dropped.
+pub(crate) fn block(
+    alloc: Global,
+    opening: Option<Opening>,
+    ty: BlockType,
+    params: &[ValType],
+    results: &[ValType],
+    drops: usize,
+) -> Result<Node, Error>
+    ensures exact { IfOk result (λ node. node ≡ blocked opening ty params.now results.now drops) }
+    ensures memory { IfErr result (λ e. e ≡ Error.Memory) }
+{
+    let sides = Sides {
+        params: Items::from_slice(alloc, params)?,
+        results: Items::from_slice(alloc, results)?,
+    };
+    let mut operands = Items::from_slice(alloc, params)?;
+    let head = match opening {
+        Some(opening) => Head::Enclosed(opening, ty, sides),
+        None => {
+            operands.push(ValType::I32)?;
+            Head::If(ty, sides)
+        }
+    };
+    Ok(Node {
+        operands,
+        head,
+        sets: None,
+        drops,
+    })
+}
+
+/// Whether the instructions of `node`, its operands aside, are allowed in `scope`.
+pub(crate) fn is_node_allowed(scope: &Scope<'_>, node: &Node) -> bool
+    ensures { IsTrue result → IsNodeAllowed scope.now node.now }
+{
+    if !is_head_allowed(scope, &node.head) {
+        return false;
+    }
+    node.drops == 0 || is_allowed(scope, &Instr::Drop)
+}
+
+fn is_head_allowed(scope: &Scope<'_>, head: &Head) -> bool
+    ensures { IsTrue result → IsHeadAllowed scope.now head.now }
+{
+    match head {
+        Head::Plain(instruction) => is_allowed(scope, instruction),
+        Head::Enclosed(Opening::Block, ty, sides) => {
+            is_block_allowed(scope, &Instr::Block(*ty), sides)
+        }
+        Head::Enclosed(Opening::Loop, ty, sides) => {
+            is_block_allowed(scope, &Instr::Loop(*ty), sides)
+        }
+        Head::If(ty, sides) => is_block_allowed(scope, &Instr::If(*ty), sides),
+    }
+}
+
+fn is_block_allowed(scope: &Scope<'_>, opening: &Instr, sides: &Sides) -> bool
+    ensures opening { IsTrue result → IsAllowedIn scope.now opening.now }
+    ensures drops { IsTrue result → 0 < length sides.now.params → IsAllowedIn scope.now instr.Drop }
+{
+    if !is_allowed(scope, opening) {
+        return false;
+    }
+    sides.params.is_empty() || is_allowed(scope, &Instr::Drop)
+}
+
+/// Whether `instruction` may be used in `scope`.
+pub(crate) fn is_allowed(scope: &Scope<'_>, instruction: &Instr) -> bool
+    ensures { IsTrue result → IsAllowedIn scope.now instruction.now }
+{
+    instruction.is_enabled(scope.features, scope.kinds)
+}

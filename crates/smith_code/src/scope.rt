@@ -1,0 +1,63 @@
+ghost use Rattle.std.specs.Prelude.{◌≡◌};
+ghost use Rattle.smith_code.specs.Scopes.{indexed};
+
+use smith_instr::Instr;
+use smith_types::{
+    GlobalType, InstructionKinds, Items, MemoryType, RefType, TableType, TypeSpace, ValType,
+    WasmFeatures,
+};
+
+/// What a body may refer to, labels aside: the standard's section Validation, Contexts. Imported items come first.
+#[derive(Clone, Copy)]
+pub struct Scope<'a> {
+    /// The features that are on.
+    pub features: WasmFeatures,
+    /// The kinds of instructions that are allowed.
+    pub kinds: InstructionKinds,
+    /// The types.
+    pub types: &'a TypeSpace,
+    /// The index of the type of each function.
+    pub funcs: &'a [u32],
+    /// The number of imported functions.
+    pub imported_funcs: usize,
+    /// The type of each table.
+    pub tables: &'a [TableType],
+    /// The type of each memory.
+    pub memories: &'a [MemoryType],
+    /// The type of each global.
+    pub globals: &'a [GlobalType],
+    /// The index of the type of each tag.
+    pub tags: &'a [u32],
+    /// The type of each element segment.
+    pub elements: &'a [RefType],
+    /// The number of data segments.
+    pub datas: usize,
+    /// The functions that `ref.func` may name.
+    pub references: &'a [u32],
+    /// The types of the locals, the parameters first.
+    pub locals: &'a [ValType],
+    /// The number of parameters.
+    pub params: usize,
+    /// The types of the results.
+    pub results: &'a [ValType],
+}
+
+/// A body that is being drawn.
+#[derive(Drop)]
+pub(crate) struct Draft {
+    /// The instructions so far.
+    pub out: Items<Instr>,
+    /// The locals that were set so far, and still are where the body goes on.
+    pub set: Vec<u32>,
+    /// What a branch to each label takes, the innermost label first.
+    pub labels: Vec<Items<ValType>>,
+    /// How many instructions may yet be chosen that have operands.
+    pub fuel: usize,
+}
+
+/// Of `count` items, the number of those that have an index of 32 bits.
+pub(crate) fn indexed(count: usize) -> usize
+    ensures { result ≡ indexed count }
+{
+    count.min(0xffff_ffff)
+}
