@@ -15,7 +15,8 @@ use Rattle.smith_types.specs.declared.value_type.ValType.TheVariants.{I32, I64, 
 use Rattle.smith_types.specs.declared.composite_type.CompositeInnerType.{CompositeInnerType}
 use Rattle.smith_types.specs.declared.composite_type.SubType.{SubType}
 use Rattle.smith_draw.specs.ConstScopes.{IsScope}
-use Rattle.smith_draw.specs.ConstOffers.{past, each_from, offered_if, is_defaultable, is_integer, global_offers, function_offers, type_offers, types_offers, conversions, other_offers, created_offers, reference_offers, offers}
+use Rattle.smith_draw.specs.ConstOffers.{past, each_from, offered_if, is_integer, global_offers, function_offers, type_offers, types_offers, conversions, other_offers, created_offers, reference_offers, offers}
+use Rattle.smith_types.specs.Grounded.{is_defaultable}
 use Rattle.smith_draw.specs.declared.const_expr.node_choice.Choice.{Choice}
 use Rattle.smith_draw.specs.declared.const_expr.node_choice.Choice.TheVariants as choice
 

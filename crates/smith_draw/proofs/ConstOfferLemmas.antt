@@ -29,7 +29,9 @@ use Rattle.smith_types.specs.declared.const_instr.ConstInstr.TheVariants as inst
 use Rattle.smith_draw.specs.Constants.{constant_at}
 use Rattle.smith_draw.specs.Below.{is_val_below}
 use Rattle.smith_draw.specs.ConstScopes.{IsScope, fields_of}
-use Rattle.smith_draw.specs.ConstOffers.{each_from, offered_if, is_defaultable, are_defaultable, is_integer, global_offers, function_offers, struct_ways, array_ways, type_offers, types_offers, conversions, other_offers, created_offers, reference_offers, constant_offers, offers}
+use Rattle.smith_draw.specs.ConstOffers.{each_from, offered_if, is_integer, global_offers, function_offers, struct_ways, array_ways, type_offers, types_offers, conversions, other_offers, created_offers, reference_offers, constant_offers, offers}
+use Rattle.smith_types.proofs.GroundedLemmas.{default_for, defaults_each}
+use Rattle.smith_types.specs.Grounded.{is_defaultable, are_defaultable}
 use Rattle.smith_draw.specs.ConstNodes.{field_operands, repeated, is_shared_heap, node_of, node_at}
 use Rattle.smith_draw.specs.ConstBounds.{widest, field_count, IsNonNullable, MayLack, MayRefuseConstExpr}
 use Rattle.smith_draw.specs.ConstSteps.{operand_type, IsNode, IsFit}
@@ -102,20 +104,6 @@ widest_at (u ∷ types) (suc i) t at = let more = widest_at types i t at in omeg
 types_of : (values : List ValType) → map operand_type (map Value values) ≡ values
 types_of [] = refl
 types_of (value ∷ values) = ap (λ (vs : List ValType). value ∷ vs) (types_of values)
-
-default_for : (value : ValType) → is_defaultable value ≡ true → IsDefaultable value
-default_for (Ref reference) e = e
-default_for I32 e = tt
-default_for I64 e = tt
-default_for F32 e = tt
-default_for F64 e = tt
-default_for V128 e = tt
-
-defaults_each : (fields : List FieldType) → are_defaultable fields ≡ true → Each IsDefaultable (field_values fields)
-defaults_each [] e = tt
-defaults_each (field ∷ fields) e =
-    let (p, q) = both (is_defaultable (unpacked field.element_type)) (are_defaultable fields) e in
-    (default_for (unpacked field.element_type) p, defaults_each fields q)
 
 module _ (context : Context) (wanted : ValType) (fuel : ℕ) (scope : IsScope context) (valid : IsValTypeValid context.features (length context.types) wanted) where
   below : (value : ValType) → is_val_below context.types value wanted ≡ true → IsValBelow context.types value wanted

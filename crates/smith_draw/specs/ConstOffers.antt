@@ -1,6 +1,5 @@
 -- What is offered where a constant expression of a type is drawn, in order. Rules of this project.
 use Rattle.std.specs.Prelude.{ℕ, zero, suc, Result, Ok, Err, ◌+◌, Bool, true, false, not, ◌&&◌, ◌||◌, ◌==◌, nat_lt, List, [], ◌∷◌, ◌++◌, length, take, if◌then◌else◌}
-use Rattle.std.specs.List.{list_all}
 use Rattle.smith_types.specs.declared.value_type.AbstractHeapType.TheVariants as heap
 use Rattle.smith_types.specs.declared.value_type.HeapType.{HeapType}
 use Rattle.smith_types.specs.declared.value_type.HeapType.TheVariants.{Abstract}
@@ -13,6 +12,7 @@ use Rattle.smith_types.specs.declared.composite_type.FieldType.{FieldType}
 use Rattle.smith_types.specs.declared.composite_type.SubType.{SubType}
 use Rattle.smith_types.specs.declared.entity_type.GlobalType.{GlobalType}
 use Rattle.smith_types.specs.Expressions.{Context, reference_to, created, function_reference, unpacked}
+use Rattle.smith_types.specs.Grounded.{is_defaultable, are_defaultable}
 use Rattle.smith_draw.specs.Below.{is_val_below}
 use Rattle.smith_draw.specs.declared.const_expr.node_choice.Choice.{Choice}
 use Rattle.smith_draw.specs.declared.const_expr.node_choice.Choice.TheVariants as choice
@@ -25,15 +25,6 @@ each_from offer start (x ∷ xs) = offer start x ++ each_from offer (start + 1) 
 -- an item, if it is offered
 abbrev pub offered_if : {B : Type 0} → Bool → B → List B
 offered_if offered x = if offered then x ∷ [] else []
-
--- a value type that has a default (Validation, Value Types, Defaultable)
-abbrev pub is_defaultable : ValType → Bool
-is_defaultable (Ref reference) = reference.nullable
-is_defaultable _ = true
-
--- the fields have defaults
-abbrev pub are_defaultable : List FieldType → Bool
-are_defaultable fields = list_all (λ (field : FieldType). is_defaultable (unpacked field.element_type)) fields
 
 -- an integer of 32 or 64 bits
 abbrev pub is_integer : ValType → Bool

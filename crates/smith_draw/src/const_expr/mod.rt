@@ -17,7 +17,6 @@ ghost use Rattle.smith_draw.specs.ConstBounds.{most_instructions, MayRefuseConst
 ghost use Rattle.smith_draw.specs.ConstFloats.{GivesNoFloat};
 
 mod constant;
-mod defaults;
 mod drawn;
 mod extended;
 mod found;

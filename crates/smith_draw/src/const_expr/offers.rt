@@ -1,14 +1,13 @@
 ghost use Rattle.std.specs.Prelude.{◌≡◌, ◌<◌, ◌++◌, [], ◌∷◌, length, take, Some, IfOk, IfErr};
 ghost use Rattle.smith_types.specs.Subtyping.{IsValInRange};
 ghost use Rattle.smith_types.specs.Expressions.{unpacked};
+ghost use Rattle.smith_types.specs.Grounded.{is_defaultable, are_defaultable};
 ghost use Rattle.smith_types.specs.declared.value_type.ValType.TheVariants.{Ref};
 ghost use Rattle.smith_draw.specs.ConstScopes.{context_of, IsScope};
 ghost use Rattle.smith_draw.specs.ConstOffers.{
   past,
   each_from,
   offered_if,
-  is_defaultable,
-  are_defaultable,
   is_integer,
   global_offers,
   function_offers,
@@ -27,11 +26,13 @@ ghost use Rattle.smith_draw.specs.ConstOffers.{
 // Each function goes past the choices of one kind, and counts `place` from the first of these. The choice at `place` is answered
 // as an `Err`, with which a `?` leaves. Where `place` lies behind the last of these choices, how far is answered.
 
-use super::defaults::{are_defaultable, is_defaultable, unpacked};
 use super::node_choice::Choice;
 use super::references::{function_reference, gives, i31, is_below};
 use super::scope::Scope;
-use smith_types::{AbstractHeapType, CompositeInnerType, FieldType, HeapType, RefType, ValType};
+use smith_types::{
+    AbstractHeapType, CompositeInnerType, FieldType, HeapType, RefType, ValType, are_defaultable,
+    is_defaultable, unpacked,
+};
 
 /// Goes past all that is offered where a value of the type `wanted` is drawn.
 #[tactic(auto, unfolding(crate::specs::ConstOffers::past))]
