@@ -7,6 +7,7 @@ ghost use Rattle.smith_types.specs.declared.segments.Elements.TheVariants as lis
 ghost use Rattle.smith_types.specs.declared.value_type.RefType.{RefType};
 ghost use Rattle.smith_types.specs.declared.value_type.ValType.TheVariants.{Ref};
 ghost use Rattle.smith_config.specs.Sanitized.{IsSanitized};
+ghost use Rattle.smith_draw.specs.Grounding.{standing_in};
 ghost use Rattle.smith_draw.specs.ConstBounds.{MayRefuseConstExpr};
 ghost use Rattle.smith_draw.specs.ConstFloats.{GivesNoFloat};
 ghost use Rattle.smith_draw.specs.ConstScopes.{AreSpacesValid, seen_by};
@@ -44,7 +45,7 @@ fn draw_type_for(
     u: &mut Unstructured<'_>,
 ) -> Result<RefType, Error>
     requires { IsSanitized config.now }
-    ensures { Draws (item_type_at config.now spaces.now.types.now.types choice u.old) result u.old u.new }
+    ensures { Draws (item_type_at config.now (standing_in config.now spaces.now) choice u.old) result u.old u.new }
 {
     let limit = spaces.types.types().len() as u32;
     match choice {
@@ -65,7 +66,7 @@ pub(crate) fn draw_item_type(
 ) -> Result<RefType, Error>
     requires may { MayDrawElements config.now spaces.now }
     requires offered { IsOffered config.now spaces.now.types.now.types spaces.now.entities.tables.now choice }
-    ensures draws { Draws (item_type_at config.now spaces.now.types.now.types choice u.old) result u.old u.new }
+    ensures draws { Draws (item_type_at config.now (standing_in config.now spaces.now) choice u.old) result u.old u.new }
     ensures may { IfOk result (MayHoldItems config.now spaces.now) }
     ensures fits { IfOk result (FitsTable spaces.now.types.now.types choice) }
     ensures needed { IfOk result (λ ty. ty.nullable ≡ false → HasNonNullableElements spaces.now.entities.tables.now) }

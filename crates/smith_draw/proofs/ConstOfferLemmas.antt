@@ -26,10 +26,11 @@ use Rattle.smith_types.specs.declared.composite_type.SubType.{SubType}
 use Rattle.smith_types.specs.declared.entity_type.GlobalType.{GlobalType}
 use Rattle.smith_types.specs.declared.const_instr.ConstInstr.{ConstInstr}
 use Rattle.smith_types.specs.declared.const_instr.ConstInstr.TheVariants as instr
+use Rattle.smith_config.specs.declared.config.Config.{Config}
 use Rattle.smith_draw.specs.Constants.{constant_at}
 use Rattle.smith_draw.specs.Below.{is_val_below}
 use Rattle.smith_draw.specs.ConstScopes.{IsScope, fields_of}
-use Rattle.smith_draw.specs.ConstOffers.{each_from, offered_if, is_integer, global_offers, function_offers, struct_ways, array_ways, type_offers, types_offers, conversions, other_offers, created_offers, reference_offers, constant_offers, offers}
+use Rattle.smith_draw.specs.ConstOffers.{each_from, offered_if, is_integer, global_offers, function_offers, struct_ways, array_ways, type_offers, types_offers, conversions_to, conversions, other_offers, created_offers, reference_offers, constant_offers, offers}
 use Rattle.smith_types.proofs.GroundedLemmas.{default_for, defaults_each}
 use Rattle.smith_types.specs.Grounded.{is_defaultable, are_defaultable}
 use Rattle.smith_draw.specs.ConstNodes.{field_operands, repeated, is_shared_heap, node_of, node_at}
@@ -336,8 +337,8 @@ module _ (context : Context) (wanted : ValType) (fuel : ℕ) (scope : IsScope co
       }
 
 -- what is offered of a reference
-module _ (context : Context) (r : RefType) (fuel : ℕ) (scope : IsScope context) (valid : IsValTypeValid context.features (length context.types) (Ref r)) where
-  conversions_fit : IsTrue context.features.gc → 0 < fuel → (h : HeapType) → r.heap_type ≡ h → Each (IsFit context (Ref r) fuel) (conversions h)
+module _ (config : Config) (context : Context) (r : RefType) (fuel : ℕ) (scope : IsScope context) (valid : IsValTypeValid context.features (length context.types) (Ref r)) where
+  conversions_fit : IsTrue context.features.gc → 0 < fuel → (h : HeapType) → r.heap_type ≡ h → Each (IsFit context (Ref r) fuel) (conversions_to h)
   unfolding node_at Calm
   conversions_fit on paid (Abstract shared heap.Any) is =
       let three = widest_three context.types in
@@ -367,43 +368,43 @@ module _ (context : Context) (r : RefType) (fuel : ℕ) (scope : IsScope context
       )
   conversions_fit on paid h is = tt
 
-  others_fit : IsTrue context.features.gc → Each (IsFit context (Ref r) fuel) (other_offers context r fuel)
+  others_fit : IsTrue context.features.gc → Each (IsFit context (Ref r) fuel) (other_offers config context r fuel)
   others_fit on =
       let first = is_val_below context.types (reference_to (Abstract false heap.I31)) (Ref r) in
       let second = is_val_below context.types (reference_to (Abstract true heap.I31)) (Ref r) in
       let shared = context.features.shared_everything_threads in
-      each_cond (IsFit context (Ref r) fuel) (nat_lt 0 fuel) (offered_if first choice.I31 ++ (offered_if (shared && second) choice.SharedI31 ++ conversions r.heap_type)) (λ enough.
+      each_cond (IsFit context (Ref r) fuel) (nat_lt 0 fuel) (offered_if first choice.I31 ++ (offered_if (shared && second) choice.SharedI31 ++ conversions config r)) (λ enough.
       let paid : 0 < fuel = some_fuel context (Ref r) fuel scope valid fuel enough in
-      each_join (IsFit context (Ref r) fuel) (offered_if first choice.I31) (offered_if (shared && second) choice.SharedI31 ++ conversions r.heap_type)
+      each_join (IsFit context (Ref r) fuel) (offered_if first choice.I31) (offered_if (shared && second) choice.SharedI31 ++ conversions config r)
       (each_if (IsFit context (Ref r) fuel) first choice.I31 (λ lower. i31_fits context (Ref r) fuel scope valid on paid lower))
-      (each_join (IsFit context (Ref r) fuel) (offered_if (shared && second) choice.SharedI31) (conversions r.heap_type)
+      (each_join (IsFit context (Ref r) fuel) (offered_if (shared && second) choice.SharedI31) (conversions config r)
       (each_if (IsFit context (Ref r) fuel) (shared && second) choice.SharedI31 (λ yes. let (may, lower) = both shared second yes in shared_i31_fits context (Ref r) fuel scope valid on may paid lower))
-      (conversions_fit on paid r.heap_type refl)))
+      (each_cond (IsFit context (Ref r) fuel) (r.nullable || not config.non_nullable_enabled) (conversions_to r.heap_type) (λ _. conversions_fit on paid r.heap_type refl))))
 
-  created_fit : IsTrue context.features.gc → Each (IsFit context (Ref r) fuel) (created_offers context r fuel)
+  created_fit : IsTrue context.features.gc → Each (IsFit context (Ref r) fuel) (created_offers config context r fuel)
   created_fit on =
       let arrays = types_offers context (Ref r) fuel true in
-      each_join (IsFit context (Ref r) fuel) (types_offers context (Ref r) fuel false) (arrays ++ other_offers context r fuel) (types_fit context (Ref r) fuel scope valid on false)
-      (each_join (IsFit context (Ref r) fuel) arrays (other_offers context r fuel) (types_fit context (Ref r) fuel scope valid on true) (others_fit on))
+      each_join (IsFit context (Ref r) fuel) (types_offers context (Ref r) fuel false) (arrays ++ other_offers config context r fuel) (types_fit context (Ref r) fuel scope valid on false)
+      (each_join (IsFit context (Ref r) fuel) arrays (other_offers config context r fuel) (types_fit context (Ref r) fuel scope valid on true) (others_fit on))
 
-references_fit : (context : Context) (wanted : ValType) (fuel : ℕ) → IsScope context → IsValTypeValid context.features (length context.types) wanted → Each (IsFit context wanted fuel) (reference_offers context wanted fuel)
-references_fit context (Ref r) fuel scope valid =
-    each_join (IsFit context (Ref r) fuel) (each_from (function_offers context (Ref r)) 0 context.funcs) (cond context.features.gc (created_offers context r fuel) [])
+references_fit : (config : Config) (context : Context) (wanted : ValType) (fuel : ℕ) → IsScope context → IsValTypeValid context.features (length context.types) wanted → Each (IsFit context wanted fuel) (reference_offers config context wanted fuel)
+references_fit config context (Ref r) fuel scope valid =
+    each_join (IsFit context (Ref r) fuel) (each_from (function_offers context (Ref r)) 0 context.funcs) (cond context.features.gc (created_offers config context r fuel) [])
     (functions_fit context (Ref r) fuel scope valid valid.0)
-    (each_cond (IsFit context (Ref r) fuel) context.features.gc (created_offers context r fuel) (λ on. created_fit context r fuel scope valid on))
-references_fit context I32 fuel scope valid = tt
-references_fit context I64 fuel scope valid = tt
-references_fit context F32 fuel scope valid = tt
-references_fit context F64 fuel scope valid = tt
-references_fit context V128 fuel scope valid = tt
+    (each_cond (IsFit context (Ref r) fuel) context.features.gc (created_offers config context r fuel) (λ on. created_fit config context r fuel scope valid on))
+references_fit config context I32 fuel scope valid = tt
+references_fit config context I64 fuel scope valid = tt
+references_fit config context F32 fuel scope valid = tt
+references_fit config context F64 fuel scope valid = tt
+references_fit config context V128 fuel scope valid = tt
 
 -- whatever is offered fits
-pub offers_fit : (context : Context) (wanted : ValType) (fuel : ℕ) → IsScope context → IsValTypeValid context.features (length context.types) wanted → Each (IsFit context wanted fuel) (offers context wanted fuel)
+pub offers_fit : (config : Config) (context : Context) (wanted : ValType) (fuel : ℕ) → IsScope context → IsValTypeValid context.features (length context.types) wanted → Each (IsFit context wanted fuel) (offers config context wanted fuel)
 unfolding offers
-offers_fit context wanted fuel scope valid =
-    each_join (IsFit context wanted fuel) (each_from (global_offers context wanted) 0 (take context.visible context.globals)) (constant_offers context wanted ++ reference_offers context wanted fuel)
+offers_fit config context wanted fuel scope valid =
+    each_join (IsFit context wanted fuel) (each_from (global_offers context wanted) 0 (take context.visible context.globals)) (constant_offers context wanted ++ reference_offers config context wanted fuel)
     (globals_fit context wanted fuel scope valid)
-    (each_join (IsFit context wanted fuel) (constant_offers context wanted) (reference_offers context wanted fuel) (constants_fit context wanted fuel scope valid) (references_fit context wanted fuel scope valid))
+    (each_join (IsFit context wanted fuel) (constant_offers context wanted) (reference_offers config context wanted fuel) (constants_fit context wanted fuel scope valid) (references_fit config context wanted fuel scope valid))
 
 -- a chosen item is one of the list
 pub chosen_each : {A : Type 0} (P : A → Type 0) (items : List A) (n : ℕ) (x : A) → Each P items → slice_get items n ≡ Some x → P x
@@ -412,10 +413,10 @@ chosen_each P (y ∷ items) zero x (p, h) at = subst P (same_Some y x at) p
 chosen_each P (y ∷ items) (suc n) x (p, h) at = chosen_each P items n x h at
 
 -- the choice among what is offered fits
-pub chosen_fits : (context : Context) (wanted : ValType) (fuel : ℕ) → IsScope context → IsValTypeValid context.features (length context.types) wanted → (items : List Choice) → items ≡ offers context wanted fuel → (bytes after : List ℕ) (x : Choice) → choose_at items bytes ≡ (Some x, after) → IsFit context wanted fuel x
+pub chosen_fits : (config : Config) (context : Context) (wanted : ValType) (fuel : ℕ) → IsScope context → IsValTypeValid context.features (length context.types) wanted → (items : List Choice) → items ≡ offers config context wanted fuel → (bytes after : List ℕ) (x : Choice) → choose_at items bytes ≡ (Some x, after) → IsFit context wanted fuel x
 unfolding choose_at
-chosen_fits context wanted fuel scope valid items is bytes after x chosen =
-    chosen_each (IsFit context wanted fuel) items (range_at 0 (length items - 1) bytes).0 x (subst (Each (IsFit context wanted fuel)) (sym is) (offers_fit context wanted fuel scope valid)) (ap (λ (d : Option Choice × List ℕ). d.0) chosen)
+chosen_fits config context wanted fuel scope valid items is bytes after x chosen =
+    chosen_each (IsFit context wanted fuel) items (range_at 0 (length items - 1) bytes).0 x (subst (Each (IsFit context wanted fuel)) (sym is) (offers_fit config context wanted fuel scope valid)) (ap (λ (d : Option Choice × List ℕ). d.0) chosen)
 
 constants_some : (context : Context) (value : ValType) (before behind : List Choice) → is_defaultable value ≡ true → 0 < length (before ++ (constant_offers context value ++ behind))
 constants_some context value [] behind default = rw default (omega arith)
@@ -434,7 +435,7 @@ lacking context (Ref r) before behind none = not_true r.nullable (λ default. le
     not_true false h = refl
 
 -- nothing is offered only for a reference that may not be null
-pub nothing_offered : (context : Context) (wanted : ValType) (fuel : ℕ) (items : List Choice) (e : Error) → items ≡ offers context wanted fuel → length items ≡ 0 → e ≡ EmptyChoose → MayRefuseConstExpr context.types wanted e
+pub nothing_offered : (config : Config) (context : Context) (wanted : ValType) (fuel : ℕ) (items : List Choice) (e : Error) → items ≡ offers config context wanted fuel → length items ≡ 0 → e ≡ EmptyChoose → MayRefuseConstExpr context.types wanted e
 unfolding offers
-nothing_offered context wanted fuel items e is none empty =
-    inr (empty, inl (lacking context wanted (each_from (global_offers context wanted) 0 (take context.visible context.globals)) (reference_offers context wanted fuel) (rw is at none)))
+nothing_offered config context wanted fuel items e is none empty =
+    inr (empty, inl (lacking context wanted (each_from (global_offers context wanted) 0 (take context.visible context.globals)) (reference_offers config context wanted fuel) (rw is at none)))

@@ -38,6 +38,7 @@ pub mod PlaceLemmas
 pub mod TypeUseLemmas
 pub mod MemoryLemmas
 pub mod BelowLemmas
+pub mod GroundingLemmas
 pub mod ReadableLemmas
 pub mod ConstScopeLemmas
 pub mod ConstOfferLemmas

@@ -9,6 +9,7 @@ use Rattle.smith_types.specs.declared.value_type.ValType.TheVariants.{I32, I64}
 use Rattle.smith_types.specs.declared.const_instr.ConstInstr.{ConstInstr}
 use Rattle.smith_bytes.specs.declared.error.Error.{Error}
 use Rattle.smith_bytes.specs.declared.error.Error.TheVariants as errors
+use Rattle.smith_config.specs.declared.config.Config.{Config}
 use Rattle.smith_draw.specs.Putting.{Puts}
 use Rattle.smith_draw.specs.ConstBounds.{widest, MayLack}
 use Rattle.smith_draw.specs.ConstNodes.{is_extended, node_at}
@@ -53,5 +54,5 @@ Reads (Err errors.EmptyChoose) new read = read ≡ None
 Reads (Err _) new read = ⊥
 
 -- a value, by its definition at whatever depth above the fuel
-pub record ReadsValue (context : Context) (limited : Bool) (wanted : ValType) (old new : State) (result : Result (Unit {0}) Error) : Type 0 where
-  pub exact : (depth : ℕ) → old.fuel < depth → Reads result new (expression_at context limited depth wanted old)
+pub record ReadsValue (context : Context) (config : Config) (wanted : ValType) (old new : State) (result : Result (Unit {0}) Error) : Type 0 where
+  pub exact : (depth : ℕ) → old.fuel < depth → Reads result new (expression_at context config depth wanted old)

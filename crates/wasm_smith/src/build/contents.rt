@@ -16,6 +16,7 @@ ghost use Rattle.smith_imports.specs.Steps.{Gives};
 
 use crate::build::drawn::Drawn;
 use crate::build::section_flag::draw_section_flag;
+use crate::build::segment_spaces::segment_spaces;
 use crate::build::segments::{Segments, draw_segments};
 use smith_bytes::{Error, Unstructured};
 use smith_config::Config;
@@ -90,7 +91,10 @@ pub(crate) fn draw_behind_exports(
     let encodes_types = draw_section_flag(types.types().len(), u);
     let start = arbitrary_start(config, types.types(), imported.spaces.funcs.as_slice(), u);
     let segments = draw_segments(alloc, config, types, imported, definitions, u)?;
-    let code = arbitrary_bodies(alloc, config, types, definitions.num_funcs, u)?;
+    let imported_funcs = imported.spaces.funcs.len() - definitions.num_funcs;
+    let imported_globals = imported.spaces.globals.len() - definitions.globals.len();
+    let spaces = segment_spaces(types, &imported.spaces, imported_funcs, imported_globals);
+    let code = arbitrary_bodies(alloc, config, &spaces, definitions.num_funcs, u)?;
     Ok(Contents {
         exports: made.exports,
         type_size: made.type_size,
