@@ -1,20 +1,23 @@
 -- The test of what is grounded decides it, over orderly types.
-use Rattle.std.proofs.Common.{◌≡◌, ◌⊎◌, inl, inr, ℕ, zero, suc, ◌+◌, ◌<◌, Bool, true, false, cond, ◌&&◌, ◌||◌, List, [], ◌∷◌, Some, length, refl, sym, subst, ◌∙◌, arith, nat_lt}
-use Rattle.std.specs.Prelude.{IsTrue, slice_get, nat_le}
+use Rattle.std.proofs.Common.{◌≡◌, ◌⊎◌, inl, inr, ℕ, zero, suc, ◌+◌, ◌<◌, Bool, true, false, cond, ◌&&◌, ◌||◌, List, [], ◌∷◌, Some, length, drop, refl, sym, subst, ◌∙◌, arith, nat_lt}
+use Rattle.std.specs.Prelude.{IsTrue, ◌↔◌, slice_get, nat_le}
 use Rattle.std.specs.Bool.{Decides}
-use Rattle.std.proofs.lemmas.Bool.{lt-ltb, ltb-true}
+use Rattle.std.proofs.lemmas.Bool.{lt-ltb, le-ltb, ltb-true}
+use Rattle.std.proofs.lemmas.Bool.Decides.{same_from_decides}
 use Rattle.std.proofs.lemmas.Option.{slice_get_within}
 use Rattle.smith_types.specs.Expressions.{Context, created, function_reference, reference_to}
 use Rattle.smith_types.specs.Grounded.{IsGroundedByStructs, IsGroundedByFuncs, IsGrounded}
 use Rattle.smith_types.specs.Grounds.{is_ground}
-use Rattle.smith_types.specs.Subtyping.{IsInRange, IsValInRange, IsValBelow}
+use Rattle.smith_types.specs.Subtyping.{IsBelow, IsInRange, IsValInRange, IsValBelow}
 use Rattle.smith_types.specs.Types.{IsOrderly}
 use Rattle.smith_types.specs.declared.value_type.HeapType.{HeapType}
 use Rattle.smith_types.specs.declared.value_type.HeapType.TheVariants.{Concrete, Exact}
+use Rattle.smith_types.specs.declared.value_type.ValType.{ValType}
 use Rattle.smith_types.specs.declared.composite_type.SubType.{SubType}
 use Rattle.smith_types.proofs.GroundedLemmas.{grounded_at, grounded_is}
 use Rattle.smith_draw.specs.Below.{is_val_below}
 use Rattle.smith_draw.specs.Grounding.{any_from, type_grounds, function_grounds, is_grounded}
+use Rattle.smith_draw.proofs.GroundedLoop.{left_from, none_left}
 use Rattle.smith_draw.proofs.BelowLemmas.{val_decides, heap_decides}
 use Rattle.smith_draw.proofs.StandingLemmas.{val_stands, val_above_stands}
 
@@ -186,3 +189,50 @@ false_where false no = refl
 -- no heap type that does not stand is grounded
 pub ungrounded : (context : Context) (ty : HeapType) → IsOrderly context.types → (IsInRange context.types ty → ⊥) → false ≡ is_grounded context ty
 ungrounded context ty orderly outside = false_where (is_grounded context ty) (λ e. outside (grounded_stands context ty orderly e))
+
+-- what the code finds out: by struct types first, then by functions
+pub by_structs : (context : Context) (ty : HeapType) → IsOrderly context.types → IsGroundedByStructs context.types context.features.custom_descriptors ty → true ≡ is_grounded context ty
+unfolding is_grounded
+by_structs context ty orderly structs =
+    sym (left_is (any_from (type_grounds context ty) 0 context.types) (any_from (function_grounds context ty) 0 context.funcs) ((structs_decide context ty orderly).1 structs))
+
+or_right : (a b r : Bool) → (a ≡ true → ⊥) → r ≡ b → r ≡ (a || b)
+or_right true b r no e = absurd (no refl)
+or_right false b r no e = e
+
+pub by_functions : (context : Context) (ty : HeapType) (r : Bool) → IsOrderly context.types → (IsGroundedByStructs context.types context.features.custom_descriptors ty → ⊥) → r ≡ any_from (function_grounds context ty) 0 context.funcs → r ≡ is_grounded context ty
+unfolding is_grounded
+by_functions context ty r orderly none e =
+    or_right (any_from (type_grounds context ty) 0 context.types) (any_from (function_grounds context ty) 0 context.funcs) r (λ on. none ((structs_decide context ty orderly).0 on)) e
+
+-- turns of the loop over functions
+module _ {A : Type 0} (test : ℕ → A → Bool) (xs : List A) (n : ℕ) where
+  pub any_here : (x : A) → slice_get xs n ≡ Some x → test n x ≡ true → any_from test n (drop n xs) ≡ any_from test 0 xs → true ≡ any_from test 0 xs
+  any_here x at on h =
+      let here : any_from test n (drop n xs) ≡ true = rw (left_from xs n x at) (left_is (test n x) (any_from test (n + 1) (drop (n + 1) xs)) on) in
+      sym here ∙ h
+
+  pub any_later : (x : A) → slice_get xs n ≡ Some x → test n x ≡ false → any_from test n (drop n xs) ≡ any_from test 0 xs → any_from test (n + 1) (drop (n + 1) xs) ≡ any_from test 0 xs
+  any_later x at off h =
+      let rest = any_from test (n + 1) (drop (n + 1) xs) in
+      let here : any_from test n (drop n xs) ≡ rest = rw (left_from xs n x at) (or_off (test n x) rest off) in
+      sym here ∙ h
+    where
+      or_off : (a b : Bool) → a ≡ false → (a || b) ≡ b
+      or_off true b e = cc
+      or_off false b e = refl
+
+  pub any_never : length xs ≤ n → any_from test n (drop n xs) ≡ any_from test 0 xs → false ≡ any_from test 0 xs
+  any_never le h =
+      let here : any_from test n (drop n xs) ≡ false = rw (none_left xs n le) refl in
+      sym here ∙ h
+
+-- a function of no type that stands grounds nothing, and another where the reference to it is below
+pub outside_grounds : (context : Context) (ty : HeapType) (function index : ℕ) → length context.types ≤ index → false ≡ function_grounds context ty function index
+outside_grounds context ty function index le = rw (le-ltb index (length context.types) le) refl
+
+pub inside_grounds : (context : Context) (ty reference : HeapType) (function index : ℕ) (r : Bool) → IsOrderly context.types → index < length context.types → reference_to reference ≡ function_reference context function index
+    → IsTrue r ↔ IsBelow context.types reference ty → r ≡ function_grounds context ty function index
+inside_grounds context ty reference function index r orderly inside same decides =
+    let tested : r ≡ is_val_below context.types (reference_to reference) (reference_to ty) = same_from_decides r _ decides (heap_decides context.types orderly reference ty) in
+    rw (lt-ltb index (length context.types) inside) (subst (λ (v : ValType). r ≡ is_val_below context.types v (reference_to ty)) same tested)

@@ -8,6 +8,7 @@ pub mod OfferedPlaceLemmas
 pub mod HeapTypeLemmas
 pub mod SharedLemmas
 pub mod StandingLemmas
+pub mod GroundedLoop
 pub mod MatchingLemmas
 pub mod ChosenLemmas
 pub mod ValueTypeLemmas

@@ -1,8 +1,8 @@
 -- Drawn types that match a type are below it, and drawn supertypes above; both are valid where it is.
-use Rattle.std.proofs.Common.{◌≡◌, ℕ, ◌≤◌, Bool, true, false, cond, List, [], ◌∷◌, length, refl, arith}
+use Rattle.std.proofs.Common.{◌≡◌, ◌⊎◌, inl, inr, ℕ, ◌≤◌, Bool, true, false, cond, List, [], ◌∷◌, length, drop, refl, sym, subst, arith}
 use Rattle.std.specs.Prelude.{All, IsTrue, filter, not, ◌||◌}
 use Rattle.std.specs.List.{AllByRecursion as Each}
-use Rattle.std.proofs.lemmas.List.Elements.{All-filter, All-from_recursion, recursion_from_All}
+use Rattle.std.proofs.lemmas.List.Elements.{All-filter, All-weaker, filter_passes, All-from_recursion, recursion_from_All}
 use Rattle.smith_types.specs.Expressions.{Context}
 use Rattle.smith_types.specs.declared.value_type.RefType.{RefType}
 use Rattle.smith_types.specs.declared.value_type.ValType.{ValType}
@@ -25,6 +25,7 @@ use Rattle.smith_draw.specs.Offered.{gc_subtypes, subtypes_offered}
 use Rattle.smith_draw.specs.MatchingTypes.{first_and_passing, references_offered, each_at, matching_ref_type_at, matching_val_type_at, matching_storage_type_at, matching_field_type_at, matched_fields_at, super_ref_type_at, super_val_type_at, matching_func_type_at}
 use Rattle.smith_bytes.proofs.GrownLemmas.{cond_both}
 use Rattle.smith_types.specs.declared.value_type.HeapType.{HeapType}
+use Rattle.smith_draw.proofs.ChosenLemmas.{gc_first}
 use Rattle.smith_draw.proofs.EnabledLemmas.{chosen_is}
 use Rattle.smith_draw.proofs.HeapTypeLemmas.{offered_each, gc_subtypes_below, gc_subtypes_valid, super_heap_above, super_heap_valid}
 
@@ -88,6 +89,33 @@ matching_ref_valid config context ty bytes = record {
     nullable = valid.nullable;
   };
 }
+
+-- with the field on, the heap type of a reference that is not nullable is that of the argument, or a grounded one
+first_granted : (test : HeapType → Bool) (ty : HeapType) (xs rest : List HeapType) → xs ≡ ty ∷ rest → Each (λ (h : HeapType). (h ≡ ty) ⊎ IsTrue (test h)) (first_and_passing test xs)
+first_granted test ty xs rest e =
+    let P = λ (h : HeapType). (h ≡ ty) ⊎ IsTrue (test h) in
+    let passes = All-weaker (λ (h : HeapType). test h ≡ true) P (λ h on. inr on) (filter test rest) (filter_passes test rest) in
+    subst (λ (ys : List HeapType). Each P (first_and_passing test ys)) (sym e) (inl refl, recursion_from_All P (filter test rest) passes)
+
+offered_first : (gc : Bool) (ty : HeapType) (offered : List HeapType) → offered ≡ ty ∷ drop 1 offered → cond gc offered (ty ∷ []) ≡ ty ∷ drop 1 (cond gc offered (ty ∷ []))
+offered_first true ty offered e = e
+offered_first false ty offered e = refl
+
+granted_each : (P : HeapType → Type 0) (nullable on : Bool) (offered kept : List HeapType) → nullable ≡ false → IsTrue on → Each P kept → Each P (cond (nullable || not on) offered kept)
+granted_each P true on offered kept e yes h = cc
+granted_each P false true offered kept e yes h = h
+granted_each P false false offered kept e yes h = cc
+
+pub matching_ref_granted : (config : Config) (context : Context) (ty : RefType) (bytes : List ℕ) → IsTrue config.non_nullable_enabled → ty.nullable ≡ false
+    → let drawn = (matching_ref_type_at config context ty bytes).0.heap_type in (drawn ≡ ty.heap_type) ⊎ IsTrue (is_grounded context drawn)
+unfolding matching_ref_type_at references_offered subtypes_offered
+matching_ref_granted config context ty bytes on not_null =
+    let P = λ (h : HeapType). (h ≡ ty.heap_type) ⊎ IsTrue (is_grounded context h) in
+    let offered = subtypes_offered config context.types ty.heap_type in
+    let first = offered_first config.gc_enabled ty.heap_type (gc_subtypes config context.types ty.heap_type) (gc_first config context.types ty.heap_type) in
+    let kept = first_granted (is_grounded context) ty.heap_type offered (drop 1 offered) first in
+    chosen_is P ty.heap_type (references_offered config context ty) bytes
+    (All-from_recursion P (references_offered config context ty) (granted_each P ty.nullable config.non_nullable_enabled offered (first_and_passing (is_grounded context) offered) not_null on kept)) (inl refl)
 
 pub super_ref_above : (config : Config) (types : List SubType) (ty : RefType) (bytes : List ℕ) → IsRefBelow types ty (super_ref_type_at config types ty bytes).0
 unfolding super_ref_type_at

@@ -1,4 +1,4 @@
-ghost use Rattle.std.specs.Prelude.{◌≡◌, ◌<◌, ◌-◌, ◌^◌, ◌↔◌, ◌⊎◌, false, IsTrue, Some, IfOk, drop, filter, length, slice_get};
+ghost use Rattle.std.specs.Prelude.{◌≡◌, ◌<◌, ◌↔◌, ◌⊎◌, false, IsTrue, Some, IfOk, drop, filter, length, slice_get};
 ghost use Rattle.smith_bytes.specs.Draws.{choose_at};
 ghost use Rattle.smith_types.specs.Subtyping.{IsBelow, IsRefBelow, IsValBelow, IsInRange, IsValInRange};
 ghost use Rattle.smith_types.specs.Matching.{IsStorageMatch, IsFieldMatch, IsFuncMatch, IsStorageInRange, IsFieldInRange, IsFuncInRange};
@@ -89,8 +89,7 @@ fn other_subtype(config: &Config, space: &TypeSpace, ty: HeapType, place: usize)
 
 /// Counts the grounded ones among the subtypes of `ty` that are offered with garbage collection, `ty` itself aside.
 fn count_grounded(config: &Config, standing: &Standing<'_>, ty: HeapType) -> usize
-    ensures exact { result ≡ length (filter (is_grounded standing.now) (drop 1 (gc_subtypes config.now standing.now.types ty))) }
-    ensures few { result < 2 ^ 64 - 1 }
+    ensures { result ≡ length (filter (is_grounded standing.now) (drop 1 (gc_subtypes config.now standing.now.types ty))) }
 {
     let others = count_subtypes(config, standing.types(), ty) - 1;
     let mut grounded = 0;

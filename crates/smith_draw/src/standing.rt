@@ -1,6 +1,6 @@
-ghost use Rattle.std.specs.Prelude.{◌≡◌, ◌<◌, length, IsTrue, ◌↔◌, if◌then◌else◌};
+ghost use Rattle.std.specs.Prelude.{◌≡◌, ◌<◌, length, IsTrue, ◌↔◌};
 ghost use Rattle.smith_types.specs.Subtyping.{IsInRange};
-ghost use Rattle.smith_types.specs.Types.{IsOrderly};
+ghost use Rattle.smith_types.specs.Expressions.{reference_to, function_reference};
 ghost use Rattle.smith_draw.specs.Grounding.{standing_in, any_from, function_grounds, is_grounded};
 
 use crate::spaces::Spaces;
@@ -18,7 +18,7 @@ pub(crate) struct Standing<'a> {
 }
 
 impl<'a> Model for Standing<'a> {
-    ghost use Rattle.std.specs.Prelude.{[], Unit};
+    ghost use Rattle.std.specs.Prelude.{[]};
     ghost use Rattle.smith_types.specs.Expressions.{Context};
     ghost use Rattle.smith_config.specs.Features.{features_of};
 
@@ -63,7 +63,10 @@ impl<'a> Standing<'a> {
             return false;
         }
         let descriptors = self.config.custom_descriptors_enabled;
-        self.types.is_grounded_by_structs(ty, descriptors) || self.is_grounded_by_functions(ty)
+        if self.types.is_grounded_by_structs(ty, descriptors) {
+            return true;
+        }
+        self.is_grounded_by_functions(ty)
     }
 
     /// Whether a function grounds the heap type `ty`, whose type stands.
@@ -80,7 +83,7 @@ impl<'a> Standing<'a> {
         false
     }
 
-    /// Whether a reference to the function `function`, whose type is `index`, is below the heap type `ty`.
+    /// Whether a reference to the function `function`, whose type is `index`, is below the heap type `ty`, whose type stands.
     fn is_function_below(&self, function: usize, index: u32, ty: HeapType) -> bool
         requires { IsInRange self.now.types ty }
         ensures { result ≡ function_grounds self.now ty function index }
@@ -88,13 +91,20 @@ impl<'a> Standing<'a> {
         if index as usize >= self.types.types().len() {
             return false;
         }
-        let exact = self.config.custom_descriptors_enabled && function >= self.imported_funcs;
-        let reference = if exact {
+        let reference = self.reference_to(function, index);
+        self.types.heap_type_is_sub_type(reference, ty)
+    }
+
+    /// The heap type of a reference to the function `function`, whose type is `index`.
+    fn reference_to(&self, function: usize, index: u32) -> HeapType
+        ensures value { reference_to result ≡ function_reference self.now function index }
+        ensures stands { index < length self.now.types → IsInRange self.now.types result }
+    {
+        if self.config.custom_descriptors_enabled && function >= self.imported_funcs {
             HeapType::Exact(index)
         } else {
             HeapType::Concrete(index)
-        };
-        self.types.heap_type_is_sub_type(reference, ty)
+        }
     }
 }
 
@@ -104,6 +114,7 @@ fn stands(types: &[SubType], ty: HeapType) -> bool
 {
     match ty {
         HeapType::Abstract { .. } => true,
-        HeapType::Concrete(index) | HeapType::Exact(index) => (index as usize) < types.len(),
+        HeapType::Concrete(index) => (index as usize) < types.len(),
+        HeapType::Exact(index) => (index as usize) < types.len(),
     }
 }
