@@ -46,7 +46,7 @@ LeadsTo end next None = end ≡ None
 LeadsTo end next (Some now) = next now
 
 -- tasks take a state to the end
-abbrev pub Ends : Context → Bool → Option State → List Task → State → Type 0
+abbrev pub Ends : Context → Config → Option State → List Task → State → Type 0
 Ends context config end [] now = end ≡ Some now
 Ends context config end (Draw operand ∷ tasks) now = (given : Option State) × Gives context config operand now given × LeadsTo end (Ends context config end tasks) given
 Ends context config end (Write instruction ∷ tasks) now = Ends context config end tasks (behind instruction now)
@@ -168,40 +168,40 @@ step_grown context config task todo todo' old new step =
     record { few = rw (before, after) at few; paid = λ more. growth.paid (rw (before, after) more) }
 
 -- a task draws a valid value, for which nothing is offered only where that may be so for the wanted one
-abbrev pub IsFor : Context → ValType → Task → Type 0
-IsFor context wanted (Draw operand) = IsValTypeValid context.features (length context.types) (operand_type operand) × (MayLack context.types (operand_type operand) → MayLack context.types wanted)
-IsFor context wanted (Write instruction) = Unit {0}
+abbrev pub IsFor : Config → Context → ValType → Task → Type 0
+IsFor config context wanted (Draw operand) = IsValTypeValid context.features (length context.types) (operand_type operand) × (MayLack config context (operand_type operand) → MayLack config context wanted)
+IsFor config context wanted (Write instruction) = Unit {0}
 
-tasks_join : (context : Context) (wanted : ValType) (operands : List Operand) (tasks : List Task) → Each (λ (operand : Operand). IsFor context wanted (Draw operand)) operands → Each (IsFor context wanted) tasks → Each (IsFor context wanted) (map Draw operands ++ tasks)
-tasks_join context wanted [] tasks h k = k
-tasks_join context wanted (operand ∷ operands) tasks (p, h) k = (p, tasks_join context wanted operands tasks h k)
+tasks_join : (config : Config) (context : Context) (wanted : ValType) (operands : List Operand) (tasks : List Task) → Each (λ (operand : Operand). IsFor config context wanted (Draw operand)) operands → Each (IsFor config context wanted) tasks → Each (IsFor config context wanted) (map Draw operands ++ tasks)
+tasks_join config context wanted [] tasks h k = k
+tasks_join config context wanted (operand ∷ operands) tasks (p, h) k = (p, tasks_join config context wanted operands tasks h k)
 
-node_tasks : (context : Context) (wanted own : ValType) (operands rest : List Operand) (start : ℕ) → (MayLack context.types own → MayLack context.types wanted)
-    → ((operand : Operand) (place : ℕ) → slice_get operands place ≡ Some operand → MayLack context.types (operand_type operand) → MayLack context.types own)
+node_tasks : (config : Config) (context : Context) (wanted own : ValType) (operands rest : List Operand) (start : ℕ) → (MayLack config context own → MayLack config context wanted)
+    → ((operand : Operand) (place : ℕ) → slice_get operands place ≡ Some operand → MayLack config context (operand_type operand) → MayLack config context own)
     → ((j : ℕ) (operand : Operand) → slice_get rest j ≡ Some operand → slice_get operands (start + j) ≡ Some operand)
-    → Each (λ (operand : Operand). IsValTypeValid context.features (length context.types) (operand_type operand)) rest → Each (λ (operand : Operand). IsFor context wanted (Draw operand)) rest
-node_tasks context wanted own operands [] start lacks calm stands h = tt
-node_tasks context wanted own operands (operand ∷ rest) start lacks calm stands (p, h) =
+    → Each (λ (operand : Operand). IsValTypeValid context.features (length context.types) (operand_type operand)) rest → Each (λ (operand : Operand). IsFor config context wanted (Draw operand)) rest
+node_tasks config context wanted own operands [] start lacks calm stands h = tt
+node_tasks config context wanted own operands (operand ∷ rest) start lacks calm stands (p, h) =
     let first : start + 0 ≡ start = omega arith in (
       (p, λ lack. lacks (calm operand start (subst (λ (n : ℕ). slice_get operands n ≡ Some operand) first (stands 0 operand refl)) lack)),
-      node_tasks context wanted own operands rest (start + 1) lacks calm (λ j w at.
+      node_tasks config context wanted own operands rest (start + 1) lacks calm (λ j w at.
           let later : start + suc j ≡ start + 1 + j = omega arith in
           subst (λ (n : ℕ). slice_get operands n ≡ Some w) later (stands (suc j) w at)) h,
     )
 
-step_tasks : (context : Context) (config : Config) (wanted : ValType) (task : Task) (todo todo' : List Task) (old new : State) → IsStep context config task todo old todo' new → IsFor context wanted task → Each (IsFor context wanted) todo → Each (IsFor context wanted) todo'
+step_tasks : (context : Context) (config : Config) (wanted : ValType) (task : Task) (todo todo' : List Task) (old new : State) → IsStep context config task todo old todo' new → IsFor config context wanted task → Each (IsFor config context wanted) todo → Each (IsFor config context wanted) todo'
 step_tasks context config wanted (Draw operand) todo todo' old new (inl (same, drawn)) own rest = rw same rest
 step_tasks context config wanted (Draw operand) todo todo' old new (inr begun) (valid, lacks) rest =
     let node = begun.node in
     let each = recursion_from_All (λ (o : Operand). IsValTypeValid context.features (length context.types) (operand_type o)) node.operands begun.fits.valid in
     let there = λ (j : ℕ) (o : Operand) (at : slice_get node.operands j ≡ Some o). let same : j ≡ 0 + j = omega arith in subst (λ (n : ℕ). slice_get node.operands n ≡ Some o) same at in
-    rw begun.tasks (tasks_join context wanted node.operands (Write node.instruction ∷ todo) (node_tasks context wanted (operand_type operand) node.operands node.operands 0 lacks begun.fits.lacks there each) (tt, rest))
+    rw begun.tasks (tasks_join config context wanted node.operands (Write node.instruction ∷ todo) (node_tasks config context wanted (operand_type operand) node.operands node.operands 0 lacks begun.fits.lacks there each) (tt, rest))
 step_tasks context config wanted (Write instruction) todo todo' old new (same, made) own rest = rw same rest
 
 -- the tasks that are left give what is wanted from the start
 pub record IsCarrying (context : Context) (config : Config) (wanted : ValType) (todo : List Task) (start now : State) : Type 0 where
   pub gives : (end : Option State) → Ends context config end todo now → Gives context config (Value wanted) start end
-  pub tasks : Each (IsFor context wanted) todo
+  pub tasks : Each (IsFor config context wanted) todo
 
 pub carrying_more : (context : Context) (config : Config) (wanted : ValType) (task : Task) (todo todo' : List Task) (start old new : State) → IsCarrying context config wanted (task ∷ todo) start old → IsStep context config task todo old todo' new → IsCarrying context config wanted todo' start new
 carrying_more context config wanted task todo todo' start old new now step = record {
@@ -226,7 +226,7 @@ carrying_done context config wanted todo start now h none = h.gives (Some now) (
 
 -- a task is refused
 carrying_refused : (context : Context) (config : Config) (wanted : ValType) (task : Task) (todo : List Task) (start now : State) (e : Error) → IsCarrying context config wanted (task ∷ todo) start now → MayRefuseTask context config task now e
-    → (e ≡ errors.Memory) ⊎ ((e ≡ errors.EmptyChoose) × MayLack context.types wanted × Gives context config (Value wanted) start None)
+    → (e ≡ errors.Memory) ⊎ ((e ≡ errors.EmptyChoose) × MayLack config context wanted × Gives context config (Value wanted) start None)
 carrying_refused context config wanted (Draw operand) todo start now e h (inl memory) = inl memory
 carrying_refused context config wanted (Draw operand) todo start now e h (inr (empty, lacking)) =
     inr (empty, h.tasks.0.1 lacking.lacks, h.gives None (None, record { read = lacking.none; drawn = tt }, refl))
@@ -268,7 +268,7 @@ extended_step context config wanted choice after todo old new (Err e) chosen is 
 
 -- a node without operands is written at once
 pub leaf_step : (context : Context) (config : Config) (wanted : ValType) (choice : Choice) (node : Node) (after : List ℕ) (todo : List Task) (old new : State) → choose_at (offers config context wanted old.fuel) old.bytes ≡ (Some choice, after) → is_extended choice ≡ false
-    → node_at context.types wanted choice after ≡ (node, new.bytes) → length node.operands ≡ 0 → IsNode context wanted old.fuel node → new.made ≡ old.made ++ node.instruction ∷ [] → new.fuel ≡ old.fuel - 1 → IsStep context config (Draw (Value wanted)) todo old todo new
+    → node_at context.types wanted choice after ≡ (node, new.bytes) → length node.operands ≡ 0 → IsNode config context wanted old.fuel node → new.made ≡ old.made ++ node.instruction ∷ [] → new.fuel ≡ old.fuel - 1 → IsStep context config (Draw (Value wanted)) todo old todo new
 leaf_step context config wanted choice node after todo old new chosen other drawn none fits longer spent =
     let empty : node.operands ≡ [] = nothing node.operands none in
     inl (
@@ -289,7 +289,7 @@ not_empty (suc n) h none = omega arith
 
 -- a node is put on the tasks
 pub node_step : (context : Context) (config : Config) (wanted : ValType) (choice : Choice) (node : Node) (after : List ℕ) (todo todo' : List Task) (old new : State) → choose_at (offers config context wanted old.fuel) old.bytes ≡ (Some choice, after) → is_extended choice ≡ false
-    → node_at context.types wanted choice after ≡ (node, new.bytes) → new ≡ state_of old.made (old.fuel - 1) new.bytes → IsNode context wanted old.fuel node → 0 < length node.operands → todo' ≡ map Draw node.operands ++ Write node.instruction ∷ todo → IsStep context config (Draw (Value wanted)) todo old todo' new
+    → node_at context.types wanted choice after ≡ (node, new.bytes) → new ≡ state_of old.made (old.fuel - 1) new.bytes → IsNode config context wanted old.fuel node → 0 < length node.operands → todo' ≡ map Draw node.operands ++ Write node.instruction ∷ todo → IsStep context config (Draw (Value wanted)) todo old todo' new
 node_step context config wanted choice node after todo todo' old new chosen other drawn state fits some tasks = inr (record {
   node = node;
   bytes = new.bytes;
@@ -301,11 +301,11 @@ node_step context config wanted choice node after todo todo' old new chosen othe
 })
 
 -- nothing is offered
-pub choice_refused : (context : Context) (config : Config) (wanted : ValType) (s : State) (e : Error) → MayRefuseConstExpr context.types wanted e → (e ≡ errors.EmptyChoose) × ((choose_at (offers config context wanted s.fuel) s.bytes).0 ≡ None) → MayRefuseTask context config (Draw (Value wanted)) s e
+pub choice_refused : (context : Context) (config : Config) (wanted : ValType) (s : State) (e : Error) → MayRefuseConstExpr config context wanted e → (e ≡ errors.EmptyChoose) × ((choose_at (offers config context wanted s.fuel) s.bytes).0 ≡ None) → MayRefuseTask context config (Draw (Value wanted)) s e
 choice_refused context config wanted s e (inl memory) chosen = inl memory
 choice_refused context config wanted s e (inr (empty, lacks)) (is, none) = inr (empty, record { lacks = lacks; none = λ depth deep. none_chosen context config wanted s depth none deep })
 
--- a length that is config is drawn at once
-pub length_step : (context : Context) (config : Config) (task : Task) (operand : Operand) (todo : List Task) (old new : State) → task ≡ Draw operand → operand ≡ Length → config ≡ true → new ≡ length_at old → IsDrawn context (I32 ∷ []) old.made old.fuel new.made new.fuel
+-- a length that is limited is drawn at once
+pub length_step : (context : Context) (config : Config) (task : Task) (operand : Operand) (todo : List Task) (old new : State) → task ≡ Draw operand → operand ≡ Length → config.limit_arrays_in_const_exprs ≡ true → new ≡ length_at old → IsDrawn context (I32 ∷ []) old.made old.fuel new.made new.fuel
     → IsStep context config task todo old todo new
 length_step context config task operand todo old new draws length is same drawn = rw (draws, length) (inl (refl, record { read = λ depth deep. rw (is, ← same) refl; drawn = drawn }))

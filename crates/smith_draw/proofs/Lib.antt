@@ -30,6 +30,7 @@ pub mod RecGroupLemmas
 pub mod EachTypeLemmas
 pub mod FloatLemmas
 pub mod FuncSizeLemmas
+pub mod FilledLemmas
 pub mod NullableLemmas
 pub mod SharedHeapTypeLemmas
 pub mod GlobalTypeLemmas

@@ -62,11 +62,11 @@ new_group_valid config context allow_empty space bytes sanitized valid =
     (λ off. let one = size_alone config.gc_enabled (range_at (cond allow_empty 0 1) (types_left config space) bytes) bytes off in omega (arith, len, one, whole))
 
 -- a type stands among types
-record IsStanding (types : List SubType) (t : SubType) : Type 0 where
-  place : ℕ
-  at : slice_get types place ≡ Some t
+pub record IsStanding (types : List SubType) (t : SubType) : Type 0 where
+  pub place : ℕ
+  pub at : slice_get types place ≡ Some t
 
-each_grown : (types : List SubType) (t : SubType) (more : List SubType) → Each (IsStanding types) more → Each (IsStanding (types ++ t ∷ [])) more
+pub each_grown : (types : List SubType) (t : SubType) (more : List SubType) → Each (IsStanding types) more → Each (IsStanding (types ++ t ∷ [])) more
 each_grown types t [] h = tt
 each_grown types t (u ∷ more) h = (record { place = h.0.place; at = slice_get-grown types (t ∷ []) h.0.place u h.0.at }, each_grown types t more h.1)
 
@@ -91,7 +91,7 @@ copies_open features end space types (t ∷ more) now le h =
     subst (λ (ts : List SubType). AreTypesOpen features end (record { types = ts; groups = space.groups })) (append_assoc types (t ∷ []) more)
     (copies_open features end space (types ++ t ∷ []) more pushed (omega (arith, length-append types (t ∷ []))) (each_grown types t more h.1))
 
-members_stand : (types : List SubType) (group : Range ℕ) → Each (IsStanding types) (members types group)
+pub members_stand : (types : List SubType) (group : Range ℕ) → Each (IsStanding types) (members types group)
 members_stand types group =
     recursion_from_All (IsStanding types) (members types group) (All-take (IsStanding types) (group.end - group.start) _ (All-drop (IsStanding types) group.start types (λ k d inside. record { place = k; at = slice_get-get_or types k d inside })))
 

@@ -31,7 +31,7 @@ pub record IsDrawn (context : Context) (values : List ValType) (old : List Const
   pub short : length new + 23 * widest context.types * left ≤ length old + 23 * length values + 23 * widest context.types * fuel
 
 -- a node gives a value of the wanted type from its operands, which are few, valid and paid for
-pub record IsNode (context : Context) (wanted : ValType) (fuel : ℕ) (node : Node) : Type 0 where
+pub record IsNode (config : Config) (context : Context) (wanted : ValType) (fuel : ℕ) (node : Node) : Type 0 where
   pub result : ValType
   pub typed : HasType context node.instruction (map operand_type node.operands) result
   pub below : IsValBelow context.types result wanted
@@ -39,11 +39,11 @@ pub record IsNode (context : Context) (wanted : ValType) (fuel : ℕ) (node : No
   pub paid : 0 < length node.operands → 0 < fuel
   pub few : length node.operands ≤ widest context.types
   pub valid : All (λ operand. IsValTypeValid context.features (length context.types) (operand_type operand)) node.operands
-  pub lacks : (operand : Operand) (place : ℕ) → slice_get node.operands place ≡ Some operand → MayLack context.types (operand_type operand) → MayLack context.types wanted
+  pub lacks : (operand : Operand) (place : ℕ) → slice_get node.operands place ≡ Some operand → MayLack config context (operand_type operand) → MayLack config context wanted
 
 -- each node that a choice makes gives the wanted type, and an extended constant is of an integer type, and enabled
-pub record IsFit (context : Context) (wanted : ValType) (fuel : ℕ) (choice : Choice) : Type 0 where
-  pub node : (bytes : List ℕ) → IsNode context wanted fuel (node_at context.types wanted choice bytes).0
+pub record IsFit (config : Config) (context : Context) (wanted : ValType) (fuel : ℕ) (choice : Choice) : Type 0 where
+  pub node : (bytes : List ℕ) → IsNode config context wanted fuel (node_at context.types wanted choice bytes).0
   pub extended : is_extended choice ≡ true → ((wanted ≡ I32) ⊎ (wanted ≡ I64)) × IsTrue context.features.extended_const
 
 -- a step that succeeds leaves what its definition gives; of a step that had nothing to choose from, the definition gives none

@@ -30,7 +30,7 @@ pub record IsOperandBegun (context : Context) (config : Config) (operand : Opera
   pub bytes : List ℕ
   pub state : new ≡ state_of old.made (old.fuel - 1) bytes
   pub tasks : todo' ≡ map Draw node.operands ++ Write node.instruction ∷ todo
-  pub fits : IsNode context (operand_type operand) old.fuel node
+  pub fits : IsNode config context (operand_type operand) old.fuel node
   pub some : 0 < length node.operands
   pub read : (depth : ℕ) → old.fuel < depth
       → operand_at config (expression_at context config depth) operand old ≡ option_map (behind node.instruction) (operands_at (operand_at config (expression_at context config (depth - 1))) node.operands (state_of old.made (old.fuel - 1) bytes))
@@ -47,7 +47,7 @@ pub record IsGrowthPaid (context : Context) (todo : List Task) (fuel : ℕ) (tod
 
 -- nothing is offered for an operand, which its definition says too
 pub record IsOperandLacking (context : Context) (config : Config) (operand : Operand) (old : State) : Type 0 where
-  pub lacks : MayLack context.types (operand_type operand)
+  pub lacks : MayLack config context (operand_type operand)
   pub none : (depth : ℕ) → old.fuel < depth → operand_at config (expression_at context config depth) operand old ≡ None
 
 -- when a task is refused

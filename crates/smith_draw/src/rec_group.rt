@@ -8,7 +8,7 @@ ghost use Rattle.smith_config.specs.Features.{features_of};
 ghost use Rattle.smith_config.specs.Sanitized.{IsSanitized};
 ghost use Rattle.smith_config.specs.Shapes.{space_of};
 ghost use Rattle.smith_draw.specs.Callers.{PassesButImports};
-ghost use Rattle.smith_draw.specs.ConstBounds.{HoldsNonNullableField};
+ghost use Rattle.smith_draw.specs.ConstBounds.{HoldsNonNullableField, HoldsUngroundedField};
 ghost use Rattle.smith_draw.specs.Drawing.{AlwaysDraws, Draws, DrawsInto};
 ghost use Rattle.smith_draw.specs.FuncSizes.{HasFewValues};
 ghost use Rattle.smith_draw.specs.Grounding.{functions_in, over};
@@ -360,7 +360,9 @@ pub fn arbitrary_types(
     ensures floats { config.now.allow_floats ≡ false → All HasNoFloat types.old.types → OnOk result (All HasNoFloat types.new.types) }
     ensures few_values { (most : ℕ) → 20 ≤ most → All (HasFewValues most) types.old.types → OnOk result (All (HasFewValues most) types.new.types) }
     ensures nullable { config.now.non_nullable_enabled ≡ false → ¬ HoldsNonNullableField types.old.types → OnOk result (¬ HoldsNonNullableField types.new.types) }
+    ensures grounded { ¬ HoldsUngroundedField config.now (over (functions_in config.now entities.now) types.old.types) → OnOk result (¬ HoldsUngroundedField config.now (over (functions_in config.now entities.now) types.new.types)) }
     ensures reach { config.now.non_nullable_enabled ≡ false → config.now.min_types ≡ 0 → types.old ≡ space_of [] → OnOk result (Takes (SpellsSpace config.now) u.old types.new u.new) }
 {
+    let _types = types.types();
     add_all_types(alloc, config, types, entities, u)
 }

@@ -4,6 +4,8 @@ ghost use Rattle.smith_types.specs.ValidTypes.{AreTypesValid};
 ghost use Rattle.smith_config.specs.Features.{features_of};
 ghost use Rattle.smith_config.specs.Sanitized.{IsSanitized};
 ghost use Rattle.smith_draw.specs.Bounds.{IsTableWithin};
+ghost use Rattle.smith_types.specs.declared.value_type.ValType.TheVariants.{Ref};
+ghost use Rattle.smith_draw.specs.ConstBounds.{IsUngrounded};
 ghost use Rattle.smith_draw.specs.Drawing.{AlwaysDraws, Draws};
 ghost use Rattle.smith_draw.specs.Grounding.{standing_in};
 ghost use Rattle.smith_draw.specs.TableTypes.{least_elements, drawn_elements, table_type_at};
@@ -39,6 +41,7 @@ fn draw_table_type(config: &Config, spaces: &Spaces<'_>, u: &mut Unstructured<'_
     ensures valid { AreTypesValid (features_of config.now) spaces.now.types.now → IsTableValid (features_of config.now) spaces.now.types.now.types result }
     ensures within { IsTableWithin config.now result }
     ensures nullable { config.now.non_nullable_enabled ≡ false → result.element_type.nullable ≡ true }
+    ensures grounded { ¬ IsUngrounded config.now (standing_in config.now spaces.now) (Ref result.element_type) }
 {
     let types = spaces.types.types();
     let standing = Standing::over(config, spaces);
@@ -58,7 +61,7 @@ fn draw_table_type(config: &Config, spaces: &Spaces<'_>, u: &mut Unstructured<'_
     }
 }
 
-/// Draws a table type of nullable references over the types of `spaces`. Its limits, in elements, stay within the number that
+/// Draws a table type over the types of `spaces`, of nullable references or such as [`arbitrary_ref_type`] draws. Its limits, in elements, stay within the number that
 /// `config` allows, but for a single element where nothing may trap. The table is shared where its references are. The standard's
 /// section Structure, Table Types.
 ///
@@ -77,6 +80,7 @@ pub fn arbitrary_table_type(
     ensures valid { AreTypesValid (features_of config.now) spaces.now.types.now → IfOk result (IsTableValid (features_of config.now) spaces.now.types.now.types) }
     ensures within { IfOk result (IsTableWithin config.now) }
     ensures nullable { config.now.non_nullable_enabled ≡ false → IfOk result (λ drawn. drawn.element_type.nullable ≡ true) }
+    ensures grounded { IfOk result (λ drawn. ¬ IsUngrounded config.now (standing_in config.now spaces.now) (Ref drawn.element_type)) }
 {
     Ok(draw_table_type(config, spaces, u))
 }

@@ -34,7 +34,7 @@ pub(super) fn draw_whole_expression(
     ensures none { IfErr result (λ e. e ≡ Error.EmptyChoose → expression_alone_at (context_of scope.now) scope.now.config.now scope.now.config.now.const_expr_fuel wanted u.old ≡ None) }
     ensures typed { IfOk result (IsConstExpr (context_of scope.now) wanted) }
     ensures short { IfOk result (λ drawn. length drawn ≤ most_instructions scope.now.config.now (context_of scope.now).types) }
-    ensures refusal { IfErr result (MayRefuseConstExpr (context_of scope.now).types wanted) }
+    ensures refusal { IfErr result (MayRefuseConstExpr scope.now.config.now (context_of scope.now) wanted) }
     ensures left { KeepsPieces u.old u.new }
 {
     let mut drawn = Items::new(alloc);
@@ -57,7 +57,7 @@ fn draw_expression(
     requires wanted { IsValTypeValid (context_of scope.now).features (length (context_of scope.now).types) wanted }
     ensures exact { ReadsValue (context_of scope.now) scope.now.config.now wanted (state_of out.old fuel.old u.old) (state_of out.new fuel.new u.new) result }
     ensures drawn { OnOk result (IsDrawn (context_of scope.now) (wanted ∷ []) out.old fuel.old out.new fuel.new) }
-    ensures refusal { IfErr result (MayRefuseConstExpr (context_of scope.now).types wanted) }
+    ensures refusal { IfErr result (MayRefuseConstExpr scope.now.config.now (context_of scope.now) wanted) }
     ensures left { KeepsPieces u.old u.new }
 {
     let mut tasks = Vec::new(alloc);

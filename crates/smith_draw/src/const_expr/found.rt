@@ -37,8 +37,8 @@ pub(super) fn choose_offer(
     requires wanted { IsValTypeValid (context_of scope.now).features (length (context_of scope.now).types) wanted }
     ensures exact { IfOk result (λ choice. choose_at (offers scope.now.config.now (context_of scope.now) wanted fuel) u.old ≡ (Some choice, u.new)) }
     ensures none { IfErr result (λ e. (e ≡ Error.EmptyChoose) × ((choose_at (offers scope.now.config.now (context_of scope.now) wanted fuel) u.old).0 ≡ None)) }
-    ensures fits { IfOk result (IsFit (context_of scope.now) wanted fuel) }
-    ensures refusal { IfErr result (MayRefuseConstExpr (context_of scope.now).types wanted) }
+    ensures fits { IfOk result (IsFit scope.now.config.now (context_of scope.now) wanted fuel) }
+    ensures refusal { IfErr result (MayRefuseConstExpr scope.now.config.now (context_of scope.now) wanted) }
     ensures left { KeepsPieces u.old u.new }
 {
     let count = count_offers(scope, wanted, fuel);

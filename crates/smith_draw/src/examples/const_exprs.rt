@@ -100,17 +100,17 @@ fn spaces()
 {}
 
 fn refusals()
-    ensures a_number { ¬ MayLack [] I32 }
-    ensures a_reference_that_may_be_null { ¬ MayLack [] anyref }
-    ensures a_reference_that_may_not_be_null { MayLack [] (Ref (not_null (plain heap.Any))) }
-    ensures a_field_that_may_not_be_null { MayLack context_types anyref }
-    ensures an_element_that_may_not_be_null { MayLack (final_type (array (constant (Val (Ref (not_null (plain heap.Func)))))) ∷ []) I32 }
-    ensures a_parameter_that_may_not_be_null { ¬ MayLack (final_type (taking (Ref (not_null (plain heap.Func)) ∷ [])) ∷ []) I32 }
-    ensures fields_that_are_numbers { ¬ MayLack (final_type (struct (constant I8 ∷ [])) ∷ []) anyref }
-    ensures want_of_memory { MayRefuseConstExpr [] I32 errors.Memory }
-    ensures nothing_to_choose_from { MayRefuseConstExpr [] (Ref (not_null (plain heap.None))) errors.EmptyChoose }
-    ensures a_number_is_there { ¬ MayRefuseConstExpr [] I32 errors.EmptyChoose }
-    ensures exhausted_input { ¬ MayRefuseConstExpr context_types anyref errors.NotEnoughData }
+    ensures a_number { ¬ MayLack default_config (context_of_types []) I32 }
+    ensures a_reference_that_may_be_null { ¬ MayLack default_config (context_of_types []) anyref }
+    ensures a_reference_that_may_not_be_null { MayLack default_config (context_of_types []) (Ref (not_null (plain heap.Any))) }
+    ensures a_field_that_may_not_be_null { MayLack default_config (context_of_types context_types) anyref }
+    ensures an_element_that_may_not_be_null { MayLack default_config (context_of_types (final_type (array (constant (Val (Ref (not_null (plain heap.Func)))))) ∷ [])) I32 }
+    ensures a_parameter_that_may_not_be_null { ¬ MayLack default_config (context_of_types (final_type (taking (Ref (not_null (plain heap.Func)) ∷ [])) ∷ [])) I32 }
+    ensures fields_that_are_numbers { ¬ MayLack default_config (context_of_types (final_type (struct (constant I8 ∷ [])) ∷ [])) anyref }
+    ensures want_of_memory { MayRefuseConstExpr default_config (context_of_types []) I32 errors.Memory }
+    ensures nothing_to_choose_from { MayRefuseConstExpr default_config (context_of_types []) (Ref (not_null (plain heap.None))) errors.EmptyChoose }
+    ensures a_number_is_there { ¬ MayRefuseConstExpr default_config (context_of_types []) I32 errors.EmptyChoose }
+    ensures exhausted_input { ¬ MayRefuseConstExpr default_config (context_of_types context_types) anyref errors.NotEnoughData }
 {}
 
 fn spelled_constants()

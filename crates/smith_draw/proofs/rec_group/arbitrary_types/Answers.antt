@@ -8,7 +8,9 @@ use Rattle.smith_types.specs.ValidTypes.{AreTypesValid}
 use Rattle.smith_config.specs.Features.{features_of}
 use Rattle.smith_draw.proofs.DrawingLemmas.{of_state}
 use Rattle.smith_draw.proofs.RecGroupLemmas.{types_valid, types_most, types_least}
-use Rattle.smith_draw.specs.ConstBounds.{HoldsNonNullableField}
+use Rattle.smith_draw.specs.ConstBounds.{HoldsNonNullableField, HoldsUngroundedField}
+use Rattle.smith_draw.specs.Grounding.{functions_in, over}
+use Rattle.smith_draw.proofs.FilledLemmas.{types_grounded}
 use Rattle.smith_draw.specs.FuncSizes.{HasFewValues}
 use Rattle.smith_draw.proofs.FloatLemmas.{types_no_float}
 use Rattle.smith_draw.proofs.FuncSizeLemmas.{types_within}
@@ -43,4 +45,9 @@ pub returns-clause-few_values : goal.returns-clause-few_values
 returns-clause-few_values c = λ most enough all. of_state (λ (space : Space). All (HasFewValues most) space.types) c.add_all_types.ensures (types_within most enough _ _ _ _ all)
 
 pub returns-clause-nullable : goal.returns-clause-nullable
-returns-clause-nullable c = λ off none. of_state (λ (space : Space). ¬ HoldsNonNullableField space.types) c.add_all_types.ensures (types_nullable _ off _ _ _ none)
+returns-clause-nullable c = λ off none. of_state (λ (space : Space). ¬ HoldsNonNullableField space.types) c.add_all_types.ensures (types_nullable _ off _ _ _ c.types-_types.ensures.sound.orderly none)
+
+pub returns-clause-grounded : goal.returns-clause-grounded
+returns-clause-grounded c = λ none.
+    let context = functions_in c.args.config.now c.args.entities.now in
+    of_state (λ (space : Space). ¬ HoldsUngroundedField c.args.config.now (over context space.types)) c.add_all_types.ensures (types_grounded c.args.config.now context c.args.types.now c.args.u.now c.types-_types.ensures.sound.orderly none)

@@ -3,6 +3,9 @@ use Rattle.smith_types.specs.Flags.{IsElementEnabled}
 use Rattle.smith_types.specs.declared.value_type.RefType.{RefType}
 use Rattle.smith_config.specs.Features.{features_of}
 use Rattle.smith_draw.specs.Grounding.{standing_in}
+use Rattle.smith_types.specs.declared.value_type.ValType.TheVariants.{Ref}
+use Rattle.smith_draw.specs.ConstBounds.{IsUngrounded}
+use Rattle.smith_draw.proofs.FilledLemmas.{ref_type_filled}
 use Rattle.smith_draw.proofs.MemoryLemmas.{limits_fit}
 use Rattle.smith_draw.proofs.NullableLemmas.{ref_type_nullable}
 use Rattle.smith_draw.proofs.SharedHeapTypeLemmas.{sharing}
@@ -31,3 +34,8 @@ returns-clause-within c =
 
 pub returns-clause-nullable : goal.returns-clause-nullable
 returns-clause-nullable c = λ off. drawn_is (λ (ty : RefType). ty.nullable ≡ true) _ (ref_type_nullable _ off _ _ _ _) c.draw_ref_type-element_type.ensures.exact
+
+pub returns-clause-grounded : goal.returns-clause-grounded
+returns-clause-grounded c =
+    let exact = rw (c.over-standing.ensures, c.types-types.ensures.value) at c.draw_ref_type-element_type.ensures.exact in
+    drawn_is (λ (ty : RefType). ¬ IsUngrounded c.args.config.now (standing_in c.args.config.now c.args.spaces.now) (Ref ty)) _ (ref_type_filled _ _ c.types-types.ensures.sound.orderly _ _ _) exact

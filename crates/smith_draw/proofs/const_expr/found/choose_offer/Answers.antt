@@ -10,7 +10,7 @@ returns-then-count-eq0-clause-none c = (refl, none_at _ _ _ refl (sym c.count_of
 
 pub returns-then-count-eq0-clause-refusal : goal.returns-then-count-eq0-clause-refusal
 returns-then-count-eq0-clause-refusal c =
-    nothing_offered c.args.scope.now.config.now (context_of c.args.scope.now) c.args.wanted c.args.fuel _ _ refl (sym c.count_offers-count.ensures ∙ c.if-count-eq0.true) refl
+    nothing_offered c.args.scope.now.config.now (context_of c.args.scope.now) c.args.wanted c.args.fuel _ _ c.requires.scope refl (sym c.count_offers-count.ensures ∙ c.if-count-eq0.true) refl
 
 pub returns-in-Ok-clause-none : goal.returns-in-Ok-clause-none
 returns-in-Ok-clause-none c =
