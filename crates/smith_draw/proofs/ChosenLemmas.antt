@@ -1,6 +1,6 @@
 -- The item that is chosen among those that are offered.
 use Rattle.std.proofs.Common.{rules, ◌≡◌, ℕ, ◌+◌, ◌-◌, ◌<◌, Bool, false, true, cond, List, [], ◌∷◌, Some, length, drop, refl, sym, subst, ◌∙◌, ap, arith, lit<}
-use Rattle.std.specs.Prelude.{slice_get, slice_index_or, filter}
+use Rattle.std.specs.Prelude.{slice_get, slice_index_or, filter, not, ◌||◌}
 use Rattle.std.proofs.lemmas.Option.{slice_get-get_or, get_or_from_slice_get}
 use Rattle.smith_types.specs.declared.value_type.AbstractHeapType.TheVariants as heap
 use Rattle.smith_types.specs.declared.value_type.HeapType.{HeapType}
@@ -9,9 +9,12 @@ use Rattle.smith_types.specs.declared.composite_type.SubType.{SubType}
 use Rattle.smith_config.specs.declared.config.Config.{Config}
 use Rattle.smith_bytes.proofs.DrawnLemmas.{range_within}
 use Rattle.smith_bytes.specs.Draws.{range_at, digit_count, choose_at}
+use Rattle.smith_types.specs.Expressions.{Context}
+use Rattle.smith_types.specs.declared.value_type.RefType.{RefType}
 use Rattle.smith_draw.specs.Choices.{chosen_at}
+use Rattle.smith_draw.specs.Grounding.{is_grounded}
 use Rattle.smith_draw.specs.Offered.{gc_subtypes, gc_supertypes, subtypes_offered, supertypes_offered}
-use Rattle.smith_draw.specs.MatchingTypes.{first_and_passing, matching_heap_type_at, super_heap_type_at}
+use Rattle.smith_draw.specs.MatchingTypes.{first_and_passing, references_offered, matching_ref_type_at, matching_heap_type_at, super_heap_type_at}
 
 -- one item alone is chosen without a draw
 chosen_alone : {A : Type 0} (x : A) (bytes : List ℕ) → chosen_at x (x ∷ []) bytes ≡ (x, bytes)
@@ -21,6 +24,15 @@ chosen_alone x bytes = refl
 pub matching_without_gc : (config : Config) (types : List SubType) (ty : HeapType) (bytes : List ℕ) → config.gc_enabled ≡ false → matching_heap_type_at config types ty bytes ≡ (ty, bytes)
 unfolding matching_heap_type_at subtypes_offered
 matching_without_gc config types ty bytes off = rw off (chosen_alone ty bytes)
+
+alone_by : (b : Bool) (test : HeapType → Bool) (ty : HeapType) (bytes : List ℕ) → chosen_at ty (cond b (ty ∷ []) (first_and_passing test (ty ∷ []))) bytes ≡ (ty, bytes)
+alone_by true test ty bytes = chosen_alone ty bytes
+alone_by false test ty bytes = chosen_alone ty bytes
+
+pub references_without_gc : (config : Config) (context : Context) (ty : RefType) (bytes : List ℕ) → config.gc_enabled ≡ false → matching_ref_type_at config context ty bytes ≡ (ty, bytes)
+unfolding matching_ref_type_at references_offered subtypes_offered
+references_without_gc config context ty bytes off =
+    rw off (ap (λ (drawn : HeapType × List ℕ). (record { nullable = ty.nullable; heap_type = drawn.0 }, drawn.1)) (alone_by (ty.nullable || not config.non_nullable_enabled) (is_grounded context) ty.heap_type bytes))
 
 pub super_without_gc : (config : Config) (types : List SubType) (ty : HeapType) (bytes : List ℕ) → config.gc_enabled ≡ false → super_heap_type_at config types ty bytes ≡ (ty, bytes)
 unfolding super_heap_type_at supertypes_offered

@@ -63,20 +63,17 @@ ref_type_filled config context orderly must_share limit bytes (not_null, none) =
     let (on, grounded) = ref_type_granted config context must_share limit bytes not_null in
     none on (grounded_if context (ref_type_at config context must_share limit bytes).0.heap_type orderly grounded)
 
-matching_ref_by : (config : Config) (context : Context) (orderly : IsOrderly context.types) (r : RefType) (bytes : List ℕ) (on : Bool) → config.non_nullable_enabled ≡ on → ¬ IsUngrounded config context (vals.Ref r) → ¬ IsUngrounded config context (vals.Ref (matching_ref_type_at config context r bytes).0)
-matching_ref_by config context orderly r bytes true e filled (not_null, none) =
+-- a matching reference is not null only where the other is not, and then its heap type is that of the other or a grounded one
+pub matching_ref_ungrounded : (config : Config) (context : Context) (orderly : IsOrderly context.types) (r : RefType) (bytes : List ℕ) → IsUngrounded config context (vals.Ref (matching_ref_type_at config context r bytes).0) → IsUngrounded config context (vals.Ref r)
+matching_ref_ungrounded config context orderly r bytes (not_null, none) =
     let drawn = (matching_ref_type_at config context r bytes).0 in
-    let fixed : r.nullable ≡ false = sym (matching_ref_nullable config context r bytes) ∙ not_null in
-    elim (matching_ref_granted config context r bytes e fixed) [
-      | inl same ↦ filled (fixed, λ on grounded. none on (subst (IsGrounded context) (sym same) grounded))
-      | inr grounded ↦ none e (grounded_if context drawn.heap_type orderly grounded)
-    ]
-matching_ref_by config context orderly r bytes false e filled (not_null, none) =
-    filled (sym (matching_ref_nullable config context r bytes) ∙ not_null, λ on. cc)
-
--- a matching reference is not null only where the other is not, and then it is that or a grounded one
-pub matching_ref_filled : (config : Config) (context : Context) (orderly : IsOrderly context.types) (r : RefType) (bytes : List ℕ) → ¬ IsUngrounded config context (vals.Ref r) → ¬ IsUngrounded config context (vals.Ref (matching_ref_type_at config context r bytes).0)
-matching_ref_filled config context orderly r bytes filled = matching_ref_by config context orderly r bytes config.non_nullable_enabled refl filled
+    let fixed : r.nullable ≡ false = sym (matching_ref_nullable config context r bytes) ∙ not_null in (
+      fixed,
+      λ on grounded. elim (matching_ref_granted config context r bytes on fixed) [
+        | inl same ↦ none on (subst (IsGrounded context) (sym same) grounded)
+        | inr kept ↦ none on (grounded_if context drawn.heap_type orderly kept)
+      ],
+    )
 
 matching_storage : (config : Config) (context : Context) (orderly : IsOrderly context.types) (ty : StorageType) (bytes : List ℕ) → ¬ IsUngrounded config context (unpacked ty) → ¬ IsUngrounded config context (unpacked (matching_storage_type_at config context ty bytes).0)
 matching_storage config context orderly I8 bytes h = h
@@ -86,7 +83,7 @@ matching_storage config context orderly (Val vals.I64) bytes h = h
 matching_storage config context orderly (Val vals.F32) bytes h = h
 matching_storage config context orderly (Val vals.F64) bytes h = h
 matching_storage config context orderly (Val vals.V128) bytes h = h
-matching_storage config context orderly (Val (vals.Ref reference)) bytes h = matching_ref_filled config context orderly reference bytes h
+matching_storage config context orderly (Val (vals.Ref reference)) bytes h = λ lacks. h (matching_ref_ungrounded config context orderly reference bytes lacks)
 
 matching_field : (config : Config) (context : Context) (orderly : IsOrderly context.types) (field : FieldType) (bytes : List ℕ) → IsFilledField config context field → IsFilledField config context (matching_field_type_at config context field bytes).0
 unfolding matching_field_type_at

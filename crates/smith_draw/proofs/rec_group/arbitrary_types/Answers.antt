@@ -45,9 +45,9 @@ pub returns-clause-few_values : goal.returns-clause-few_values
 returns-clause-few_values c = λ most enough all. of_state (λ (space : Space). All (HasFewValues most) space.types) c.add_all_types.ensures (types_within most enough _ _ _ _ all)
 
 pub returns-clause-nullable : goal.returns-clause-nullable
-returns-clause-nullable c = λ off none. of_state (λ (space : Space). ¬ HoldsNonNullableField space.types) c.add_all_types.ensures (types_nullable _ off _ _ _ c.types-_types.ensures.sound.orderly none)
+returns-clause-nullable c = λ off none. of_state (λ (space : Space). ¬ HoldsNonNullableField space.types) c.add_all_types.ensures (types_nullable _ off _ _ _ c.types-types.ensures.sound.orderly none)
 
 pub returns-clause-grounded : goal.returns-clause-grounded
 returns-clause-grounded c = λ none.
     let context = functions_in c.args.config.now c.args.entities.now in
-    of_state (λ (space : Space). ¬ HoldsUngroundedField c.args.config.now (over context space.types)) c.add_all_types.ensures (types_grounded c.args.config.now context c.args.types.now c.args.u.now c.types-_types.ensures.sound.orderly none)
+    of_state (λ (space : Space). ¬ HoldsUngroundedField c.args.config.now (over context space.types)) c.add_all_types.ensures (types_grounded c.args.config.now context c.args.types.now c.args.u.now c.types-types.ensures.sound.orderly none)
