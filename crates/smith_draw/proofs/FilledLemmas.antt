@@ -175,28 +175,40 @@ pub record AreFilled (config : Config) (context : Context) (types : List SubType
   pub orderly : IsOrderly types
   pub fields : All (HasFilledFields config (over context types)) types
 
--- what is grounded stays so as types are added
-later_grounded : (context : Context) (types more : List SubType) (ty : HeapType) → IsGrounded (over context types) ty → IsGrounded (over context (types ++ more)) ty
-later_grounded context types more ty h = context_grounded (over context types) (over context (types ++ more)) ty growth h
-  where
-    growth : IsContextGrown (over context types) (over context (types ++ more))
-    growth = record {
-      features = refl;
-      types = record { more = more; parts = refl };
-      funcs = record { more = []; parts = sym (append-nil context.funcs) };
-      globals = record { more = []; parts = sym (append-nil context.globals) };
-      imported_funcs = refl;
-      imported_globals = refl;
-      visible = omega arith;
-    }
+-- what is not grounded once more stands was not before
+pub ungrounded_before : (config : Config) (old new : Context) → IsContextGrown old new → (value : ValType) → IsUngrounded config new value → IsUngrounded config old value
+ungrounded_before config old new growth (vals.Ref r) (not_null, none) = (not_null, λ on grounded. none on (context_grounded old new r.heap_type growth grounded))
+ungrounded_before config old new growth vals.I32 never = never
+ungrounded_before config old new growth vals.I64 never = never
+ungrounded_before config old new growth vals.F32 never = never
+ungrounded_before config old new growth vals.F64 never = never
+ungrounded_before config old new growth vals.V128 never = never
 
-later_ungrounded : (config : Config) (context : Context) (types more : List SubType) (value : ValType) → IsUngrounded config (over context (types ++ more)) value → IsUngrounded config (over context types) value
-later_ungrounded config context types more (vals.Ref r) (not_null, none) = (not_null, λ on grounded. none on (later_grounded context types more r.heap_type grounded))
-later_ungrounded config context types more vals.I32 never = never
-later_ungrounded config context types more vals.I64 never = never
-later_ungrounded config context types more vals.F32 never = never
-later_ungrounded config context types more vals.F64 never = never
-later_ungrounded config context types more vals.V128 never = never
+pub any_weaker : {A : Type 0} (P Q : A → Type 0) → ((x : A) → P x → Q x) → (xs : List A) → Any P xs → Any Q xs
+any_weaker P Q f xs (k, x, inside, at, p) = (k, x, inside, at, f x p)
+
+-- nor were the fields of the same types
+pub fields_before : (config : Config) (old new : Context) → IsContextGrown old new → new.types ≡ old.types → HoldsUngroundedField config new → HoldsUngroundedField config old
+fields_before config old new growth same holds =
+    let Held = λ (context : Context) (t : SubType). Any (IsUngrounded config context) (field_values (fields_of t.composite_type.inner)) in
+    any_weaker (Held new) (Held old)
+    (λ t h. any_weaker (IsUngrounded config new) (IsUngrounded config old) (ungrounded_before config old new growth) (field_values (fields_of t.composite_type.inner)) h)
+    old.types (subst (Any (Held new)) same holds)
+
+-- types are added
+types_grown : (context : Context) (types more : List SubType) → IsContextGrown (over context types) (over context (types ++ more))
+types_grown context types more = record {
+  features = refl;
+  types = record { more = more; parts = refl };
+  funcs = record { more = []; parts = sym (append-nil context.funcs) };
+  globals = record { more = []; parts = sym (append-nil context.globals) };
+  imported_funcs = refl;
+  imported_globals = refl;
+  visible = omega arith;
+}
+
+pub later_ungrounded : (config : Config) (context : Context) (types more : List SubType) (value : ValType) → IsUngrounded config (over context (types ++ more)) value → IsUngrounded config (over context types) value
+later_ungrounded config context types more value h = ungrounded_before config (over context types) (over context (types ++ more)) (types_grown context types more) value h
 
 later_filled : (config : Config) (context : Context) (types more : List SubType) (t : SubType) → HasFilledFields config (over context types) t → HasFilledFields config (over context (types ++ more)) t
 later_filled config context types more t h =

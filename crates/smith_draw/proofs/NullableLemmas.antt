@@ -75,7 +75,7 @@ lacking_off config off context vals.F32 never = never
 lacking_off config off context vals.F64 never = never
 lacking_off config off context vals.V128 never = never
 
-ungrounded_not_null : (config : Config) (context : Context) (value : ValType) → IsUngrounded config context value → IsNonNullable value
+pub ungrounded_not_null : (config : Config) (context : Context) (value : ValType) → IsUngrounded config context value → IsNonNullable value
 ungrounded_not_null config context (vals.Ref r) (not_null, none) = not_null
 ungrounded_not_null config context vals.I32 never = never
 ungrounded_not_null config context vals.I64 never = never

@@ -5,14 +5,14 @@ ghost use Rattle.smith_types.specs.Floats.{IsNoFloat};
 ghost use Rattle.smith_types.specs.ValidTypes.{AreTypesValid};
 ghost use Rattle.smith_config.specs.Features.{features_of};
 ghost use Rattle.smith_config.specs.Sanitized.{IsSanitized};
-ghost use Rattle.smith_draw.specs.ConstBounds.{IsNonNullable};
+ghost use Rattle.smith_draw.specs.ConstBounds.{IsNonNullable, IsUngrounded};
 ghost use Rattle.smith_draw.specs.Drawing.{AlwaysDraws, Draws};
 ghost use Rattle.smith_draw.specs.Grounding.{standing_in};
 ghost use Rattle.smith_draw.specs.GlobalTypes.{global_sharedness_at, global_type_at};
 ghost use Rattle.smith_draw.specs.SpelledGlobals.{mutable_i32, SpellsMutableI32};
 
 use crate::shared_reference::is_reference_shared;
-use crate::spaces::Spaces;
+use crate::spaces::{Spaces, orderly};
 use crate::standing::Standing;
 use crate::value_type::{draw_sharedness, draw_val_type};
 use smith_bytes::{Error, Unstructured};
@@ -70,7 +70,9 @@ pub fn arbitrary_global_type(
     ensures valid { AreTypesValid (features_of config.now) spaces.now.types.now → IfOk result (IsGlobalValid (features_of config.now) spaces.now.types.now.types) }
     ensures floats { config.now.allow_floats ≡ false → IfOk result (λ drawn. IsNoFloat drawn.val_type) }
     ensures nullable { config.now.non_nullable_enabled ≡ false → IfOk result (λ drawn. ¬ IsNonNullable drawn.val_type) }
+    ensures grounded { IfOk result (λ drawn. ¬ IsUngrounded config.now (standing_in config.now spaces.now) drawn.val_type) }
     ensures reach { IfOk result (λ drawn. Takes (SpellsSuch (λ global. global ≡ mutable_i32) (λ _. SpellsMutableI32 config.now)) u.old drawn u.new) }
 {
+    orderly(spaces);
     Ok(draw_global_type(config, &Standing::over(config, spaces), u))
 }

@@ -61,9 +61,9 @@ fn draw_table_type(config: &Config, spaces: &Spaces<'_>, u: &mut Unstructured<'_
     }
 }
 
-/// Draws a table type over the types of `spaces`, of nullable references or such as [`arbitrary_ref_type`] draws. Its limits, in elements, stay within the number that
-/// `config` allows, but for a single element where nothing may trap. The table is shared where its references are. The standard's
-/// section Structure, Table Types.
+/// Draws a table type over the types of `spaces`, of nullable references or such as [`arbitrary_ref_type`] draws. Its limits, in
+/// elements, stay within the number that `config` allows, but for a single element where nothing may trap. The table is shared
+/// where its references are. The standard's section Structure, Table Types.
 ///
 /// `config` is sanitised. The table type is valid where the types of `spaces` are.
 ///

@@ -31,7 +31,7 @@ ghost use Rattle.smith_draw.specs.Choices.{enabled};
 ghost use Rattle.smith_draw.specs.Spelling.{SpellsHeapType, SpellsRefType, SpellsValType};
 
 use crate::choice::choose;
-use crate::spaces::Spaces;
+use crate::spaces::{Spaces, orderly};
 use crate::standing::Standing;
 use smith_bytes::{Error, Unstructured};
 use smith_config::Config;
@@ -303,6 +303,7 @@ pub fn arbitrary_ref_type(
     ensures shared { IsTrue must_share → IfOk result (λ drawn. IsHeapTypeShared spaces.now.types.now.types drawn.heap_type) }
     ensures reach { config.now.non_nullable_enabled ≡ false → must_share ≡ false → IfOk result (λ drawn. Takes (SpellsSuch (λ reference. IsInRange spaces.now.types.now.types reference.heap_type) (SpellsRefType config.now limit)) u.old drawn u.new) }
 {
+    orderly(spaces);
     let standing = Standing::over(config, spaces);
     Ok(draw_ref_type(config, &standing, must_share, limit, u))
 }
