@@ -11,7 +11,7 @@ use Rattle.smith_bytes.specs.Draws.{range_at}
 use Rattle.smith_bytes.proofs.GrownLemmas.{grow_all, cond_both}
 use Rattle.smith_types.specs.Expressions.{Context, unpacked, field_values}
 use Rattle.smith_types.specs.Grounded.{IsGrounded}
-use Rattle.smith_types.specs.Grown.{IsContextGrown}
+use Rattle.smith_types.specs.Grown.{IsContextGrown, AreImportsGrown}
 use Rattle.smith_types.specs.Space.{Space}
 use Rattle.smith_types.specs.Types.{IsAlike, IsOrderly}
 use Rattle.smith_types.specs.declared.value_type.HeapType.{HeapType}
@@ -24,7 +24,7 @@ use Rattle.smith_types.specs.declared.composite_type.FieldType.{FieldType}
 use Rattle.smith_types.specs.declared.composite_type.CompositeInnerType.{CompositeInnerType}
 use Rattle.smith_types.specs.declared.composite_type.CompositeInnerType.TheVariants.{Array, Func, Struct}
 use Rattle.smith_types.specs.declared.composite_type.SubType.{SubType}
-use Rattle.smith_types.proofs.GroundGrowthLemmas.{context_grounded}
+use Rattle.smith_types.proofs.GroundGrowthLemmas.{context_grounded, imports_grounded}
 use Rattle.smith_types.proofs.SpaceLemmas.{IsOrderly-push}
 use Rattle.smith_config.specs.declared.config.Config.{Config}
 use Rattle.smith_draw.specs.declared.value_type.ValueClass.{ValueClass}
@@ -175,25 +175,36 @@ pub record AreFilled (config : Config) (context : Context) (types : List SubType
   pub orderly : IsOrderly types
   pub fields : All (HasFilledFields config (over context types)) types
 
--- what is not grounded once more stands was not before
-pub ungrounded_before : (config : Config) (old new : Context) → IsContextGrown old new → (value : ValType) → IsUngrounded config new value → IsUngrounded config old value
-ungrounded_before config old new growth (vals.Ref r) (not_null, none) = (not_null, λ on grounded. none on (context_grounded old new r.heap_type growth grounded))
-ungrounded_before config old new growth vals.I32 never = never
-ungrounded_before config old new growth vals.I64 never = never
-ungrounded_before config old new growth vals.F32 never = never
-ungrounded_before config old new growth vals.F64 never = never
-ungrounded_before config old new growth vals.V128 never = never
+-- where all that is grounded stays so, what is not was not before
+ungrounded_where : (config : Config) (old new : Context) → ((ty : HeapType) → IsGrounded old ty → IsGrounded new ty) → (value : ValType) → IsUngrounded config new value → IsUngrounded config old value
+ungrounded_where config old new stays (vals.Ref r) (not_null, none) = (not_null, λ on grounded. none on (stays r.heap_type grounded))
+ungrounded_where config old new stays vals.I32 never = never
+ungrounded_where config old new stays vals.I64 never = never
+ungrounded_where config old new stays vals.F32 never = never
+ungrounded_where config old new stays vals.F64 never = never
+ungrounded_where config old new stays vals.V128 never = never
 
 pub any_weaker : {A : Type 0} (P Q : A → Type 0) → ((x : A) → P x → Q x) → (xs : List A) → Any P xs → Any Q xs
 any_weaker P Q f xs (k, x, inside, at, p) = (k, x, inside, at, f x p)
 
 -- nor were the fields of the same types
-pub fields_before : (config : Config) (old new : Context) → IsContextGrown old new → new.types ≡ old.types → HoldsUngroundedField config new → HoldsUngroundedField config old
-fields_before config old new growth same holds =
+fields_where : (config : Config) (old new : Context) → ((ty : HeapType) → IsGrounded old ty → IsGrounded new ty) → new.types ≡ old.types → HoldsUngroundedField config new → HoldsUngroundedField config old
+fields_where config old new stays same holds =
     let Held = λ (context : Context) (t : SubType). Any (IsUngrounded config context) (field_values (fields_of t.composite_type.inner)) in
     any_weaker (Held new) (Held old)
-    (λ t h. any_weaker (IsUngrounded config new) (IsUngrounded config old) (ungrounded_before config old new growth) (field_values (fields_of t.composite_type.inner)) h)
+    (λ t h. any_weaker (IsUngrounded config new) (IsUngrounded config old) (ungrounded_where config old new stays) (field_values (fields_of t.composite_type.inner)) h)
     old.types (subst (Any (Held new)) same holds)
+
+-- so it is as a context grows
+pub ungrounded_before : (config : Config) (old new : Context) → IsContextGrown old new → (value : ValType) → IsUngrounded config new value → IsUngrounded config old value
+ungrounded_before config old new growth = ungrounded_where config old new (λ ty. context_grounded old new ty growth)
+
+pub fields_before : (config : Config) (old new : Context) → IsContextGrown old new → new.types ≡ old.types → HoldsUngroundedField config new → HoldsUngroundedField config old
+fields_before config old new growth = fields_where config old new (λ ty. context_grounded old new ty growth)
+
+-- and as functions are imported
+pub fields_imported : (config : Config) (old new : Context) → AreImportsGrown old new → new.types ≡ old.types → HoldsUngroundedField config new → HoldsUngroundedField config old
+fields_imported config old new growth = fields_where config old new (λ ty. imports_grounded old new ty growth)
 
 -- types are added
 types_grown : (context : Context) (types more : List SubType) → IsContextGrown (over context types) (over context (types ++ more))
