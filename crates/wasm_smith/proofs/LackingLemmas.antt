@@ -84,6 +84,13 @@ shape_grounded config functions for_use shape used none =
     grounded_values config functions (shape_types shape) (shape_spaces shape)
     (λ holds. none (for_use, subst (λ (one : Option Shape). IsSomeAnd one (λ each. Any IsNonNullable (shape_values each))) (sym used) holds))
 
+-- nor in its tables over any types
+pub grounded_tables_of : (config : Config) (context : Context) (for_use : Which) (shape : Shape) → shape_for config for_use ≡ Some shape → (HoldsNonNullable config → ⊥) → All (HasGroundedElements config context) (shape_spaces shape).tables
+grounded_tables_of config context for_use shape used none =
+    let never : ¬ Any IsNonNullable (values_in (shape_types shape) (shape_spaces shape)) = λ holds. none (for_use, subst (λ (one : Option Shape). IsSomeAnd one (λ each. Any IsNonNullable (shape_values each))) (sym used) holds) in
+    let (of_types, of_tables, of_globals) = all_values_apart MayBeNull (shape_types shape) (shape_spaces shape) (none_has IsNonNullable (values_in (shape_types shape) (shape_spaces shape)) never) in
+    All-weaker (λ (table : TableType). MayBeNull (Ref table.element_type)) (HasGroundedElements config context) (λ table may lacks. may lacks.0) (shape_spaces shape).tables of_tables
+
 -- what a module shape is made over
 abbrev beside_shape : Config → Shape → Context
 beside_shape config shape = drawn_beside config (shape_types shape) (imported_spaces (shape_imports shape)) nothing_defined
