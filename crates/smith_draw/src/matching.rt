@@ -94,7 +94,9 @@ fn count_grounded(config: &Config, standing: &Standing<'_>, ty: HeapType) -> usi
     let others = count_subtypes(config, standing.types(), ty) - 1;
     let mut grounded = 0;
     for place in 0..others {
-        if standing.is_grounded(other_subtype(config, standing.types(), ty, place)) {
+        let other = other_subtype(config, standing.types(), ty, place);
+        let found = standing.is_grounded(other);
+        if found {
             grounded += 1;
         }
     }
@@ -115,7 +117,8 @@ fn offered_grounded(
     let mut left = place;
     for at in 0..others {
         let other = other_subtype(config, standing.types(), ty, at);
-        if standing.is_grounded(other) {
+        let found = standing.is_grounded(other);
+        if found {
             if left == 0 {
                 return other;
             }
