@@ -3,13 +3,6 @@ use Rattle.std.proofs.Common.{◌≡◌, ℕ, zero, suc, ◌+◌, ◌-◌, ◌<�
 use Rattle.std.specs.Prelude.{slice_get, filter}
 use Rattle.std.proofs.lemmas.Option.{get_or_from_slice_get, slice_get_within, slice_get-get_or}
 
--- behind the first item of a list
-pub behind_first : {A : Type 0} (xs : List A) (place : ℕ) (x : A) → slice_get xs (place + 1) ≡ Some x → slice_get (drop 1 xs) place ≡ Some x
-behind_first [] place x at = cc
-behind_first {A = A} (y ∷ xs) place x at =
-    let next : place + 1 ≡ suc place = omega arith in
-    subst (λ (n : ℕ). slice_get (y ∷ xs) n ≡ Some x) next at
-
 -- what is left of a list from a place on
 pub left_from : {A : Type 0} (xs : List A) (n : ℕ) (x : A) → slice_get xs n ≡ Some x → drop n xs ≡ x ∷ drop (n + 1) xs
 left_from {A = A} xs n x at =
@@ -36,10 +29,11 @@ module _ {A : Type 0} (test : A → Bool) (xs : List A) (n : ℕ) (x : A) (at : 
   counts_none count total off h = failing (λ (ys : List A). count + length ys ≡ total) off h
 
   -- finding one of those that pass
-  pub found_here : (left : ℕ) (item : Option A) → test x ≡ true → left ≡ 0 → slice_get (filter test (drop n xs)) left ≡ item → item ≡ Some x
-  found_here left item on first h =
-      let here = passing (λ (ys : List A). slice_get ys left ≡ item) on h in
-      sym here ∙ ap (slice_get (x ∷ filter test (drop (n + 1) xs))) first
+  pub found_here : (left : ℕ) → test x ≡ true → left ≡ 0 → slice_get (filter test (drop n xs)) left ≡ Some x
+  found_here left on first =
+      let rest = filter test (drop (n + 1) xs) in
+      let all : filter test (drop n xs) ≡ x ∷ rest = ap (filter test) (left_from xs n x at) ∙ ap (λ (b : Bool). cond b (x ∷ rest) rest) on in
+      rw first (ap (λ (ys : List A). slice_get ys 0) all)
 
   pub found_later : (left : ℕ) (item : Option A) → test x ≡ true → 0 < left → slice_get (filter test (drop n xs)) left ≡ item → slice_get (filter test (drop (n + 1) xs)) (left - 1) ≡ item
   found_later left item on some h =
@@ -62,8 +56,8 @@ all_counted {A = A} test xs n count total le h =
     let all = subst (λ (ys : List A). count + length (filter test ys) ≡ total) (none_left xs n le) h in
     omega arith
 
-pub never_missed : {A : Type 0} (test : A → Bool) (xs : List A) (n left place : ℕ) (d : A) → length xs ≤ n → place < length (filter test xs) → slice_get (filter test (drop n xs)) left ≡ slice_get (filter test xs) place → ⊥
-never_missed {A = A} test xs n left place d le inside h =
-    let none = subst (λ (ys : List A). slice_get (filter test ys) left ≡ slice_get (filter test xs) place) (none_left xs n le) h in
-    let some = slice_get-get_or (filter test xs) place d inside in
+pub never_missed : {A : Type 0} (test : A → Bool) (xs all : List A) (n left place : ℕ) (d : A) → length xs ≤ n → place < length all → slice_get (filter test (drop n xs)) left ≡ slice_get all place → ⊥
+never_missed {A = A} test xs all n left place d le inside h =
+    let none = subst (λ (ys : List A). slice_get (filter test ys) left ≡ slice_get all place) (none_left xs n le) h in
+    let some = slice_get-get_or all place d inside in
     cc

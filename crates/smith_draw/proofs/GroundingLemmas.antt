@@ -206,26 +206,26 @@ by_functions context ty r orderly none e =
     or_right (any_from (type_grounds context ty) 0 context.types) (any_from (function_grounds context ty) 0 context.funcs) r (λ on. none ((structs_decide context ty orderly).0 on)) e
 
 -- turns of the loop over functions
-module _ {A : Type 0} (test : ℕ → A → Bool) (xs : List A) (n : ℕ) where
-  pub any_here : (x : A) → slice_get xs n ≡ Some x → test n x ≡ true → any_from test n (drop n xs) ≡ any_from test 0 xs → true ≡ any_from test 0 xs
-  any_here x at on h =
+module _ {A : Type 0} (test : ℕ → A → Bool) (xs : List A) (n : ℕ) (whole : Bool) (so_far : any_from test n (drop n xs) ≡ whole) where
+  pub any_here : (x : A) → slice_get xs n ≡ Some x → test n x ≡ true → true ≡ whole
+  any_here x at on =
       let here : any_from test n (drop n xs) ≡ true = rw (left_from xs n x at) (left_is (test n x) (any_from test (n + 1) (drop (n + 1) xs)) on) in
-      sym here ∙ h
+      sym here ∙ so_far
 
-  pub any_later : (x : A) → slice_get xs n ≡ Some x → test n x ≡ false → any_from test n (drop n xs) ≡ any_from test 0 xs → any_from test (n + 1) (drop (n + 1) xs) ≡ any_from test 0 xs
-  any_later x at off h =
+  pub any_later : (x : A) → slice_get xs n ≡ Some x → test n x ≡ false → any_from test (n + 1) (drop (n + 1) xs) ≡ whole
+  any_later x at off =
       let rest = any_from test (n + 1) (drop (n + 1) xs) in
       let here : any_from test n (drop n xs) ≡ rest = rw (left_from xs n x at) (or_off (test n x) rest off) in
-      sym here ∙ h
+      sym here ∙ so_far
     where
       or_off : (a b : Bool) → a ≡ false → (a || b) ≡ b
       or_off true b e = cc
       or_off false b e = refl
 
-  pub any_never : length xs ≤ n → any_from test n (drop n xs) ≡ any_from test 0 xs → false ≡ any_from test 0 xs
-  any_never le h =
+  pub any_never : length xs ≤ n → false ≡ whole
+  any_never le =
       let here : any_from test n (drop n xs) ≡ false = rw (none_left xs n le) refl in
-      sym here ∙ h
+      sym here ∙ so_far
 
 -- a function of no type that stands grounds nothing, and another where the reference to it is below
 pub outside_grounds : (context : Context) (ty : HeapType) (function index : ℕ) → length context.types ≤ index → false ≡ function_grounds context ty function index

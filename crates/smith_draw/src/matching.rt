@@ -79,22 +79,14 @@ fn draw_grounded_heap_type(
     offered_grounded(config, standing, ty, place - 1)
 }
 
-/// Returns the subtype of `ty` that is offered with garbage collection at the place `place` after `ty` itself.
-fn other_subtype(config: &Config, space: &TypeSpace, ty: HeapType, place: usize) -> HeapType
-    requires { place < length (drop 1 (gc_subtypes config.now space.now.types ty)) }
-    ensures { slice_get (drop 1 (gc_subtypes config.now space.now.types ty)) place ≡ Some result }
-{
-    offered_subtype(config, space, ty, place + 1)
-}
-
 /// Counts the grounded ones among the subtypes of `ty` that are offered with garbage collection, `ty` itself aside.
 fn count_grounded(config: &Config, standing: &Standing<'_>, ty: HeapType) -> usize
     ensures { result ≡ length (filter (is_grounded standing.now) (drop 1 (gc_subtypes config.now standing.now.types ty))) }
 {
-    let others = count_subtypes(config, standing.types(), ty) - 1;
+    let space = standing.types();
     let mut grounded = 0;
-    for place in 0..others {
-        let other = other_subtype(config, standing.types(), ty, place);
+    for place in 1..count_subtypes(config, space, ty) {
+        let other = offered_subtype(config, space, ty, place);
         let found = standing.is_grounded(other);
         if found {
             grounded += 1;
@@ -113,10 +105,10 @@ fn offered_grounded(
     requires { place < length (filter (is_grounded standing.now) (drop 1 (gc_subtypes config.now standing.now.types ty))) }
     ensures { slice_get (filter (is_grounded standing.now) (drop 1 (gc_subtypes config.now standing.now.types ty))) place ≡ Some result }
 {
-    let others = count_subtypes(config, standing.types(), ty) - 1;
+    let space = standing.types();
     let mut left = place;
-    for at in 0..others {
-        let other = other_subtype(config, standing.types(), ty, at);
+    for at in 1..count_subtypes(config, space, ty) {
+        let other = offered_subtype(config, space, ty, at);
         let found = standing.is_grounded(other);
         if found {
             if left == 0 {
