@@ -1,5 +1,5 @@
 -- The test of what is grounded decides it, over orderly types.
-use Rattle.std.proofs.Common.{◌≡◌, ◌⊎◌, inl, inr, ℕ, zero, suc, ◌+◌, ◌<◌, Bool, true, false, cond, ◌&&◌, ◌||◌, List, [], ◌∷◌, Some, length, drop, refl, sym, subst, ◌∙◌, arith, nat_lt}
+use Rattle.std.proofs.Common.{◌≡◌, ◌⊎◌, inl, inr, ℕ, zero, suc, ◌+◌, ◌<◌, ◌≤◌, Bool, true, false, cond, ◌&&◌, ◌||◌, List, [], ◌∷◌, Some, length, drop, refl, sym, subst, ◌∙◌, arith, nat_lt}
 use Rattle.std.specs.Prelude.{IsTrue, ◌↔◌, slice_get, nat_le}
 use Rattle.std.specs.Bool.{Decides}
 use Rattle.std.proofs.lemmas.Bool.{lt-ltb, le-ltb, ltb-true}
@@ -183,8 +183,8 @@ grounded_stands context ty orderly e =
     ]
 
 false_where : (b : Bool) → (b ≡ true → ⊥) → false ≡ b
-false_where true no = absurd (no refl)
-false_where false no = refl
+false_where true never = absurd (never refl)
+false_where false never = refl
 
 -- no heap type that does not stand is grounded
 pub ungrounded : (context : Context) (ty : HeapType) → IsOrderly context.types → (IsInRange context.types ty → ⊥) → false ≡ is_grounded context ty
@@ -197,8 +197,8 @@ by_structs context ty orderly structs =
     sym (left_is (any_from (type_grounds context ty) 0 context.types) (any_from (function_grounds context ty) 0 context.funcs) ((structs_decide context ty orderly).1 structs))
 
 or_right : (a b r : Bool) → (a ≡ true → ⊥) → r ≡ b → r ≡ (a || b)
-or_right true b r no e = absurd (no refl)
-or_right false b r no e = e
+or_right true b r never e = absurd (never refl)
+or_right false b r never e = e
 
 pub by_functions : (context : Context) (ty : HeapType) (r : Bool) → IsOrderly context.types → (IsGroundedByStructs context.types context.features.custom_descriptors ty → ⊥) → r ≡ any_from (function_grounds context ty) 0 context.funcs → r ≡ is_grounded context ty
 unfolding is_grounded

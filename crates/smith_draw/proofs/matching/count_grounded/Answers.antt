@@ -13,11 +13,11 @@ loop-place-preserved c =
     let so_far = c.loop-place.invariant in
     elim c.if-found.branch [
       | then-found w ↦ rw w.grounded-is (record {
-        counted = counts_one (is_grounded context) offered c.loop-place.place c.offered_subtype-other.result at _ _ (sym c.is_grounded-found.ensures ∙ w.if-found) so_far.counted;
+        counted = counts_one (is_grounded context) offered c.loop-place.place c.offered_subtype-other.result at _ _ (sym c.is_grounded-found.ensures ∙ w.if-found.true) so_far.counted;
         within = omega (arith, so_far.within);
       })
       | else-found w ↦ rw w.grounded-is (record {
-        counted = counts_none (is_grounded context) offered c.loop-place.place c.offered_subtype-other.result at _ _ (sym c.is_grounded-found.ensures ∙ w.if-found) so_far.counted;
+        counted = counts_none (is_grounded context) offered c.loop-place.place c.offered_subtype-other.result at _ _ (sym c.is_grounded-found.ensures ∙ w.if-found.false) so_far.counted;
         within = omega (arith, so_far.within);
       })
     ]

@@ -19,8 +19,8 @@ loop-at-preserved c =
     let offered = gc_subtypes c.args.config.now context.types c.args.ty in
     let at = rw c.types-space.ensures at c.offered_subtype-other.ensures in
     elim c.if-found.branch [
-      | then-found+else-left-eq0 w ↦ rw w.left-is (found_later (is_grounded context) offered c.loop-at.at c.offered_subtype-other.result at c.loop-at.left _ (sym c.is_grounded-found.ensures ∙ w.if-found) (omega (arith, w.if-left-eq0)) c.loop-at.invariant)
-      | else-found w ↦ rw w.left-is (found_behind (is_grounded context) offered c.loop-at.at c.offered_subtype-other.result at c.loop-at.left _ (sym c.is_grounded-found.ensures ∙ w.if-found) c.loop-at.invariant)
+      | then-found+else-left-eq0 w ↦ rw w.left-is (found_later (is_grounded context) offered c.loop-at.at c.offered_subtype-other.result at c.loop-at.left _ (sym c.is_grounded-found.ensures ∙ w.if-found.true) (omega (arith, w.if-left-eq0.false)) c.loop-at.invariant)
+      | else-found w ↦ rw w.left-is (found_behind (is_grounded context) offered c.loop-at.at c.offered_subtype-other.result at c.loop-at.left _ (sym c.is_grounded-found.ensures ∙ w.if-found.false) c.loop-at.invariant)
     ]
 
 pub returns : goal.returns
