@@ -73,6 +73,17 @@ gc_first config types (Concrete i) = refl
 gc_first config types (Exact i) = refl
 
 -- of a reference that is not nullable: without garbage collection itself alone, and with it the item at the place that is drawn
+-- of a reference all subtypes are offered, or the first and those that are grounded
+pub all_are_offered : (config : Config) (context : Context) (ty : RefType) (bytes : List ℕ) → (ty.nullable || not config.non_nullable_enabled) ≡ true
+    → chosen_at ty.heap_type (references_offered config context ty) bytes ≡ matching_heap_type_at config context.types ty.heap_type bytes
+unfolding references_offered matching_heap_type_at
+all_are_offered config context ty bytes all = rw all refl
+
+pub grounded_are_offered : (config : Config) (context : Context) (ty : RefType) (bytes : List ℕ) → (ty.nullable || not config.non_nullable_enabled) ≡ false
+    → chosen_at ty.heap_type (references_offered config context ty) bytes ≡ chosen_at ty.heap_type (first_and_passing (is_grounded context) (subtypes_offered config context.types ty.heap_type)) bytes
+unfolding references_offered
+grounded_are_offered config context ty bytes some = rw some refl
+
 pub grounded_without_gc : (config : Config) (types : List SubType) (test : HeapType → Bool) (ty : HeapType) (bytes : List ℕ) → config.gc_enabled ≡ false → chosen_at ty (first_and_passing test (subtypes_offered config types ty)) bytes ≡ (ty, bytes)
 unfolding subtypes_offered
 grounded_without_gc config types test ty bytes off = rw off (chosen_alone ty bytes)

@@ -102,9 +102,9 @@ offered_first true ty offered e = e
 offered_first false ty offered e = refl
 
 granted_each : (P : HeapType → Type 0) (nullable on : Bool) (offered kept : List HeapType) → nullable ≡ false → IsTrue on → Each P kept → Each P (cond (nullable || not on) offered kept)
-granted_each P true on offered kept e yes h = cc
-granted_each P false true offered kept e yes h = h
-granted_each P false false offered kept e yes h = cc
+granted_each P true on offered kept not_null is_on h = cc
+granted_each P false true offered kept not_null is_on h = h
+granted_each P false false offered kept not_null is_on h = cc
 
 pub matching_ref_granted : (config : Config) (context : Context) (ty : RefType) (bytes : List ℕ) → IsTrue config.non_nullable_enabled → ty.nullable ≡ false
     → let drawn = (matching_ref_type_at config context ty bytes).0.heap_type in (drawn ≡ ty.heap_type) ⊎ IsTrue (is_grounded context drawn)

@@ -104,16 +104,16 @@ none_shared config sanitized off false e = refl
 
 plain_read : (config : Config) (off : config.non_nullable_enabled ≡ false) (context : Context) (limit : ℕ) (t : SubType) (piece after : List ℕ) → IsSanitized config → config.gc_enabled ≡ false → IsInnerInRange context.types t.composite_type.inner → IsRoot t → t.composite_type.shared ≡ false
     → IsTrue t.is_final × SpellsPlainFunction config limit t.composite_type.inner piece → sub_type_at config context limit (piece ++ after) ≡ (t, after)
-plain_read config off context limit t piece after sanitized off stands root unshared h =
+plain_read config off context limit t piece after sanitized plain stands root unshared h =
     let bytes = piece ++ after in
     let count = length (supertypes context.types) in
     let unasked : SpellsUnshared config [] =
-    subst (λ (on : Bool). Where on (SpellsRefusal 4) []) (sym (none_shared config sanitized off config.shared_everything_threads_enabled refl)) refl in
-    let kind = subst (λ (gc : Bool). SpellsKind gc config limit t.composite_type.inner piece) (sym off) h.1 in
+    subst (λ (on : Bool). Where on (SpellsRefusal 4) []) (sym (none_shared config sanitized plain config.shared_everything_threads_enabled refl)) refl in
+    let kind = subst (λ (gc : Bool). SpellsKind gc config limit t.composite_type.inner piece) (sym plain) h.1 in
     let composite : SpellsCompositeType config limit t.composite_type piece =
     record { unshared = unshared; form = record { first = []; second = piece; is_first = unasked; is_second = kind; whole = refl } } in
-    let final : is_final_at config bytes ≡ (t.is_final, bytes) = final_without config.gc_enabled (bool_at bytes) bytes off ∙ ap (λ (final : Bool). (final, bytes)) (sym h.0) in
-    sub_type_of config context limit t bytes bytes after (none_asked (config.gc_enabled && nat_lt 0 count) (ratio_at 1 32 bytes) bytes (and_off config.gc_enabled (nat_lt 0 count) off))
+    let final : is_final_at config bytes ≡ (t.is_final, bytes) = final_without config.gc_enabled (bool_at bytes) bytes plain ∙ ap (λ (final : Bool). (final, bytes)) (sym h.0) in
+    sub_type_of config context limit t bytes bytes after (none_asked (config.gc_enabled && nat_lt 0 count) (ratio_at 1 32 bytes) bytes (and_off config.gc_enabled (nat_lt 0 count) plain))
     (root_of config context limit t bytes bytes after root final (composite_type_read config off context limit t.composite_type piece after stands composite))
 
 form_read : (gc : Bool) (config : Config) (off : config.non_nullable_enabled ≡ false) (context : Context) (limit : ℕ) (t : SubType) (piece after : List ℕ) → config.gc_enabled ≡ gc → IsSanitized config → All IsRoot context.types → IsInnerInRange context.types t.composite_type.inner

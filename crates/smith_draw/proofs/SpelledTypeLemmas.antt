@@ -98,10 +98,10 @@ number_without false drawn bytes off = refl
 
 plain_read : (config : Config) (off : config.non_nullable_enabled ≡ false) (context : Context) (limit : ℕ) (inner : CompositeInnerType) (piece after : List ℕ) → config.gc_enabled ≡ false → IsInnerInRange context.types inner → SpellsPlainFunction config limit inner piece
     → (let number = inner_number_at config (piece ++ after) in inner_of_number_at config context false limit number.0 number.1) ≡ (inner, after)
-plain_read config off context limit (Array array) piece after off stands h = absurd h
-plain_read config off context limit (Func function) piece after off stands h =
-    rw (number_without config.gc_enabled (range_at 0 2 (piece ++ after)) (piece ++ after) off, func_type_read config off context limit function piece after stands h) refl
-plain_read config off context limit (Struct structure) piece after off stands h = absurd h
+plain_read config off context limit (Array array) piece after plain stands h = absurd h
+plain_read config off context limit (Func function) piece after plain stands h =
+    rw (number_without config.gc_enabled (range_at 0 2 (piece ++ after)) (piece ++ after) plain, func_type_read config off context limit function piece after stands h) refl
+plain_read config off context limit (Struct structure) piece after plain stands h = absurd h
 
 kind_read : (gc : Bool) (config : Config) (off : config.non_nullable_enabled ≡ false) (context : Context) (limit : ℕ) (inner : CompositeInnerType) (piece after : List ℕ) → config.gc_enabled ≡ gc → IsInnerInRange context.types inner → SpellsKind gc config limit inner piece
     → (let number = inner_number_at config (piece ++ after) in inner_of_number_at config context false limit number.0 number.1) ≡ (inner, after)

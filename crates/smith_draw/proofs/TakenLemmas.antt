@@ -25,7 +25,7 @@ use Rattle.smith_draw.specs.CompositeTypes.{func_type_at, struct_type_at, compos
 use Rattle.smith_draw.specs.SubTypes.{sub_type_at}
 use Rattle.smith_draw.specs.RecGroups.{rec_group_at, types_at}
 use Rattle.smith_draw.specs.Spelling.{IsRoot, SpellsSubType, SpellsAdded, SpellsSpace, SpellsHeapType, SpellsRefType, SpellsValType, SpellsStorage, SpellsField, SpellsFuncType, SpellsStructType, SpellsCompositeType}
-use Rattle.smith_draw.proofs.SpelledValueLemmas.{heap_type_read, ref_type_read, val_type_read}
+use Rattle.smith_draw.proofs.SpelledValueLemmas.{readable, heap_type_read, ref_type_read, val_type_read}
 use Rattle.smith_draw.proofs.SpelledTypeLemmas.{storage_read, field_read, func_type_read, struct_type_read, composite_type_read}
 use Rattle.smith_draw.proofs.SpelledSubTypeLemmas.{sub_type_read}
 use Rattle.smith_draw.proofs.SpelledGroupLemmas.{group_read, types_read}
@@ -45,7 +45,7 @@ ref_type_taken config off context must_share limit old drawn new free made =
 pub val_type_taken : (config : Config) (off : config.non_nullable_enabled ≡ false) (context : Context) (must_share : Bool) (limit : ℕ) (old : List ℕ) (drawn : ValType) (new : List ℕ) → must_share ≡ false → val_type_at config context must_share limit old ≡ (drawn, new)
     → Takes (SpellsSuch (IsValInRange context.types) (SpellsValType config limit)) old drawn new
 val_type_taken config off context must_share limit old drawn new free made =
-    takes_by (val_type_at config context false limit) (λ ty piece after h. val_type_read config context limit ty piece after h.holds h.spelled)
+    takes_by (val_type_at config context false limit) (λ ty piece after h. val_type_read config context limit ty piece after (readable config off ty) h.holds h.spelled)
     (subst (λ (share : Bool). val_type_at config context share limit old ≡ (drawn, new)) free made)
 
 pub storage_type_taken : (config : Config) (off : config.non_nullable_enabled ≡ false) (context : Context) (must_share : Bool) (limit : ℕ) (old : List ℕ) (drawn : StorageType) (new : List ℕ) → must_share ≡ false → storage_type_at config context must_share limit old ≡ (drawn, new)

@@ -1,4 +1,4 @@
-ghost use Rattle.std.specs.Prelude.{◌≡◌, ◌<◌, ◌↔◌, ◌⊎◌, false, IsTrue, Some, IfOk, drop, filter, length, slice_get};
+ghost use Rattle.std.specs.Prelude.{◌≡◌, ◌<◌, ◌↔◌, ◌⊎◌, false, IsTrue, Some, IfOk, drop, filter, length, slice_get, ◌||◌, not};
 ghost use Rattle.smith_bytes.specs.Draws.{choose_at};
 ghost use Rattle.smith_types.specs.Subtyping.{IsBelow, IsRefBelow, IsValBelow, IsInRange, IsValInRange};
 ghost use Rattle.smith_types.specs.Matching.{IsStorageMatch, IsFieldMatch, IsFuncMatch, IsStorageInRange, IsFieldInRange, IsFuncInRange};
@@ -25,6 +25,7 @@ ghost use Rattle.smith_draw.specs.Kept.{
 ghost use Rattle.smith_draw.specs.Offered.{gc_subtypes, subtypes_offered};
 ghost use Rattle.smith_draw.specs.MatchingTypes.{
   first_and_passing,
+  references_offered,
   matching_heap_type_at,
   matching_ref_type_at,
   matching_val_type_at,
@@ -120,6 +121,28 @@ fn offered_grounded(
     ty
 }
 
+/// Whether all subtypes of the heap type of `ty` are offered, grounded or not.
+fn are_all_offered(config: &Config, ty: RefType) -> bool
+    ensures { result ≡ (ty.nullable || not config.now.non_nullable_enabled) }
+{
+    ty.nullable || !config.non_nullable_enabled
+}
+
+/// Draws the heap type of a reference below `ty`.
+fn draw_referent(
+    config: &Config,
+    standing: &Standing<'_>,
+    ty: RefType,
+    u: &mut Unstructured<'_>,
+) -> Result<HeapType, Error>
+    ensures { Draws (chosen_at ty.heap_type (references_offered config.now standing.now ty) u.old) result u.old u.new }
+{
+    if are_all_offered(config, ty) {
+        return draw_matching_heap_type(config, standing.types(), ty.heap_type, u);
+    }
+    Ok(draw_grounded_heap_type(config, standing, ty.heap_type, u))
+}
+
 #[tactic(auto, unfolding(crate::specs::MatchingTypes::matching_ref_type_at))]
 fn draw_matching_ref_type(
     alloc: Global,
@@ -130,11 +153,7 @@ fn draw_matching_ref_type(
 ) -> Result<RefType, Error>
     ensures { Draws (matching_ref_type_at config.now standing.now ty u.old) result u.old u.new }
 {
-    let heap_type = if ty.nullable || !config.non_nullable_enabled {
-        draw_matching_heap_type(config, standing.types(), ty.heap_type, u)?
-    } else {
-        draw_grounded_heap_type(config, standing, ty.heap_type, u)
-    };
+    let heap_type = draw_referent(config, standing, ty, u)?;
     Ok(RefType {
         nullable: ty.nullable,
         heap_type,
