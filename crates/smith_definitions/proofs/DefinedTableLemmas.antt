@@ -65,8 +65,8 @@ null_where true not_so = refl
 null_where false not_so = absurd (not_so refl)
 
 on_where : (on : Bool) (P : Type 0) → (on ≡ true → P) → (on ≡ false → ⊥) → P
-on_where true P yes never = yes refl
-on_where false P yes never = absurd (never refl)
+on_where true P holds never = holds refl
+on_where false P holds never = absurd (never refl)
 
 -- elements that may not be null are there only with garbage collection
 pub needs_gc : (config : Config) (element : RefType) → IsSanitized config → (config.non_nullable_enabled ≡ false → element.nullable ≡ true) → element.nullable ≡ false → config.gc_enabled ≡ true
