@@ -45,13 +45,13 @@ several true n le lt = refl
 several false n le lt = absurd (omega arith)
 
 -- a drawn function type is like this
-pub record IsFuncTypeDrawn (config : Config) (context : Context) (must_share : Bool) (limit : ℕ) (function : FuncType) : Type 0 where
+pub record IsFuncTypeDrawn (config : Config) (types : List SubType) (must_share : Bool) (limit : ℕ) (function : FuncType) : Type 0 where
   pub results_few : 1 < length function.results → IsTrue config.multi_value_enabled
-  pub params : All (IsValTypeDrawn config context.types must_share limit) function.params
-  pub results : All (IsValTypeDrawn config context.types must_share limit) function.results
+  pub params : All (IsValTypeDrawn config types must_share limit) function.params
+  pub results : All (IsValTypeDrawn config types must_share limit) function.results
 
 pub func_type_drawn : (config : Config) (context : Context) (must_share : Bool) (limit : ℕ) (bytes : List ℕ) → IsSanitized config → MayShare config must_share
-    → IsFuncTypeDrawn config context must_share limit (func_type_at config context must_share limit bytes).0
+    → IsFuncTypeDrawn config context.types must_share limit (func_type_at config context must_share limit bytes).0
 unfolding func_type_at
 func_type_drawn config context must_share limit bytes sanitized may =
     let after = (val_types_at config context must_share limit 20 bytes).1 in

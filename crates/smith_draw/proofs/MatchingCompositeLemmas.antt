@@ -107,7 +107,7 @@ matching_struct_valid config context must_share limit structure bytes sanitized 
     let before = fields_of_values P structure.fields (recursion_from_All P (values_of (Struct structure)) old) in
     let matched = (matched_fields_valid config context structure.fields (range_at 0 5 bytes).1).against limit room sharing (All-from_recursion Valid structure.fields before) in
     values_of_fields P (matching_struct_type_at config context must_share limit structure bytes).0.fields
-    (struct_fields_keep Valid config context.types must_share limit structure bytes (λ field drawn. values_valid config context.types must_share limit (values_of_storage field.element_type) drawn.values) sanitized may matched)
+    (struct_fields_keep Valid config context must_share limit structure bytes (λ field drawn. values_valid config context.types must_share limit (values_of_storage field.element_type) drawn.values) sanitized may matched)
 
 pub matching_struct_shareable : (config : Config) (context : Context) (must_share : Bool) (limit : ℕ) (structure : StructType) (bytes : List ℕ) → IsSanitized config → MayShare config must_share → IsOrderly context.types → IsTrue must_share
     → All (IsShareable context.types) (values_of (Struct structure)) → All (IsShareable context.types) (values_of (Struct (matching_struct_type_at config context must_share limit structure bytes).0))
@@ -118,7 +118,7 @@ matching_struct_shareable config context must_share limit structure bytes saniti
     let matched = all_stay Shared (matching_field_type_at config context)
     (λ x rest s. (storage_shareable context.types orderly (matching_field_type_at config context x rest).0.element_type x.element_type (matching_field_match config context x rest).below).1 s) structure.fields (range_at 0 5 bytes).1 (All-from_recursion Shared structure.fields before) in
     values_of_fields (IsShareable context.types) (matching_struct_type_at config context must_share limit structure bytes).0.fields
-    (struct_fields_keep Shared config context.types must_share limit structure bytes (λ field drawn. values_shared config context.types must_share limit (values_of_storage field.element_type) must drawn.values) sanitized may matched)
+    (struct_fields_keep Shared config context must_share limit structure bytes (λ field drawn. values_shared config context.types must_share limit (values_of_storage field.element_type) must drawn.values) sanitized may matched)
 
 matching_func : (config : Config) (context : Context) (must_share : Bool) (limit : ℕ) (function : FuncType) (bytes : List ℕ) → MayBeMatched config context.types must_share limit (Func function)
     → IsInnerMatching config context.types must_share limit (Func function) (Func (matching_func_type_at config context function bytes).0)

@@ -37,7 +37,6 @@ fn is_global_shared(
 
 #[tactic(auto, unfolding(crate::specs::GlobalTypes::global_type_at))]
 fn draw_global_type(config: &Config, standing: &Standing<'_>, u: &mut Unstructured<'_>) -> GlobalType
-    requires { length standing.now.types < 2 ^ 32 }
     ensures { AlwaysDraws (global_type_at config.now standing.now u.old) result u.old u.new }
 {
     let types = standing.types().types();
