@@ -166,7 +166,7 @@ module _ (context : Context) (config : Config) (calm : All HasNoFloat context.ty
       → Stays (operand_at config draw operand s)
   operand_stays draw each (Value value) s h so_far = each value s h so_far
   operand_stays draw each Length s h so_far =
-      cond_both Stays config (Some (length_at s)) (draw I32 s) (All-push GivesNoFloat s.made (instr.I32Const (cast_signed w32 (range_at 0 s.fuel s.bytes).0)) so_far tt) (each I32 s tt so_far)
+      cond_both Stays config.limit_arrays_in_const_exprs (Some (length_at s)) (draw I32 s) (All-push GivesNoFloat s.made (instr.I32Const (cast_signed w32 (range_at 0 s.fuel s.bytes).0)) so_far tt) (each I32 s tt so_far)
 
   made_stays : (draw : ValType → State → Option State) → ((value : ValType) (s : State) → IsNoFloat value → All GivesNoFloat s.made → Stays (draw value s)) → (wanted : ValType) (s : State) (choice : Option Choice) → IsNoFloat wanted → All GivesNoFloat s.made
       → Stays (chosen_at context config draw wanted s choice)

@@ -25,4 +25,4 @@ returns-clause-some c =
     of_state (λ (space : Space). c.args.allow_empty ≡ false → length c.args.types.now.types < length space.types) c.add_rec_group.ensures (rec_group_more _ _ _ _ _ (sound_within _ c.types-groups.ensures.sound) c.requires.room).some
 
 pub returns-clause-reach : goal.returns-clause-reach
-returns-clause-reach c = λ off may roots. on_ok_weaker c.add_rec_group.result (rec_group_taken _ off _ _ _ _ _ c.requires.sanitized may roots) c.add_rec_group.ensures.exact
+returns-clause-reach c = λ off may roots. on_ok_weaker c.add_rec_group.result (rec_group_taken _ off _ _ _ _ _ _ c.requires.sanitized may roots) c.add_rec_group.ensures.exact

@@ -36,10 +36,10 @@ returns-clause-least c = λ valid.
     of_state (λ (space : Space). c.args.config.now.min_types ≤ length space.types) c.add_all_types.ensures (types_least _ _ _ _ c.requires.sanitized (c.requires.passes.1.ordered Types tt) valid)
 
 pub returns-clause-reach : goal.returns-clause-reach
-returns-clause-reach c = λ off least empty. on_ok_weaker c.add_all_types.result (types_taken _ off _ _ _ _ c.requires.sanitized least empty) c.add_all_types.ensures.exact
+returns-clause-reach c = λ off least empty. on_ok_weaker c.add_all_types.result (types_taken _ off _ _ _ _ _ c.requires.sanitized least empty) c.add_all_types.ensures.exact
 
 pub returns-clause-floats : goal.returns-clause-floats
-returns-clause-floats c = λ off all. of_state (λ (space : Space). All HasNoFloat space.types) c.add_all_types.ensures (types_no_float _ _ off _ _ all)
+returns-clause-floats c = λ off all. of_state (λ (space : Space). All HasNoFloat space.types) c.add_all_types.ensures (types_no_float _ off _ _ _ all)
 
 pub returns-clause-few_values : goal.returns-clause-few_values
 returns-clause-few_values c = λ most enough all. of_state (λ (space : Space). All (HasFewValues most) space.types) c.add_all_types.ensures (types_within most enough _ _ _ _ all)
