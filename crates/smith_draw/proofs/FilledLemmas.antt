@@ -1,9 +1,8 @@
 -- No drawn reference is one that may not be null and is not grounded, and where no field or element type that stands is one, none
 -- that is drawn is.
-use Rattle.std.proofs.Common.{◌≡◌, ◌⊎◌, inl, inr, ℕ, zero, suc, ◌+◌, ◌-◌, ◌∙◌, Bool, true, false, ◌||◌, Option, Some, None, List, [], ◌∷◌, ◌++◌, length, get_or, refl, sym, subst, arith, append_assoc}
-use Rattle.std.specs.Prelude.{slice_get, IsTrue, All}
+use Rattle.std.proofs.Common.{◌≡◌, inl, inr, ℕ, zero, suc, ◌+◌, ◌-◌, ◌∙◌, Bool, true, false, ◌||◌, Option, Some, None, List, [], ◌∷◌, ◌++◌, length, get_or, refl, sym, subst, arith, append_assoc}
+use Rattle.std.specs.Prelude.{slice_get, All}
 use Rattle.std.specs.List.{Any, AllByRecursion as Each}
-use Rattle.std.specs.declared.ops.Range.{Range}
 use Rattle.std.proofs.lemmas.List.{append-nil}
 use Rattle.std.proofs.lemmas.List.Elements.{All-nil, All-append, All-weaker, All-from_recursion, recursion_from_All}
 use Rattle.std.proofs.lemmas.Option.{slice_get-get_or, slice_get_within}
@@ -36,7 +35,7 @@ use Rattle.smith_draw.specs.ConstScopes.{fields_of}
 use Rattle.smith_draw.specs.ValueTypes.{value_classes, sharedness_at, ref_type_at, value_of_class_at, val_type_at}
 use Rattle.smith_draw.specs.FieldTypes.{storage_of_number_at, storage_type_at, field_type_at, fields_until_at}
 use Rattle.smith_draw.specs.CompositeTypes.{struct_type_at, inner_of_number_at, inner_number_at, composite_type_at}
-use Rattle.smith_draw.specs.MatchingTypes.{matching_ref_type_at, matching_val_type_at, matching_storage_type_at, matching_field_type_at, matched_fields_at}
+use Rattle.smith_draw.specs.MatchingTypes.{matching_ref_type_at, matching_storage_type_at, matching_field_type_at, matched_fields_at}
 use Rattle.smith_draw.specs.MatchingComposites.{matching_struct_type_at, matching_inner_at, matching_composite_type_at}
 use Rattle.smith_draw.specs.GlobalTypes.{global_type_at}
 use Rattle.smith_draw.specs.SubTypes.{supertypes, is_final_at, root_type_at, sub_type_below_at, sub_type_of_at, supertype_wanted_at, sub_type_at}

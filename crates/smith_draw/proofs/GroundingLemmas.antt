@@ -88,8 +88,7 @@ stands_any test xs index x at on = held_any test 0 index index xs x at (omega ar
 pub structs_decide : (context : Context) (ty : HeapType) → IsOrderly context.types → Decides (any_from (type_grounds context ty) 0 context.types) (IsGroundedByStructs context.types context.features.custom_descriptors ty)
 structs_decide context ty orderly =
     let reference = λ (index : ℕ). cond context.features.custom_descriptors (Exact index) (Concrete index) in
-    let test = type_grounds context ty in
-    (
+    let test = type_grounds context ty in (
       λ e.
           let stands = any_stands test context.types e in
           let (ground, below) = both (is_ground stands.item) (is_val_below context.types (created context stands.index) (reference_to ty)) stands.on in
@@ -155,8 +154,7 @@ pub grounded_decides : (context : Context) (ty : HeapType) → IsOrderly context
 unfolding is_grounded
 grounded_decides context ty orderly inside =
     let by_types = any_from (type_grounds context ty) 0 context.types in
-    let by_funcs = any_from (function_grounds context ty) 0 context.funcs in
-    (
+    let by_funcs = any_from (function_grounds context ty) 0 context.funcs in (
       grounded_if context ty orderly,
       λ grounded. elim grounded [
         | inl structs ↦ left_is by_types by_funcs ((structs_decide context ty orderly).1 structs)

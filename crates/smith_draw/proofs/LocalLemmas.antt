@@ -7,7 +7,6 @@ use Rattle.smith_types.specs.Expressions.{Context}
 use Rattle.smith_types.specs.Floats.{IsNoFloat}
 use Rattle.smith_types.specs.ValidTypes.{IsValTypeValid}
 use Rattle.smith_types.specs.declared.value_type.ValType.{ValType}
-use Rattle.smith_types.specs.declared.composite_type.SubType.{SubType}
 use Rattle.smith_config.specs.declared.config.Config.{Config}
 use Rattle.smith_config.specs.Features.{features_of}
 use Rattle.smith_config.specs.Sanitized.{IsSanitized}

@@ -1,23 +1,14 @@
 -- With the field off no drawn reference is one that may not be null, and where no field or element type that stands is one, none that is drawn is.
-use Rattle.std.proofs.Common.{◌≡◌, ℕ, zero, suc, ◌+◌, ◌-◌, ◌∙◌, Bool, true, false, Option, Some, None, List, [], ◌∷◌, length, refl, sym, subst, arith}
-use Rattle.std.specs.Prelude.{slice_get, IsTrue, All}
-use Rattle.std.specs.List.{Any, AllByRecursion as Each}
+use Rattle.std.proofs.Common.{◌≡◌, ℕ, ◌∙◌, Bool, true, false, List, length, refl, sym}
+use Rattle.std.specs.Prelude.{IsTrue}
+use Rattle.std.specs.List.{Any}
 use Rattle.std.proofs.lemmas.Bool.{true≢false}
-use Rattle.std.proofs.lemmas.List.Elements.{All-nil, All-from_recursion, recursion_from_All}
-use Rattle.smith_bytes.specs.Draws.{range_at}
-use Rattle.smith_bytes.proofs.GrownLemmas.{grow_all, cond_both}
 use Rattle.smith_types.specs.Expressions.{Context}
-use Rattle.smith_types.specs.Expressions.{unpacked, field_values}
+use Rattle.smith_types.specs.Expressions.{field_values}
 use Rattle.smith_types.specs.Space.{Space}
 use Rattle.smith_types.specs.Types.{IsOrderly}
 use Rattle.smith_types.specs.declared.value_type.ValType.{ValType}
-use Rattle.smith_types.specs.declared.value_type.RefType.{RefType}
 use Rattle.smith_types.specs.declared.value_type.ValType.TheVariants as vals
-use Rattle.smith_types.specs.declared.composite_type.StorageType.{StorageType}
-use Rattle.smith_types.specs.declared.composite_type.StorageType.TheVariants.{I8, I16, Val}
-use Rattle.smith_types.specs.declared.composite_type.FieldType.{FieldType}
-use Rattle.smith_types.specs.declared.composite_type.CompositeInnerType.{CompositeInnerType}
-use Rattle.smith_types.specs.declared.composite_type.CompositeInnerType.TheVariants.{Array, Func, Struct}
 use Rattle.smith_types.specs.declared.composite_type.SubType.{SubType}
 use Rattle.smith_config.specs.declared.config.Config.{Config}
 use Rattle.smith_draw.specs.Grounding.{over}
@@ -26,17 +17,10 @@ use Rattle.smith_draw.specs.declared.value_type.ValueClass.TheVariants.{I32, I64
 use Rattle.smith_draw.specs.Choices.{enabled, chosen_at}
 use Rattle.smith_draw.specs.ConstBounds.{IsNonNullable, HoldsNonNullableField, IsUngrounded}
 use Rattle.smith_draw.specs.ConstScopes.{fields_of}
-use Rattle.smith_draw.specs.ValueTypes.{value_classes, sharedness_at, ref_type_at, value_of_class_at, val_type_at}
-use Rattle.smith_draw.specs.FieldTypes.{storage_of_number_at, storage_type_at, field_type_at, fields_until_at}
-use Rattle.smith_draw.specs.CompositeTypes.{struct_type_at, inner_of_number_at, inner_number_at, composite_type_at}
-use Rattle.smith_draw.specs.MatchingTypes.{matching_ref_type_at, matching_storage_type_at, matching_field_type_at, matched_fields_at}
-use Rattle.smith_draw.specs.MatchingComposites.{matching_struct_type_at, matching_inner_at, matching_composite_type_at}
+use Rattle.smith_draw.specs.ValueTypes.{value_classes, ref_type_at, value_of_class_at, val_type_at}
 use Rattle.smith_draw.specs.GlobalTypes.{global_type_at}
-use Rattle.smith_draw.specs.SubTypes.{supertypes, is_final_at, root_type_at, sub_type_below_at, sub_type_of_at, supertype_wanted_at, sub_type_at}
 use Rattle.smith_draw.specs.RecGroups.{types_at}
-use Rattle.smith_draw.proofs.MatchingLemmas.{all_stay}
 use Rattle.smith_draw.proofs.ValueTypeLemmas.{ref_type_granted}
-use Rattle.smith_draw.proofs.FloatLemmas.{stands_in}
 use Rattle.smith_draw.proofs.FilledLemmas.{types_grounded}
 
 nullable_unless : (nullable on : Bool) → on ≡ false → (nullable ≡ false → IsTrue on) → nullable ≡ true

@@ -18,7 +18,6 @@ use Rattle.smith_types.specs.declared.composite_type.StructType.{StructType}
 use Rattle.smith_types.specs.declared.composite_type.CompositeInnerType.{CompositeInnerType}
 use Rattle.smith_types.specs.declared.composite_type.CompositeInnerType.TheVariants.{Array, Func, Struct}
 use Rattle.smith_types.specs.declared.composite_type.CompositeType.{CompositeType}
-use Rattle.smith_types.specs.declared.composite_type.SubType.{SubType}
 use Rattle.smith_config.specs.declared.config.Config.{Config}
 use Rattle.smith_draw.specs.ValueTypes.{sharedness_at, val_type_at}
 use Rattle.smith_draw.specs.FieldTypes.{storage_type_at, field_type_at, fields_until_at}

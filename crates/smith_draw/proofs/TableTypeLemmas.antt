@@ -5,7 +5,6 @@ use Rattle.smith_types.specs.Expressions.{Context}
 use Rattle.smith_types.specs.Entities.{most_elements}
 use Rattle.smith_types.specs.Flags.{IsElementEnabled, funcref}
 use Rattle.smith_types.specs.declared.value_type.RefType.{RefType}
-use Rattle.smith_types.specs.declared.composite_type.SubType.{SubType}
 use Rattle.smith_types.specs.declared.entity_type.TableType.{TableType}
 use Rattle.smith_config.specs.declared.config.Config.{Config}
 use Rattle.smith_config.specs.Features.{features_of}

@@ -1,5 +1,5 @@
 -- What each step of drawing a constant expression adds to the instructions that stand.
-use Rattle.std.specs.Prelude.{◌≡◌, ◌⊎◌, ℕ, ◌+◌, ◌*◌, ◌≤◌, ◌<◌, Bool, true, IsTrue, Option, List, Some, None, Result, Ok, Err, length, map, slice_get, All}
+use Rattle.std.specs.Prelude.{◌≡◌, ◌⊎◌, ℕ, ◌+◌, ◌*◌, ◌≤◌, ◌<◌, true, IsTrue, Option, List, Some, None, Result, Ok, Err, length, map, slice_get, All}
 use Rattle.smith_types.specs.Expressions.{Context, HasType}
 use Rattle.smith_types.specs.Flags.{IsInstrEnabled}
 use Rattle.smith_types.specs.Subtyping.{IsValBelow}

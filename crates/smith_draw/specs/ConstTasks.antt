@@ -1,5 +1,5 @@
 -- What one task of drawing a constant expression does, and leaves to do. Lists of tasks begin with the next one.
-use Rattle.std.specs.Prelude.{◌≡◌, ◌⊎◌, ℕ, ◌+◌, ◌-◌, ◌<◌, ◌≤◌, Bool, List, [], ◌∷◌, ◌++◌, Some, None, map, length}
+use Rattle.std.specs.Prelude.{◌≡◌, ◌⊎◌, ℕ, ◌+◌, ◌-◌, ◌<◌, ◌≤◌, List, [], ◌∷◌, ◌++◌, Some, None, map, length}
 use Rattle.std.specs.Option.{option_map}
 use Rattle.smith_types.specs.Expressions.{Context}
 use Rattle.smith_types.specs.ValidTypes.{IsValTypeValid}

@@ -36,7 +36,11 @@ fn is_global_shared(
 }
 
 #[tactic(auto, unfolding(crate::specs::GlobalTypes::global_type_at))]
-fn draw_global_type(config: &Config, standing: &Standing<'_>, u: &mut Unstructured<'_>) -> GlobalType
+fn draw_global_type(
+    config: &Config,
+    standing: &Standing<'_>,
+    u: &mut Unstructured<'_>,
+) -> GlobalType
     ensures { AlwaysDraws (global_type_at config.now standing.now u.old) result u.old u.new }
 {
     let types = standing.types().types();

@@ -233,7 +233,9 @@ fn draw_value_of_class(
         ValueClass::F32 => ValType::F32,
         ValueClass::F64 => ValType::F64,
         ValueClass::V128 => ValType::V128,
-        ValueClass::Reference => ValType::Ref(draw_ref_type(config, standing, must_share, limit, u)),
+        ValueClass::Reference => ValType::Ref(draw_ref_type(
+            config, standing, must_share, limit, u,
+        )),
     }
 }
 

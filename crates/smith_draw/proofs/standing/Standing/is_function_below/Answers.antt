@@ -1,4 +1,4 @@
-use Rattle.std.proofs.Common.{◌≡◌, ◌<◌, length, ap}
+use Rattle.std.proofs.Common.{◌<◌, length, ap}
 use Rattle.smith_types.specs.Expressions.{Context}
 use Rattle.smith_draw.proofs.GroundingLemmas.{inside_grounds}
 use Rattle.smith_draw.proofs.standing.Standing.is_function_below.Goals as goal

@@ -1,5 +1,4 @@
-use Rattle.std.proofs.Common.{◌≡◌, ◌∙◌, Some, refl, sym, ap, arith}
-use Rattle.std.specs.Prelude.{slice_get}
+use Rattle.std.proofs.Common.{◌∙◌, sym, ap}
 use Rattle.std.proofs.lemmas.Option.{slice_get-get_or}
 use Rattle.smith_types.specs.Expressions.{Context}
 use Rattle.smith_draw.specs.Grounding.{any_from, function_grounds}
