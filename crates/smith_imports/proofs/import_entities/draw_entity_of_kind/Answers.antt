@@ -36,7 +36,7 @@ returns-in_ok-arbitrary_memtype-in-Memory-clause-fit c =
 pub returns-in_ok-arbitrary_table_type-in-Table-clause-fit : goal.returns-in_ok-arbitrary_table_type-in-Table-clause-fit
 returns-in_ok-arbitrary_table_type-in-Table-clause-fit c =
     let Grounded = HasGroundedElements c.args.config.now (import_scope c.args.config.now c.args.types.now.types (spaces_of c.args.imported.now)) in
-    let grounded = rw (c.space.ensures, c.as_slice-funcs.ensures, c.len.ensures) at c.in_ok-arbitrary_table_type-in-Table.ensures.grounded in
+    let grounded = rw (c.space.ensures, c.as_slice-funcs.ensures) at c.in_ok-arbitrary_table_type-in-Table.ensures.grounded in
     record {
       entity = table_fit c.args.config.now c.args.types.now c.requires.may _ (rw c.space.ensures at (c.in_ok-arbitrary_table_type-in-Table.ensures.valid (rw c.space.ensures c.requires.may.valid))) c.in_ok-arbitrary_table_type-in-Table.ensures.within;
       grounded = All-cons Grounded _ [] grounded (All-nil Grounded);
