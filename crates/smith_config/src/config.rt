@@ -210,6 +210,10 @@ pub struct Config {
     /// on the module but its features.
     pub multibyte_array_access_enabled: bool,
 
+    /// References that aren't nullable where a value of their heap type can be made. Default false;
+    /// off without `gc_enabled`. Kept without effect: drawn references are nullable.
+    pub non_nullable_enabled: bool,
+
     /// The kinds of instructions that bodies may hold. Default all. Kept without effect: bodies
     /// hold no drawn instruction.
     pub allowed_instructions: InstructionKinds,
@@ -341,6 +345,7 @@ impl Default for Config {
             wide_arithmetic_enabled: true,
             acquire_release_atomics_enabled: false,
             multibyte_array_access_enabled: false,
+            non_nullable_enabled: false,
             allowed_instructions: InstructionKinds::all(),
             memory_offset_choices: MemoryOffsetChoices::default(),
             max_instructions: 100,

@@ -4,7 +4,7 @@ ghost use Rattle.smith_types.specs.Floats.{HasNoFloat};
 ghost use Rattle.smith_types.specs.IndexSpaces.{spaces_in};
 ghost use Rattle.smith_definitions.specs.Definitions.{definitions_at};
 ghost use Rattle.smith_imports.specs.Steps.{Gives};
-ghost use Rattle.smith_definitions.specs.Defined.{nothing_defined, MayDefine, MayRefuseDefined, AreDefinedMore, HaveNoFloats};
+ghost use Rattle.smith_definitions.specs.Defined.{nothing_defined, drawn_beside, MayDefine, MayRefuseDefined, AreDefinedMore, HaveNoFloats};
 
 use crate::funcs::define_funcs;
 use crate::globals::define_globals;
@@ -58,7 +58,7 @@ impl Definitions {
 /// # Errors
 ///
 /// `Unmet(Tags)` or `Unmet(Funcs)` where no type is right for a tag or a function; `EmptyChoose` where nothing gives a value of
-/// an initialiser, which comes only where a field of a type is a reference that may not be null.
+/// an initialiser, which comes only where a field of a type is a reference that may not be null and isn't grounded.
 #[tactic(auto, unfolding(crate::specs::Definitions::definitions_at))]
 pub fn define(
     alloc: Global,
@@ -72,7 +72,7 @@ pub fn define(
     ensures exact { Gives (λ _. ((spaces_in spaces.new, definitions.new), u.new)) result (definitions_at config.now types.now.types (spaces_in spaces.old) definitions.old u.old) }
     ensures defined { OnOk result (AreDefinedMore config.now types.now (spaces_in spaces.old) definitions.old (spaces_in spaces.new) definitions.new) }
     ensures floats { config.now.allow_floats ≡ false → All HasNoFloat types.now.types → HaveNoFloats (spaces_in spaces.old) definitions.old → OnOk result (HaveNoFloats (spaces_in spaces.new) definitions.new) }
-    ensures refusal { IfErr result (MayRefuseDefined config.now types.now.types) }
+    ensures refusal { IfErr result (MayRefuseDefined config.now (drawn_beside config.now types.now.types (spaces_in spaces.old) definitions.old)) }
     ensures left { KeepsPieces u.old u.new }
 {
     let tags_before = spaces.tags.len();

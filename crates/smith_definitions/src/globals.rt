@@ -10,7 +10,8 @@ ghost use Rattle.smith_config.specs.Features.{features_of};
 ghost use Rattle.smith_config.specs.Sanitized.{IsSanitized};
 ghost use Rattle.smith_draw.specs.ConstFloats.{GivesNoFloat};
 ghost use Rattle.smith_draw.specs.ConstScopes.{AreSpacesValid, seen_by};
-ghost use Rattle.smith_definitions.specs.Defined.{IsFilled, MayInitialise, MayRefuseDrawn, AreGlobalsDefined};
+ghost use Rattle.smith_draw.specs.Grounding.{standing_in};
+ghost use Rattle.smith_definitions.specs.Defined.{IsFilled, MayInitialise, MayRefuseDrawn, AreGlobalsDefined, drawn_over};
 ghost use Rattle.smith_definitions.specs.Definitions.{standing_among, initialised_at, globals_at};
 ghost use Rattle.smith_definitions.specs.NumberedGlobals.{SpellsGlobals};
 
@@ -36,7 +37,7 @@ fn draw_initialised_global(
     ensures initialised { IfOk result (λ drawn. IsConstExpr (seen_by config.now spaces.now true) drawn.0.val_type drawn.1.1) }
     ensures floats { config.now.allow_floats ≡ false → IfOk result (λ drawn. IsNoFloat drawn.0.val_type) }
     ensures constants { config.now.allow_floats ≡ false → All HasNoFloat spaces.now.types.now.types → IfOk result (λ drawn. All GivesNoFloat drawn.1.1) }
-    ensures refusal { IfErr result (MayRefuseDrawn spaces.now.types.now.types) }
+    ensures refusal { IfErr result (MayRefuseDrawn config.now (standing_in config.now spaces.now)) }
     ensures left { KeepsPieces u.old u.new }
 {
     let global = arbitrary_global_type(alloc, config, spaces, u)?;
@@ -68,7 +69,7 @@ fn push_globals<'a>(
     ensures floats { config.now.allow_floats ≡ false → All (λ (global : GlobalType). IsNoFloat global.val_type) globals.old → OnOk result (All (λ (global : GlobalType). IsNoFloat global.val_type) globals.new) }
     ensures constants { config.now.allow_floats ≡ false → All HasNoFloat types.now.types → All (All GivesNoFloat) (map (λ (one : ℕ × List ConstInstr). one.1) initials.old)
         → OnOk result (All (All GivesNoFloat) (map (λ (one : ℕ × List ConstInstr). one.1) initials.new)) }
-    ensures refusal { IfErr result (MayRefuseDrawn types.now.types) }
+    ensures refusal { IfErr result (MayRefuseDrawn config.now (drawn_over config.now (standing_among types.now.types funcs.now imported_funcs imported_globals globals.old))) }
     ensures left { KeepsPieces u.old u.new }
 {
     let before = globals.len();
@@ -124,7 +125,7 @@ pub(crate) fn define_globals<'a>(
         → OnOk result (All (All GivesNoFloat) (map (λ (one : ℕ × List ConstInstr). one.1) initials.new)) }
     ensures reach { config.now.min_globals ≡ 0 → globals.old ≡ [] → initials.old ≡ []
         → OnOk result (Takes (SpellsGlobals config.now) u.old (globals.new, map (λ (one : ℕ × List ConstInstr). one.1) initials.new) u.new) }
-    ensures refusal { IfErr result (MayRefuseDrawn types.now.types) }
+    ensures refusal { IfErr result (MayRefuseDrawn config.now (drawn_over config.now (standing_among types.now.types funcs.now imported_funcs imported_globals globals.old))) }
     ensures left { KeepsPieces u.old u.new }
 {
     push_globals(

@@ -8,10 +8,9 @@ ghost use Rattle.smith_config.specs.Features.{features_of};
 ghost use Rattle.smith_draw.specs.Bounds.{IsTableWithin};
 ghost use Rattle.smith_draw.specs.ConstFloats.{GivesNoFloat};
 ghost use Rattle.smith_bytes.specs.Spelling.{SpellsEmpty};
-ghost use Rattle.smith_definitions.specs.Defined.{IsFilled, AreAdded, MayInitialise, MayRefuseDrawn, standing_of};
+ghost use Rattle.smith_definitions.specs.Defined.{IsFilled, AreAdded, MayInitialise, MayRefuseDrawn, drawn_over, standing_of};
 ghost use Rattle.smith_definitions.specs.DefinedTables.{IsTableFit, AreTablesDrawn};
 ghost use Rattle.smith_definitions.specs.Definitions.{table_at, tables_at};
-ghost use Rattle.smith_imports.specs.Imported.{HasNullableElements};
 ghost use Rattle.smith_definitions.specs.Promises.{initial_of};
 ghost use Rattle.smith_bytes.specs.Spelling.{SpellsNone};
 
@@ -33,7 +32,7 @@ fn draw_initialised_table(
     requires imported_globals { spaces.now.entities.imported_globals ≡ length spaces.now.entities.globals.now }
     ensures exact { IfOk result (λ drawn. table_at config.now (standing_of spaces.now) u.old ≡ (drawn, u.new)) }
     ensures fit { IfOk result (IsTableFit config.now (standing_of spaces.now)) }
-    ensures refusal { IfErr result (MayRefuseDrawn spaces.now.types.now.types) }
+    ensures refusal { IfErr result (MayRefuseDrawn config.now (drawn_over config.now (standing_of spaces.now))) }
     ensures left { KeepsPieces u.old u.new }
 {
     let table = arbitrary_table_type(alloc, config, spaces, u)?;
@@ -54,7 +53,7 @@ fn push_tables(
     requires imported_globals { spaces.now.entities.imported_globals ≡ length spaces.now.entities.globals.now }
     ensures exact { OnOk result (tables_at config.now (standing_of spaces.now) tables.old initials.old u.old ≡ ((tables.new, initials.new), u.new)) }
     ensures drawn { OnOk result (AreTablesDrawn config.now (standing_of spaces.now) tables.old tables.new initials.old initials.new) }
-    ensures refusal { IfErr result (MayRefuseDrawn spaces.now.types.now.types) }
+    ensures refusal { IfErr result (MayRefuseDrawn config.now (drawn_over config.now (standing_of spaces.now))) }
     ensures left { KeepsPieces u.old u.new }
 {
     let before = tables.len();
@@ -88,12 +87,11 @@ pub(crate) fn define_tables(
     ensures filled { OnOk result (IsFilled config.now.min_tables config.now.max_tables tables.old tables.new) }
     ensures valid { All (IsTableValid (features_of config.now) spaces.now.types.now.types) tables.old → OnOk result (All (IsTableValid (features_of config.now) spaces.now.types.now.types) tables.new) }
     ensures within { OnOk result (AreAdded (IsTableWithin config.now) tables.old tables.new) }
-    ensures nullable { OnOk result (AreAdded HasNullableElements tables.old tables.new) }
     ensures several { (1 < length tables.old → IsTrue (features_of config.now).reference_types) → OnOk result (1 < length tables.new → IsTrue (features_of config.now).reference_types) }
     ensures drawn { OnOk result (AreTablesDrawn config.now (standing_of spaces.now) tables.old tables.new initials.old initials.new) }
     ensures floats { All HasNoFloat spaces.now.types.now.types → All (All GivesNoFloat) (flat_map initial_of initials.old) → OnOk result (All (All GivesNoFloat) (flat_map initial_of initials.new)) }
     ensures none { config.now.min_tables ≡ 0 → tables.old ≡ [] → OnOk result (Takes (SpellsEmpty (SpellsNone config.now.max_tables)) u.old tables.new u.new) }
-    ensures refusal { IfErr result (MayRefuseDrawn spaces.now.types.now.types) }
+    ensures refusal { IfErr result (MayRefuseDrawn config.now (drawn_over config.now (standing_of spaces.now))) }
     ensures left { KeepsPieces u.old u.new }
 {
     push_tables(alloc, config, spaces, tables, initials, u)

@@ -8,6 +8,7 @@ use Rattle.std.proofs.lemmas.List.Elements.{All-from_recursion}
 use Rattle.smith_bytes.specs.Draws.{bool_at, ratio_at}
 use Rattle.smith_bytes.specs.Spelling.{SpellsBool, SpellsRefusal, Where}
 use Rattle.smith_bytes.proofs.SpelledLemmas.{joined_parts, bool_read, number_read, refusal_read}
+use Rattle.smith_types.specs.Expressions.{Context}
 use Rattle.smith_types.specs.Subtyping.{IsInRange, IsValInRange}
 use Rattle.smith_types.specs.declared.value_type.AbstractHeapType.{AbstractHeapType}
 use Rattle.smith_types.specs.declared.value_type.AbstractHeapType.TheVariants.{Func}
@@ -21,7 +22,7 @@ use Rattle.smith_config.specs.declared.config.Config.{Config}
 use Rattle.smith_draw.specs.declared.value_type.ValueClass.{ValueClass}
 use Rattle.smith_draw.specs.declared.value_type.ValueClass.TheVariants.{I32, Reference}
 use Rattle.smith_draw.specs.Choices.{enabled, chosen_at}
-use Rattle.smith_draw.specs.ValueTypes.{value_classes, abstract_heap_types, sharedness_at, abstract_heap_type_at, index_wanted_at, type_index_at, heap_type_at, ref_type_at, value_of_class_at, val_type_at}
+use Rattle.smith_draw.specs.ValueTypes.{value_classes, abstract_heap_types, sharedness_at, abstract_heap_type_at, index_wanted_at, type_index_at, heap_type_at, granted_at, ref_type_at, value_of_class_at, val_type_at}
 use Rattle.smith_draw.specs.Spelling.{SpellsPlace, SpellsUnshared, SpellsConcrete, SpellsHeapType, SpellsRefType, SpellsBehindClass, SpellsValType, class_of}
 use Rattle.smith_draw.proofs.EnabledLemmas.{enabled_all}
 
@@ -110,32 +111,55 @@ class_needs config class piece h =
     let all = enabled_all P (value_classes config) (All-from_recursion (λ (row : ValueClass × Bool). IsTrue row.1 → P row.0) (value_classes config) rows) in
     subst P (get_or_from_slice_get items h.place class class h.stands) (all h.place class (slice_get_within items h.place class h.stands))
 
-nullable_by : (on : Bool) (drawn : HeapType × List ℕ) (other : RefType × List ℕ) (reference : RefType) (after : List ℕ) → IsTrue on → drawn ≡ (reference.heap_type, after) → IsTrue reference.nullable
-    → cond {A = RefType × List ℕ} on (record { nullable = true; heap_type = drawn.0 }, drawn.1) other ≡ (reference, after)
-nullable_by true drawn other reference after on read nullable = rw (read, ← nullable) refl
-nullable_by false drawn other reference after on read nullable = cc
+nullable_by : (on : Bool) (drawn other : RefType × List ℕ) (reference : RefType) (after : List ℕ) → IsTrue on → drawn ≡ (reference, after) → cond {A = RefType × List ℕ} on drawn other ≡ (reference, after)
+nullable_by true drawn other reference after on read = read
+nullable_by false drawn other reference after on read = cc
 
-pub ref_type_read : (config : Config) (types : List SubType) (limit : ℕ) (reference : RefType) (piece after : List ℕ) → IsInRange types reference.heap_type → SpellsRefType config limit reference piece
-    → ref_type_at config types false limit (piece ++ after) ≡ (reference, after)
+-- with the field off no bool is drawn
+granted_off : (config : Config) (off : config.non_nullable_enabled ≡ false) (context : Context) (ty : HeapType) (bytes : List ℕ) → granted_at config context ty bytes ≡ (false, bytes)
+unfolding granted_at
+granted_off config off context ty bytes = rw off refl
+
+pub ref_type_read : (config : Config) (off : config.non_nullable_enabled ≡ false) (context : Context) (limit : ℕ) (reference : RefType) (piece after : List ℕ) → IsInRange context.types reference.heap_type → SpellsRefType config limit reference piece
+    → ref_type_at config context false limit (piece ++ after) ≡ (reference, after)
 unfolding ref_type_at
-ref_type_read config types limit reference piece after stands h =
-    let read = heap_type_read config types limit reference.heap_type piece after stands h.heap_type in
-    nullable_by config.reference_types_enabled (heap_type_at config types false limit (piece ++ after)) (record { nullable = true; heap_type = Abstract false Func }, piece ++ after) reference after h.enabled read h.nullable
+ref_type_read config off context limit reference piece after stands h =
+    let read = heap_type_read config context.types limit reference.heap_type piece after stands h.heap_type in
+    let granted = granted_off config off context reference.heap_type after in
+    nullable_by config.reference_types_enabled _ _ reference after h.enabled (rw (read, granted, ← h.nullable) refl)
 
-rest_read : (config : Config) (types : List SubType) (limit : ℕ) (value : ValType) (piece after : List ℕ) → ReferenceTypes config (class_of value) → IsValInRange types value → SpellsBehindClass config limit value piece
-    → value_of_class_at config types false limit (class_of value) (piece ++ after) ≡ (value, after)
-unfolding ReferenceTypes
-rest_read config types limit vals.I32 piece after on stands h = rw h refl
-rest_read config types limit vals.I64 piece after on stands h = rw h refl
-rest_read config types limit vals.F32 piece after on stands h = rw h refl
-rest_read config types limit vals.F64 piece after on stands h = rw h refl
-rest_read config types limit vals.V128 piece after on stands h = rw h refl
-rest_read config types limit (vals.Ref reference) piece after on stands h =
-    rw (ref_type_read config types limit reference piece after stands (record { enabled = on; nullable = h.0; heap_type = h.1 })) refl
+-- with the field off every value type is read, and with it on those that are no references
+pub Readable : Config → ValType → Type 0
+Readable config (vals.Ref reference) = config.non_nullable_enabled ≡ false
+Readable config _ = Unit {0}
 
-pub val_type_read : (config : Config) (types : List SubType) (limit : ℕ) (value : ValType) (piece after : List ℕ) → IsValInRange types value → SpellsValType config limit value piece
-    → val_type_at config types false limit (piece ++ after) ≡ (value, after)
+pub readable : (config : Config) (off : config.non_nullable_enabled ≡ false) (value : ValType) → Readable config value
+unfolding Readable
+readable config off vals.I32 = tt
+readable config off vals.I64 = tt
+readable config off vals.F32 = tt
+readable config off vals.F64 = tt
+readable config off vals.V128 = tt
+readable config off (vals.Ref reference) = off
+
+pub i32_readable : (config : Config) → Readable config vals.I32
+unfolding Readable
+i32_readable config = tt
+
+rest_read : (config : Config) (context : Context) (limit : ℕ) (value : ValType) (piece after : List ℕ) → Readable config value → ReferenceTypes config (class_of value) → IsValInRange context.types value → SpellsBehindClass config limit value piece
+    → value_of_class_at config context false limit (class_of value) (piece ++ after) ≡ (value, after)
+unfolding ReferenceTypes Readable
+rest_read config context limit vals.I32 piece after off on stands h = rw h refl
+rest_read config context limit vals.I64 piece after off on stands h = rw h refl
+rest_read config context limit vals.F32 piece after off on stands h = rw h refl
+rest_read config context limit vals.F64 piece after off on stands h = rw h refl
+rest_read config context limit vals.V128 piece after off on stands h = rw h refl
+rest_read config context limit (vals.Ref reference) piece after off on stands h =
+    rw (ref_type_read config off context limit reference piece after stands (record { enabled = on; nullable = h.0; heap_type = h.1 })) refl
+
+pub val_type_read : (config : Config) (context : Context) (limit : ℕ) (value : ValType) (piece after : List ℕ) → Readable config value → IsValInRange context.types value → SpellsValType config limit value piece
+    → val_type_at config context false limit (piece ++ after) ≡ (value, after)
 unfolding val_type_at SpellsValType
-val_type_read config types limit value piece after stands h =
+val_type_read config context limit value piece after off stands h =
     rw (joined_parts h after, chosen_read I32 (enabled (value_classes config)) (class_of value) h.first (h.second ++ after) h.is_first)
-    (rest_read config types limit value h.second after (class_needs config (class_of value) h.first h.is_first) stands h.is_second)
+    (rest_read config context limit value h.second after off (class_needs config (class_of value) h.first h.is_first) stands h.is_second)

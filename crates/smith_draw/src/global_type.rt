@@ -5,13 +5,15 @@ ghost use Rattle.smith_types.specs.Floats.{IsNoFloat};
 ghost use Rattle.smith_types.specs.ValidTypes.{AreTypesValid};
 ghost use Rattle.smith_config.specs.Features.{features_of};
 ghost use Rattle.smith_config.specs.Sanitized.{IsSanitized};
-ghost use Rattle.smith_draw.specs.ConstBounds.{IsNonNullable};
+ghost use Rattle.smith_draw.specs.ConstBounds.{IsNonNullable, IsUngrounded};
 ghost use Rattle.smith_draw.specs.Drawing.{AlwaysDraws, Draws};
+ghost use Rattle.smith_draw.specs.Grounding.{standing_in};
 ghost use Rattle.smith_draw.specs.GlobalTypes.{global_sharedness_at, global_type_at};
 ghost use Rattle.smith_draw.specs.SpelledGlobals.{mutable_i32, SpellsMutableI32};
 
 use crate::shared_reference::is_reference_shared;
-use crate::spaces::Spaces;
+use crate::spaces::{Spaces, orderly};
+use crate::standing::Standing;
 use crate::value_type::{draw_sharedness, draw_val_type};
 use smith_bytes::{Error, Unstructured};
 use smith_config::Config;
@@ -34,11 +36,15 @@ fn is_global_shared(
 }
 
 #[tactic(auto, unfolding(crate::specs::GlobalTypes::global_type_at))]
-fn draw_global_type(config: &Config, types: &[SubType], u: &mut Unstructured<'_>) -> GlobalType
-    requires { length types.now < 2 ^ 32 }
-    ensures { AlwaysDraws (global_type_at config.now types.now u.old) result u.old u.new }
+fn draw_global_type(
+    config: &Config,
+    standing: &Standing<'_>,
+    u: &mut Unstructured<'_>,
+) -> GlobalType
+    ensures { AlwaysDraws (global_type_at config.now standing.now u.old) result u.old u.new }
 {
-    let val_type = draw_val_type(config, types, false, types.len() as u32, u);
+    let types = standing.types().types();
+    let val_type = draw_val_type(config, standing, false, types.len() as u32, u);
     let shared = is_global_shared(config, types, val_type, u);
     let mutable = u.arbitrary();
     GlobalType {
@@ -63,11 +69,13 @@ pub fn arbitrary_global_type(
 ) -> Result<GlobalType, Error>
     requires { IsSanitized config.now }
     ensures ok { IsOk result }
-    ensures draws { Draws (global_type_at config.now spaces.now.types.now.types u.old) result u.old u.new }
+    ensures draws { Draws (global_type_at config.now (standing_in config.now spaces.now) u.old) result u.old u.new }
     ensures valid { AreTypesValid (features_of config.now) spaces.now.types.now → IfOk result (IsGlobalValid (features_of config.now) spaces.now.types.now.types) }
     ensures floats { config.now.allow_floats ≡ false → IfOk result (λ drawn. IsNoFloat drawn.val_type) }
-    ensures nullable { IfOk result (λ drawn. ¬ IsNonNullable drawn.val_type) }
+    ensures nullable { config.now.non_nullable_enabled ≡ false → IfOk result (λ drawn. ¬ IsNonNullable drawn.val_type) }
+    ensures grounded { IfOk result (λ drawn. ¬ IsUngrounded config.now (standing_in config.now spaces.now) drawn.val_type) }
     ensures reach { IfOk result (λ drawn. Takes (SpellsSuch (λ global. global ≡ mutable_i32) (λ _. SpellsMutableI32 config.now)) u.old drawn u.new) }
 {
-    Ok(draw_global_type(config, spaces.types.types(), u))
+    orderly(spaces);
+    Ok(draw_global_type(config, &Standing::over(config, spaces), u))
 }

@@ -19,6 +19,7 @@ mod offset;
 mod rec_group;
 mod shared_reference;
 mod spaces;
+mod standing;
 mod sub_type;
 mod super_type;
 mod table_type;

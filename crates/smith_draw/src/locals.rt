@@ -5,10 +5,12 @@ ghost use Rattle.smith_config.specs.Features.{features_of};
 ghost use Rattle.smith_config.specs.Sanitized.{IsSanitized};
 ghost use Rattle.smith_draw.specs.ConstBounds.{IsNonNullable};
 ghost use Rattle.smith_draw.specs.Drawing.{Draws};
+ghost use Rattle.smith_draw.specs.Grounding.{standing_in};
 ghost use Rattle.smith_draw.specs.Locals.{locals_at};
 
 use crate::composite_type::draw_val_types;
 use crate::spaces::Spaces;
+use crate::standing::Standing;
 use smith_bytes::{Error, Unstructured};
 use smith_config::Config;
 use smith_types::{Items, ValType};
@@ -26,12 +28,13 @@ pub fn arbitrary_locals(
     u: &mut Unstructured<'_>,
 ) -> Result<Items<ValType>, Error>
     requires { IsSanitized config.now }
-    ensures draws { Draws (locals_at config.now spaces.now.types.now.types u.old) result u.old u.new }
+    ensures draws { Draws (locals_at config.now (standing_in config.now spaces.now) u.old) result u.old u.new }
     ensures most { IfOk result (λ locals. length locals ≤ 100) }
     ensures valid { IfOk result (All (IsValTypeValid (features_of config.now) (length spaces.now.types.now.types))) }
     ensures floats { config.now.allow_floats ≡ false → IfOk result (All IsNoFloat) }
-    ensures nullable { IfOk result (All (λ ty. ¬ IsNonNullable ty)) }
+    ensures nullable { config.now.non_nullable_enabled ≡ false → IfOk result (All (λ ty. ¬ IsNonNullable ty)) }
 {
-    let types = spaces.types.types();
-    draw_val_types(alloc, config, types, false, types.len() as u32, 100, u)
+    let standing = Standing::over(config, spaces);
+    let limit = spaces.types.types().len() as u32;
+    draw_val_types(alloc, config, &standing, false, limit, 100, u)
 }

@@ -10,6 +10,7 @@ ghost use Rattle.smith_types.specs.declared.segments.Offset.TheVariants.{Const32
 ghost use Rattle.smith_types.specs.declared.segments.ElementKind.TheVariants as element;
 ghost use Rattle.smith_types.specs.declared.segments.Elements.TheVariants.{Functions, Expressions};
 ghost use Rattle.smith_types.specs.declared.value_type.AbstractHeapType.TheVariants as heap;
+ghost use Rattle.smith_draw.specs.ExampleConstExprs.{context_of_types};
 ghost use Rattle.smith_config.specs.Config.{default_config};
 ghost use Rattle.smith_spell.specs.ExampleMembers.{final, plain_function};
 ghost use Rattle.smith_definitions.specs.Definitions.{table_scope};
@@ -39,7 +40,7 @@ fn items()
 {}
 
 // Of no type, function, table and global.
-#[tactic(auto, unfolding(smith_contents::specs::ElementSegments::elements_at, smith_contents::specs::ElementSegments::element_segments_at, smith_contents::specs::ElementSegments::element_segment_at, smith_contents::specs::ElementSegments::kind_at, smith_contents::specs::ElementSegments::item_type_at, smith_contents::specs::ElementSegments::items_at, smith_contents::specs::ElementSegments::functions_at, smith_contents::specs::ElementSegments::expressions_at, smith_contents::specs::ElementSegments::drawn_expressions_at, smith_contents::specs::ElementSegments::kinds_at, smith_contents::specs::ElementSegments::table_kinds_at, smith_contents::specs::ElementSegments::are_functions_at, smith_draw::specs::ValueTypes::ref_type_at, smith_draw::specs::ValueTypes::heap_type_at, smith_draw::specs::ValueTypes::type_index_at, smith_draw::specs::ValueTypes::abstract_heap_type_at, smith_draw::specs::ValueTypes::sharedness_at, smith_draw::specs::Choices::chosen_at, smith_bytes::specs::Growth::grow_at, smith_bytes::specs::Draws::bool_at, smith_bytes::specs::Draws::range_at, smith_bytes::specs::Draws::digit_count))]
+#[tactic(auto, unfolding(smith_contents::specs::ElementSegments::elements_at, smith_contents::specs::ElementSegments::element_segments_at, smith_contents::specs::ElementSegments::element_segment_at, smith_contents::specs::ElementSegments::kind_at, smith_contents::specs::ElementSegments::item_type_at, smith_contents::specs::ElementSegments::items_at, smith_contents::specs::ElementSegments::functions_at, smith_contents::specs::ElementSegments::expressions_at, smith_contents::specs::ElementSegments::drawn_expressions_at, smith_contents::specs::ElementSegments::kinds_at, smith_contents::specs::ElementSegments::table_kinds_at, smith_contents::specs::ElementSegments::are_functions_at, smith_draw::specs::ValueTypes::ref_type_at, smith_draw::specs::ValueTypes::granted_at, smith_draw::specs::ValueTypes::heap_type_at, smith_draw::specs::ValueTypes::type_index_at, smith_draw::specs::ValueTypes::abstract_heap_type_at, smith_draw::specs::ValueTypes::sharedness_at, smith_draw::specs::Choices::chosen_at, smith_bytes::specs::Growth::grow_at, smith_bytes::specs::Draws::bool_at, smith_bytes::specs::Draws::range_at, smith_bytes::specs::Draws::digit_count))]
 fn segments()
     ensures none { elements_at default_config (table_scope default_config (beside_globals [])) [] (0 ∷ 9 ∷ []) ≡ Ok ([], 9 ∷ []) }
     ensures one { elements_at default_config (table_scope default_config (beside_globals [])) [] (1 ∷ 0 ∷ 0 ∷ 0 ∷ 0 ∷ 0 ∷ 9 ∷ []) ≡ Ok (passive_elements (Expressions []) ∷ [], 9 ∷ []) }
@@ -64,11 +65,11 @@ fn enough()
 {}
 
 fn refused()
-    ensures want_of_memory { MayRefuseElements default_config [] [] errors.Memory }
-    ensures elements_that_may_not_be_null { MayRefuseElements default_config [] (table (not_null (plain heap.Extern)) 1 None ∷ []) errors.EmptyChoose }
-    ensures no_table { ¬ MayRefuseElements default_config [] [] errors.EmptyChoose }
-    ensures no_item_where_one_is_asked_for { MayRefuseElements (record default_config { min_elements = 1 }) [] [] (errors.IncorrectFormat (Unmet counts.Elements)) }
-    ensures none_asked_for { ¬ MayRefuseElements default_config [] [] (errors.IncorrectFormat (Unmet counts.Elements)) }
-    ensures no_kind { MayRefuseElements (record default_config { min_element_segments = 1; bulk_memory_enabled = false }) [] [] (errors.IncorrectFormat (Unmet counts.ElementSegments)) }
-    ensures passive_ones { ¬ MayRefuseElements (record default_config { min_element_segments = 1 }) [] [] (errors.IncorrectFormat (Unmet counts.ElementSegments)) }
+    ensures want_of_memory { MayRefuseElements default_config (context_of_types []) [] errors.Memory }
+    ensures elements_that_may_not_be_null { MayRefuseElements default_config (context_of_types []) (table (not_null (plain heap.Extern)) 1 None ∷ []) errors.EmptyChoose }
+    ensures no_table { ¬ MayRefuseElements default_config (context_of_types []) [] errors.EmptyChoose }
+    ensures no_item_where_one_is_asked_for { MayRefuseElements (record default_config { min_elements = 1 }) (context_of_types []) [] (errors.IncorrectFormat (Unmet counts.Elements)) }
+    ensures none_asked_for { ¬ MayRefuseElements default_config (context_of_types []) [] (errors.IncorrectFormat (Unmet counts.Elements)) }
+    ensures no_kind { MayRefuseElements (record default_config { min_element_segments = 1; bulk_memory_enabled = false }) (context_of_types []) [] (errors.IncorrectFormat (Unmet counts.ElementSegments)) }
+    ensures passive_ones { ¬ MayRefuseElements (record default_config { min_element_segments = 1 }) (context_of_types []) [] (errors.IncorrectFormat (Unmet counts.ElementSegments)) }
 {}

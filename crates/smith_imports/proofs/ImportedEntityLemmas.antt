@@ -30,7 +30,7 @@ use Rattle.smith_draw.specs.declared.type_use.TypeUse.{TypeUse}
 use Rattle.smith_draw.proofs.EnabledLemmas.{enabled_all}
 use Rattle.smith_draw.proofs.SupertypeLemmas.{chosen_of}
 use Rattle.smith_draw.proofs.TypeUseLemmas.{types_usable}
-use Rattle.smith_imports.specs.Imported.{MayImport, HasNoFloatValue, HasNullableElements, IsEntityFit, IsOffered}
+use Rattle.smith_imports.specs.Imported.{MayImport, HasNoFloatValue, IsEntityFit, IsOffered}
 use Rattle.smith_imports.specs.ImportedEntities.{kind_rows}
 
 pub length_enabled : {A : Type 0} (table : List (A × Bool)) → length (enabled table) ≡ count_by (λ row. row.1) table
@@ -98,7 +98,6 @@ module _ (config : Config) (space : Space) (may : MayImport config space) where
     tag = λ _. on;
     tables = All-nil (IsTableWithin config);
     memories = All-nil (IsMemoryWithin config);
-    nullable_tables = All-nil HasNullableElements;
     floats = λ off. All-nil HasNoFloatValue;
     small = omega arith;
     typed = tt;
@@ -116,7 +115,6 @@ module _ (config : Config) (space : Space) (may : MayImport config space) where
     tag = λ some. absurd (omega arith);
     tables = All-nil (IsTableWithin config);
     memories = All-nil (IsMemoryWithin config);
-    nullable_tables = All-nil HasNullableElements;
     floats = λ off. All-nil HasNoFloatValue;
     small = small_at space.types may.small index t at;
     typed = slice_get_within space.types index t at;
@@ -134,7 +132,6 @@ module _ (config : Config) (space : Space) (may : MayImport config space) where
     tag = λ some. absurd (omega arith);
     tables = All-nil (IsTableWithin config);
     memories = All-nil (IsMemoryWithin config);
-    nullable_tables = All-nil HasNullableElements;
     floats = λ off. All-cons HasNoFloatValue global [] (floats off) (All-nil HasNoFloatValue);
     small = omega arith;
     typed = tt;
@@ -152,14 +149,13 @@ module _ (config : Config) (space : Space) (may : MayImport config space) where
     tag = λ some. absurd (omega arith);
     tables = All-nil (IsTableWithin config);
     memories = All-cons (IsMemoryWithin config) memory [] within (All-nil (IsMemoryWithin config));
-    nullable_tables = All-nil HasNullableElements;
     floats = λ off. All-nil HasNoFloatValue;
     small = omega arith;
     typed = tt;
   }
 
-  pub table_fit : (table : TableType) → IsTableValid (features_of config) space.types table → IsTableWithin config table → HasNullableElements table → IsEntityFit config space.types (entity.Table table)
-  table_fit table valid within nullable = record {
+  pub table_fit : (table : TableType) → IsTableValid (features_of config) space.types table → IsTableWithin config table → IsEntityFit config space.types (entity.Table table)
+  table_fit table valid within = record {
     valid = record {
       tags = All-nil (IsTagValid space.types);
       funcs = All-nil (IsFuncValid space.types);
@@ -170,7 +166,6 @@ module _ (config : Config) (space : Space) (may : MayImport config space) where
     tag = λ some. absurd (omega arith);
     tables = All-cons (IsTableWithin config) table [] within (All-nil (IsTableWithin config));
     memories = All-nil (IsMemoryWithin config);
-    nullable_tables = All-cons HasNullableElements table [] nullable (All-nil HasNullableElements);
     floats = λ off. All-nil HasNoFloatValue;
     small = omega arith;
     typed = tt;

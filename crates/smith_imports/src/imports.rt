@@ -41,7 +41,7 @@ fn draw_next_entity(
     u: &mut Unstructured<'_>,
 ) -> Result<Option<EntityType>, Error>
     requires may { MayImport config.now types.now }
-    requires ready { IsOpen config.now types.now.types group.now }
+    requires ready { IsOpen config.now types.now.types (spaces_of imported.now) group.now }
     ensures draws { Draws (next_entity_at config.now types.now.types (spaces_of imported.now) imported.now.type_size group.now u.old) result u.old u.new }
     ensures next { IfOk result (λ drawn. IfSome drawn (IsNext config.now types.now.types (spaces_of imported.now) imported.now.type_size)) }
     ensures of_group { IfOk result (λ drawn. IfSome drawn (IsOfGroup group.now)) }
@@ -69,12 +69,12 @@ fn fill(
     u: &mut Unstructured<'_>,
 ) -> Result<bool, Error>
     requires may { MayImport config.now types.now }
-    requires ready { IsOpen config.now types.now.types group.old }
+    requires ready { IsOpen config.now types.now.types (spaces_of imported.old) group.old }
     requires counts { Counts types.now.types distinct imported.old (flattened imported.old.groups ++ imports_of group.old) }
     requires fit { AreImportsFit config.now types.now.types distinct (flattened imported.old.groups ++ imports_of group.old) }
     ensures exact { IfOk result (λ goes_on. fill_at config.now types.now.types distinct (flattened imported.old.groups) (config.now.max_imports - imported.old.count) group.old u.old ≡ (goes_on, (group.new, u.new))) }
     ensures groups { OnOk result (imported.new.groups ≡ imported.old.groups) }
-    ensures ready { OnOk result (IsOpen config.now types.now.types group.new) }
+    ensures ready { OnOk result (IsOpen config.now types.now.types (spaces_of imported.new) group.new) }
     ensures counts { OnOk result (Counts types.now.types distinct imported.new (flattened imported.old.groups ++ imports_of group.new)) }
     ensures fit { OnOk result (AreImportsFit config.now types.now.types distinct (flattened imported.old.groups ++ imports_of group.new)) }
     ensures ended { IfOk result (λ goes_on. goes_on ≡ false → MayEndAt config.now (spaces_of imported.new) imported.new.type_size) }
@@ -109,7 +109,7 @@ fn add_filled(
 ) -> Result<bool, Error>
     requires may { MayImport config.now types.now }
     requires so_far { IsImported config.now types.now.types distinct imported.old }
-    requires ready { IsOpen config.now types.now.types group }
+    requires ready { IsOpen config.now types.now.types (spaces_of imported.old) group }
     requires empty { imports_of group ≡ [] }
     ensures exact { IfOk result (λ goes_on. filled_at config.now types.now.types distinct imported.old.groups group u.old ≡ (goes_on, (imported.new.groups, u.new))) }
     ensures so_far { OnOk result (IsImported config.now types.now.types distinct imported.new) }

@@ -49,7 +49,7 @@ impl Field {
 }
 
 /// Every field, in the order of `Config`.
-pub static FIELDS: [Field; 70] = [
+pub static FIELDS: [Field; 71] = [
     Field {
         name: "min-types",
         kind: FieldKind::Whole(64),
@@ -324,6 +324,11 @@ pub static FIELDS: [Field; 70] = [
         name: "multibyte-array-access-enabled",
         kind: FieldKind::Flag,
         about: "Accesses to several bytes of an array.",
+    },
+    Field {
+        name: "non-nullable-enabled",
+        kind: FieldKind::Flag,
+        about: "References that aren't nullable where a value of their heap type can be made.",
     },
     Field {
         name: "allowed-instructions",

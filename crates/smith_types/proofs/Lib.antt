@@ -16,6 +16,9 @@ pub mod WalkLemmas
 pub mod KindCountLemmas
 pub mod PlaceLemmas
 pub mod FamilyLemmas
+pub mod GroundLemmas
+pub mod GroundedLemmas
+pub mod GroundGrowthLemmas
 pub mod FeatureBitLemmas
 pub mod PartLemmas
 pub mod KindLemmas

@@ -27,6 +27,8 @@ ghost use Rattle.smith_types.specs.Types.{IsAlike, IsOrderly, next_start, next_g
 ghost use Rattle.smith_types.specs.Space.{AreExtensible, HasDepth, MayFollow, extensible_from};
 ghost use Rattle.smith_types.specs.Places.{ArePlaces, IsLonger, depths_in};
 ghost use Rattle.smith_types.specs.Families.{direct_subtypes, AreFamilies};
+ghost use Rattle.smith_types.specs.Grounded.{IsGroundedByStructs};
+ghost use Rattle.smith_types.specs.Grounds.{AreGrounds};
 ghost use Rattle.smith_types.specs.KindCounts.{indices_of_kind};
 ghost use Rattle.smith_types.specs.Sizes.{value_count};
 ghost use Rattle.smith_types.specs.Matching.{IsCompositeMatch, IsInnerInRange};
@@ -36,9 +38,12 @@ ghost use Rattle.smith_types.specs.Subtyping.{IsBelow, IsRefBelow, IsValBelow, I
 use crate::composite_type::{CompositeInnerType, CompositeType, SubType};
 use crate::entity_type::EntityType;
 use crate::family::{Family, extend_families, join_family};
+use crate::ground::{Ground, GroundKinds, extend_grounds, join_grounds, no_grounds};
 use crate::matching::composite_type_is_match;
 use crate::place::{Place, last_counts, push_row};
-use crate::subtyping::{heap_type_is_below, ref_type_is_below, val_type_is_below};
+use crate::subtyping::{
+    abstract_type_is_below, heap_type_is_below, ref_type_is_below, val_type_is_below,
+};
 use crate::value_type::{AbstractHeapType, HeapType, RefType, ValType};
 use smith_bytes::Error;
 use std::alloc::Global;
@@ -60,6 +65,9 @@ pub struct TypeSpace {
     // The families of the first types: at least up to the last type that has a supertype.
     families: Vec<Family>,
     extensible: Vec<u32>,
+    // What the types ground: an entry for each, and maybe one more.
+    grounds: Vec<Ground>,
+    ground_kinds: GroundKinds,
     groups: Vec<Range<usize>>,
 }
 
@@ -68,6 +76,7 @@ impl Model for TypeSpace {
     ghost use Rattle.smith_types.specs.Space.{Space, IsSound, extensible_from};
     ghost use Rattle.smith_types.specs.Places.{ArePlaces, depths_in};
     ghost use Rattle.smith_types.specs.Families.{AreFamilies};
+    ghost use Rattle.smith_types.specs.Grounds.{AreGrounds, AreGroundKinds};
 
     ghost Value = { Space };
 
@@ -76,7 +85,9 @@ impl Model for TypeSpace {
     ghost invariant = { λ a. IsSound (record { types = a.types.items; groups = a.groups.items })
         × ArePlaces a.types.items a.rows.items a.places.items
         × (a.extensible.items ≡ extensible_from 0 a.types.items (depths_in a.places.items))
-        × AreFamilies a.types.items a.families.items };
+        × AreFamilies a.types.items a.families.items
+        × AreGrounds a.types.items a.grounds.items
+        × AreGroundKinds a.types.items a.ground_kinds };
 }
 
 /// Prints the types and the groups.
@@ -105,6 +116,8 @@ impl TypeSpace {
             rows: Vec::new(alloc),
             families: Vec::new(alloc),
             extensible: Vec::new(alloc),
+            grounds: Vec::new(alloc),
+            ground_kinds: no_grounds(),
             groups: Vec::new(alloc),
         }
     }
@@ -121,6 +134,8 @@ impl TypeSpace {
             rows: Vec::new(alloc),
             families: Vec::new(alloc),
             extensible: Vec::new(alloc),
+            grounds: Vec::with_capacity(alloc, types)?,
+            ground_kinds: no_grounds(),
             groups: Vec::with_capacity(alloc, types)?,
         })
     }
@@ -222,6 +237,22 @@ impl TypeSpace {
         found
     }
 
+    /// Whether creation of a struct whose fields all have defaults pushes a reference below the heap type `ty`, where with
+    /// `descriptors` creation pushes exact references. The type that `ty` names exists.
+    pub fn is_grounded_by_structs(&self, ty: HeapType, descriptors: bool) -> bool
+        requires { IsInRange self.now.types ty }
+        ensures { IsTrue result ↔ IsGroundedByStructs self.now.types descriptors ty }
+    {
+        match ty {
+            HeapType::Abstract { shared, ty } => {
+                self.ground_kinds.has(shared)
+                    && abstract_type_is_below(AbstractHeapType::Struct, ty)
+            }
+            HeapType::Concrete(index) => self.grounds[index as usize].below,
+            HeapType::Exact(index) => descriptors && self.grounds[index as usize].own,
+        }
+    }
+
     // Whether the type `from` is the type `to`, or `to` is on the way up from `from`: then `to` is in the row of `from` at its depth.
     pub(crate) fn reaches(&self, from: u32, to: u32) -> bool
         requires lower { from < length self.now.types }
@@ -266,6 +297,7 @@ impl TypeSpace {
         ensures memory { IfErr result (λ e. e ≡ Error.Memory) }
     {
         let count = self.types.len();
+        let ground_kinds = self.ground_kinds.with(&added);
         self.types.push(added)?;
         if push_place(
             &self.types[..count],
@@ -274,12 +306,14 @@ impl TypeSpace {
             &mut self.rows,
             &mut self.extensible,
             &mut self.families,
+            &mut self.grounds,
         )
         .is_err()
         {
             self.types.pop();
             return Err(Error::Memory);
         }
+        self.ground_kinds = ground_kinds;
         Ok(count as u32)
     }
 
@@ -290,6 +324,7 @@ impl TypeSpace {
     {
         self.extensible.reserve(additional)?;
         self.places.reserve(additional)?;
+        self.grounds.reserve(additional)?;
         Ok(self.types.reserve(additional)?)
     }
 
@@ -364,7 +399,7 @@ impl TypeSpace {
 }
 
 // Adds the place of the type `added`, the next one after `types`, with its row, and its index where it may have subtypes. After
-// want of memory `places` and `extensible` are unchanged, and `rows` and `families` may be longer.
+// want of memory `places` and `extensible` are unchanged, and `rows`, `families` and `grounds` may be longer.
 fn push_place(
     types: &[SubType],
     added: &SubType,
@@ -372,21 +407,26 @@ fn push_place(
     rows: &mut Vec<u32>,
     extensible: &mut Vec<u32>,
     families: &mut Vec<Family>,
+    grounds: &mut Vec<Ground>,
 ) -> Result<(), Error>
     requires orderly { IsOrderly types.now }
     requires follows { MayFollow types.now added.now }
     requires places { ArePlaces types.now rows.old.items places.old.items }
     requires extensible { extensible.old.items ≡ extensible_from 0 types.now (depths_in places.old.items) }
     requires families { AreFamilies types.now families.old.items }
+    requires grounds { AreGrounds types.now grounds.old.items }
     ensures places { OnOk result (ArePlaces (types.now ++ added.now ∷ []) rows.new.items places.new.items) }
     ensures extensible { OnOk result (extensible.new.items ≡ extensible_from 0 (types.now ++ added.now ∷ []) (depths_in places.new.items)) }
     ensures families { OnOk result (AreFamilies (types.now ++ added.now ∷ []) families.new.items) }
+    ensures grounds { OnOk result (AreGrounds (types.now ++ added.now ∷ []) grounds.new.items) }
     ensures rows { IsLonger rows.old.items rows.new.items }
     ensures err { OnErr result ((places.new.items ≡ places.old.items) × (extensible.new.items ≡ extensible.old.items)) }
     ensures known { OnErr result (AreFamilies types.now families.new.items) }
+    ensures grounds_known { OnErr result (AreGrounds types.now grounds.new.items) }
 {
     make_room(added, places.capacity(), rows, families)?;
     extend_families(types, added, families)?;
+    extend_grounds(types, grounds)?;
     let place = push_row(types, places.as_slice(), rows, added)?;
     let is_extensible = may_have_subtypes(added, place.depth);
     places.push(place)?;
@@ -395,6 +435,7 @@ fn push_place(
         return Err(Error::Memory);
     }
     join_family(types, added, families);
+    join_grounds(types, added, grounds);
     Ok(())
 }
 

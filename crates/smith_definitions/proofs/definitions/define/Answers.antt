@@ -1,5 +1,6 @@
 use Rattle.std.proofs.Common.{refl}
-use Rattle.smith_definitions.proofs.DrawnStepLemmas.{may_initialise}
+use Rattle.smith_draw.proofs.ConstStepLemmas.{passed_on}
+use Rattle.smith_definitions.proofs.DrawnStepLemmas.{may_initialise, refused_before}
 use Rattle.smith_definitions.proofs.DefinedMoreLemmas.{defined_more}
 use Rattle.smith_definitions.proofs.definitions.define.Goals as goal
 
@@ -9,6 +10,13 @@ define_tables-requires-clause-may c =
     rw (over.types, over.funcs, over.imported_funcs, over.globals, c.as_slice-func_types.ensures, c.as_slice-all_globals.ensures, c.len-funcs_before.ensures, c.len-globals_before.ensures, c.len-globals_defined.ensures)
     (may_initialise _ _ _ _ _ c.requires.may (c.in_ok-define_funcs.ensures.valid c.requires.may.entities.funcs) c.in_ok-define_funcs.ensures.filled.within)
 
+pub returns-in_err-define_tables-clause-refusal : goal.returns-in_err-define_tables-clause-refusal
+returns-in_err-define_tables-clause-refusal c =
+    let over = c.standing_imported-standing.ensures in
+    passed_on _ c.from_residual-in_err-define_tables.result c.in_err-define_tables.field-0.0 c.from_residual-in_err-define_tables.ensures.1
+    (refused_before c.args.config.now c.args.types.now.types _ c.args.definitions.now _ _ _ _ c.in_ok-define_funcs.ensures.filled.extends
+    (rw (over.types, over.funcs, over.imported_funcs, c.as_slice-func_types.ensures, c.len-funcs_before.ensures) at c.in_err-define_tables.ensures.refusal))
+
 pub returns-in_err-define_memories-clause-left : goal.returns-in_err-define_memories-clause-left
 returns-in_err-define_memories-clause-left c = λ whole h. c.define_memories.ensures.draws.left whole (c.define_tables.ensures.left whole (c.define_funcs.ensures.left whole (c.define_tags.ensures.left whole h)))
 
@@ -16,6 +24,12 @@ pub define_globals-requires-clause-may : goal.define_globals-requires-clause-may
 define_globals-requires-clause-may c =
     rw (c.as_slice-func_types.ensures, c.len-funcs_before.ensures, c.len-globals_before.ensures, c.len-globals_defined.ensures)
     (may_initialise _ _ _ _ _ c.requires.may (c.in_ok-define_funcs.ensures.valid c.requires.may.entities.funcs) c.in_ok-define_funcs.ensures.filled.within)
+
+pub returns-in_err-define_globals-clause-refusal : goal.returns-in_err-define_globals-clause-refusal
+returns-in_err-define_globals-clause-refusal c =
+    passed_on _ c.from_residual-in_err-define_globals.result c.in_err-define_globals.field-0.0 c.from_residual-in_err-define_globals.ensures.1
+    (refused_before c.args.config.now c.args.types.now.types _ c.args.definitions.now _ _ _ _ c.in_ok-define_funcs.ensures.filled.extends
+    (rw (c.as_slice-func_types.ensures, c.len-funcs_before.ensures) at c.in_err-define_globals.ensures.refusal))
 
 pub returns-in_err-define_globals-clause-left : goal.returns-in_err-define_globals-clause-left
 returns-in_err-define_globals-clause-left c = λ whole h. c.define_globals.ensures.left whole (c.define_memories.ensures.draws.left whole (c.define_tables.ensures.left whole (c.define_funcs.ensures.left whole (c.define_tags.ensures.left whole h))))
@@ -34,7 +48,6 @@ returns-clause-defined c =
         globals = c.in_ok-define_globals.ensures.filled;
         each_table = c.in_ok-define_tables.ensures.within;
         each_memory = c.in_ok-define_memories.ensures.within;
-        nullable_tables = c.in_ok-define_tables.ensures.nullable;
       };
       entities = record {
         tags = c.in_ok-define_tags.ensures.valid entities.tags;

@@ -22,7 +22,7 @@ returns-clause-spaces c = IfOk-weaker c.push_exports.result _ _ (λ exports made
 
 pub returns-clause-memory : goal.returns-clause-memory
 returns-clause-memory c = λ none on several.
-    IfErr-weaker c.push_exports.result _ _ (λ e. only_memory c.args.config.now c.args.types.now.types c.args.shape.now e none on several) c.push_exports.ensures.refusal
+    IfErr-weaker c.push_exports.result _ _ (λ e. only_memory c.args.config.now _ c.args.shape.now e none on several) c.push_exports.ensures.refusal
 
 pub returns-clause-counted : goal.returns-clause-counted
 returns-clause-counted c = λ count other. IfOk-weaker c.push_exports.result _ _ (λ exports made. made.counted count other) c.push_exports.ensures.required

@@ -22,7 +22,7 @@ returns-in_default-clause-exact c =
 pub count_entity-requires : goal.count_entity-requires
 count_entity-requires c =
     let next : IsNext c.args.config.now c.args.types.now.types (spaces_of c.loop-imported.imported) c.loop-imported.imported.type_size c.in-Some.added = rw c.in-Some.is at c.in_ok-added.ensures.next in
-    record { typed = rw c.space.ensures next.fit.typed; count = omega (arith, c.requires.may.passes.few counts.Imports); fits = rw c.space.ensures next.sum }
+    record { typed = rw c.space.ensures next.fit.entity.typed; count = omega (arith, c.requires.may.passes.few counts.Imports); fits = rw c.space.ensures next.sum }
 
 pub loop-imported-preserved : goal.loop-imported-preserved
 loop-imported-preserved c =
@@ -41,7 +41,7 @@ loop-imported-preserved c =
     let counted = rw c.space.ensures at c.in_ok-count_entity.ensures.counted in
     let count : c.count_entity.new.self.count ≡ c.loop-imported.imported.count + 1 = counted.count in
     record {
-      ready = rw c.in_ok-push_import.ensures.ok (ready_more c.args.config.now c.args.types.now.types group c.in_ok-name.name c.in-Some.added i.ready);
+      ready = rw (c.in_ok-push_import.ensures.ok, counted.spaces) (ready_more c.args.config.now c.args.types.now.types (spaces_of c.loop-imported.imported) group c.in_ok-name.name c.in-Some.added i.ready);
       counts = rw (c.in_ok-push_import.ensures.ok, grown) (counts_more one i.counts pairs counted);
       fit = rw (c.in_ok-push_import.ensures.ok, grown) (fit_more c.args.config.now c.args.types.now.types c.args.distinct imports one i.fit (rw (i.counts.spaces, i.counts.type_size) at next) (rw i.counts.count at c.loop-imported-test.true) fresh);
       groups = counted.groups ∙ i.groups;
