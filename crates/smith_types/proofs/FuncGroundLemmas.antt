@@ -130,8 +130,7 @@ func_marks_closed context grounds orderly h = record {
       let long : length grounds.marks.items ≡ length context.types = h.long in
       let inside : i < length context.types = omega (arith, entry, long) in
       let (function, k, at, on) = (h.each (Concrete i) inside).0 marks in
-      (h.each (Concrete j) (above_stands context.types orderly (Concrete i) (Concrete j) below inside)).1
-      (
+      (h.each (Concrete j) (above_stands context.types orderly (Concrete i) (Concrete j) below inside)).1 (
         function,
         k,
         at,

@@ -1,4 +1,4 @@
-ghost use Rattle.std.specs.Prelude.{◌≡◌, ◌<◌, ◌↔◌, [], Some, length, vec_len, IsTrue, IfOk, IfErr};
+ghost use Rattle.std.specs.Prelude.{◌≡◌, ◌<◌, ◌↔◌, [], Some, length, vec_len, IsTrue, ◌||◌, IfOk, IfErr};
 ghost use Rattle.smith_types.specs.Types.{IsOrderly};
 ghost use Rattle.smith_types.specs.Subtyping.{IsInRange};
 ghost use Rattle.smith_types.specs.Expressions.{Context};
@@ -82,10 +82,16 @@ fn note_type(types: &[SubType], index: u32, exact: bool, marks: &mut Vec<Ground>
     requires entry { index < vec_len marks.old }
     ensures { AreClosed types.now marks.old.items → IsTypeNoted types.now index exact marks.old.items marks.new.items }
 {
-    let mark = marks[index as usize];
-    marks[index as usize] = Ground {
+    marks[index as usize] = with_exact(marks[index as usize], exact);
+    mark_above(types, Some(index), marks);
+}
+
+// The mark `mark`, where `exact` is set with an exact reference.
+fn with_exact(mark: Ground, exact: bool) -> Ground
+    ensures { result ≡ record { own = mark.own || exact; below = mark.below } }
+{
+    Ground {
         own: mark.own || exact,
         below: mark.below,
-    };
-    mark_above(types, Some(index), marks);
+    }
 }

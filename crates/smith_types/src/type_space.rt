@@ -27,9 +27,9 @@ ghost use Rattle.std.specs.Prelude.{
 ghost use Rattle.std.specs.declared.ops.Range.{Range};
 ghost use Rattle.smith_types.specs.Types.{IsAlike, IsOrderly, next_start, next_group};
 ghost use Rattle.smith_types.specs.Space.{AreExtensible, HasDepth, MayFollow, extensible_from};
-ghost use Rattle.smith_types.specs.Places.{IsPlace, ArePlaces, IsLonger, depths_in};
+ghost use Rattle.smith_types.specs.Places.{IsPlace, ArePlaces, AreBeside, IsLonger, depths_in};
 ghost use Rattle.smith_types.specs.Families.{direct_subtypes, AreFamilies};
-ghost use Rattle.smith_types.specs.Grounded.{IsGroundedByStructs};
+ghost use Rattle.smith_types.specs.Grounded.{IsGroundedBy, IsGroundedByStructs};
 ghost use Rattle.smith_types.specs.KindCounts.{indices_of_kind};
 ghost use Rattle.smith_types.specs.Sizes.{value_count};
 ghost use Rattle.smith_types.specs.Matching.{IsCompositeMatch, IsInnerInRange};
@@ -39,7 +39,7 @@ ghost use Rattle.smith_types.specs.Subtyping.{IsBelow, IsRefBelow, IsValBelow, I
 use crate::composite_type::{CompositeInnerType, CompositeType, SubType};
 use crate::entity_type::EntityType;
 use crate::family::{Family, extend_families, join_family};
-use crate::ground::{Ground, GroundKinds, join_grounds, no_grounds};
+use crate::ground::{Ground, GroundKinds, is_ground, is_kept_ground, join_grounds, no_grounds};
 use crate::matching::composite_type_is_match;
 use crate::place::{Place, last_counts, push_row};
 use crate::subtyping::{
@@ -69,16 +69,18 @@ pub struct TypeSpace {
     // The families of the first types: at least up to the last type that has a supertype.
     families: Vec<Family>,
     extensible: Vec<u32>,
-    // What the types ground.
+    // Whether what the types ground is kept.
+    keeps_grounds: bool,
+    // What the types ground, where it is kept.
     grounds: Vec<Ground>,
     ground_kinds: GroundKinds,
     groups: Vec<Range<usize>>,
 }
 
 impl Model for TypeSpace {
-    ghost use Rattle.std.specs.Prelude.{◌≡◌, ◌≤◌, vec_capacity};
+    ghost use Rattle.std.specs.Prelude.{◌≡◌, true};
     ghost use Rattle.smith_types.specs.Space.{Space, IsSound, extensible_from};
-    ghost use Rattle.smith_types.specs.Places.{ArePlaces, depths_in};
+    ghost use Rattle.smith_types.specs.Places.{ArePlaces, AreBeside, depths_in};
     ghost use Rattle.smith_types.specs.Families.{AreFamilies};
     ghost use Rattle.smith_types.specs.Grounds.{AreGrounds, AreGroundKinds};
 
@@ -90,10 +92,9 @@ impl Model for TypeSpace {
         × ArePlaces a.types.items a.rows.items a.places.items
         × (a.extensible.items ≡ extensible_from 0 a.types.items (depths_in a.places.items))
         × AreFamilies a.types.items a.families.items
-        × AreGrounds a.types.items a.grounds.items
-        × AreGroundKinds a.types.items a.ground_kinds
-        × (vec_capacity a.types ≤ vec_capacity a.places)
-        × (vec_capacity a.types ≤ vec_capacity a.grounds) };
+        × (a.keeps_grounds ≡ true → AreGrounds a.types.items a.grounds.items)
+        × (a.keeps_grounds ≡ true → AreGroundKinds a.types.items a.ground_kinds)
+        × AreBeside a.types a.places a.grounds };
 }
 
 /// Prints the types and the groups.
@@ -122,6 +123,7 @@ impl TypeSpace {
             rows: Vec::new(alloc),
             families: Vec::new(alloc),
             extensible: Vec::new(alloc),
+            keeps_grounds: true,
             grounds: Vec::new(alloc),
             ground_kinds: no_grounds(),
             groups: Vec::new(alloc),
@@ -140,10 +142,20 @@ impl TypeSpace {
             rows: Vec::new(alloc),
             families: Vec::new(alloc),
             extensible: Vec::new(alloc),
+            keeps_grounds: true,
             grounds: Vec::with_capacity(alloc, types)?,
             ground_kinds: no_grounds(),
             groups: Vec::with_capacity(alloc, types)?,
         })
+    }
+
+    /// Stops keeping what the types ground, which takes a look at the fields of each struct type that is added.
+    ///
+    /// [`TypeSpace::is_grounded_by_structs`] then looks for a type that grounds among all of them.
+    pub fn keep_no_grounds(&mut self)
+        ensures { self.new ≡ self.old }
+    {
+        self.keeps_grounds = false;
     }
 
     /// The types, in the order of their indices.
@@ -249,6 +261,9 @@ impl TypeSpace {
         requires { IsInRange self.now.types ty }
         ensures { IsTrue result ↔ IsGroundedByStructs self.now.types descriptors ty }
     {
+        if !self.keeps_grounds {
+            return self.finds_ground(ty, descriptors);
+        }
         match ty {
             HeapType::Abstract { shared, ty } => {
                 self.ground_kinds.has(shared)
@@ -257,6 +272,36 @@ impl TypeSpace {
             HeapType::Concrete(index) => self.grounds[index as usize].below,
             HeapType::Exact(index) => descriptors && self.grounds[index as usize].own,
         }
+    }
+
+    // Looks for a type that grounds the heap type `ty`.
+    fn finds_ground(&self, ty: HeapType, descriptors: bool) -> bool
+        requires { IsInRange self.now.types ty }
+        ensures { IsTrue result ↔ IsGroundedByStructs self.now.types descriptors ty }
+    {
+        for index in 0..self.types.len() {
+            let grounds = self.is_grounded_by(index, ty, descriptors);
+            if grounds {
+                return true;
+            }
+        }
+        false
+    }
+
+    // Whether the type of the index `index`, which exists, grounds the heap type `ty`.
+    fn is_grounded_by(&self, index: usize, ty: HeapType, descriptors: bool) -> bool
+        requires stands { index < length self.now.types }
+        requires range { IsInRange self.now.types ty }
+        ensures { IsTrue result ↔ IsGroundedBy self.now.types descriptors ty index }
+    {
+        if !is_ground(&self.types[index]) {
+            return false;
+        }
+        let index = index as u32;
+        if descriptors {
+            return self.heap_type_is_sub_type(HeapType::Exact(index), ty);
+        }
+        self.heap_type_is_sub_type(HeapType::Concrete(index), ty)
     }
 
     // Whether the type `from` is the type `to`, or `to` is on the way up from `from`: then `to` is in the row of `from` at its depth.
@@ -302,12 +347,7 @@ impl TypeSpace {
         ensures err { OnErr result (self.new ≡ self.old) }
         ensures memory { IfErr result (λ e. e ≡ Error.Memory) }
     {
-        make_room(
-            1,
-            &mut self.types,
-            &mut self.places,
-            &mut self.grounds,
-        )?;
+        make_room(1, &mut self.types, &mut self.places, &mut self.grounds)?;
         let types = self.types.as_slice();
         let index = types.len() as u32;
         let place = make_place(
@@ -321,8 +361,9 @@ impl TypeSpace {
         )?;
         self.places.push_reserved(place);
         join_family(types, &added, &mut self.families);
-        join_grounds(types, &added, &mut self.grounds);
-        self.ground_kinds = self.ground_kinds.with(&added);
+        let own = is_kept_ground(self.keeps_grounds, &added);
+        join_grounds(types, &added, own, &mut self.grounds);
+        self.ground_kinds = self.ground_kinds.with(own, added.composite_type.shared);
         self.types.push_reserved(added);
         Ok(index)
     }
@@ -332,6 +373,7 @@ impl TypeSpace {
         ensures value { self.new ≡ self.old }
         ensures memory { IfErr result (λ e. e ≡ Error.Memory) }
     {
+        self.extensible.reserve(additional)?;
         make_room(
             additional,
             &mut self.types,
@@ -410,24 +452,19 @@ impl TypeSpace {
     }
 }
 
-// Makes room for `additional` more types in each of `types`, `places` and `grounds`, which grow together: where `types` has room, all
-// have.
+// Makes room for `additional` more types in each of `types`, `places` and `grounds`, which grow together.
 fn make_room(
     additional: usize,
     types: &mut Vec<SubType>,
     places: &mut Vec<Place>,
     grounds: &mut Vec<Ground>,
 ) -> Result<(), Error>
-    requires places_long { vec_len places.old ≡ vec_len types.old }
-    requires grounds_long { vec_len grounds.old ≡ vec_len types.old }
-    requires places_room { vec_capacity types.old ≤ vec_capacity places.old }
-    requires grounds_room { vec_capacity types.old ≤ vec_capacity grounds.old }
+    requires { AreBeside types.old places.old grounds.old }
+    ensures beside { AreBeside types.new places.new grounds.new }
     ensures types { types.new.items ≡ types.old.items }
     ensures places { places.new.items ≡ places.old.items }
     ensures grounds { grounds.new.items ≡ grounds.old.items }
     ensures room { OnOk result (vec_len types.new + additional ≤ vec_capacity types.new) }
-    ensures places_room { vec_capacity types.new ≤ vec_capacity places.new }
-    ensures grounds_room { vec_capacity types.new ≤ vec_capacity grounds.new }
     ensures memory { IfErr result (λ e. e ≡ Error.Memory) }
 {
     if additional <= types.capacity() - types.len() {

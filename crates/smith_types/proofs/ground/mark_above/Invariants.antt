@@ -6,7 +6,7 @@ use Rattle.smith_types.proofs.ground.mark_above.Given as goal
 
 abbrev pub invariant-loop-above : goal.invariant-loop-above
 invariant-loop-above l = record {
-  marking : IsMarking l.types l.from l.above l.fn.grounds.items l.grounds.items;
+  marking : IsMarking l.types l.fn.from l.above l.fn.grounds.items l.grounds.items;
   capacity : vec_capacity l.grounds ≡ vec_capacity l.fn.grounds;
 }
 
