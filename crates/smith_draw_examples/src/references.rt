@@ -1,13 +1,16 @@
 // References that aren't nullable, drawn where the configuration has them. The clauses are proved; nothing calls these functions.
 
 ghost use Rattle.std.specs.Prelude.{◌≡◌, [], ◌∷◌, true, false};
+ghost use Rattle.smith_types.specs.declared.value_type.ValType.TheVariants.{I32, Ref};
 ghost use Rattle.smith_types.specs.declared.value_type.AbstractHeapType.TheVariants as heap;
 ghost use Rattle.smith_types.specs.declared.value_type.HeapType.TheVariants.{Concrete, Exact};
 ghost use Rattle.smith_types.specs.Features.{every_feature};
 ghost use Rattle.smith_types.specs.ExampleFeatures.{usual_features};
-ghost use Rattle.smith_types.specs.ExampleTypes.{final_type, plain_func, struct_and_below, plain, nullable, not_null};
+ghost use Rattle.smith_types.specs.ExampleTypes.{final_type, struct, array, empty_struct, plain_func, struct_and_below, constant, plain, nullable, not_null};
+ghost use Rattle.smith_types.specs.declared.composite_type.StorageType.TheVariants.{Val};
 ghost use Rattle.smith_types.specs.ExampleContexts.{context_of};
 ghost use Rattle.smith_config.specs.Config.{default_config};
+ghost use Rattle.smith_draw.specs.ConstBounds.{IsUngrounded, HoldsUngroundedField};
 ghost use Rattle.smith_draw.specs.ExampleConstExprs.{context_of_types};
 ghost use Rattle.smith_draw.specs.Grounding.{is_grounded};
 ghost use Rattle.smith_draw.specs.ValueTypes.{granted_at, ref_type_at};
@@ -54,4 +57,15 @@ fn offered()
         ≡ plain heap.Array ∷ plain heap.Array ∷ plain heap.None ∷ [] }
     ensures where_there_are_none { references_offered default_config (context_of_types []) (not_null (plain heap.Array)) ≡ plain heap.Array ∷ plain heap.Array ∷ plain heap.None ∷ [] }
     ensures drawn { matching_ref_type_at (record default_config { non_nullable_enabled = true }) (context_of_types struct_and_below) (not_null (plain heap.Any)) (3 ∷ []) ≡ (not_null (Concrete 0), []) }
+{}
+
+fn ungrounded()
+    ensures where_nothing_exists { IsUngrounded (record default_config { non_nullable_enabled = true }) (context_of_types []) (Ref (not_null (plain heap.Any))) }
+    ensures to_a_struct { ¬ IsUngrounded (record default_config { non_nullable_enabled = true }) (context_of_types struct_and_below) (Ref (not_null (Concrete 0))) }
+    ensures to_a_struct_by_default { IsUngrounded default_config (context_of_types struct_and_below) (Ref (not_null (Concrete 0))) }
+    ensures nullable { ¬ IsUngrounded (record default_config { non_nullable_enabled = true }) (context_of_types []) (Ref (nullable (plain heap.Any))) }
+    ensures a_number { ¬ IsUngrounded (record default_config { non_nullable_enabled = true }) (context_of_types []) I32 }
+    ensures in_an_element { HoldsUngroundedField (record default_config { non_nullable_enabled = true }) (context_of_types (final_type (array (constant (Val (Ref (not_null (plain heap.Func)))))) ∷ [])) }
+    ensures in_a_field_that_is_grounded { ¬ HoldsUngroundedField (record default_config { non_nullable_enabled = true })
+        (context_of_types (final_type empty_struct ∷ final_type (struct (constant (Val (Ref (not_null (Concrete 0)))) ∷ [])) ∷ [])) }
 {}
