@@ -1,5 +1,6 @@
-use Rattle.std.proofs.Common.{ℕ, zero, suc, true, false, List, [], ◌∷◌, None, refl, inl, inr, arith}
+use Rattle.std.proofs.Common.{zero, suc, true, false, List, [], ◌∷◌, None, refl, ap, ◌∙◌, inl, inr, arith}
 use Rattle.std.specs.List.{Any}
+use Rattle.std.proofs.lemmas.Option.{same_Some}
 use Rattle.smith_types.specs.declared.value_type.AbstractHeapType.TheVariants as heap
 use Rattle.smith_types.specs.declared.value_type.HeapType.TheVariants.{Concrete}
 use Rattle.smith_types.specs.declared.value_type.ValType.TheVariants.{Ref}
@@ -24,8 +25,13 @@ abbrev held_array : List SubType
 held_array = final_type (array (constant (Val (Ref (not_null (plain heap.Func)))))) ∷ []
 
 no_function : ¬ IsGrounded (context_of_types held_array) (plain heap.Func)
-no_function (inl (zero, g)) = cc g.struct
-no_function (inl (suc index, g)) = cc g.struct.1
+no_function (inl (zero, g)) =
+    let (t, at, is) = g.struct in
+    let never = ap (λ (t : SubType). t.composite_type.inner) (same_Some _ t at) ∙ is in
+    cc never
+no_function (inl (suc index, g)) =
+    let (t, at, is) = g.struct in
+    cc at
 no_function (inr (function, index, at, below)) = cc at
 
 pub returns-clause-in_an_element : goal.returns-clause-in_an_element
@@ -40,5 +46,5 @@ returns-clause-in_a_field_that_is_grounded c =
     let IsLacking = IsUngrounded (record default_config { non_nullable_enabled = true }) (context_of_types referring) in
     each_none (λ (t : SubType). Any IsLacking (field_values (fields_of t.composite_type.inner))) referring (
       each_none IsLacking [] tt,
-      (each_none IsLacking (Ref (not_null (Concrete 0)) ∷ []) ((λ h. h.1 refl (inl (0, grounded_at referring false (Concrete 0) 0 (final_type empty_struct) refl refl itself))), tt), tt)
+      (each_none IsLacking (Ref (not_null (Concrete 0)) ∷ []) ((λ h. h.1 refl (inl (0, grounded_at referring false (Concrete 0) 0 (final_type empty_struct) refl refl itself))), tt), tt),
     )
