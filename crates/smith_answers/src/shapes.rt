@@ -6,7 +6,7 @@ use smith_types::Items;
 use std::alloc::Global;
 
 // Each shape by its name, with its parts in the form that `add_part` reads.
-static SHAPES: [(&str, &[&str]); 42] = [
+static SHAPES: [(&str, &[&str]); 44] = [
     ("nothing", &[]),
     (
         "a function without parameters and results",
@@ -112,6 +112,14 @@ static SHAPES: [(&str, &[&str]); 42] = [
             "global (ref 0)",
             "export g global 0",
         ],
+    ),
+    (
+        "an empty struct and a struct of a reference to it",
+        &["group struct", "group struct (ref 0)"],
+    ),
+    (
+        "a constant external reference",
+        &["global (ref extern)", "export g global 0"],
     ),
     (
         "each kind to import",

@@ -9,8 +9,8 @@ use Rattle.smith_draw.specs.RecGroups.{types_at}
 use Rattle.smith_draw.specs.Spelling.{SpellsGroups}
 use Rattle.smith_spell.specs.Family.{IsInFamily}
 
--- where no type is asked for and no reference is other than nullable, the groups of each member of the family are drawn from each piece that spells them, and what
--- follows is left, whatever functions stand
+-- where no type is asked for and references are nullable, the groups of each member of the family are drawn from each piece that
+-- spells them, and what follows is left, whatever functions exist
 abbrev pub GroupsAreRead : Type 0
 GroupsAreRead =
     (config : Config) (functions : Context) (groups : List (List SubType)) (funcs : List ℕ) (piece after : List ℕ) → config.non_nullable_enabled ≡ false → IsSanitized config → config.min_types ≡ 0

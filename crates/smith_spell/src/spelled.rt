@@ -54,6 +54,9 @@ fn spell_in_family(
 /// holds a shape or has everything exported, or `groups` and `funcs` are outside the family of lists that draws reach. Types of
 /// the family are unshared, have no supertype, and refer only to types before them, by nullable references.
 ///
+/// Where `config` has references that aren't nullable, the bytes needn't give that module: a draw then reads a bool more after each
+/// heap type, and no such bool is spelled.
+///
 /// Memory is taken only where `config` and `groups` allow an answer and `funcs` are no more than `config` allows.
 ///
 /// A list that goes on is spelled by 1, and its end by 0 where the list might go on. No group is cloned, no supertype is chosen,
