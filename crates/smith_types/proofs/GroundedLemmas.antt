@@ -1,5 +1,5 @@
 -- What is kept of types that ground others says which heap types structs ground.
-use Rattle.std.proofs.Common.{◌≡◌, ◌↔◌, ℕ, zero, suc, ◌<◌, Bool, true, false, List, [], ◌∷◌, Some, IsTrue, get_or, length, refl, sym, ◌∙◌, ap, subst, arith, ◌≤◌}
+use Rattle.std.proofs.Common.{◌≡◌, ◌↔◌, ℕ, zero, suc, ◌<◌, Bool, true, false, List, [], ◌∷◌, Some, IsTrue, get_or, length, refl, sym, ◌∙◌, ap, subst, arith}
 use Rattle.std.specs.Prelude.{slice_get, All, not, ◌&&◌, ◌||◌, if◌then◌else◌}
 use Rattle.std.specs.List.{list_any, AllByRecursion as Each}
 use Rattle.std.proofs.lemmas.List.Elements.{All-from_recursion, recursion_from_All}
@@ -21,11 +21,11 @@ use Rattle.smith_types.specs.Types.{IsOrderly}
 use Rattle.smith_types.specs.Subtyping.{is_abstract_below, IsBelow, itself, IsInRange}
 use Rattle.smith_types.specs.Expressions.{IsDefaultable, field_values, unpacked}
 use Rattle.smith_types.specs.Grounded.{IsGroundedBy, IsGroundedByStructs, is_defaultable, are_defaultable}
-use Rattle.smith_types.specs.Grounds.{is_inner_ground, is_ground, is_ground_of, kind_at, AreGrounds, AreGroundKinds}
+use Rattle.smith_types.specs.Grounds.{is_inner_ground, is_ground, is_ground_of, kind_at, own_at, below_at, AreGrounds, AreGroundKinds}
 use Rattle.smith_types.proofs.GrowthLemmas.{IsBelow-trans}
 use Rattle.smith_types.proofs.PathLemmas.{exact_below}
 use Rattle.smith_types.proofs.WalkLemmas.{IsUnder, by_cases_from_below, below_from_by_cases, path_along, concrete_not_below_exact}
-use Rattle.smith_types.proofs.GroundLemmas.{entry_read}
+use Rattle.smith_types.proofs.MarkLemmas.{said_is}
 
 both : (a b : Bool) → (a && b) ≡ true → (a ≡ true) × (b ≡ true)
 both true b e = (refl, e)
@@ -81,41 +81,39 @@ grounded_is types descriptors heap_type i h =
     (t, at, ap is_inner_ground is ∙ defaults_are h.fields (recursion_from_All IsDefaultable (field_values h.fields) h.defaults))
 
 -- what creation pushes, exact or not, is below the types above
-created_below : (types : List SubType) (descriptors : Bool) (i j : ℕ) → IsBelow types (Concrete i) (Concrete j) → IsBelow types (if descriptors then Exact i else Concrete i) (Concrete j)
+pub created_below : (types : List SubType) (descriptors : Bool) (i j : ℕ) → IsBelow types (Concrete i) (Concrete j) → IsBelow types (if descriptors then Exact i else Concrete i) (Concrete j)
 created_below types true i j below = IsBelow-trans types (exact_below types i) below
 created_below types false i j below = below
 
-below_created : (types : List SubType) (descriptors : Bool) (i j : ℕ) → IsOrderly types → IsBelow types (if descriptors then Exact i else Concrete i) (Concrete j) → IsBelow types (Concrete i) (Concrete j)
+pub below_created : (types : List SubType) (descriptors : Bool) (i j : ℕ) → IsOrderly types → IsBelow types (if descriptors then Exact i else Concrete i) (Concrete j) → IsBelow types (Concrete i) (Concrete j)
 below_created types true i j o below = path_along types (by_cases_from_below types o (Exact i) (Concrete j) below)
 below_created types false i j o below = below
 
-created_under : (types : List SubType) (descriptors : Bool) (i : ℕ) (s : Bool) (b : AbstractHeapType) → IsUnder types i s b → IsBelow types (if descriptors then Exact i else Concrete i) (Abstract s b)
+pub created_under : (types : List SubType) (descriptors : Bool) (i : ℕ) (s : Bool) (b : AbstractHeapType) → IsUnder types i s b → IsBelow types (if descriptors then Exact i else Concrete i) (Abstract s b)
 created_under types true i s b under = below_from_by_cases types (Exact i) (Abstract s b) under
 created_under types false i s b under = below_from_by_cases types (Concrete i) (Abstract s b) under
 
-under_created : (types : List SubType) (descriptors : Bool) (i : ℕ) (s : Bool) (b : AbstractHeapType) → IsOrderly types → IsBelow types (if descriptors then Exact i else Concrete i) (Abstract s b) → IsUnder types i s b
+pub under_created : (types : List SubType) (descriptors : Bool) (i : ℕ) (s : Bool) (b : AbstractHeapType) → IsOrderly types → IsBelow types (if descriptors then Exact i else Concrete i) (Abstract s b) → IsUnder types i s b
 under_created types true i s b o below = by_cases_from_below types o (Exact i) (Abstract s b) below
 under_created types false i s b o below = by_cases_from_below types o (Concrete i) (Abstract s b) below
 
 -- a concrete type is grounded where a struct type below it grounds
-pub concrete_grounded : (types now : List SubType) (grounds : List Ground) (descriptors : Bool) (j : ℕ) (entry : Ground) → types ≡ now → IsOrderly types → AreGrounds types grounds → slice_get grounds j ≡ Some entry → (t : SubType) → slice_get types j ≡ Some t
-    → IsTrue entry.below ↔ IsGroundedByStructs now descriptors (Concrete j)
-concrete_grounded types now grounds descriptors j entry view o h entry_is t at =
-    subst (λ xs. IsTrue entry.below ↔ IsGroundedByStructs xs descriptors (Concrete j)) view (
+concrete_grounded : (types now : List SubType) (grounds : List Ground) (descriptors : Bool) (j : ℕ) (said : Bool) → types ≡ now → IsOrderly types → AreGrounds types grounds → below_at grounds j ≡ said → IsTrue said ↔ IsGroundedByStructs now descriptors (Concrete j)
+concrete_grounded types now grounds descriptors j said view o h is =
+    subst (λ xs. IsTrue said ↔ IsGroundedByStructs xs descriptors (Concrete j)) view (
       λ marks.
-          let (i, g) = h.marked j t entry at entry_is marks in
+          let (i, g) = (h.below j).0 (is ∙ marks) in
           (i, grounded_at types descriptors (Concrete j) i g.ground g.at g.is (created_below types descriptors i j g.below)),
       λ (i, g).
           let (u, at_u, on) = grounded_is types descriptors (Concrete j) i g in
-          h.every i j entry (record { ground = u; at = at_u; is = on; below = below_created types descriptors i j o g.below }) entry_is,
+          sym is ∙ (h.below j).1 (i, record { ground = u; at = at_u; is = on; below = below_created types descriptors i j o g.below }),
     )
 
 -- an exact type is grounded where it is a struct type that grounds, and creation is exact
-pub exact_grounded : (types now : List SubType) (grounds : List Ground) (j : ℕ) (entry : Ground) → types ≡ now → IsOrderly types → AreGrounds types grounds → slice_get grounds j ≡ Some entry → (t : SubType) → slice_get types j ≡ Some t
-    → IsTrue entry.own ↔ IsGroundedByStructs now true (Exact j)
-exact_grounded types now grounds j entry view o h entry_is t at =
-    let own : entry.own ≡ is_ground t = h.own j t entry at entry_is in
-    subst (λ xs. IsTrue entry.own ↔ IsGroundedByStructs xs true (Exact j)) view (
+exact_grounded : (types now : List SubType) (grounds : List Ground) (j : ℕ) (said : Bool) → types ≡ now → IsOrderly types → AreGrounds types grounds → own_at grounds j ≡ said → (t : SubType) → slice_get types j ≡ Some t → IsTrue said ↔ IsGroundedByStructs now true (Exact j)
+exact_grounded types now grounds j said view o h is t at =
+    let own : said ≡ is_ground t = sym is ∙ h.own j t at in
+    subst (λ xs. IsTrue said ↔ IsGroundedByStructs xs true (Exact j)) view (
       λ marks. (j, grounded_at types true (Exact j) j t at (sym own ∙ marks) itself),
       λ (i, g).
           let (u, at_u, on) = grounded_is types true (Exact j) i g in
@@ -197,7 +195,7 @@ stands (t ∷ types) (suc j) inside = stands types j (omega arith)
 
 pub entry_inside : (types now : List SubType) (grounds : List Ground) (j : ℕ) → types ≡ now → AreGrounds types grounds → j < length now → j < length grounds
 entry_inside types now grounds j view known inside =
-    let long : length types ≤ length grounds = known.long in
+    let long : length grounds ≡ length types = known.long in
     let same : length types ≡ length now = ap length view in
     omega (arith, long, same, inside)
 
@@ -205,9 +203,8 @@ pub concrete_read : (types now : List SubType) (grounds : List Ground) (descript
     → IsTrue entry.below ↔ IsGroundedByStructs now descriptors h
 concrete_read types now grounds descriptors j h entry d view o known is range read =
     let inside : j < length now = subst (IsInRange now) is range in
-    let (t, at) = stands types j (rw view inside) in
     subst (λ v. IsTrue entry.below ↔ IsGroundedByStructs now descriptors v) (sym is)
-    (concrete_grounded types now grounds descriptors j entry view o known (entry_read grounds j entry d (entry_inside types now grounds j view known inside) read) t at)
+    (concrete_grounded types now grounds descriptors j entry.below view o known (said_is (λ (ground : Ground). ground.below) grounds j entry d (entry_inside types now grounds j view known inside) read))
 
 pub exact_read : (types now : List SubType) (grounds : List Ground) (descriptors : Bool) (j : ℕ) (h : HeapType) (entry d : Ground) → types ≡ now → IsOrderly types → AreGrounds types grounds → h ≡ Exact j → IsInRange now h → entry ≡ get_or grounds j d → descriptors ≡ true
     → IsTrue entry.own ↔ IsGroundedByStructs now descriptors h
@@ -216,7 +213,7 @@ exact_read types now grounds descriptors j h entry d view o known is range read 
     let (t, at) = stands types j (rw view inside) in
     subst (λ v. IsTrue entry.own ↔ IsGroundedByStructs now descriptors v) (sym is)
     (subst (λ v. IsTrue entry.own ↔ IsGroundedByStructs now v (Exact j)) (sym on)
-    (exact_grounded types now grounds j entry view o known (entry_read grounds j entry d (entry_inside types now grounds j view known inside) read) t at))
+    (exact_grounded types now grounds j entry.own view o known (said_is (λ (ground : Ground). ground.own) grounds j entry d (entry_inside types now grounds j view known inside) read) t at))
 
 pub exact_off : (now : List SubType) (descriptors : Bool) (j : ℕ) (h : HeapType) → h ≡ Exact j → descriptors ≡ false → IsTrue descriptors ↔ IsGroundedByStructs now descriptors h
 exact_off now descriptors j h is off =

@@ -1,5 +1,5 @@
 -- What a type space keeps of struct types whose fields all have defaults.
-use Rattle.std.specs.Prelude.{◌≡◌, ℕ, ◌<◌, ◌≤◌, ◌⊎◌, Bool, true, false, not, ◌&&◌, ◌||◌, IsTrue, List, [], ◌∷◌, ◌++◌, length, slice_get, Option, Some}
+use Rattle.std.specs.Prelude.{◌≡◌, ◌↔◌, ℕ, zero, suc, ◌<◌, ◌≤◌, ◌⊎◌, Bool, true, false, not, ◌&&◌, ◌||◌, IsTrue, List, [], ◌∷◌, length, slice_get, Option, Some}
 use Rattle.std.specs.List.{list_any}
 use Rattle.smith_types.specs.Kinds.{shared}
 use Rattle.smith_types.specs.Subtyping.{IsBelow}
@@ -32,12 +32,37 @@ pub record IsGroundBelow (types : List SubType) (i j : ℕ) : Type 0 where
   pub is : is_ground ground ≡ true
   pub below : IsBelow types (Concrete i) (Concrete j)
 
--- what is kept of each type: whether it is such a struct type, and whether it is above one; there may be more entries than types
+-- what an entry says, by its index: no, where there is none
+abbrev pub said_at : (Ground → Bool) → List Ground → ℕ → Bool
+said_at flag [] i = false
+said_at flag (ground ∷ grounds) zero = flag ground
+said_at flag (ground ∷ grounds) (suc i) = said_at flag grounds i
+
+abbrev pub own_at : List Ground → ℕ → Bool
+own_at grounds i = said_at (λ (ground : Ground). ground.own) grounds i
+
+abbrev pub below_at : List Ground → ℕ → Bool
+below_at grounds i = said_at (λ (ground : Ground). ground.below) grounds i
+
+-- what is kept of each type: whether it is such a struct type, and whether it is above one
 pub record AreGrounds (types : List SubType) (grounds : List Ground) : Type 0 where
-  pub long : length types ≤ length grounds
-  pub own : (i : ℕ) (t : SubType) (ground : Ground) → slice_get types i ≡ Some t → slice_get grounds i ≡ Some ground → ground.own ≡ is_ground t
-  pub marked : (j : ℕ) (t : SubType) (ground : Ground) → slice_get types j ≡ Some t → slice_get grounds j ≡ Some ground → IsTrue ground.below → (i : ℕ) × IsGroundBelow types i j
-  pub every : (i j : ℕ) (ground : Ground) → IsGroundBelow types i j → slice_get grounds j ≡ Some ground → IsTrue ground.below
+  pub long : length grounds ≡ length types
+  pub own : (i : ℕ) (t : SubType) → slice_get types i ≡ Some t → own_at grounds i ≡ is_ground t
+  pub below : (j : ℕ) → IsTrue (below_at grounds j) ↔ ((i : ℕ) × IsGroundBelow types i j)
+
+-- a type above a marked one is marked
+pub record AreClosed (types : List SubType) (grounds : List Ground) : Type 0 where
+  pub up : (i j : ℕ) → IsBelow types (Concrete i) (Concrete j) → IsTrue (below_at grounds i) → IsTrue (below_at grounds j)
+
+-- the type of an index is this one, where there is one, or above it
+abbrev pub IsFrom : List SubType → Option ℕ → ℕ → Type 0
+IsFrom types from j = (s : ℕ) × (from ≡ Some s) × IsBelow types (Concrete s) (Concrete j)
+
+-- a type, where there is one, and those above it are marked, and nothing else changes
+pub record AreMarked (types : List SubType) (from : Option ℕ) (old new : List Ground) : Type 0 where
+  pub long : length new ≡ length old
+  pub own : (j : ℕ) → own_at new j ≡ own_at old j
+  pub below : (j : ℕ) → IsTrue (below_at new j) ↔ (IsTrue (below_at old j) ⊎ IsFrom types from j)
 
 -- what is kept of a sharedness
 abbrev pub kind_at : GroundKinds → Bool → Bool
@@ -52,13 +77,13 @@ kinds_with t kinds = record { plain = kinds.plain || is_ground_of false t; share
 pub record AreGroundKinds (types : List SubType) (kinds : GroundKinds) : Type 0 where
   pub each : (is_shared : Bool) → kind_at kinds is_shared ≡ list_any (is_ground_of is_shared) types
 
--- entries on the way up from a type that is added last, which grounds: all that it says is kept, but of the type of the index
--- `above`, where there is one, and of those above that type; what is kept of these comes from the types before
-pub record IsMarking (types : List SubType) (added : SubType) (grounds : List Ground) (above : Option ℕ) : Type 0 where
-  pub long : length types < length grounds
-  pub own : (i : ℕ) (t : SubType) (ground : Ground) → slice_get (types ++ added ∷ []) i ≡ Some t → slice_get grounds i ≡ Some ground → ground.own ≡ is_ground t
-  pub marked : (j : ℕ) (t : SubType) (ground : Ground) → slice_get (types ++ added ∷ []) j ≡ Some t → slice_get grounds j ≡ Some ground → IsTrue ground.below → (i : ℕ) × IsGroundBelow (types ++ added ∷ []) i j
-  pub almost : (i j : ℕ) (ground : Ground) → IsGroundBelow (types ++ added ∷ []) i j → slice_get grounds j ≡ Some ground → IsTrue ground.below ⊎ ((s : ℕ) × (above ≡ Some s) × IsBelow (types ++ added ∷ []) (Concrete s) (Concrete j))
-  pub next : (s : ℕ) → above ≡ Some s → (s < length types) × IsGroundBelow (types ++ added ∷ []) (length types) s
-  pub before : (s j : ℕ) (ground : Ground) → above ≡ Some s → j ≤ s → slice_get grounds j ≡ Some ground → IsTrue ground.below → (i : ℕ) × IsGroundBelow types i j
-  pub kept : (i j : ℕ) (ground : Ground) → IsGroundBelow types i j → slice_get grounds j ≡ Some ground → IsTrue ground.below
+-- entries on the way up from a type: all are marked that are to be, but the type of the index `above`, where there is one, and those
+-- above it
+pub record IsMarking (types : List SubType) (from above : Option ℕ) (old grounds : List Ground) : Type 0 where
+  pub long : length grounds ≡ length old
+  pub own : (j : ℕ) → own_at grounds j ≡ own_at old j
+  pub kept : (j : ℕ) → IsTrue (below_at old j) → IsTrue (below_at grounds j)
+  pub only : (j : ℕ) → IsTrue (below_at grounds j) → IsTrue (below_at old j) ⊎ IsFrom types from j
+  pub almost : (j : ℕ) → IsFrom types from j → IsTrue (below_at grounds j) ⊎ IsFrom types above j
+  pub next : (s : ℕ) → above ≡ Some s → (s < length types) × (s < length old) × IsFrom types from s
+  pub before : (s j : ℕ) → above ≡ Some s → j ≤ s → below_at grounds j ≡ below_at old j

@@ -21,6 +21,7 @@ pub mod Sizes
 pub mod Expressions
 pub mod Grounded
 pub mod Grounds
+pub mod FuncGrounds
 pub mod Segments
 pub mod Exports
 pub mod Decided

@@ -1,13 +1,12 @@
-ghost use Rattle.std.specs.Prelude.{◌≡◌, ◌++◌, ◌<◌, [], ◌∷◌, length, false, OnOk, IfErr};
+ghost use Rattle.std.specs.Prelude.{◌≡◌, ◌+◌, ◌++◌, ◌<◌, ℕ, [], ◌∷◌, None, Some, length, false, vec_len, vec_capacity, if◌then◌else◌};
 ghost use Rattle.smith_types.specs.Types.{IsOrderly};
 ghost use Rattle.smith_types.specs.Space.{MayFollow};
 ghost use Rattle.smith_types.specs.Expressions.{unpacked};
 ghost use Rattle.smith_types.specs.Grounded.{is_defaultable, are_defaultable};
-ghost use Rattle.smith_types.specs.Grounds.{is_ground, kind_at, kinds_with, AreGrounds, IsMarking};
+ghost use Rattle.smith_types.specs.Grounds.{is_ground, kind_at, kinds_with, AreGrounds, AreClosed, AreMarked};
 
 use crate::composite_type::{CompositeInnerType, FieldType, StorageType, SubType};
 use crate::value_type::ValType;
-use smith_bytes::Error;
 
 // What a type space keeps of a type: whether a reference below it that isn't null can be made of a struct without operands.
 #[derive(Clone, Copy)]
@@ -56,46 +55,39 @@ pub(crate) fn no_grounds() -> GroundKinds
     }
 }
 
-// Makes room among `grounds` for the next type after `types`.
-pub(crate) fn extend_grounds(types: &[SubType], grounds: &mut Vec<Ground>) -> Result<(), Error>
-    requires orderly { IsOrderly types.now }
-    requires grounds { AreGrounds types.now grounds.old.items }
-    ensures grounds { AreGrounds types.now grounds.new.items }
-    ensures room { OnOk result (length types.now < length grounds.new.items) }
-    ensures memory { IfErr result (λ e. e ≡ Error.Memory) }
-{
-    if grounds.len() <= types.len() {
-        grounds.push(Ground {
-            own: false,
-            below: false,
-        })?;
-    }
-    Ok(())
-}
-
-// Keeps of the type `added`, the next one after `types`, and of the types above it what it grounds.
+// Adds to `grounds`, which has room, what the type `added` grounds, the next one after `types`, and marks the types above it where it
+// grounds.
 pub(crate) fn join_grounds(types: &[SubType], added: &SubType, grounds: &mut Vec<Ground>)
     requires orderly { IsOrderly types.now }
     requires follows { MayFollow types.now added.now }
     requires grounds { AreGrounds types.now grounds.old.items }
-    requires room { length types.now < length grounds.old.items }
-    ensures { AreGrounds (types.now ++ added.now ∷ []) grounds.new.items }
+    requires room { vec_len grounds.old < vec_capacity grounds.old }
+    ensures grounds { AreGrounds (types.now ++ added.now ∷ []) grounds.new.items }
+    ensures len { vec_len grounds.new ≡ vec_len grounds.old + 1 }
+    ensures capacity { vec_capacity grounds.new ≡ vec_capacity grounds.old }
 {
     let own = is_ground(added);
-    grounds[types.len()] = Ground { own, below: own };
-    if own {
-        mark_above(types, added, grounds);
-    }
+    mark_above(types, supertype_if(own, added), grounds);
+    grounds.push_reserved(Ground { own, below: own });
 }
 
-// Marks each type above the type `added`, the next one after `types`, which grounds. Each type is marked once.
-fn mark_above(types: &[SubType], added: &SubType, grounds: &mut Vec<Ground>)
-    requires orderly { IsOrderly types.now }
-    requires follows { MayFollow types.now added.now }
-    requires marking { IsMarking types.now added.now grounds.old.items added.now.supertype }
-    ensures { AreGrounds (types.now ++ added.now ∷ []) grounds.new.items }
+// The supertype of `ty`, where `wanted` is true.
+fn supertype_if(wanted: bool, ty: &SubType) -> Option<u32>
+    ensures { result ≡ (if wanted then ty.now.supertype else None) }
 {
-    let mut above = added.supertype;
+    if wanted { ty.supertype } else { None }
+}
+
+// Marks the type of the index `from`, where there is one, and each type above it. A type that is marked has all above it marked, so
+// that each is marked once.
+pub(crate) fn mark_above(types: &[SubType], from: Option<u32>, grounds: &mut Vec<Ground>)
+    requires orderly { IsOrderly types.now }
+    requires stands { (s : ℕ) → from ≡ Some s → (s < length types.now) × (s < vec_len grounds.old) }
+    ensures marked { AreClosed types.now grounds.old.items → AreMarked types.now from grounds.old.items grounds.new.items }
+    ensures len { vec_len grounds.new ≡ vec_len grounds.old }
+    ensures capacity { vec_capacity grounds.new ≡ vec_capacity grounds.old }
+{
+    let mut above = from;
     while let Some(index) = above {
         let ground = grounds[index as usize];
         if ground.below {

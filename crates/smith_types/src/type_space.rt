@@ -17,6 +17,8 @@ ghost use Rattle.std.specs.Prelude.{
   OnOk,
   OnErr,
   slice_get,
+  vec_len,
+  vec_capacity,
   not,
   ◌&&◌,
   nat_lt,
@@ -25,10 +27,9 @@ ghost use Rattle.std.specs.Prelude.{
 ghost use Rattle.std.specs.declared.ops.Range.{Range};
 ghost use Rattle.smith_types.specs.Types.{IsAlike, IsOrderly, next_start, next_group};
 ghost use Rattle.smith_types.specs.Space.{AreExtensible, HasDepth, MayFollow, extensible_from};
-ghost use Rattle.smith_types.specs.Places.{ArePlaces, IsLonger, depths_in};
+ghost use Rattle.smith_types.specs.Places.{IsPlace, ArePlaces, AreBeside, IsLonger, depths_in};
 ghost use Rattle.smith_types.specs.Families.{direct_subtypes, AreFamilies};
 ghost use Rattle.smith_types.specs.Grounded.{IsGroundedByStructs};
-ghost use Rattle.smith_types.specs.Grounds.{AreGrounds};
 ghost use Rattle.smith_types.specs.KindCounts.{indices_of_kind};
 ghost use Rattle.smith_types.specs.Sizes.{value_count};
 ghost use Rattle.smith_types.specs.Matching.{IsCompositeMatch, IsInnerInRange};
@@ -38,7 +39,7 @@ ghost use Rattle.smith_types.specs.Subtyping.{IsBelow, IsRefBelow, IsValBelow, I
 use crate::composite_type::{CompositeInnerType, CompositeType, SubType};
 use crate::entity_type::EntityType;
 use crate::family::{Family, extend_families, join_family};
-use crate::ground::{Ground, GroundKinds, extend_grounds, join_grounds, no_grounds};
+use crate::ground::{Ground, GroundKinds, join_grounds, no_grounds};
 use crate::matching::composite_type_is_match;
 use crate::place::{Place, last_counts, push_row};
 use crate::subtyping::{
@@ -54,6 +55,9 @@ use std::ops::Range;
 // The depth from which on a type is left out of those that may have subtypes.
 const DEPTH_LIMIT: u32 = 60;
 
+// The number of types that the lists first have room for.
+const LEAST_ROOM: usize = 4;
+
 /// The types of a module in the order of their indices, and the recursive groups that they were added in.
 /// Types are only added: the type of an index stays the same.
 #[derive(Drop)]
@@ -65,7 +69,7 @@ pub struct TypeSpace {
     // The families of the first types: at least up to the last type that has a supertype.
     families: Vec<Family>,
     extensible: Vec<u32>,
-    // What the types ground: an entry for each, and maybe one more.
+    // What the types ground.
     grounds: Vec<Ground>,
     ground_kinds: GroundKinds,
     groups: Vec<Range<usize>>,
@@ -74,7 +78,7 @@ pub struct TypeSpace {
 impl Model for TypeSpace {
     ghost use Rattle.std.specs.Prelude.{◌≡◌};
     ghost use Rattle.smith_types.specs.Space.{Space, IsSound, extensible_from};
-    ghost use Rattle.smith_types.specs.Places.{ArePlaces, depths_in};
+    ghost use Rattle.smith_types.specs.Places.{ArePlaces, AreBeside, depths_in};
     ghost use Rattle.smith_types.specs.Families.{AreFamilies};
     ghost use Rattle.smith_types.specs.Grounds.{AreGrounds, AreGroundKinds};
 
@@ -87,7 +91,8 @@ impl Model for TypeSpace {
         × (a.extensible.items ≡ extensible_from 0 a.types.items (depths_in a.places.items))
         × AreFamilies a.types.items a.families.items
         × AreGrounds a.types.items a.grounds.items
-        × AreGroundKinds a.types.items a.ground_kinds };
+        × AreGroundKinds a.types.items a.ground_kinds
+        × AreBeside a.types a.places a.grounds };
 }
 
 /// Prints the types and the groups.
@@ -296,25 +301,24 @@ impl TypeSpace {
         ensures err { OnErr result (self.new ≡ self.old) }
         ensures memory { IfErr result (λ e. e ≡ Error.Memory) }
     {
-        let count = self.types.len();
-        let ground_kinds = self.ground_kinds.with(&added);
-        self.types.push(added)?;
-        if push_place(
-            &self.types[..count],
-            &self.types[count],
-            &mut self.places,
+        make_room(1, &mut self.types, &mut self.places, &mut self.grounds)?;
+        let types = self.types.as_slice();
+        let index = types.len() as u32;
+        let place = make_place(
+            types,
+            &added,
+            self.places.as_slice(),
+            self.types.capacity(),
             &mut self.rows,
-            &mut self.extensible,
             &mut self.families,
-            &mut self.grounds,
-        )
-        .is_err()
-        {
-            self.types.pop();
-            return Err(Error::Memory);
-        }
-        self.ground_kinds = ground_kinds;
-        Ok(count as u32)
+            &mut self.extensible,
+        )?;
+        self.places.push_reserved(place);
+        join_family(types, &added, &mut self.families);
+        join_grounds(types, &added, &mut self.grounds);
+        self.ground_kinds = self.ground_kinds.with(&added);
+        self.types.push_reserved(added);
+        Ok(index)
     }
 
     /// Makes room for `additional` more types, so that adding that number moves no type. No type is added.
@@ -323,9 +327,12 @@ impl TypeSpace {
         ensures memory { IfErr result (λ e. e ≡ Error.Memory) }
     {
         self.extensible.reserve(additional)?;
-        self.places.reserve(additional)?;
-        self.grounds.reserve(additional)?;
-        Ok(self.types.reserve(additional)?)
+        make_room(
+            additional,
+            &mut self.types,
+            &mut self.places,
+            &mut self.grounds,
+        )
     }
 
     /// Adds a group, maybe empty, of the types behind the last group.
@@ -398,50 +405,66 @@ impl TypeSpace {
     }
 }
 
-// Adds the place of the type `added`, the next one after `types`, with its row, and its index where it may have subtypes. After
-// want of memory `places` and `extensible` are unchanged, and `rows`, `families` and `grounds` may be longer.
-fn push_place(
-    types: &[SubType],
-    added: &SubType,
+// Makes room for `additional` more types in each of `types`, `places` and `grounds`, which grow together.
+fn make_room(
+    additional: usize,
+    types: &mut Vec<SubType>,
     places: &mut Vec<Place>,
-    rows: &mut Vec<u32>,
-    extensible: &mut Vec<u32>,
-    families: &mut Vec<Family>,
     grounds: &mut Vec<Ground>,
 ) -> Result<(), Error>
+    requires { AreBeside types.old places.old grounds.old }
+    ensures beside { AreBeside types.new places.new grounds.new }
+    ensures types { types.new.items ≡ types.old.items }
+    ensures places { places.new.items ≡ places.old.items }
+    ensures grounds { grounds.new.items ≡ grounds.old.items }
+    ensures room { OnOk result (vec_len types.new + additional ≤ vec_capacity types.new) }
+    ensures memory { IfErr result (λ e. e ≡ Error.Memory) }
+{
+    if additional <= types.capacity() - types.len() {
+        return Ok(());
+    }
+    let more = additional.max(types.len()).max(LEAST_ROOM);
+    places.reserve_exact(more)?;
+    grounds.reserve_exact(more)?;
+    Ok(types.reserve_exact(more)?)
+}
+
+// Makes the place of the type `added`, the next one after `types`, with its row in `rows` and room in `families`, which are first made for
+// `room` types, and adds its index to `extensible` where it may have subtypes. After want of memory `extensible` is unchanged, and
+// `rows` and `families` may be longer.
+fn make_place(
+    types: &[SubType],
+    added: &SubType,
+    places: &[Place],
+    room: usize,
+    rows: &mut Vec<u32>,
+    families: &mut Vec<Family>,
+    extensible: &mut Vec<u32>,
+) -> Result<Place, Error>
     requires orderly { IsOrderly types.now }
     requires follows { MayFollow types.now added.now }
-    requires places { ArePlaces types.now rows.old.items places.old.items }
-    requires extensible { extensible.old.items ≡ extensible_from 0 types.now (depths_in places.old.items) }
+    requires places { ArePlaces types.now rows.old.items places.now }
+    requires extensible { extensible.old.items ≡ extensible_from 0 types.now (depths_in places.now) }
     requires families { AreFamilies types.now families.old.items }
-    requires grounds { AreGrounds types.now grounds.old.items }
-    ensures places { OnOk result (ArePlaces (types.now ++ added.now ∷ []) rows.new.items places.new.items) }
-    ensures extensible { OnOk result (extensible.new.items ≡ extensible_from 0 (types.now ++ added.now ∷ []) (depths_in places.new.items)) }
-    ensures families { OnOk result (AreFamilies (types.now ++ added.now ∷ []) families.new.items) }
-    ensures grounds { OnOk result (AreGrounds (types.now ++ added.now ∷ []) grounds.new.items) }
+    ensures place { IfOk result (λ place. IsPlace (types.now ++ added.now ∷ []) rows.new.items (length types.now) place) }
+    ensures extensible { IfOk result (λ place. extensible.new.items ≡ extensible_from 0 (types.now ++ added.now ∷ []) (depths_in (places.now ++ place ∷ []))) }
+    ensures families { AreFamilies types.now families.new.items }
+    ensures family_room { OnOk result ((supertype : ℕ) → added.now.supertype ≡ Some supertype → length types.now < length families.new.items) }
     ensures rows { IsLonger rows.old.items rows.new.items }
-    ensures err { OnErr result ((places.new.items ≡ places.old.items) × (extensible.new.items ≡ extensible.old.items)) }
-    ensures known { OnErr result (AreFamilies types.now families.new.items) }
-    ensures grounds_known { OnErr result (AreGrounds types.now grounds.new.items) }
+    ensures err { OnErr result (extensible.new.items ≡ extensible.old.items) }
+    ensures memory { IfErr result (λ e. e ≡ Error.Memory) }
 {
-    make_room(added, places.capacity(), rows, families)?;
+    reserve_rows(added, room, rows, families)?;
     extend_families(types, added, families)?;
-    extend_grounds(types, grounds)?;
-    let place = push_row(types, places.as_slice(), rows, added)?;
+    let place = push_row(types, places, rows, added)?;
     let is_extensible = may_have_subtypes(added, place.depth);
-    places.push(place)?;
-    if push_where(is_extensible, extensible, types.len() as u32).is_err() {
-        places.pop();
-        return Err(Error::Memory);
-    }
-    join_family(types, added, families);
-    join_grounds(types, added, grounds);
-    Ok(())
+    push_where(is_extensible, extensible, types.len() as u32)?;
+    Ok(place)
 }
 
 // Makes room for `count` entries in each of `rows` and `families` that has none yet, where the type `added` has a supertype: a space
 // without supertypes takes no memory for them.
-fn make_room(
+fn reserve_rows(
     added: &SubType,
     count: usize,
     rows: &mut Vec<u32>,
@@ -474,6 +497,7 @@ fn may_have_subtypes(ty: &SubType, depth: u32) -> bool
 fn push_where(wanted: bool, indices: &mut Vec<u32>, index: u32) -> Result<(), Error>
     ensures ok { OnOk result (indices.new.items ≡ indices.old.items ++ (if wanted then index ∷ [] else [])) }
     ensures err { OnErr result (indices.new.items ≡ indices.old.items) }
+    ensures memory { IfErr result (λ e. e ≡ Error.Memory) }
 {
     if wanted {
         indices.push(index)?;
