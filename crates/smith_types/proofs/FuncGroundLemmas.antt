@@ -21,7 +21,7 @@ use Rattle.smith_types.specs.Types.{IsOrderly}
 use Rattle.smith_types.specs.Subtyping.{is_abstract_below, IsBelow, IsRefBelow, IsValBelow, IsInRange}
 use Rattle.smith_types.specs.Expressions.{Context, reference_to, function_reference}
 use Rattle.smith_types.specs.Grounded.{IsGroundedByFuncs}
-use Rattle.smith_types.specs.Grounds.{said_at, own_at, below_at, AreClosed, IsFrom, AreMarked}
+use Rattle.smith_types.specs.Grounds.{said_at, own_at, below_at, AreClosed, AreMarked}
 use Rattle.smith_types.specs.FuncGrounds.{are_below, kinds_with, kinds_of, noted_with, is_noted, AreFuncGrounds, IsFunctionAdded, IsTypeNoted}
 use Rattle.smith_types.proofs.GrowthLemmas.{IsValBelow-trans}
 use Rattle.smith_types.proofs.ListLemmas.{slice_get-grown, slice_get-last, slice_get-push}

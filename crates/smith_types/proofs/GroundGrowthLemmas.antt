@@ -49,7 +49,7 @@ context_grounded old new heap_type growth h =
     (λ function index inside. sym (λ i. if nat_le (growth.imported_funcs i) function then reference_to (if (growth.features i).custom_descriptors then Exact index else Concrete index) else reference_to (Concrete index)))
     heap_type h
 
-import_pushes : (context : Context) (function index : ℕ) → function < context.imported_funcs → function_reference context function index ≡ reference_to (Concrete index)
+pub import_pushes : (context : Context) (function index : ℕ) → function < context.imported_funcs → function_reference context function index ≡ reference_to (Concrete index)
 import_pushes context function index inside = rw (lt-leb context.imported_funcs function inside) refl
 
 pub imports_grounded : (old new : Context) (heap_type : HeapType) → AreImportsGrown old new → IsGrounded old heap_type → IsGrounded new heap_type

@@ -1,4 +1,4 @@
-use Rattle.std.proofs.Common.{refl, sym, ◌∙◌, subst, arith, true, ℕ, ◌<◌}
+use Rattle.std.proofs.Common.{refl, sym, ◌∙◌, subst, arith, true}
 use Rattle.std.proofs.lemmas.Option.{slice_get-get_or}
 use Rattle.smith_types.specs.declared.ground.Ground.{Ground}
 use Rattle.smith_types.specs.Grounds.{IsMarking}
