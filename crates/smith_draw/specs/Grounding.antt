@@ -1,5 +1,6 @@
 -- What a drawn reference is over, and whether a heap type is grounded there, as a test over orderly types.
 use Rattle.std.specs.Prelude.{ℕ, ◌+◌, Bool, false, ◌&&◌, ◌||◌, nat_lt, List, [], ◌∷◌, length}
+use Rattle.smith_types.specs.Features.{Features}
 use Rattle.smith_types.specs.Expressions.{Context, created, function_reference, reference_to}
 use Rattle.smith_types.specs.Grounds.{is_ground}
 use Rattle.smith_types.specs.declared.value_type.HeapType.{HeapType}
@@ -14,21 +15,29 @@ use Rattle.smith_draw.specs.declared.spaces.Spaces.{Spaces}
 abbrev pub without_globals : Context → Context
 without_globals context = record context { globals = []; imported_globals = 0; visible = 0 }
 
--- the context of these functions, without types and globals
-abbrev pub functions_in : Config → Entities → Context
-functions_in config entities = record {
-  features = features_of config;
-  types = [];
-  funcs = entities.funcs.now;
+-- the context of these types and functions, without globals
+abbrev pub context_of : Features → List SubType → List ℕ → ℕ → Context
+context_of features types funcs imported_funcs = record {
+  features = features;
+  types = types;
+  funcs = funcs;
   globals = [];
-  imported_funcs = entities.imported_funcs;
+  imported_funcs = imported_funcs;
   imported_globals = 0;
   visible = 0;
 }
 
+-- the context of these functions, without types and globals
+abbrev pub functions_in : Config → Entities → Context
+functions_in config entities = context_of (features_of config) [] entities.funcs.now entities.imported_funcs
+
 -- a context over these types
 abbrev pub over : Context → List SubType → Context
 over context types = record context { types = types }
+
+-- a context with these functions in place of its own
+abbrev pub with_functions : Context → List ℕ → Context
+with_functions context funcs = record context { funcs = funcs }
 
 -- what a drawn reference is over: the types and functions of the spaces
 abbrev pub standing_in : Config → Spaces → Context

@@ -2,6 +2,7 @@ ghost use Rattle.std.specs.Prelude.{◌≡◌, ◌<◌, ◌^◌, false, length, 
 ghost use Rattle.smith_bytes.specs.Takes.{Takes, SpellsSuch};
 ghost use Rattle.smith_types.specs.Entities.{IsGlobalValid};
 ghost use Rattle.smith_types.specs.Floats.{IsNoFloat};
+ghost use Rattle.smith_types.specs.Space.{Space};
 ghost use Rattle.smith_types.specs.ValidTypes.{AreTypesValid};
 ghost use Rattle.smith_config.specs.Features.{features_of};
 ghost use Rattle.smith_config.specs.Sanitized.{IsSanitized};
@@ -12,7 +13,7 @@ ghost use Rattle.smith_draw.specs.GlobalTypes.{global_sharedness_at, global_type
 ghost use Rattle.smith_draw.specs.SpelledGlobals.{mutable_i32, SpellsMutableI32};
 
 use crate::shared_reference::is_reference_shared;
-use crate::spaces::{Spaces, orderly};
+use crate::spaces::Spaces;
 use crate::standing::Standing;
 use crate::value_type::{draw_sharedness, draw_val_type};
 use smith_bytes::{Error, Unstructured};
@@ -36,11 +37,7 @@ fn is_global_shared(
 }
 
 #[tactic(auto, unfolding(crate::specs::GlobalTypes::global_type_at))]
-fn draw_global_type(
-    config: &Config,
-    standing: &Standing<'_>,
-    u: &mut Unstructured<'_>,
-) -> GlobalType
+fn draw_global(config: &Config, standing: &Standing<'_>, u: &mut Unstructured<'_>) -> GlobalType
     ensures { AlwaysDraws (global_type_at config.now standing.now u.old) result u.old u.new }
 {
     let types = standing.types().types();
@@ -52,6 +49,24 @@ fn draw_global_type(
         mutable,
         shared,
     }
+}
+
+/// Draws a global type, as [`arbitrary_global_type`] does, over `standing`.
+pub fn draw_global_type(
+    config: &Config,
+    standing: &Standing<'_>,
+    u: &mut Unstructured<'_>,
+) -> GlobalType
+    requires { IsSanitized config.now }
+    ensures draws { AlwaysDraws (global_type_at config.now standing.now u.old) result u.old u.new }
+    ensures valid { (space : Space) → space.types ≡ standing.now.types → AreTypesValid (features_of config.now) space → IsGlobalValid (features_of config.now) space.types result }
+    ensures floats { config.now.allow_floats ≡ false → IsNoFloat result.val_type }
+    ensures nullable { config.now.non_nullable_enabled ≡ false → ¬ IsNonNullable result.val_type }
+    ensures grounded { ¬ IsUngrounded config.now standing.now result.val_type }
+    ensures reach { Takes (SpellsSuch (λ global. global ≡ mutable_i32) (λ _. SpellsMutableI32 config.now)) u.old result u.new }
+{
+    standing.orderly();
+    draw_global(config, standing, u)
 }
 
 /// Draws a global type: a value type over the types of `spaces`, whether the global is shared, and whether it is mutable. A
@@ -76,6 +91,5 @@ pub fn arbitrary_global_type(
     ensures grounded { IfOk result (λ drawn. ¬ IsUngrounded config.now (standing_in config.now spaces.now) drawn.val_type) }
     ensures reach { IfOk result (λ drawn. Takes (SpellsSuch (λ global. global ≡ mutable_i32) (λ _. SpellsMutableI32 config.now)) u.old drawn u.new) }
 {
-    orderly(spaces);
     Ok(draw_global_type(config, &Standing::over(config, spaces), u))
 }

@@ -16,11 +16,24 @@ use smith_config::Config;
 use smith_types::{Items, ValType};
 use std::alloc::Global;
 
+/// Draws the types of the locals of a function, as [`arbitrary_locals`] does, over `standing`.
+#[tactic(auto, unfolding(crate::specs::Locals::locals_at))]
+pub fn draw_locals(
+    alloc: Global,
+    config: &Config,
+    standing: &Standing<'_>,
+    u: &mut Unstructured<'_>,
+) -> Result<Items<ValType>, Error>
+    ensures { Draws (locals_at config.now standing.now u.old) result u.old u.new }
+{
+    let limit = standing.types().types().len() as u32;
+    draw_val_types(alloc, config, standing, false, limit, 100, u)
+}
+
 /// Draws the types of the locals of a function, behind its parameters: at most 100 value types over the types of `spaces`. The
 /// standard's section Structure, Functions.
 ///
 /// `config` is sanitised.
-#[tactic(auto, unfolding(crate::specs::Locals::locals_at))]
 pub fn arbitrary_locals(
     alloc: Global,
     config: &Config,
@@ -34,7 +47,5 @@ pub fn arbitrary_locals(
     ensures floats { config.now.allow_floats ≡ false → IfOk result (All IsNoFloat) }
     ensures nullable { config.now.non_nullable_enabled ≡ false → IfOk result (All (λ ty. ¬ IsNonNullable ty)) }
 {
-    let standing = Standing::over(config, spaces);
-    let limit = spaces.types.types().len() as u32;
-    draw_val_types(alloc, config, &standing, false, limit, 100, u)
+    draw_locals(alloc, config, &Standing::over(config, spaces), u)
 }

@@ -143,8 +143,9 @@ fn draw_referent(
     Ok(draw_grounded_heap_type(config, standing, ty.heap_type, u))
 }
 
+/// Draws a reference type below `ty`, as [`arbitrary_matching_ref_type`] does, over `standing`.
 #[tactic(auto, unfolding(crate::specs::MatchingTypes::matching_ref_type_at))]
-fn draw_matching_ref_type(
+pub fn draw_matching_ref_type(
     alloc: Global,
     config: &Config,
     standing: &Standing<'_>,

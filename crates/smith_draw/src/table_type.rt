@@ -1,5 +1,6 @@
 ghost use Rattle.std.specs.Prelude.{◌≡◌, ◌≤◌, false, true, IsOk, IfOk};
 ghost use Rattle.smith_types.specs.Entities.{IsTableValid, most_elements};
+ghost use Rattle.smith_types.specs.Space.{Space};
 ghost use Rattle.smith_types.specs.ValidTypes.{AreTypesValid};
 ghost use Rattle.smith_config.specs.Features.{features_of};
 ghost use Rattle.smith_config.specs.Sanitized.{IsSanitized};
@@ -34,23 +35,27 @@ fn drawn_elements(config: &Config, table64: bool) -> u64
         .min(most_elements_of(table64))
 }
 
+/// Draws a table type, as [`arbitrary_table_type`] does, over `standing`.
 #[tactic(auto, unfolding(crate::specs::TableTypes::table_type_at))]
-fn draw_table_type(config: &Config, spaces: &Spaces<'_>, u: &mut Unstructured<'_>) -> TableType
+pub fn draw_table_type(
+    config: &Config,
+    standing: &Standing<'_>,
+    u: &mut Unstructured<'_>,
+) -> TableType
     requires { IsSanitized config.now }
-    ensures draws { AlwaysDraws (table_type_at config.now (standing_in config.now spaces.now) u.old) result u.old u.new }
-    ensures valid { AreTypesValid (features_of config.now) spaces.now.types.now → IsTableValid (features_of config.now) spaces.now.types.now.types result }
+    ensures draws { AlwaysDraws (table_type_at config.now standing.now u.old) result u.old u.new }
+    ensures valid { (space : Space) → space.types ≡ standing.now.types → AreTypesValid (features_of config.now) space → IsTableValid (features_of config.now) space.types result }
     ensures within { IsTableWithin config.now result }
     ensures nullable { config.now.non_nullable_enabled ≡ false → result.element_type.nullable ≡ true }
-    ensures grounded { ¬ IsUngrounded config.now (standing_in config.now spaces.now) (Ref result.element_type) }
+    ensures grounded { ¬ IsUngrounded config.now standing.now (Ref result.element_type) }
 {
-    let types = spaces.types.types();
-    let standing = Standing::over(config, spaces);
+    let types = standing.types().types();
     let table64 = draw_memory64(config, u);
     let most = drawn_elements(config, table64);
     let least = u64::from(config.disallow_traps);
     let required = config.table_max_size_required;
     let (minimum, maximum) = arbitrary_limits64(least, most, required, most.min(10_000), u);
-    let element_type = draw_ref_type(config, &standing, false, types.len() as u32, u);
+    let element_type = draw_ref_type(config, standing, false, types.len() as u32, u);
     let shared = is_reference_shared(types, element_type);
     TableType {
         element_type,
@@ -82,5 +87,5 @@ pub fn arbitrary_table_type(
     ensures nullable { config.now.non_nullable_enabled ≡ false → IfOk result (λ drawn. drawn.element_type.nullable ≡ true) }
     ensures grounded { IfOk result (λ drawn. ¬ IsUngrounded config.now (standing_in config.now spaces.now) (Ref drawn.element_type)) }
 {
-    Ok(draw_table_type(config, spaces, u))
+    Ok(draw_table_type(config, &Standing::over(config, spaces), u))
 }

@@ -172,8 +172,9 @@ fn is_granted(
     u.arbitrary() && standing.is_grounded(heap_type)
 }
 
+/// Draws a reference type, as [`arbitrary_ref_type`] does, over `standing`.
 #[tactic(auto, unfolding(crate::specs::ValueTypes::ref_type_at))]
-pub(crate) fn draw_ref_type(
+pub fn draw_ref_type(
     config: &Config,
     standing: &Standing<'_>,
     must_share: bool,

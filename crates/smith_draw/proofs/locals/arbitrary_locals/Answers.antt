@@ -6,11 +6,10 @@ use Rattle.smith_draw.proofs.LocalLemmas.{locals_most, locals_valid, locals_no_f
 use Rattle.smith_draw.proofs.locals.arbitrary_locals.Goals as goal
 
 pub returns : goal.returns
-unfolding locals_at
 returns c =
     let config = c.args.config.now in
     let context = standing_in c.args.config.now c.args.spaces.now in
-    let draws : Draws (locals_at config context c.args.u.now) c.draw_val_types.result c.args.u.now c.draw_val_types.new.u = rw (c.over-standing.ensures, c.types.ensures.value) at c.draw_val_types.ensures in
+    let draws : Draws (locals_at config context c.args.u.now) c.draw_locals.result c.args.u.now c.draw_locals.new.u = rw c.over.ensures at c.draw_locals.ensures in
     record {
       draws = draws;
       most = of_drawn _ draws (locals_most config context c.args.u.now);

@@ -5,7 +5,7 @@ use Rattle.smith_draw.specs.Grounding.{standing_in}
 use Rattle.smith_draw.proofs.GroundingLemmas.{grounded_if}
 use Rattle.smith_draw.proofs.SharedLemmas.{below_shared}
 use Rattle.smith_draw.proofs.MatchingLemmas.{matching_ref_granted, matching_ref_nullable, matching_ref_below, matching_ref_valid}
-use Rattle.smith_draw.proofs.StandingLemmas.{below_stands}
+use Rattle.smith_types.proofs.RangeLemmas.{below_stands}
 use Rattle.smith_draw.proofs.DrawingLemmas.{of_drawn}
 use Rattle.smith_draw.proofs.matching.arbitrary_matching_ref_type.Goals as goal
 
