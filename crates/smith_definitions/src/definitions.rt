@@ -9,11 +9,12 @@ ghost use Rattle.smith_definitions.specs.Defined.{nothing_defined, drawn_beside,
 use crate::funcs::define_funcs;
 use crate::globals::define_globals;
 use crate::memories::define_memories;
-use crate::standing::standing_imported;
+use crate::standing::{standing, standing_imported};
 use crate::tables::define_tables;
 use crate::tags::define_tags;
 use smith_bytes::{Error, Unstructured};
 use smith_config::Config;
+use smith_draw::KeptGrounds;
 use smith_types::{ConstInstr, IndexSpaces, Items, TypeSpace};
 use std::alloc::Global;
 
@@ -86,8 +87,12 @@ pub fn define(
     define_tags(alloc, config, types, &mut spaces.tags, u)?;
     define_funcs(alloc, config, types, &mut spaces.funcs, u)?;
     let func_types = spaces.funcs.as_slice();
+    let scope = standing(types, func_types, imported_funcs, &[], 0);
+    let mut grounds = KeptGrounds::new();
+    grounds.keep(alloc, config, &scope)?;
+    let drawn = grounds.standing(config, &scope);
     let all_globals = spaces.globals.as_slice();
-    let standing = standing_imported(
+    let imported = standing_imported(
         types,
         func_types,
         imported_funcs,
@@ -95,7 +100,15 @@ pub fn define(
         imported_globals,
     );
     let initials = &mut definitions.tables;
-    define_tables(alloc, config, &standing, &mut spaces.tables, initials, u)?;
+    define_tables(
+        alloc,
+        config,
+        &imported,
+        &drawn,
+        &mut spaces.tables,
+        initials,
+        u,
+    )?;
     define_memories(config, &mut spaces.memories, u)?;
     define_globals(
         alloc,
@@ -104,6 +117,7 @@ pub fn define(
         func_types,
         imported_funcs,
         imported_globals,
+        &drawn,
         &mut spaces.globals,
         &mut definitions.globals,
         u,

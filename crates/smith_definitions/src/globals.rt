@@ -18,7 +18,7 @@ ghost use Rattle.smith_definitions.specs.NumberedGlobals.{SpellsGlobals};
 use crate::past_full::ask_past_full;
 use smith_bytes::{Error, Unstructured, goes_on};
 use smith_config::Config;
-use smith_draw::{Entities, Spaces, arbitrary_const_expr, arbitrary_global_type};
+use smith_draw::{Entities, Spaces, Standing, arbitrary_const_expr, draw_global_type};
 use smith_types::{ConstInstr, GlobalType, Items, TypeSpace};
 use std::alloc::Global;
 
@@ -28,10 +28,12 @@ fn draw_initialised_global(
     alloc: Global,
     config: &Config,
     spaces: &Spaces<'_>,
+    standing: &Standing<'_>,
     u: &mut Unstructured<'_>,
 ) -> Result<(GlobalType, (u32, Items<ConstInstr>)), Error>
     requires sanitized { IsSanitized config.now }
-    requires standing { AreSpacesValid config.now spaces.now }
+    requires spaces { AreSpacesValid config.now spaces.now }
+    requires standing { standing.now ≡ standing_in config.now spaces.now }
     ensures exact { IfOk result (λ drawn. initialised_at config.now (seen_by config.now spaces.now true) u.old ≡ (drawn, u.new)) }
     ensures valid { IfOk result (λ drawn. IsGlobalValid (features_of config.now) spaces.now.types.now.types drawn.0) }
     ensures initialised { IfOk result (λ drawn. IsConstExpr (seen_by config.now spaces.now true) drawn.0.val_type drawn.1.1) }
@@ -40,7 +42,7 @@ fn draw_initialised_global(
     ensures refusal { IfErr result (MayRefuseDrawn config.now (standing_in config.now spaces.now)) }
     ensures left { KeepsPieces u.old u.new }
 {
-    let global = arbitrary_global_type(alloc, config, spaces, u)?;
+    let global = draw_global_type(config, standing, u);
     let initial = arbitrary_const_expr(alloc, config, spaces, global.val_type, true, u)?;
     let index = spaces.entities.globals.len() as u32;
     Ok((global, (index, initial)))
@@ -54,11 +56,13 @@ fn push_globals<'a>(
     funcs: &'a [u32],
     imported_funcs: usize,
     imported_globals: usize,
+    standing: &Standing<'_>,
     globals: &mut Items<GlobalType>,
     initials: &mut Items<(u32, Items<ConstInstr>)>,
     u: &mut Unstructured<'_>,
 ) -> Result<(), Error>
     requires may { MayInitialise config.now types.now (standing_among types.now.types funcs.now imported_funcs imported_globals globals.old) }
+    requires standing { standing.now ≡ drawn_over config.now (standing_among types.now.types funcs.now imported_funcs imported_globals globals.old) }
     requires valid { All (IsGlobalValid (features_of config.now) types.now.types) globals.old }
     requires imported { imported_globals ≤ length globals.old }
     requires few { length globals.old < 2 ^ 32 }
@@ -89,6 +93,7 @@ fn push_globals<'a>(
             alloc,
             config,
             &Spaces { types, entities },
+            standing,
             u,
         )?;
         globals.push(global)?;
@@ -107,11 +112,13 @@ pub(crate) fn define_globals<'a>(
     funcs: &'a [u32],
     imported_funcs: usize,
     imported_globals: usize,
+    standing: &Standing<'_>,
     globals: &mut Items<GlobalType>,
     initials: &mut Items<(u32, Items<ConstInstr>)>,
     u: &mut Unstructured<'_>,
 ) -> Result<(), Error>
     requires may { MayInitialise config.now types.now (standing_among types.now.types funcs.now imported_funcs imported_globals globals.old) }
+    requires standing { standing.now ≡ drawn_over config.now (standing_among types.now.types funcs.now imported_funcs imported_globals globals.old) }
     requires valid { All (IsGlobalValid (features_of config.now) types.now.types) globals.old }
     requires imported { imported_globals ≤ length globals.old }
     requires few { length globals.old < 2 ^ 32 }
@@ -135,6 +142,7 @@ pub(crate) fn define_globals<'a>(
         funcs,
         imported_funcs,
         imported_globals,
+        standing,
         globals,
         initials,
         u,

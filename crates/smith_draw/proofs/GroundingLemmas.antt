@@ -203,6 +203,10 @@ unfolding is_grounded
 by_functions context ty r orderly none e =
     or_right (any_from (type_grounds context ty) 0 context.types) (any_from (function_grounds context ty) 0 context.funcs) r (λ on. none ((structs_decide context ty orderly).0 on)) e
 
+-- what is kept of functions decides the same
+pub by_kept : (context : Context) (ty : HeapType) (r : Bool) → IsOrderly context.types → IsInRange context.types ty → IsTrue r ↔ IsGroundedByFuncs context ty → r ≡ any_from (function_grounds context ty) 0 context.funcs
+by_kept context ty r orderly inside decides = same_from_decides r (any_from (function_grounds context ty) 0 context.funcs) decides (funcs_decide context ty orderly inside)
+
 -- turns of the loop over functions
 module _ {A : Type 0} (test : ℕ → A → Bool) (xs : List A) (n : ℕ) (whole : Bool) (so_far : any_from test n (drop n xs) ≡ whole) where
   pub any_here : (x : A) → slice_get xs n ≡ Some x → test n x ≡ true → true ≡ whole

@@ -41,6 +41,7 @@ pub mod TypeUseLemmas
 pub mod MemoryLemmas
 pub mod BelowLemmas
 pub mod GroundingLemmas
+pub mod KeptGroundLemmas
 pub mod ReadableLemmas
 pub mod ConstScopeLemmas
 pub mod ConstOfferLemmas

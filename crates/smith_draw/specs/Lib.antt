@@ -2,6 +2,7 @@ pub mod Drawing
 pub mod Callers
 pub mod Choices
 pub mod Grounding
+pub mod KeptGrounds
 pub mod ValueTypes
 pub mod FieldTypes
 pub mod CompositeTypes

@@ -36,8 +36,22 @@ fn is_global_shared(
     }
 }
 
-/// Draws a global type, as [`arbitrary_global_type`] does, over `standing`.
 #[tactic(auto, unfolding(crate::specs::GlobalTypes::global_type_at))]
+fn draw_global(config: &Config, standing: &Standing<'_>, u: &mut Unstructured<'_>) -> GlobalType
+    ensures { AlwaysDraws (global_type_at config.now standing.now u.old) result u.old u.new }
+{
+    let types = standing.types().types();
+    let val_type = draw_val_type(config, standing, false, types.len() as u32, u);
+    let shared = is_global_shared(config, types, val_type, u);
+    let mutable = u.arbitrary();
+    GlobalType {
+        val_type,
+        mutable,
+        shared,
+    }
+}
+
+/// Draws a global type, as [`arbitrary_global_type`] does, over `standing`.
 pub fn draw_global_type(
     config: &Config,
     standing: &Standing<'_>,
@@ -51,15 +65,8 @@ pub fn draw_global_type(
     ensures grounded { ¬ IsUngrounded config.now standing.now result.val_type }
     ensures reach { Takes (SpellsSuch (λ global. global ≡ mutable_i32) (λ _. SpellsMutableI32 config.now)) u.old result u.new }
 {
-    let types = standing.types().types();
-    let val_type = draw_val_type(config, standing, false, types.len() as u32, u);
-    let shared = is_global_shared(config, types, val_type, u);
-    let mutable = u.arbitrary();
-    GlobalType {
-        val_type,
-        mutable,
-        shared,
-    }
+    standing.orderly();
+    draw_global(config, standing, u)
 }
 
 /// Draws a global type: a value type over the types of `spaces`, whether the global is shared, and whether it is mutable. A

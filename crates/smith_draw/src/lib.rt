@@ -33,7 +33,7 @@ pub use const_expr::{arbitrary_const_expr, arbitrary_table_init, globals_for_con
 pub use entity_type::arbitrary_memtype;
 pub use field_type::{arbitrary_field_type, arbitrary_storage_type};
 pub use global_type::{arbitrary_global_type, draw_global_type};
-pub use kept_grounds::keep_grounds;
+pub use kept_grounds::KeptGrounds;
 pub use limits::{arbitrary_limits64, gradually_grow};
 pub use locals::{arbitrary_locals, draw_locals};
 pub use matching::{

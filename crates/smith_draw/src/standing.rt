@@ -1,4 +1,5 @@
 ghost use Rattle.std.specs.Prelude.{◌≡◌, ◌<◌, length, IsTrue, IfSome, ◌↔◌};
+ghost use Rattle.smith_types.specs.Types.{IsOrderly};
 ghost use Rattle.smith_types.specs.Subtyping.{IsInRange};
 ghost use Rattle.smith_types.specs.Expressions.{reference_to, function_reference};
 ghost use Rattle.smith_types.specs.FuncGrounds.{AreFuncGrounds};
@@ -49,7 +50,7 @@ impl<'a> Standing<'a> {
     }
 
     /// The types and functions of `spaces`. What these functions ground is read from `grounds`, where that is given.
-    pub fn kept(
+    pub(crate) fn kept(
         config: &'a Config,
         spaces: &Spaces<'a>,
         grounds: Option<&'a FuncGrounds>,
@@ -67,10 +68,17 @@ impl<'a> Standing<'a> {
     }
 
     /// The types.
-    pub(crate) fn types(&self) -> &'a TypeSpace
+    pub fn types(&self) -> &'a TypeSpace
         ensures { result.now.types ≡ self.now.types }
     {
         self.types
+    }
+
+    /// Tells that the types are orderly, as those of every type space are.
+    pub(crate) fn orderly(&self)
+        ensures { IsOrderly self.now.types }
+    {
+        let _types = self.types.types();
     }
 
     /// Whether a type or a function grounds the heap type `ty`.
@@ -89,7 +97,8 @@ impl<'a> Standing<'a> {
 
     /// Whether a function grounds the heap type `ty`, whose type stands.
     fn is_grounded_by_functions(&self, ty: HeapType) -> bool
-        requires { IsInRange self.now.types ty }
+        requires orderly { IsOrderly self.now.types }
+        requires stands { IsInRange self.now.types ty }
         ensures { result ≡ any_from (function_grounds self.now ty) 0 self.now.funcs }
     {
         if let Some(grounds) = self.grounds {

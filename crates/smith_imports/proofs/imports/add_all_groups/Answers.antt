@@ -12,3 +12,6 @@ returns-then-config-eq0-clause-exact c =
 
 pub returns-then-config-eq0-clause-least : goal.returns-then-config-eq0-clause-least
 returns-then-config-eq0-clause-least c = λ few. absurd (omega (arith, c.requires.may.passes.ordered counts.Imports c.requires.may.free, c.if-config-eq0.true))
+
+pub add_groups-requires-clause-kept : goal.add_groups-requires-clause-kept
+add_groups-requires-clause-kept c = ?

@@ -26,3 +26,8 @@ returns-clause-advances c = λ on.
     let first = piece_short c.in_ok-entity_type.ensures.draws.left in
     let second = piece_short c.in_ok-name.ensures.left in
     omega (arith, count, first, second)
+
+pub returns-clause-kept : goal.returns-clause-kept
+returns-clause-kept c =
+    let counted = rw c.space.ensures at c.in_ok-count_entity.ensures.counted in
+    rw counted.spaces (rw c.space-2.ensures at (c.note_import.ensures c.args.config.now (spaces_of c.args.imported.now) (rw c.space-2.ensures c.requires.kept)))

@@ -41,6 +41,7 @@ loop-imported-preserved c =
     let counted = rw c.space.ensures at c.in_ok-count_entity.ensures.counted in
     let count : c.count_entity.new.self.count ≡ c.loop-imported.imported.count + 1 = counted.count in
     record {
+      kept = rw counted.spaces (rw c.space-2.ensures at (c.note_import.ensures c.args.config.now (spaces_of c.loop-imported.imported) (rw c.space-2.ensures i.kept)));
       ready = rw (c.in_ok-push_import.ensures.ok, counted.spaces) (ready_more c.args.config.now c.args.types.now.types (spaces_of c.loop-imported.imported) group c.in_ok-name.name c.in-Some.added i.ready);
       counts = rw (c.in_ok-push_import.ensures.ok, grown) (counts_more one i.counts pairs counted);
       fit = rw (c.in_ok-push_import.ensures.ok, grown) (fit_more c.args.config.now c.args.types.now.types c.args.distinct imports one i.fit (rw (i.counts.spaces, i.counts.type_size) at next) (rw i.counts.count at c.loop-imported-test.true) fresh);
