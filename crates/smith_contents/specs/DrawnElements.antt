@@ -94,7 +94,7 @@ pub record IsElementFit (config : Config) (context : Context) (tables : List Tab
   pub enough : HasItems config context.types context.funcs segment.items
   pub floats : All HasNoFloat context.types → All (All GivesNoFloat) (expressions_of segment.items)
 
--- the elements of a table may not be null, and, where the field is on, are not grounded
+-- the elements of a table may not be null, and, where `non_nullable_enabled` is set, are not grounded
 abbrev pub HasUngroundedElements : Config → Context → List TableType → Type 0
 HasUngroundedElements config context tables = Any (λ (table : TableType). IsUngrounded config context (Ref table.element_type)) tables
 

@@ -12,7 +12,6 @@ use Rattle.std.proofs.lemmas.Map.Keys.{any_passes_from_place}
 use Rattle.std.proofs.lemmas.Slice.Eq.{bytes_eq-Decides}
 use Rattle.smith_types.specs.Entities.{AreEntitiesValid, IsTagValid, IsFuncValid, IsTableValid, IsMemoryValid, IsGlobalValid}
 use Rattle.smith_types.specs.Exports.{AreDistinct}
-use Rattle.smith_types.specs.Expressions.{Context}
 use Rattle.smith_types.specs.Features.{Features}
 use Rattle.smith_types.specs.Grown.{AreImportsGrown}
 use Rattle.smith_types.specs.declared.entity_type.TableType.{TableType}
@@ -124,25 +123,30 @@ pub distinct_push : {A : Type 0} (xs : List A) (x : A) → AreDistinct xs → ((
 distinct_push xs x old apart = record { once = λ i j item at_i at_j. both_places xs x i j item old apart (slice_get-push xs x i item at_i) (slice_get-push xs x j item at_j) }
 
 -- elements that are grounded stay so as functions are imported
-elements_later : (config : Config) (old new : Context) → AreImportsGrown old new → (table : TableType) → HasGroundedElements config old table → HasGroundedElements config new table
-elements_later config old new growth table grounded (not_null, none) = grounded (not_null, λ on earlier. none on (imports_grounded old new table.element_type.heap_type growth earlier))
+grounded_later : (config : Config) (types : List SubType) (old new : IndexSpaces) (more : List ℕ) → new.funcs ≡ old.funcs ++ more → (tables : List TableType) → All (HasGroundedElements config (import_scope config types old)) tables
+    → All (HasGroundedElements config (import_scope config types new)) tables
+grounded_later config types old new more grown tables h =
+    let before = import_scope config types old in
+    let after = import_scope config types new in
+    let growth : AreImportsGrown before after = record {
+      features = refl;
+      types = record { more = []; parts = sym (append-nil types) };
+      funcs = record { more = more; parts = grown };
+      imported = refl;
+      still_imported = refl;
+    } in
+    All-weaker (HasGroundedElements config before) (HasGroundedElements config after)
+    (λ table grounded (not_null, none). grounded (not_null, λ on earlier. none on (imports_grounded before after table.element_type.heap_type growth earlier))) tables h
 
 tables_more : (config : Config) (types : List SubType) (imports : List Import) (one : Import) → let scope = import_scope config types (imported_spaces imports) in
     All (HasGroundedElements config scope) (imported table_of imports) → All (HasGroundedElements config scope) (table_of one.entity_type)
     → All (HasGroundedElements config (import_scope config types (imported_spaces (imports ++ one ∷ [])))) (imported table_of (imports ++ one ∷ []))
 tables_more config types imports one before next =
-    let old = import_scope config types (imported_spaces imports) in
-    let new = import_scope config types (imported_spaces (imports ++ one ∷ [])) in
-    let growth : AreImportsGrown old new = record {
-      features = refl;
-      types = record { more = []; parts = sym (append-nil types) };
-      funcs = record { more = func_of one.entity_type; parts = imported_more func_of imports one };
-      imported = refl;
-      still_imported = refl;
-    } in
-    let later = λ (tables : List TableType). All-weaker (HasGroundedElements config old) (HasGroundedElements config new) (elements_later config old new growth) tables in
-    subst (All (HasGroundedElements config new)) (sym (imported_more table_of imports one))
-    (All-append (HasGroundedElements config new) (imported table_of imports) (table_of one.entity_type) (later (imported table_of imports) before) (later (table_of one.entity_type) next))
+    let new = imported_spaces (imports ++ one ∷ []) in
+    let Grounded = HasGroundedElements config (import_scope config types new) in
+    let later = grounded_later config types (imported_spaces imports) new (func_of one.entity_type) (imported_more func_of imports one) in
+    subst (All Grounded) (sym (imported_more table_of imports one))
+    (All-append Grounded (imported table_of imports) (table_of one.entity_type) (later (imported table_of imports) before) (later (table_of one.entity_type) next))
 
 pub fit_more : (config : Config) (types : List SubType) (distinct : Bool) (imports : List Import) (one : Import) → AreImportsFit config types distinct imports → IsNext config types (imported_spaces imports) (sizes types imports) one.entity_type → length imports < config.max_imports
     → (IsTrue distinct → is_taken imports one.«module» one.name ≡ false) → AreImportsFit config types distinct (imports ++ one ∷ [])
@@ -189,17 +193,10 @@ funcs_grown : (spaces : IndexSpaces) (added : EntityType) → (with_entity space
 funcs_grown spaces added = ap (λ (all : IndexSpaces). all.funcs) (entity_behind spaces added)
 
 fit_later : (config : Config) (types : List SubType) (spaces : IndexSpaces) (one added : EntityType) → IsFitBeside config types spaces one → IsFitBeside config types (with_entity spaces added) one
-fit_later config types spaces one added h =
-    let old = import_scope config types spaces in
-    let new = import_scope config types (with_entity spaces added) in
-    let growth : AreImportsGrown old new = record {
-      features = refl;
-      types = record { more = []; parts = sym (append-nil types) };
-      funcs = record { more = func_of added; parts = funcs_grown spaces added };
-      imported = refl;
-      still_imported = refl;
-    } in
-    record { entity = h.entity; grounded = All-weaker (HasGroundedElements config old) (HasGroundedElements config new) (elements_later config old new growth) (table_of one) h.grounded }
+fit_later config types spaces one added h = record {
+  entity = h.entity;
+  grounded = grounded_later config types spaces (with_entity spaces added) (func_of added) (funcs_grown spaces added) (table_of one) h.grounded;
+}
 
 pub ready_more : (config : Config) (types : List SubType) (spaces : IndexSpaces) (group : Imports) (name : List ℕ) (one : EntityType) → IsOpen config types spaces group → IsOpen config types (with_entity spaces one) (with_import group name one)
 ready_more config types spaces (Single imported) name one ready = absurd ready.compact
