@@ -10,7 +10,8 @@ use Rattle.smith_spell.specs.Spelling.{SpellsMember, SpellsRest, IsRest}
 use Rattle.wasm_smith.specs.Members.{HasMember, HasRest}
 use Rattle.smith_definitions.specs.Module.{Parts}
 
--- a source is bytes that spell these lists, which can be spelled, with this behind them, where all references are nullable
+-- a source is bytes that spell these lists, which can be spelled, with this behind them, and references that aren't nullable are
+-- off
 pub record BeginsWithMember (config : Config) (groups : List (List SubType)) (funcs bytes behind : List ℕ) : Type 0 where
   pub nullable : config.non_nullable_enabled ≡ false
   pub spellable : IsSpellable config groups funcs
