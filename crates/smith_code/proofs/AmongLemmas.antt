@@ -7,7 +7,7 @@ use Rattle.smith_types.specs.declared.composite_type.SubType.{SubType}
 use Rattle.smith_draw.specs.Below.{is_val_below}
 use Rattle.smith_code.specs.Offered.{is_among, are_below}
 
-false_from : (b : Bool) → (b ≡ true → ⊥) → b ≡ false
+pub false_from : (b : Bool) → (b ≡ true → ⊥) → b ≡ false
 false_from true differs = absurd (differs refl)
 false_from false differs = refl
 

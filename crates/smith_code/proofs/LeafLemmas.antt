@@ -8,6 +8,7 @@ use Rattle.smith_types.specs.declared.value_type.ValType.{ValType}
 use Rattle.smith_types.specs.declared.value_type.ValType.TheVariants.{Ref}
 use Rattle.smith_types.proofs.GrowthLemmas.{IsValBelow-refl}
 use Rattle.smith_instr.specs.Contexts.{BodyContext, IsValid}
+use Rattle.smith_instr.specs.Enabled.{is_enabled}
 use Rattle.smith_instr.specs.declared.instr.Instr.{Instr}
 use Rattle.smith_instr.specs.declared.instr.Instr.TheVariants as instr
 use Rattle.smith_instr.specs.declared.reference.ReferenceInstr.TheVariants as reference
@@ -35,7 +36,8 @@ no_constant wanted context set valid = record {
 }
 
 pub stop_allowed : (scope : Scope) → IsAllowedIn scope instr.Unreachable
-stop_allowed scope = record { features_on = tt; kind_allowed = tt }
+unfolding is_enabled
+stop_allowed scope = refl
 
 pub local_leaf : (context : BodyContext) (set : List ℕ) (wanted : ValType) (index : ℕ) → IsOrderly context.types → is_readable context set wanted index ≡ true → IsLeaf context set wanted (instr.LocalGet index)
 local_leaf context set wanted index orderly is =
