@@ -1,18 +1,17 @@
 -- Lists that come back from the bytes that spell them. A rule of this project.
-use Rattle.std.specs.Prelude.{◌≡◌, ℕ, Bool, false, List, ◌++◌, Some, Result, Ok, MatchResult}
+use Rattle.std.specs.Prelude.{◌≡◌, ℕ, Bool, List, ◌++◌, Some, Result, Ok, MatchResult}
 use Rattle.smith_bytes.specs.declared.error.Error.{Error}
 use Rattle.smith_bytes.specs.declared.error.Error.TheVariants.{Memory}
 use Rattle.smith_types.specs.declared.composite_type.SubType.{SubType}
 use Rattle.smith_config.specs.declared.config.Config.{Config}
-use Rattle.smith_config.specs.Sanitized.{sanitized}
 use Rattle.smith_spell.specs.SpellAnswers.{AnswersSpelling}
 use Rattle.wasm_smith.specs.Generated.{IsGenerated}
 use Rattle.wasm_smith.specs.Members.{HasMember}
 use Rattle.smith_definitions.specs.Module.{Parts}
 
--- where references that aren't nullable are off, and spelling answers these bytes for lists of types and functions, a module that is
--- drawn from them, whatever stands behind them, has these lists, unless memory ran out
+-- where spelling answers these bytes for lists of types and functions, a module that is drawn from them, whatever stands behind
+-- them, has these lists, unless memory ran out
 abbrev pub SpelledComesBack : Type 0
 SpelledComesBack =
     (distinct : Bool) (given : Config) (groups : List (List SubType)) (funcs piece behind left : List ℕ) (answer : Result Parts Error)
-    → (sanitized given).non_nullable_enabled ≡ false → AnswersSpelling given groups funcs (Ok (Some piece)) → IsGenerated distinct given (piece ++ behind) answer left → MatchResult answer (HasMember groups funcs) (λ e. e ≡ Memory)
+    → AnswersSpelling given groups funcs (Ok (Some piece)) → IsGenerated distinct given (piece ++ behind) answer left → MatchResult answer (HasMember groups funcs) (λ e. e ≡ Memory)

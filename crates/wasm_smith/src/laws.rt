@@ -3,8 +3,7 @@ ghost use Rattle.wasm_smith.specs.Termination.{CountingIsValid};
 
 pub use smith_spell::laws::groups_are_read;
 
-/// Lists of types and functions come back from the bytes that spell them, whatever bytes follow, where references that
-/// aren't nullable are off.
+/// Lists of types and functions come back from the bytes that spell them, whatever bytes follow.
 pub fn spelled_comes_back()
     ensures { SpelledComesBack }
 {}
