@@ -68,7 +68,7 @@ fn draw_body(
 }
 
 #[tactic(auto, unfolding(crate::specs::DrawnBodies::bodies_at))]
-fn draw_bodies(
+fn draw_each_body(
     alloc: Global,
     config: &Config,
     standing: &Standing<'_>,
@@ -82,6 +82,21 @@ fn draw_bodies(
         bodies.push(draw_body(alloc, config, standing, u)?)?;
     }
     Ok(bodies)
+}
+
+fn draw_bodies<'a>(
+    alloc: Global,
+    config: &'a Config,
+    spaces: &Spaces<'a>,
+    count: usize,
+    u: &mut Unstructured<'_>,
+) -> Result<Items<Code>, Error>
+    ensures { Draws (bodies_at config.now (standing_in config.now spaces.now) count u.old) result u.old u.new }
+{
+    let mut grounds = KeptGrounds::new();
+    grounds.keep(alloc, config, spaces)?;
+    let standing = grounds.standing(config, spaces);
+    draw_each_body(alloc, config, &standing, count, u)
 }
 
 /// Draws the bodies of `count` functions: locals over the types and functions of `spaces`, then `unreachable`, or raw bytes where
@@ -102,8 +117,5 @@ pub fn arbitrary_bodies(
     ensures floats { config.now.allow_floats ≡ false → IfOk result (λ bodies. All IsNoFloat (flat_map (λ body. body.locals) bodies)) }
     ensures no_raw { config.now.allow_invalid_funcs ≡ false → IfOk result (λ bodies. ¬ Any (λ body. IsRaw body.instructions) bodies) }
 {
-    let mut grounds = KeptGrounds::new();
-    grounds.keep(alloc, config, spaces)?;
-    let standing = grounds.standing(config, spaces);
-    draw_bodies(alloc, config, &standing, count, u)
+    draw_bodies(alloc, config, spaces, count, u)
 }
