@@ -23,7 +23,7 @@ instructions_at config bytes =
     let raw = is_raw_at config bytes in
     if raw.0 then raw_bytes_at raw.1 else (Unreachable, raw.1)
 
--- the locals of a body over the types that stand, then what it does
+-- the locals of a body over these types and functions, then what it does
 unfoldable pub body_at : Config → Context → List ℕ → Code × List ℕ
 body_at config context bytes =
     let locals = locals_at config context bytes in

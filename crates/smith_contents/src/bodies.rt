@@ -86,7 +86,8 @@ fn draw_bodies(
     Ok(bodies)
 }
 
-/// Draws the bodies of `count` functions: locals over the types and functions of `spaces`, then `unreachable`, or raw bytes where `config` allows these.
+/// Draws the bodies of `count` functions: locals over the types and functions of `spaces`, then `unreachable`, or raw bytes where
+/// `config` allows these.
 ///
 /// `config` is sanitised.
 pub fn arbitrary_bodies(

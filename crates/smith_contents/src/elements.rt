@@ -150,7 +150,8 @@ fn draw_elements(
 ///
 /// `Unmet(ElementSegments)` where `config` asks for segments without bulk memory, and no table may be copied into;
 /// `Unmet(Elements)` where a segment may have fewer than `min_elements` items; `EmptyChoose` where nothing gives an item, which
-/// comes only where a field of a type, or an element of a table, is a reference that may not be null.
+/// comes only where a field of a type, or an element of a table, is a reference that may not be null, and, where `config` has
+/// references that aren't nullable, none that a struct type or a function of `spaces` grounds.
 pub fn arbitrary_elements(
     alloc: Global,
     config: &Config,

@@ -1,12 +1,11 @@
 -- What tables are like that stand behind imported ones, with their initialisers.
-use Rattle.std.proofs.Common.{◌≡◌, ℕ, zero, suc, ◌<◌, ◌≤◌, Bool, true, false, ◌&&◌, cond, List, [], ◌∷◌, ◌++◌, map, length, refl, ap, subst, arith, inl, inr}
+use Rattle.std.proofs.Common.{◌≡◌, ℕ, zero, suc, ◌<◌, ◌≤◌, Bool, true, false, ◌&&◌, cond, List, [], ◌∷◌, ◌++◌, map, length, refl, ap, subst, arith}
 use Rattle.std.specs.Prelude.{Option, Some, None, All, IfSome, IsSome, IsTrue, slice_get}
 use Rattle.std.specs.List.{flat_map, AllByRecursion as Each}
 use Rattle.std.proofs.lemmas.Bool.{and_right}
 use Rattle.std.proofs.lemmas.List.{append-nil}
 use Rattle.std.proofs.lemmas.Grind.{flat_map-append}
 use Rattle.std.proofs.lemmas.List.Elements.{All-nil, All-cons, All-append, All-map, All-weaker, recursion_from_All}
-use Rattle.smith_bytes.specs.declared.error.Error.{Error}
 use Rattle.smith_bytes.specs.Takes.{Takes}
 use Rattle.smith_bytes.proofs.SpelledLemmas.{takes_by}
 use Rattle.smith_types.specs.Entities.{IsTableValid}
@@ -16,7 +15,6 @@ use Rattle.smith_types.specs.declared.const_instr.ConstInstr.{ConstInstr}
 use Rattle.smith_types.specs.declared.entity_type.TableType.{TableType}
 use Rattle.smith_types.specs.declared.value_type.ValType.TheVariants.{Ref}
 use Rattle.smith_types.specs.declared.value_type.RefType.{RefType}
-use Rattle.smith_types.specs.declared.composite_type.SubType.{SubType}
 use Rattle.smith_types.proofs.HeldValueLemmas.{all_of_parts}
 use Rattle.smith_config.specs.declared.config.Config.{Config}
 use Rattle.smith_config.specs.Features.{features_of}
@@ -56,7 +54,7 @@ spaces_valid config spaces may all = record {
 
 -- a table is that of its draws
 pub table_is : (config : Config) (spaces : Spaces) (bytes mid after : List ℕ) (table : TableType) (initial : Option (List ConstInstr)) → spaces.entities.imported_globals ≡ length spaces.entities.globals.now
-    → table_type_at config spaces.types.now.types bytes ≡ (table, mid) → table_init_at config (seen_by config spaces false) table.element_type mid ≡ Some (initial, after) → table_at config (standing_of spaces) bytes ≡ ((table, initial), after)
+    → table_type_at config (drawn_over config (standing_of spaces)) bytes ≡ (table, mid) → table_init_at config (seen_by config spaces false) table.element_type mid ≡ Some (initial, after) → table_at config (standing_of spaces) bytes ≡ ((table, initial), after)
 unfolding table_at
 table_is config spaces bytes mid after table initial all type_drawn init_drawn = rw (type_drawn, ← seen_by_table config spaces all, init_drawn) refl
 

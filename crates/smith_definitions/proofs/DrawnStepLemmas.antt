@@ -1,5 +1,5 @@
 -- What one step of drawing a module hands on to the next.
-use Rattle.std.proofs.Common.{◌≡◌, ◌⊎◌, inl, inr, ℕ, ◌-◌, ◌≤◌, max, Bool, true, false, List, [], length, refl, arith}
+use Rattle.std.proofs.Common.{inl, inr, ℕ, ◌-◌, ◌≤◌, max, List, [], length, refl, arith}
 use Rattle.std.specs.Prelude.{All}
 use Rattle.smith_bytes.specs.declared.error.Error.{Error}
 use Rattle.smith_bytes.specs.declared.error.Count.TheVariants as counts
@@ -11,14 +11,13 @@ use Rattle.smith_types.specs.Grown.{Extends, IsContextGrown}
 use Rattle.smith_types.specs.Imports.{IndexSpaces}
 use Rattle.smith_types.specs.Space.{Space}
 use Rattle.smith_types.specs.declared.composite_type.SubType.{SubType}
-use Rattle.smith_types.specs.declared.entity_type.GlobalType.{GlobalType}
 use Rattle.smith_types.specs.declared.value_type.ValType.{ValType}
 use Rattle.smith_config.specs.declared.config.Config.{Config}
 use Rattle.smith_config.specs.Features.{features_of}
 use Rattle.smith_draw.specs.ConstBounds.{IsUngrounded, MayRefuseConstExpr}
 use Rattle.smith_draw.proofs.FilledLemmas.{fields_before}
 use Rattle.smith_definitions.specs.Defined.{MayDefine, MayInitialise, MayRefuseDrawn, MayRefuseDefined, drawn_over, drawn_beside}
-use Rattle.smith_definitions.specs.Definitions.{standing_among}
+use Rattle.smith_definitions.specs.Definitions.{standing_among, standing_over}
 use Rattle.smith_definitions.specs.declared.definitions.Definitions.{Definitions}
 use Rattle.smith_definitions.proofs.ExtensionLemmas.{all_kept}
 
@@ -45,12 +44,12 @@ drawn_refused config context value e grounded (inr (empty, inl lacks)) = absurd 
 drawn_refused config context value e grounded (inr (empty, inr holds)) = inr (empty, holds)
 
 -- what is refused once functions are defined is refused over those that stood before
-pub refused_before : (config : Config) (types : List SubType) (before : IndexSpaces) (so_far : Definitions) (funcs : List ℕ) (imported_globals : ℕ) (globals : List GlobalType) (e : Error) → Extends before.funcs funcs
-    → MayRefuseDrawn config (drawn_over config (standing_among types funcs (length before.funcs - so_far.num_funcs) imported_globals globals)) e → MayRefuseDefined config (drawn_beside config types before so_far) e
-refused_before config types before so_far funcs imported_globals globals e extends (inl memory) = inr (inl memory)
-refused_before config types before so_far funcs imported_globals globals e extends (inr (empty, holds)) =
+pub refused_before : (config : Config) (types : List SubType) (before : IndexSpaces) (so_far : Definitions) (funcs : List ℕ) (e : Error) → Extends before.funcs funcs
+    → MayRefuseDrawn config (drawn_over config (standing_over types funcs (length before.funcs - so_far.num_funcs) [])) e → MayRefuseDefined config (drawn_beside config types before so_far) e
+refused_before config types before so_far funcs e extends (inl memory) = inr (inl memory)
+refused_before config types before so_far funcs e extends (inr (empty, holds)) =
     let old = drawn_beside config types before so_far in
-    let new = drawn_over config (standing_among types funcs (length before.funcs - so_far.num_funcs) imported_globals globals) in
+    let new = drawn_over config (standing_over types funcs (length before.funcs - so_far.num_funcs) []) in
     let growth : IsContextGrown old new = record {
       features = refl;
       types = all_kept types;

@@ -13,6 +13,7 @@ use Rattle.smith_bytes.specs.declared.error.Error.{Error}
 use Rattle.smith_bytes.specs.declared.error.Error.TheVariants as errors
 use Rattle.smith_bytes.specs.declared.error.Why.TheVariants.{SeveralMemories, SeveralTables}
 use Rattle.smith_types.specs.Exports.{AreDistinct, AreExportsStanding, AreExportsValid}
+use Rattle.smith_types.specs.Expressions.{Context}
 use Rattle.smith_types.specs.Grown.{Extends, AreSpacesGrown}
 use Rattle.smith_types.specs.Imports.{IndexSpaces}
 use Rattle.smith_types.specs.Space.{Space}

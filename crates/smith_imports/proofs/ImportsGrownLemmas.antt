@@ -36,7 +36,7 @@ use Rattle.smith_draw.specs.Bounds.{IsTableWithin, IsMemoryWithin}
 use Rattle.smith_imports.specs.ImportNames.{has_names, is_taken, KnowsPairs}
 use Rattle.smith_imports.specs.ImportedEntities.{has_room, kind_of, import_scope, sizes}
 use Rattle.smith_imports.specs.Importing.{module_name, with_import}
-use Rattle.smith_imports.specs.Imported.{Counts, IsCounted, AreNumbersWithin, AreSpacesWithin, HasNoFloatValue, HasGroundedElements, AreImportsFit, IsEntityFit, IsFitBehind, IsNext, IsOpen, IsOfGroup, IsCompact, IsImported, MayEnd, MayEndAt, spaces_of, entity_spaces}
+use Rattle.smith_imports.specs.Imported.{Counts, IsCounted, AreNumbersWithin, AreSpacesWithin, HasNoFloatValue, HasGroundedElements, AreImportsFit, IsEntityFit, IsFitBeside, IsNext, IsOpen, IsOfGroup, IsCompact, IsImported, MayEnd, MayEndAt, spaces_of, entity_spaces}
 use Rattle.smith_imports.specs.declared.imported.Imported.{Imported}
 
 -- what is imported of a kind, with one import more
@@ -185,17 +185,17 @@ import_added (Single imported) name one compact of_group = absurd compact
 import_added (Compact1 from items) name one compact of_group = map-append (λ (item : ImportItem). import_of from item.name item.entity_type) items (record { name = name; entity_type = one } ∷ [])
 import_added (Compact2 from entity_type names) name one compact of_group = rw of_group (map-append (λ (n : List ℕ). import_of from n entity_type) names (name ∷ []))
 
-funcs_behind : (spaces : IndexSpaces) (added : EntityType) → (with_entity spaces added).funcs ≡ spaces.funcs ++ func_of added
-funcs_behind spaces added = ap (λ (all : IndexSpaces). all.funcs) (entity_behind spaces added)
+funcs_grown : (spaces : IndexSpaces) (added : EntityType) → (with_entity spaces added).funcs ≡ spaces.funcs ++ func_of added
+funcs_grown spaces added = ap (λ (all : IndexSpaces). all.funcs) (entity_behind spaces added)
 
-fit_behind : (config : Config) (types : List SubType) (spaces : IndexSpaces) (one added : EntityType) → IsFitBehind config types spaces one → IsFitBehind config types (with_entity spaces added) one
-fit_behind config types spaces one added h =
+fit_later : (config : Config) (types : List SubType) (spaces : IndexSpaces) (one added : EntityType) → IsFitBeside config types spaces one → IsFitBeside config types (with_entity spaces added) one
+fit_later config types spaces one added h =
     let old = import_scope config types spaces in
     let new = import_scope config types (with_entity spaces added) in
     let growth : AreImportsGrown old new = record {
       features = refl;
       types = record { more = []; parts = sym (append-nil types) };
-      funcs = record { more = func_of added; parts = funcs_behind spaces added };
+      funcs = record { more = func_of added; parts = funcs_grown spaces added };
       imported = refl;
       still_imported = refl;
     } in
@@ -204,7 +204,7 @@ fit_behind config types spaces one added h =
 pub ready_more : (config : Config) (types : List SubType) (spaces : IndexSpaces) (group : Imports) (name : List ℕ) (one : EntityType) → IsOpen config types spaces group → IsOpen config types (with_entity spaces one) (with_import group name one)
 ready_more config types spaces (Single imported) name one ready = absurd ready.compact
 ready_more config types spaces (Compact1 from items) name one ready = record { fit = tt; enabled = ready.enabled; compact = tt }
-ready_more config types spaces (Compact2 from entity_type names) name one ready = record { fit = fit_behind config types spaces entity_type one ready.fit; enabled = ready.enabled; compact = tt }
+ready_more config types spaces (Compact2 from entity_type names) name one ready = record { fit = fit_later config types spaces entity_type one ready.fit; enabled = ready.enabled; compact = tt }
 
 -- no kind has more than all together
 few_of_kind : {A : Type 0} (of_kind : EntityType → List A) → ((one : EntityType) → length (of_kind one) ≤ 1) → (imports : List Import) → length (imported of_kind imports) ≤ length imports

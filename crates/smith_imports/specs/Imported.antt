@@ -126,14 +126,14 @@ pub record IsEntityFit (config : Config) (types : List SubType) (added : EntityT
   pub small : size_in types added ≤ 41
   pub typed : IsTyped types added
 
--- an entity may be imported behind index spaces
-pub record IsFitBehind (config : Config) (types : List SubType) (spaces : IndexSpaces) (added : EntityType) : Type 0 where
+-- an entity may be imported beside index spaces
+pub record IsFitBeside (config : Config) (types : List SubType) (spaces : IndexSpaces) (added : EntityType) : Type 0 where
   pub entity : IsEntityFit config types added
   pub grounded : All (HasGroundedElements config (import_scope config types spaces)) (table_of added)
 
 -- an entity may be imported beside index spaces and a type size
 pub record IsNext (config : Config) (types : List SubType) (spaces : IndexSpaces) (size : ℕ) (added : EntityType) : Type 0 where
-  pub fit : IsFitBehind config types spaces added
+  pub fit : IsFitBeside config types spaces added
   pub room : has_room config spaces (kind_of added) ≡ true
   pub fits : size + (size_in types added + 1) ≤ config.max_type_size
   pub sum : size + (size_in types added + 1) < 2 ^ 32
@@ -157,9 +157,9 @@ abbrev pub IsCompact : Imports → Type 0
 IsCompact (Single imported) = ⊥
 IsCompact _ = Unit {0}
 
--- the type that all imports of a group have, where it has one, is that of an entity that may be imported behind index spaces
+-- the type that all imports of a group have, where it has one, is that of an entity that may be imported beside index spaces
 abbrev pub HasFitEntity : Config → List SubType → IndexSpaces → Imports → Type 0
-HasFitEntity config types spaces (Compact2 from entity_type names) = IsFitBehind config types spaces entity_type
+HasFitEntity config types spaces (Compact2 from entity_type names) = IsFitBeside config types spaces entity_type
 HasFitEntity config types spaces _ = Unit {0}
 
 -- an import of a group may have this type
@@ -167,7 +167,7 @@ abbrev pub IsOfGroup : Imports → EntityType → Type 0
 IsOfGroup (Compact2 from entity_type names) added = added ≡ entity_type
 IsOfGroup _ added = Unit {0}
 
--- imports may be added to a group behind index spaces
+-- imports may be added to a group beside index spaces
 pub record IsOpen (config : Config) (types : List SubType) (spaces : IndexSpaces) (group : Imports) : Type 0 where
   pub fit : HasFitEntity config types spaces group
   pub enabled : IsImportsEnabled (features_of config) group

@@ -1,7 +1,7 @@
 ghost use Rattle.std.specs.Prelude.{◌≡◌, ◌<◌, ◌+◌, ◌^◌, true, None, Some, IsTrue, IfOk, IfSome, if◌then◌else◌};
 ghost use Rattle.smith_types.specs.Sizes.{size_in};
 ghost use Rattle.smith_draw.specs.Drawing.{Draws};
-ghost use Rattle.smith_imports.specs.Imported.{MayImport, IsEntityFit, IsFitBehind, IsNext, MayEndAt, spaces_of};
+ghost use Rattle.smith_imports.specs.Imported.{MayImport, IsEntityFit, IsFitBeside, IsNext, MayEndAt, spaces_of};
 ghost use Rattle.smith_imports.specs.ImportedEntities.{kind_of, has_room, may_import, import_scope, entity_of_kind_at, fits, entity_at, again};
 
 use crate::import_kinds::{draw_kind, has_room};
@@ -28,7 +28,7 @@ pub(crate) fn kind_of(added: &EntityType) -> ExportKind
     }
 }
 
-/// Draws an entity of the kind `kind`, which may be imported over `types`, behind `imported`.
+/// Draws an entity of the kind `kind`, which may be imported over `types`, beside `imported`.
 #[tactic(auto, unfolding(crate::specs::ImportedEntities::entity_of_kind_at))]
 fn draw_entity_of_kind(
     alloc: Global,
@@ -42,7 +42,7 @@ fn draw_entity_of_kind(
     requires kind { may_import config.now types.now.types kind ≡ true }
     ensures draws { Draws (entity_of_kind_at config.now (import_scope config.now types.now.types (spaces_of imported.now)) kind u.old) result u.old u.new }
     ensures kind { IfOk result (λ added. kind_of added ≡ kind) }
-    ensures fit { IfOk result (IsFitBehind config.now types.now.types (spaces_of imported.now)) }
+    ensures fit { IfOk result (IsFitBeside config.now types.now.types (spaces_of imported.now)) }
 {
     let funcs = imported.spaces.funcs.as_slice();
     let entities = Entities {
@@ -84,7 +84,7 @@ fn if_fits(
     imported: &Imported,
     added: EntityType,
 ) -> Option<EntityType>
-    requires fit { IsFitBehind config.now types.now.types (spaces_of imported.now) added }
+    requires fit { IsFitBeside config.now types.now.types (spaces_of imported.now) added }
     requires room { has_room config.now (spaces_of imported.now) (kind_of added) ≡ true }
     ensures exact { result ≡ (if fits config.now types.now.types imported.now.type_size added then Some added else None) }
     ensures next { IfSome result (IsNext config.now types.now.types (spaces_of imported.now) imported.now.type_size) }
@@ -125,7 +125,7 @@ pub(crate) fn again(
     imported: &Imported,
     added: EntityType,
 ) -> Option<EntityType>
-    requires fit { IsFitBehind config.now types.now.types (spaces_of imported.now) added }
+    requires fit { IsFitBeside config.now types.now.types (spaces_of imported.now) added }
     ensures exact { result ≡ again config.now types.now.types (spaces_of imported.now) imported.now.type_size added }
     ensures next { IfSome result (IsNext config.now types.now.types (spaces_of imported.now) imported.now.type_size) }
     ensures ended { result ≡ None → MayEndAt config.now (spaces_of imported.now) imported.now.type_size }

@@ -81,8 +81,8 @@ store_kind store.F32 = kind.Memory
 store_kind store.F64 = kind.Memory
 store_kind _ = kind.MemoryInt
 
--- the kind of an instruction: its section of chapter Structure, Instructions; atomic ones, of which the
--- standard has none, count among those of memories (own rule)
+-- the kind of an instruction: its section of chapter Structure, Instructions; nop and unreachable, which the standard has among the
+-- parametric instructions, count as control, and atomic ones, of which the standard has none, among those of memories (own rules)
 abbrev pub instr_kind : Instr → InstructionKind
 instr_kind instr.Drop = kind.Parametric
 instr_kind instr.Select = kind.Parametric

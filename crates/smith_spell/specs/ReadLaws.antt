@@ -10,8 +10,8 @@ use Rattle.smith_draw.specs.RecGroups.{types_at}
 use Rattle.smith_draw.specs.Spelling.{SpellsGroups}
 use Rattle.smith_spell.specs.Family.{IsInFamily}
 
--- where no type is asked for, the groups of each member of the family are drawn from each piece that spells them, and what
--- follows is left, whatever functions stand
+-- where no type is required, the groups of each member of the family are drawn from each piece that spells them, and what
+-- follows is left, whatever functions exist
 abbrev pub GroupsAreRead : Type 0
 GroupsAreRead =
     (config : Config) (functions : Context) (groups : List (List SubType)) (funcs : List ℕ) (piece after : List ℕ) → functions.features ≡ features_of config → IsSanitized config → config.min_types ≡ 0

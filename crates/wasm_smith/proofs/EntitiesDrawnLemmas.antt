@@ -1,5 +1,5 @@
 -- What stands once entities are defined behind imports may be drawn over, and is refused only as a module may be.
-use Rattle.std.proofs.Common.{◌≡◌, ◌≤◌, ◌^◌, ℕ, List, [], inl, inr, refl, subst, sym, arith}
+use Rattle.std.proofs.Common.{◌≡◌, ◌≤◌, ◌^◌, ℕ, [], inl, inr, refl, subst, sym, arith}
 use Rattle.std.proofs.lemmas.List.Elements.{All-weaker}
 use Rattle.std.specs.Prelude.{false, All, Result, Ok, Err, OnOk}
 use Rattle.smith_bytes.specs.declared.error.Count.{Count}

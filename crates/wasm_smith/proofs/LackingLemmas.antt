@@ -1,6 +1,6 @@
 -- A reference that may not be null stands in the types or the tables of a shape only where it is among the shape's values, so a
 -- module begins with one, or is refused for one, only where a shape that is used holds one.
-use Rattle.std.proofs.Common.{◌≡◌, ◌⊎◌, ◌<◌, Bool, true, false, List, [], inl, inr, refl, sym, subst, arith}
+use Rattle.std.proofs.Common.{◌≡◌, ◌⊎◌, ◌<◌, List, [], inl, inr, refl, sym, subst, arith}
 use Rattle.std.specs.Prelude.{All, IsSomeAnd, Option, Some, None}
 use Rattle.std.specs.List.{Any}
 use Rattle.std.proofs.lemmas.List.Elements.{All-cons, All-contains, All-map, All-nil, All-weaker, Contains-get_or}

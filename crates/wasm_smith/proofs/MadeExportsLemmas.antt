@@ -12,7 +12,6 @@ use Rattle.smith_types.specs.Grown.{Extends, IsContextGrown, AreSpacesGrown}
 use Rattle.smith_types.specs.Imports.{flattened, imported_spaces}
 use Rattle.smith_types.specs.IndexSpaces.{spaces_in}
 use Rattle.smith_types.specs.Space.{Space}
-use Rattle.smith_types.specs.declared.entity_type.TableType.{TableType}
 use Rattle.smith_types.specs.declared.value_type.ValType.TheVariants.{Ref}
 use Rattle.smith_types.specs.declared.composite_type.SubType.{SubType}
 use Rattle.smith_types.specs.declared.index_spaces.IndexSpaces.{IndexSpaces as Held}

@@ -1,4 +1,5 @@
 use Rattle.std.proofs.Common.{refl}
+use Rattle.smith_types.specs.IndexSpaces.{spaces_in}
 use Rattle.smith_draw.proofs.ConstStepLemmas.{passed_on}
 use Rattle.smith_definitions.proofs.DrawnStepLemmas.{may_initialise, refused_before}
 use Rattle.smith_definitions.proofs.DefinedMoreLemmas.{defined_more}
@@ -14,7 +15,7 @@ pub returns-in_err-define_tables-clause-refusal : goal.returns-in_err-define_tab
 returns-in_err-define_tables-clause-refusal c =
     let over = c.standing_imported-standing.ensures in
     passed_on _ c.from_residual-in_err-define_tables.result c.in_err-define_tables.field-0.0 c.from_residual-in_err-define_tables.ensures.1
-    (refused_before c.args.config.now c.args.types.now.types _ c.args.definitions.now _ _ _ _ c.in_ok-define_funcs.ensures.filled.extends
+    (refused_before c.args.config.now c.args.types.now.types (spaces_in c.args.spaces.now) c.args.definitions.now _ _ c.in_ok-define_funcs.ensures.filled.extends
     (rw (over.types, over.funcs, over.imported_funcs, c.as_slice-func_types.ensures, c.len-funcs_before.ensures) at c.in_err-define_tables.ensures.refusal))
 
 pub returns-in_err-define_memories-clause-left : goal.returns-in_err-define_memories-clause-left
@@ -28,7 +29,7 @@ define_globals-requires-clause-may c =
 pub returns-in_err-define_globals-clause-refusal : goal.returns-in_err-define_globals-clause-refusal
 returns-in_err-define_globals-clause-refusal c =
     passed_on _ c.from_residual-in_err-define_globals.result c.in_err-define_globals.field-0.0 c.from_residual-in_err-define_globals.ensures.1
-    (refused_before c.args.config.now c.args.types.now.types _ c.args.definitions.now _ _ _ _ c.in_ok-define_funcs.ensures.filled.extends
+    (refused_before c.args.config.now c.args.types.now.types (spaces_in c.args.spaces.now) c.args.definitions.now _ _ c.in_ok-define_funcs.ensures.filled.extends
     (rw (c.as_slice-func_types.ensures, c.len-funcs_before.ensures) at c.in_err-define_globals.ensures.refusal))
 
 pub returns-in_err-define_globals-clause-left : goal.returns-in_err-define_globals-clause-left

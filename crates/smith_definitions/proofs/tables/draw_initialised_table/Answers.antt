@@ -1,5 +1,6 @@
 use Rattle.smith_types.specs.declared.value_type.ValType.TheVariants.{Ref}
 use Rattle.smith_draw.proofs.ConstStepLemmas.{passed_on}
+use Rattle.smith_definitions.specs.Defined.{drawn_over, standing_of}
 use Rattle.smith_definitions.proofs.DefinedTableLemmas.{spaces_valid, needs_gc, table_is, table_fit}
 use Rattle.smith_definitions.proofs.DrawnStepLemmas.{drawn_refused}
 use Rattle.smith_definitions.proofs.tables.draw_initialised_table.Goals as goal
@@ -12,7 +13,7 @@ arbitrary_table_init-requires-clause-created c = needs_gc c.args.config.now c.in
 
 pub returns-in_err-initial-clause-refusal : goal.returns-in_err-initial-clause-refusal
 returns-in_err-initial-clause-refusal c =
-    passed_on _ c.from_residual-in_err-initial.result c.in_err-initial.field-0.0 c.from_residual-in_err-initial.ensures.1 (drawn_refused _ _ (Ref c.in_ok-table.table.element_type) _ c.in_ok-table.ensures.grounded c.in_err-initial.ensures.refusal)
+    passed_on _ c.from_residual-in_err-initial.result c.in_err-initial.field-0.0 c.from_residual-in_err-initial.ensures.1 (drawn_refused c.args.config.now (drawn_over c.args.config.now (standing_of c.args.spaces.now)) (Ref c.in_ok-table.table.element_type) _ c.in_ok-table.ensures.grounded c.in_err-initial.ensures.refusal)
 
 pub returns-clause-exact : goal.returns-clause-exact
 returns-clause-exact c = table_is c.args.config.now c.args.spaces.now _ _ _ _ _ c.requires.imported_globals c.in_ok-table.ensures.draws.exact c.in_ok-initial.ensures.exact
