@@ -1,11 +1,10 @@
 -- What is chosen, by the places that are drawn.
-use Rattle.std.proofs.Common.{◌≡◌, ◌⊎◌, inl, inr, ℕ, zero, suc, ◌+◌, ◌-◌, ◌<◌, ◌≤◌, Bool, true, false, List, [], ◌∷◌, ◌++◌, Option, Some, None, length, get_or, refl, sym, subst, ap, ◌∙◌, arith}
-use Rattle.std.specs.Prelude.{slice_get, slice_index_or, Result, Ok, Err, IfOk, min, option_map, ◌==◌, if◌then◌else◌}
+use Rattle.std.proofs.Common.{◌≡◌, ℕ, zero, suc, ◌+◌, ◌-◌, ◌<◌, ◌≤◌, Bool, true, false, List, [], ◌∷◌, ◌++◌, Option, Some, None, length, get_or, refl, sym, subst, ap, ◌∙◌, arith}
+use Rattle.std.specs.Prelude.{slice_get, slice_index_or, Result, Ok, Err, IfOk, option_map, ◌==◌, if◌then◌else◌}
 use Rattle.std.specs.Cmp.{unsigned_Decides}
-use Rattle.std.proofs.lemmas.Option.{slice_get-get_or, slice_get_past, slice_get_read, slice_get_within}
+use Rattle.std.proofs.lemmas.Option.{slice_get-get_or, slice_get_past}
 use Rattle.smith_bytes.specs.Draws.{bool_at, choose_at, digit_count, range_at, whole_at}
 use Rattle.smith_bytes.specs.declared.error.Error.{Error}
-use Rattle.smith_bytes.proofs.DrawnLemmas.{range_within}
 use Rattle.smith_types.specs.declared.instruction_kind.InstructionKinds.{InstructionKinds}
 use Rattle.smith_types.specs.declared.value_type.ValType.{ValType}
 use Rattle.smith_types.specs.declared.value_type.ValType.TheVariants.{I32, I64, F32, F64}
@@ -22,53 +21,7 @@ use Rattle.smith_instr.specs.declared.memory.Load.{Load}
 use Rattle.smith_instr.specs.declared.memory.Store.{Store}
 use Rattle.smith_instr.specs.declared.memory.Store.TheVariants as store
 use Rattle.smith_instr.specs.declared.numeric.NumericInstr.{NumericInstr}
-use Rattle.smith_code.specs.Choices.{
-  Chosen,
-  access_at,
-  allowed_choice_at,
-  any_block_at,
-  any_block_node,
-  any_call_at,
-  any_call_node,
-  block_at,
-  branch_at,
-  call_at,
-  call_node,
-  drop_at,
-  dropped_at,
-  giving,
-  global_set_at,
-  global_set_node,
-  growth_node,
-  label_at,
-  label_count,
-  leaving_at,
-  load_at,
-  load_by,
-  load_node,
-  memory_at,
-  memory_by,
-  numeric_at,
-  numeric_node,
-  opening_at,
-  or_nop,
-  return_node,
-  set_at,
-  set_node,
-  some_targets_at,
-  statement_choice_at,
-  statement_families,
-  statement_of,
-  store_at,
-  store_node,
-  table_at,
-  table_by,
-  tee_at,
-  tee_node,
-  value_choice_at,
-  value_families,
-  value_of,
-}
+use Rattle.smith_code.specs.Choices.{Chosen, access_at, allowed_choice_at, any_block_at, any_block_node, any_call_at, any_call_node, block_at, branch_at, call_at, call_node, drop_at, dropped_at, giving, global_set_at, global_set_node, growth_node, label_at, label_count, leaving_at, load_at, load_by, load_node, memory_at, memory_by, numeric_at, numeric_node, opening_at, or_nop, return_node, set_at, set_node, some_targets_at, statement_choice_at, statement_families, statement_of, store_at, store_node, table_at, tee_at, tee_node, value_choice_at, value_families, value_of}
 use Rattle.smith_code.specs.Nodes.{blocked, is_node_allowed, node_of, setting}
 use Rattle.smith_code.specs.Offered.{func_in, function_at, is_addressed, is_callable, is_local_below, is_mutable, offered}
 use Rattle.smith_code.specs.Rows.{loads_of, numeric_rows, stores}

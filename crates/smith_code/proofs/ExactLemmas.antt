@@ -1,8 +1,7 @@
 -- What is drawn is what the bytes give, one part after another.
-use Rattle.std.proofs.Common.{◌≡◌, ◌⊎◌, inl, inr, ℕ, zero, suc, ◌+◌, ◌-◌, ◌<◌, ◌≤◌, Bool, true, false, List, [], ◌∷◌, ◌++◌, Option, Some, None, length, get_or, replicate, take, drop, drop-cons, refl, sym, subst, ap, ◌∙◌, arith}
-use Rattle.std.specs.Prelude.{option_to_list, ◌==◌, if◌then◌else◌}
+use Rattle.std.proofs.Common.{◌≡◌, ℕ, zero, suc, ◌+◌, ◌-◌, ◌<◌, ◌≤◌, true, false, List, [], ◌∷◌, ◌++◌, Option, Some, None, length, get_or, replicate, take, drop, drop-cons, refl, sym, ap, ◌∙◌, arith}
+use Rattle.std.specs.Prelude.{option_to_list, ◌==◌}
 use Rattle.smith_bytes.specs.Draws.{range_at}
-use Rattle.smith_types.specs.FeatureBits.{features_in}
 use Rattle.smith_types.specs.declared.instruction_kind.InstructionKinds.{InstructionKinds}
 use Rattle.smith_types.specs.declared.value_type.ValType.{ValType}
 use Rattle.smith_instr.specs.Contexts.{BodyContext, labelled}
@@ -33,7 +32,7 @@ use Rattle.smith_code.specs.Choices.{allowed_choice_at, statement_choice_at}
 use Rattle.smith_code.specs.Drawn.{IsDrawn, IsEnded, IsOpened, IsWritten, state_of}
 use Rattle.smith_code.specs.Leaves.{leaf_at}
 use Rattle.smith_code.specs.Nodes.{is_node_allowed, label_of, opened}
-use Rattle.smith_code.specs.Scopes.{bare, context_of}
+use Rattle.smith_code.specs.Scopes.{context_of}
 use Rattle.smith_code.specs.declared.node.Head.{Head}
 use Rattle.smith_code.specs.declared.node.Head.TheVariants as heads
 use Rattle.smith_code.specs.declared.node.Node.{Node}

@@ -1,7 +1,6 @@
 -- Which body the bytes give. Rules of this project.
 use Rattle.std.specs.Prelude.{ℕ, zero, suc, ◌-◌, ◌==◌, Option, Some, None, option_to_list, List, [], ◌∷◌, ◌++◌, length, replicate, if◌then◌else◌}
 use Rattle.smith_bytes.specs.Draws.{range_at}
-use Rattle.smith_types.specs.Features.{Features}
 use Rattle.smith_types.specs.declared.instruction_kind.InstructionKinds.{InstructionKinds}
 use Rattle.smith_types.specs.declared.value_type.ValType.{ValType}
 use Rattle.smith_instr.specs.Contexts.{BodyContext, labelled}

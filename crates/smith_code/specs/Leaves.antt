@@ -1,5 +1,5 @@
 -- Which instruction without operands the bytes give. The choices and their order are rules of this project.
-use Rattle.std.specs.Prelude.{ℕ, Bool, true, false, Option, Some, None, option_map, List, [], ◌∷◌, length, slice_get, if◌then◌else◌}
+use Rattle.std.specs.Prelude.{ℕ, Option, Some, None, option_map, List, [], ◌∷◌, length, slice_get, if◌then◌else◌}
 use Rattle.std.specs.Int.{cast_signed, w32, w64, w128}
 use Rattle.smith_bytes.specs.Draws.{choose_at, whole_at}
 use Rattle.smith_types.specs.declared.instruction_kind.InstructionKinds.{InstructionKinds}

@@ -6,7 +6,6 @@ use Rattle.smith_types.specs.declared.instruction_kind.InstructionKinds.{Instruc
 use Rattle.smith_types.specs.ValidTypes.{IsValTypeValid}
 use Rattle.smith_types.specs.declared.value_type.ValType.{ValType}
 use Rattle.smith_types.specs.declared.value_type.ValType.TheVariants.{I32}
-use Rattle.smith_types.specs.declared.composite_type.FuncType.{FuncType}
 use Rattle.smith_types.specs.declared.composite_type.SubType.{SubType}
 use Rattle.smith_instr.specs.Contexts.{BodyContext, AreValid, AreBelow, IsBlockType}
 use Rattle.smith_instr.specs.Enabled.{is_enabled}

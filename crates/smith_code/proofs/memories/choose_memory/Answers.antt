@@ -1,4 +1,3 @@
-use Rattle.std.proofs.Common.{ap, ◌∙◌}
 use Rattle.smith_code.specs.Scopes.{where_stands}
 use Rattle.smith_code.proofs.ChoiceLemmas.{memory_none, memory_there}
 use Rattle.smith_code.proofs.ResultLemmas.{ok_like}
