@@ -6,7 +6,7 @@ use smith_bytes::{Error, Unstructured};
 use smith_config::Config;
 use smith_types::{
     Code, ConstInstr, DataSegment, ElementSegment, ExportKind, GlobalType, Imports, Items,
-    MemoryType, Name, SubType, TableType,
+    MemoryType, Name, SubType, TableType, TypeSpace,
 };
 use std::alloc::Global;
 use std::fmt;
@@ -83,6 +83,7 @@ impl DuplicateImportsBehavior {
 
 impl Module {
     ghost use Rattle.smith_config.specs.Config.{default_config};
+    ghost use Rattle.smith_definitions.specs.Module.{module_types};
     ghost use Rattle.wasm_smith.specs.Generated.{IsGenerated, is_distinct};
 
     /// Draws a module as [`Module::new`] does, for the default configuration. Only want of memory refuses it.
@@ -150,6 +151,13 @@ impl Module {
         ensures { result.now ≡ self.now.groups }
     {
         self.drawn.types.rec_groups()
+    }
+
+    /// The types and the recursive groups, as a type space.
+    pub fn type_space(&self) -> &TypeSpace
+        ensures { result.now ≡ module_types self.now }
+    {
+        &self.drawn.types
     }
 
     /// The imports, in their groups.
