@@ -175,13 +175,13 @@ RefersTo config types (vals.Ref reference) =
     IsInRange types reference.heap_type × (IsTrue reference.nullable ⊎ IsGroundedByStructs types config.custom_descriptors_enabled reference.heap_type)
 RefersTo config types _ = Unit {0}
 
--- types after others, each of which refers to types before it alone, and has references that are not nullable only where a
+-- types behind others, each of which refers to types before it alone, and has references that are not nullable only where a
 -- struct type before it grounds them
 abbrev pub ReferBack : Config → List SubType → List SubType → Type 0
 ReferBack config before [] = Unit {0}
 ReferBack config before (t ∷ types) = All (RefersTo config before) (values_of t.composite_type.inner) × ReferBack config (before ++ t ∷ []) types
 
--- groups after types: none is empty, there is room for all, and their types refer to types before them alone, which ground their
+-- groups behind types: none is empty, there is room for all, and their types refer to types before them alone, which ground their
 -- references that are not nullable
 abbrev pub GroupsFit : Config → List SubType → List (List SubType) → Type 0
 GroupsFit config before [] = Unit {0}
