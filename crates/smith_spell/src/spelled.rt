@@ -56,9 +56,6 @@ fn spell_in_family(
 /// `config` has references that aren't nullable, and a struct type before the type that holds one is below what it refers to and
 /// has only fields with defaults.
 ///
-/// Where `config` has references that aren't nullable, the bytes needn't give that module: a draw then reads a bool more after each
-/// heap type, and no such bool is spelled.
-///
 /// Memory is taken only where `config` and `groups` allow an answer and `funcs` are no more than `config` allows.
 ///
 /// A list that goes on is spelled by 1, and its end by 0 where the list might go on. No group is cloned, no supertype is chosen,
