@@ -1,5 +1,6 @@
 -- What is answered where a module is drawn and then its bodies.
-use Rattle.std.proofs.Common.{◌≡◌, ℕ, List, false, Ok, Err, inl, inr}
+use Rattle.std.proofs.Common.{◌≡◌, ◌∙◌, ℕ, List, false, Ok, Err, inl}
+use Rattle.std.specs.Prelude.{Result, IsErrAnd}
 use Rattle.smith_bytes.specs.Source.{KeepsPieces}
 use Rattle.smith_bytes.specs.declared.error.Error.{Error}
 use Rattle.smith_bytes.specs.declared.error.Error.TheVariants.{Memory}
@@ -9,6 +10,7 @@ use Rattle.wasm_smith.specs.Generated.{IsGenerated}
 use Rattle.smith_program.specs.Bodies.{AreDrawnBodies}
 use Rattle.smith_program.specs.Generated.{IsProgram}
 use Rattle.smith_program.specs.declared.program.Body.{Body}
+use Rattle.smith_program.specs.declared.program.Program.{Program}
 
 -- a module and its bodies
 pub program_made : (given : Config) (bytes after left : List ℕ) (m : Parts) (bodies : List Body) → IsGenerated false given bytes (Ok m) after → AreDrawnBodies m bodies → KeepsPieces after left
@@ -20,10 +22,9 @@ program_made given bytes after left m bodies generated drawn kept = record {
   source = kept bytes generated.source;
 }
 
--- no module
-pub module_refused : (given : Config) (bytes left : List ℕ) (e : Error) → IsGenerated false given bytes (Err e) left → IsProgram given bytes (Err e) left
-module_refused given bytes left e generated = record { modules = tt; bodies = tt; refusals = inr generated.refusals; source = generated.source }
-
 -- no memory for the bodies
-pub bodies_refused : (given : Config) (bytes after left : List ℕ) (m : Parts) (e : Error) → IsGenerated false given bytes (Ok m) after → e ≡ Memory → KeepsPieces after left → IsProgram given bytes (Err e) left
-bodies_refused given bytes after left m e generated memory kept = record { modules = tt; bodies = tt; refusals = inl memory; source = kept bytes generated.source }
+pub bodies_refused : (given : Config) (bytes after left : List ℕ) (m : Parts) (answer : Result Program Error) (e : Error) → IsGenerated false given bytes (Ok m) after → IsErrAnd answer (λ y. y ≡ e) → e ≡ Memory → KeepsPieces after left
+    → IsProgram given bytes answer left
+bodies_refused given bytes after left m (Ok program) e generated passed memory kept = absurd passed
+bodies_refused given bytes after left m (Err y) e generated passed memory kept =
+    record { modules = tt; bodies = tt; refusals = inl (passed ∙ memory); source = kept bytes generated.source }
