@@ -2,3 +2,4 @@ pub mod ScopeLemmas
 pub mod CountedLemmas
 pub mod WiderLemmas
 pub mod TerminationLemmas
+pub mod GeneratedLemmas
