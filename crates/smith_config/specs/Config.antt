@@ -62,6 +62,7 @@ default_config = record {
   wide_arithmetic_enabled = true;
   acquire_release_atomics_enabled = false;
   multibyte_array_access_enabled = false;
+  non_nullable_enabled = false;
   allowed_instructions = every_kind;
   memory_offset_choices = default_choices;
   max_instructions = 100;

@@ -13,6 +13,7 @@ sanitized config =
       shared_everything_threads_enabled = gc && config.threads_enabled && config.shared_everything_threads_enabled;
       custom_descriptors_enabled = gc && config.custom_descriptors_enabled;
       multibyte_array_access_enabled = gc && config.multibyte_array_access_enabled;
+      non_nullable_enabled = gc && config.non_nullable_enabled;
       relaxed_simd_enabled = config.simd_enabled && config.relaxed_simd_enabled;
       acquire_release_atomics_enabled = config.threads_enabled && config.acquire_release_atomics_enabled;
       available_imports = if is_some config.module_shape then None else config.available_imports;
@@ -27,18 +28,20 @@ pub record IsSanitized (config : Config) : Type 0 where
   pub shared_threads : IsTrue config.shared_everything_threads_enabled → IsTrue config.threads_enabled
   pub descriptors : IsTrue config.custom_descriptors_enabled → IsTrue config.gc_enabled
   pub multibyte : IsTrue config.multibyte_array_access_enabled → IsTrue config.gc_enabled
+  pub non_nullable : IsTrue config.non_nullable_enabled → IsTrue config.gc_enabled
   pub relaxed : IsTrue config.relaxed_simd_enabled → IsTrue config.simd_enabled
   pub atomics : IsTrue config.acquire_release_atomics_enabled → IsTrue config.threads_enabled
   pub imports : IsSome config.module_shape → config.available_imports ≡ None
   pub exports : IsSome config.module_shape → config.exports ≡ None
 
--- new is old with these nine fields turned off, lowered, taken away or as they were: nothing is turned on, raised or added
+-- new is old with these ten fields turned off, lowered, taken away or as they were: nothing is turned on, raised or added
 pub record IsLowered (old new : Config) : Type 0 where
   pub tables : new.max_tables ≤ old.max_tables
   pub gc : IsTrue new.gc_enabled → IsTrue old.gc_enabled
   pub shared : IsTrue new.shared_everything_threads_enabled → IsTrue old.shared_everything_threads_enabled
   pub descriptors : IsTrue new.custom_descriptors_enabled → IsTrue old.custom_descriptors_enabled
   pub multibyte : IsTrue new.multibyte_array_access_enabled → IsTrue old.multibyte_array_access_enabled
+  pub non_nullable : IsTrue new.non_nullable_enabled → IsTrue old.non_nullable_enabled
   pub relaxed : IsTrue new.relaxed_simd_enabled → IsTrue old.relaxed_simd_enabled
   pub atomics : IsTrue new.acquire_release_atomics_enabled → IsTrue old.acquire_release_atomics_enabled
   pub imports : (new.available_imports ≡ None) ⊎ (new.available_imports ≡ old.available_imports)
@@ -49,6 +52,7 @@ pub record IsLowered (old new : Config) : Type 0 where
     shared_everything_threads_enabled = new.shared_everything_threads_enabled;
     custom_descriptors_enabled = new.custom_descriptors_enabled;
     multibyte_array_access_enabled = new.multibyte_array_access_enabled;
+    non_nullable_enabled = new.non_nullable_enabled;
     relaxed_simd_enabled = new.relaxed_simd_enabled;
     acquire_release_atomics_enabled = new.acquire_release_atomics_enabled;
     available_imports = new.available_imports;

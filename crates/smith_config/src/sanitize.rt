@@ -21,6 +21,7 @@ impl Config {
             self.shared_everything_threads_enabled = false;
             self.custom_descriptors_enabled = false;
             self.multibyte_array_access_enabled = false;
+            self.non_nullable_enabled = false;
         }
         if !self.simd_enabled {
             self.relaxed_simd_enabled = false;

@@ -37,6 +37,9 @@ fn sanitising()
     ensures descriptors_stay { (sanitized (record default_config { custom_descriptors_enabled = true })).custom_descriptors_enabled ≡ true }
     ensures accesses_to_arrays_need_gc { (sanitized (record default_config { gc_enabled = false; multibyte_array_access_enabled = true })).multibyte_array_access_enabled ≡ false }
     ensures accesses_to_arrays_stay { (sanitized (record default_config { multibyte_array_access_enabled = true })).multibyte_array_access_enabled ≡ true }
+    ensures references_without_null_need_gc { (sanitized (record default_config { gc_enabled = false; non_nullable_enabled = true })).non_nullable_enabled ≡ false }
+    ensures references_without_null_need_references { (sanitized (record default_config { reference_types_enabled = false; non_nullable_enabled = true })).non_nullable_enabled ≡ false }
+    ensures references_without_null_stay { (sanitized (record default_config { non_nullable_enabled = true })).non_nullable_enabled ≡ true }
     ensures atomics_need_threads { (sanitized (record default_config { threads_enabled = false; acquire_release_atomics_enabled = true })).acquire_release_atomics_enabled ≡ false }
     ensures atomics_need_no_gc { (sanitized (record default_config { gc_enabled = false; acquire_release_atomics_enabled = true })).acquire_release_atomics_enabled ≡ true }
     ensures tables_with_references_stay { (sanitized (record default_config { max_tables = 5 })).max_tables ≡ 5 }
@@ -48,10 +51,11 @@ fn sanitised()
     ensures defaults { IsSanitized default_config }
     ensures gc_without_references { ¬ IsSanitized (record default_config { reference_types_enabled = false }) }
     ensures descriptors_without_gc { ¬ IsSanitized (record default_config { gc_enabled = false; custom_descriptors_enabled = true }) }
-    ensures all_that_may_be { IsSanitized (record default_config { shared_everything_threads_enabled = true; custom_descriptors_enabled = true; multibyte_array_access_enabled = true; acquire_release_atomics_enabled = true; max_tables = 9 }) }
+    ensures all_that_may_be { IsSanitized (record default_config { shared_everything_threads_enabled = true; custom_descriptors_enabled = true; multibyte_array_access_enabled = true; non_nullable_enabled = true; acquire_release_atomics_enabled = true; max_tables = 9 }) }
     ensures sharing_without_gc { ¬ IsSanitized (record default_config { gc_enabled = false; shared_everything_threads_enabled = true }) }
     ensures sharing_without_threads { ¬ IsSanitized (record default_config { threads_enabled = false; shared_everything_threads_enabled = true }) }
     ensures accesses_to_arrays_without_gc { ¬ IsSanitized (record default_config { gc_enabled = false; multibyte_array_access_enabled = true }) }
+    ensures references_without_null_without_gc { ¬ IsSanitized (record default_config { gc_enabled = false; non_nullable_enabled = true }) }
     ensures relaxed_without_vectors { ¬ IsSanitized (record default_config { simd_enabled = false }) }
     ensures atomics_without_threads { ¬ IsSanitized (record default_config { threads_enabled = false; acquire_release_atomics_enabled = true }) }
     ensures one_table_without_references { IsSanitized (record default_config { reference_types_enabled = false; gc_enabled = false }) }
@@ -66,6 +70,8 @@ fn lowered()
     ensures gc_turned_on { ¬ IsLowered (record default_config { gc_enabled = false }) default_config }
     ensures sharing_turned_on { ¬ IsLowered default_config (record default_config { shared_everything_threads_enabled = true }) }
     ensures accesses_to_arrays_turned_on { ¬ IsLowered default_config (record default_config { multibyte_array_access_enabled = true }) }
+    ensures references_without_null_turned_on { ¬ IsLowered default_config (record default_config { non_nullable_enabled = true }) }
+    ensures references_without_null_turned_off { IsLowered (record default_config { non_nullable_enabled = true }) default_config }
     ensures relaxed_turned_on { ¬ IsLowered (record default_config { relaxed_simd_enabled = false }) default_config }
     ensures atomics_turned_on { ¬ IsLowered default_config (record default_config { acquire_release_atomics_enabled = true }) }
     ensures another_field_lowered { ¬ IsLowered default_config (record default_config { max_types = 99 }) }

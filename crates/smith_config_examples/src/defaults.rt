@@ -44,5 +44,6 @@ fn on_or_off()
         default_config.canonicalize_nans ∷ default_config.disallow_traps ∷ default_config.export_everything ∷ default_config.custom_descriptors_enabled ∷
         default_config.custom_page_sizes_enabled ∷ default_config.generate_custom_sections ∷ default_config.memory_max_size_required ∷
         default_config.shared_everything_threads_enabled ∷ default_config.table_max_size_required ∷ default_config.allow_invalid_funcs ∷
-        default_config.acquire_release_atomics_enabled ∷ default_config.multibyte_array_access_enabled ∷ default_config.limit_arrays_in_const_exprs ∷ []) }
+        default_config.acquire_release_atomics_enabled ∷ default_config.multibyte_array_access_enabled ∷ default_config.non_nullable_enabled ∷
+        default_config.limit_arrays_in_const_exprs ∷ []) }
 {}

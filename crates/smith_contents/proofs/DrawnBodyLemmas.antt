@@ -8,7 +8,7 @@ use Rattle.smith_bytes.specs.Draws.{bool_at}
 use Rattle.smith_bytes.proofs.GrownLemmas.{grow_most, grow_least, grow_all}
 use Rattle.smith_types.specs.Bodies.{AreInstructionsValid, IsBodyValid}
 use Rattle.smith_types.specs.Floats.{IsNoFloat}
-use Rattle.smith_types.specs.declared.composite_type.SubType.{SubType}
+use Rattle.smith_types.specs.Expressions.{Context}
 use Rattle.smith_types.specs.declared.code.Code.{Code}
 use Rattle.smith_types.specs.declared.code.Instructions.{Instructions}
 use Rattle.smith_types.specs.declared.code.Instructions.TheVariants.{Unreachable, Arbitrary}
@@ -31,36 +31,36 @@ instructions_valid config bytes =
     cond_both raw.0 (raw_bytes_at raw.1) (Unreachable, raw.1) (λ (r : Instructions × List ℕ). AreInstructionsValid config.allow_invalid_funcs r.0)
     (raw_allowed config.allow_invalid_funcs (bool_at bytes) bytes) (λ off. tt)
 
-body_valid : (config : Config) (types : List SubType) (bytes : List ℕ) → IsSanitized config → IsBodyValid (features_of config) (length types) config.allow_invalid_funcs (body_at config types bytes).0
+body_valid : (config : Config) (context : Context) (bytes : List ℕ) → IsSanitized config → IsBodyValid (features_of config) (length context.types) config.allow_invalid_funcs (body_at config context bytes).0
 unfolding body_at
-body_valid config types bytes sanitized = record {
-  few = locals_most config types bytes;
-  locals = locals_valid config types bytes sanitized;
+body_valid config context bytes sanitized = record {
+  few = locals_most config context bytes;
+  locals = locals_valid config context bytes sanitized;
   instructions = instructions_valid config _;
 }
 
-pub bodies_each : (config : Config) (types : List SubType) (count : ℕ) (bytes : List ℕ) → length (bodies_at config types count bytes).0 ≡ count
+pub bodies_each : (config : Config) (context : Context) (count : ℕ) (bytes : List ℕ) → length (bodies_at config context count bytes).0 ≡ count
 unfolding bodies_at
-bodies_each config types count bytes =
-    let most = grow_most (λ _. body_at config types) count count count [] bytes (omega arith) in
-    let least = grow_least (λ _. body_at config types) count count [] bytes (omega arith) in
+bodies_each config context count bytes =
+    let most = grow_most (λ _. body_at config context) count count count [] bytes (omega arith) in
+    let least = grow_least (λ _. body_at config context) count count [] bytes (omega arith) in
     omega (arith, most, least)
 
-pub bodies_valid : (config : Config) (types : List SubType) (count : ℕ) (bytes : List ℕ) → IsSanitized config → All (IsBodyValid (features_of config) (length types) config.allow_invalid_funcs) (bodies_at config types count bytes).0
+pub bodies_valid : (config : Config) (context : Context) (count : ℕ) (bytes : List ℕ) → IsSanitized config → All (IsBodyValid (features_of config) (length context.types) config.allow_invalid_funcs) (bodies_at config context count bytes).0
 unfolding bodies_at
-bodies_valid config types count bytes sanitized =
-    let P = λ (body : Code). IsBodyValid (features_of config) (length types) config.allow_invalid_funcs body in
-    grow_all P (λ _. body_at config types) (λ _ after. body_valid config types after sanitized) count count [] bytes (All-nil P)
+bodies_valid config context count bytes sanitized =
+    let P = λ (body : Code). IsBodyValid (features_of config) (length context.types) config.allow_invalid_funcs body in
+    grow_all P (λ _. body_at config context) (λ _ after. body_valid config context after sanitized) count count [] bytes (All-nil P)
 
-body_no_float : (config : Config) (types : List SubType) (bytes : List ℕ) → config.allow_floats ≡ false → All IsNoFloat (body_at config types bytes).0.locals
+body_no_float : (config : Config) (context : Context) (bytes : List ℕ) → config.allow_floats ≡ false → All IsNoFloat (body_at config context bytes).0.locals
 unfolding body_at
-body_no_float config types bytes off = locals_no_float config types bytes off
+body_no_float config context bytes off = locals_no_float config context bytes off
 
-pub bodies_no_float : (config : Config) (types : List SubType) (count : ℕ) (bytes : List ℕ) → config.allow_floats ≡ false → All IsNoFloat (flat_map (λ (body : Code). body.locals) (bodies_at config types count bytes).0)
+pub bodies_no_float : (config : Config) (context : Context) (count : ℕ) (bytes : List ℕ) → config.allow_floats ≡ false → All IsNoFloat (flat_map (λ (body : Code). body.locals) (bodies_at config context count bytes).0)
 unfolding bodies_at
-bodies_no_float config types count bytes off =
+bodies_no_float config context count bytes off =
     let P = λ (body : Code). All IsNoFloat body.locals in
-    let each = grow_all P (λ _. body_at config types) (λ _ after. body_no_float config types after off) count count [] bytes (All-nil P) in
+    let each = grow_all P (λ _. body_at config context) (λ _ after. body_no_float config context after off) count count [] bytes (All-nil P) in
     all_of_parts IsNoFloat (λ (body : Code). body.locals) _ (recursion_from_All P _ each)
 
 not_raw : (raw : Bool) (instructions : Instructions) → raw ≡ false → AreInstructionsValid raw instructions → ¬ IsRaw instructions

@@ -1,5 +1,5 @@
 -- What the items of element segments are like.
-use Rattle.std.proofs.Common.{◌≡◌, ◌∙◌, ℕ, ◌≤◌, Bool, true, false, List, [], length, refl, sym, inl, inr, arith}
+use Rattle.std.proofs.Common.{◌≡◌, ◌∙◌, ℕ, ◌≤◌, Bool, true, false, List, [], length, refl, ap, inl, inr, arith}
 use Rattle.std.specs.Prelude.{All, slice_index_or}
 use Rattle.std.proofs.lemmas.Option.{slice_get-get_or, slice_get_within, get_or_from_slice_get}
 use Rattle.smith_bytes.specs.declared.error.Error.{Error}
@@ -8,7 +8,8 @@ use Rattle.smith_types.specs.Expressions.{Context}
 use Rattle.smith_types.specs.Flags.{IsElementEnabled}
 use Rattle.smith_types.specs.Segments.{table_index}
 use Rattle.smith_types.specs.declared.entity_type.TableType.{TableType}
-use Rattle.smith_types.specs.declared.composite_type.SubType.{SubType}
+use Rattle.smith_types.specs.Types.{IsOrderly}
+use Rattle.smith_types.specs.declared.value_type.ValType.TheVariants.{Ref}
 use Rattle.smith_types.specs.declared.value_type.RefType.{RefType}
 use Rattle.smith_types.proofs.GroupGrowthLemmas.{AreTypesOpen-at, AreTypesOpen-start}
 use Rattle.smith_config.specs.declared.config.Config.{Config}
@@ -18,12 +19,14 @@ use Rattle.smith_draw.specs.Choices.{chosen_at}
 use Rattle.smith_draw.specs.Kept.{IsSharingEnabled}
 use Rattle.smith_draw.specs.MatchingTypes.{matching_ref_type_at}
 use Rattle.smith_draw.specs.declared.spaces.Spaces.{Spaces}
-use Rattle.smith_draw.proofs.ChosenLemmas.{matching_without_gc}
-use Rattle.smith_draw.proofs.MatchingLemmas.{matching_ref_below, matching_ref_valid, matching_ref_nullable}
-use Rattle.smith_draw.proofs.NullableLemmas.{ref_type_nullable}
+use Rattle.smith_draw.proofs.ChosenLemmas.{references_without_gc}
+use Rattle.smith_draw.proofs.FilledLemmas.{ref_type_filled, matching_ref_ungrounded}
+use Rattle.smith_draw.specs.ConstBounds.{IsUngrounded}
+use Rattle.smith_draw.specs.Grounding.{standing_in}
+use Rattle.smith_draw.proofs.MatchingLemmas.{matching_ref_below, matching_ref_valid}
 use Rattle.smith_draw.proofs.TableTypeLemmas.{element_enabled}
 use Rattle.smith_draw.proofs.ValueTypeLemmas.{ref_type_drawn}
-use Rattle.smith_contents.specs.DrawnElements.{IsOffered, FitsAddresses, FitsTable, HasNonNullableElements, MayDrawElements, MayHoldItems, MayRefuseItems, MayRefuseSegment}
+use Rattle.smith_contents.specs.DrawnElements.{IsOffered, FitsAddresses, FitsTable, HasUngroundedElements, MayDrawElements, MayHoldItems, MayRefuseItems, MayRefuseSegment}
 use Rattle.smith_contents.specs.ElementSegments.{KindChoice, item_type_at, chosen_functions_at, expression_item_at, drawn_expressions_at}
 use Rattle.smith_contents.specs.declared.element_kinds.KindChoice.TheVariants as choice
 
@@ -34,58 +37,58 @@ sharing config spaces may k d inside =
     let open_types = AreTypesOpen-start (features_of config) (length space.types) space (omega arith) may.standing.types in
     (AreTypesOpen-at (features_of config) (length space.types) space open_types k (slice_index_or space.types k d) (slice_get-get_or space.types k d inside)).enabled.shared
 
-matching_same : (config : Config) (types : List SubType) (element : RefType) (bytes : List ℕ) → config.gc_enabled ≡ false → (matching_ref_type_at config types element bytes).0 ≡ element
-unfolding matching_ref_type_at
-matching_same config types element bytes off = rw (matching_without_gc config types element.heap_type bytes off) refl
+matching_same : (config : Config) (context : Context) (element : RefType) (bytes : List ℕ) → config.gc_enabled ≡ false → (matching_ref_type_at config context element bytes).0 ≡ element
+matching_same config context element bytes off = ap (λ (drawn : RefType × List ℕ). drawn.0) (references_without_gc config context element bytes off)
 
 -- a type that matches an element type is enabled where that is
-matching_enabled : (config : Config) (types : List SubType) (element : RefType) (bytes : List ℕ) (gc : Bool) → config.gc_enabled ≡ gc → IsSanitized config → IsElementEnabled (features_of config) element → IsElementEnabled (features_of config) (matching_ref_type_at config types element bytes).0
-matching_enabled config types element bytes true is sanitized enabled other = sanitized.gc is
-matching_enabled config types element bytes false is sanitized enabled other = enabled (λ same. other (matching_same config types element bytes is ∙ same))
+matching_enabled : (config : Config) (context : Context) (element : RefType) (bytes : List ℕ) (gc : Bool) → config.gc_enabled ≡ gc → IsSanitized config → IsElementEnabled (features_of config) element → IsElementEnabled (features_of config) (matching_ref_type_at config context element bytes).0
+matching_enabled config context element bytes true is sanitized enabled other = sanitized.gc is
+matching_enabled config context element bytes false is sanitized enabled other = enabled (λ same. other (matching_same config context element bytes is ∙ same))
 
 -- a segment may hold items of the type that is drawn
 pub item_type_may : (config : Config) (spaces : Spaces) (kind : KindChoice) (bytes : List ℕ) → MayDrawElements config spaces → IsOffered config spaces.types.now.types spaces.entities.tables.now kind
-    → MayHoldItems config spaces (item_type_at config spaces.types.now.types kind bytes).0
+    → MayHoldItems config spaces (item_type_at config (standing_in config spaces) kind bytes).0
 unfolding item_type_at
 item_type_may config spaces choice.Passive bytes may offered = record {
   standing = may.standing;
-  valid = (ref_type_drawn config spaces.types.now.types false (length spaces.types.now.types) bytes may.sanitized (λ never. cc)).valid;
-  enabled = element_enabled config spaces.types.now.types false (length spaces.types.now.types) bytes;
+  valid = (ref_type_drawn config (standing_in config spaces) false (length spaces.types.now.types) bytes may.sanitized (λ never. cc)).valid;
+  enabled = element_enabled config (standing_in config spaces) false (length spaces.types.now.types) bytes;
 }
 item_type_may config spaces choice.Declared bytes may offered = record {
   standing = may.standing;
-  valid = (ref_type_drawn config spaces.types.now.types false (length spaces.types.now.types) bytes may.sanitized (λ never. cc)).valid;
-  enabled = element_enabled config spaces.types.now.types false (length spaces.types.now.types) bytes;
+  valid = (ref_type_drawn config (standing_in config spaces) false (length spaces.types.now.types) bytes may.sanitized (λ never. cc)).valid;
+  enabled = element_enabled config (standing_in config spaces) false (length spaces.types.now.types) bytes;
 }
 item_type_may config spaces (choice.Active index table) bytes may offered =
     let types = spaces.types.now.types in
     record {
       standing = may.standing;
-      valid = (matching_ref_valid config types table.element_type bytes).against (length types) (omega arith) (sharing config spaces may) offered.valid.element;
-      enabled = matching_enabled config types table.element_type bytes config.gc_enabled refl may.sanitized offered.valid.element_enabled;
+      valid = (matching_ref_valid config (standing_in config spaces) table.element_type bytes).against (length types) (omega arith) (sharing config spaces may) offered.valid.element;
+      enabled = matching_enabled config (standing_in config spaces) table.element_type bytes config.gc_enabled refl may.sanitized offered.valid.element_enabled;
     }
 
--- a reference that is needed, and may not be null, is an element of a table
-pub item_type_needed : (config : Config) (types : List SubType) (tables : List TableType) (kind : KindChoice) (bytes : List ℕ) → IsOffered config types tables kind → (item_type_at config types kind bytes).0.nullable ≡ false → HasNonNullableElements tables
+-- a reference that is needed, may not be null and is not grounded, is an element of a table
+pub item_type_needed : (config : Config) (context : Context) (tables : List TableType) (kind : KindChoice) (bytes : List ℕ) → IsOrderly context.types → IsOffered config context.types tables kind → IsUngrounded config context (Ref (item_type_at config context kind bytes).0)
+    → HasUngroundedElements config context tables
 unfolding item_type_at
-item_type_needed config types tables choice.Passive bytes offered needed = absurd (cc (sym (ref_type_nullable config types false (length types) bytes) ∙ needed))
-item_type_needed config types tables choice.Declared bytes offered needed = absurd (cc (sym (ref_type_nullable config types false (length types) bytes) ∙ needed))
-item_type_needed config types tables (choice.Active index table) bytes offered needed =
+item_type_needed config context tables choice.Passive bytes orderly offered needed = absurd (ref_type_filled config context orderly false (length context.types) bytes needed)
+item_type_needed config context tables choice.Declared bytes orderly offered needed = absurd (ref_type_filled config context orderly false (length context.types) bytes needed)
+item_type_needed config context tables (choice.Active index table) bytes orderly offered needed =
     let place = table_index index in
-    (place, table, slice_get_within tables place table offered.stands, get_or_from_slice_get tables place table table offered.stands, sym (matching_ref_nullable config types table.element_type bytes) ∙ needed)
+    (place, table, slice_get_within tables place table offered.stands, get_or_from_slice_get tables place table table offered.stands, matching_ref_ungrounded config context orderly table.element_type bytes needed)
 
 -- a segment is refused where its items are
-pub segment_refused : (config : Config) (types : List SubType) (tables : List TableType) (ty : RefType) (e : Error) → (ty.nullable ≡ false → HasNonNullableElements tables) → MayRefuseItems config types ty e → MayRefuseSegment config types tables e
-segment_refused config types tables ty e from_table (inl unmet) = inl unmet
-segment_refused config types tables ty e from_table (inr (empty, inl needed)) = inr (empty, inr (from_table needed))
-segment_refused config types tables ty e from_table (inr (empty, inr field)) = inr (empty, inl field)
+pub segment_refused : (config : Config) (context : Context) (tables : List TableType) (ty : RefType) (e : Error) → (IsUngrounded config context (Ref ty) → HasUngroundedElements config context tables) → MayRefuseItems config context ty e → MayRefuseSegment config context tables e
+segment_refused config context tables ty e from_table (inl unmet) = inl unmet
+segment_refused config context tables ty e from_table (inr (empty, inl needed)) = inr (empty, inr (from_table needed))
+segment_refused config context tables ty e from_table (inr (empty, inr field)) = inr (empty, inl field)
 
 -- the type that is drawn fits the table
-pub item_type_fits : (config : Config) (types : List SubType) (kind : KindChoice) (bytes : List ℕ) → FitsTable types kind (item_type_at config types kind bytes).0
+pub item_type_fits : (config : Config) (context : Context) (kind : KindChoice) (bytes : List ℕ) → FitsTable context.types kind (item_type_at config context kind bytes).0
 unfolding item_type_at
-item_type_fits config types choice.Passive bytes = tt
-item_type_fits config types choice.Declared bytes = tt
-item_type_fits config types (choice.Active index table) bytes = matching_ref_below config types table.element_type bytes
+item_type_fits config context choice.Passive bytes = tt
+item_type_fits config context choice.Declared bytes = tt
+item_type_fits config context (choice.Active index table) bytes = matching_ref_below config context table.element_type bytes
 
 -- the table of a kind that is offered
 pub fits_addresses : (config : Config) (spaces : Spaces) (kind : KindChoice) → IsOffered config spaces.types.now.types spaces.entities.tables.now kind → FitsAddresses kind

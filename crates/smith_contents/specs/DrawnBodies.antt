@@ -2,7 +2,7 @@
 use Rattle.std.specs.Prelude.{ℕ, Bool, false, List, [], take, drop, if◌then◌else◌}
 use Rattle.smith_bytes.specs.Draws.{bool_at, len_at}
 use Rattle.smith_bytes.specs.Growth.{grow_at}
-use Rattle.smith_types.specs.declared.composite_type.SubType.{SubType}
+use Rattle.smith_types.specs.Expressions.{Context}
 use Rattle.smith_types.specs.declared.code.Code.{Code}
 use Rattle.smith_types.specs.declared.code.Instructions.{Instructions}
 use Rattle.smith_types.specs.declared.code.Instructions.TheVariants.{Unreachable, Arbitrary}
@@ -23,13 +23,13 @@ instructions_at config bytes =
     let raw = is_raw_at config bytes in
     if raw.0 then raw_bytes_at raw.1 else (Unreachable, raw.1)
 
--- the locals of a body over the types that stand, then what it does
-unfoldable pub body_at : Config → List SubType → List ℕ → Code × List ℕ
-body_at config types bytes =
-    let locals = locals_at config types bytes in
+-- the locals of a body over these types and functions, then what it does
+unfoldable pub body_at : Config → Context → List ℕ → Code × List ℕ
+body_at config context bytes =
+    let locals = locals_at config context bytes in
     let instructions = instructions_at config locals.1 in
     (record { locals = locals.0; instructions = instructions.0 }, instructions.1)
 
 -- a body for each of a number of functions
-unfoldable pub bodies_at : Config → List SubType → ℕ → List ℕ → List Code × List ℕ
-bodies_at config types count bytes = grow_at (λ _. body_at config types) count count [] bytes
+unfoldable pub bodies_at : Config → Context → ℕ → List ℕ → List Code × List ℕ
+bodies_at config context count bytes = grow_at (λ _. body_at config context) count count [] bytes

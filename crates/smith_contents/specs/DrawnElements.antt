@@ -25,7 +25,7 @@ use Rattle.smith_config.specs.declared.config.Config.{Config}
 use Rattle.smith_config.specs.Faults.{Passes}
 use Rattle.smith_config.specs.Features.{features_of}
 use Rattle.smith_config.specs.Sanitized.{IsSanitized}
-use Rattle.smith_draw.specs.ConstBounds.{HoldsNonNullableField, MayLack}
+use Rattle.smith_draw.specs.ConstBounds.{IsUngrounded, HoldsUngroundedField, MayLack}
 use Rattle.smith_draw.specs.ConstFloats.{GivesNoFloat}
 use Rattle.smith_draw.specs.ConstScopes.{AreSpacesValid}
 use Rattle.smith_draw.specs.declared.spaces.Spaces.{Spaces}
@@ -58,7 +58,7 @@ abbrev pub FitsAddresses : KindChoice → Type 0
 FitsAddresses (choice.Active index table) = table.minimum ≤ most_elements table.table64
 FitsAddresses _ = Unit {0}
 
--- an offset into a table, and where nothing may trap, how many items end within the least elements from it on
+-- an offset into a table, and with `disallow_traps` how many items end within the least elements from it on
 pub record IsPlaced (config : Config) (context : Context) (table : TableType) (offset : Offset) (hint : Option ℕ) : Type 0 where
   pub valid : IsOffsetValid context table.table64 offset
   pub inside : IsTrue config.disallow_traps → IsSomeAnd hint (λ most. IsOffsetInside offset most table.minimum)
@@ -86,7 +86,7 @@ pub record AreItemsFit (config : Config) (context : Context) (ty : RefType) (ite
   pub enough : HasItems config context.types context.funcs items
   pub floats : All HasNoFloat context.types → All (All GivesNoFloat) (expressions_of items)
 
--- a segment may stand in the module: it is valid, has enough items without a float, and where nothing may trap, what is copied
+-- a segment may stand in the module: it is valid, has enough items without a float, and with `disallow_traps` what is copied
 -- fits
 pub record IsElementFit (config : Config) (context : Context) (tables : List TableType) (segment : ElementSegment) : Type 0 where
   pub valid : IsElementValid context tables segment
@@ -94,29 +94,29 @@ pub record IsElementFit (config : Config) (context : Context) (tables : List Tab
   pub enough : HasItems config context.types context.funcs segment.items
   pub floats : All HasNoFloat context.types → All (All GivesNoFloat) (expressions_of segment.items)
 
--- the elements of a table may not be null
-abbrev pub HasNonNullableElements : List TableType → Type 0
-HasNonNullableElements tables = Any (λ (table : TableType). table.element_type.nullable ≡ false) tables
+-- the elements of a table may not be null, and, where `non_nullable_enabled` is set, are not grounded
+abbrev pub HasUngroundedElements : Config → Context → List TableType → Type 0
+HasUngroundedElements config context tables = Any (λ (table : TableType). IsUngrounded config context (Ref table.element_type)) tables
 
--- where there may be nothing to choose from for an item of a segment: a field of a type, or an element of a table, is a reference
--- that may not be null
-abbrev pub MayLackItem : List SubType → List TableType → Type 0
-MayLackItem types tables = HoldsNonNullableField types ⊎ HasNonNullableElements tables
+-- where there may be nothing to choose from for an item of a segment: a field of a type, or an element of a table, is such a
+-- reference
+abbrev pub MayLackItem : Config → Context → List TableType → Type 0
+MayLackItem config context tables = HoldsUngroundedField config context ⊎ HasUngroundedElements config context tables
 
 -- when items that are functions are refused: memory runs out, or more are asked for than may be
 abbrev pub MayRefuseFunctions : Config → Error → Type 0
 MayRefuseFunctions config e = (e ≡ Memory) ⊎ ((e ≡ IncorrectFormat (Unmet counts.Elements)) × (0 < config.min_elements))
 
 -- when items of a type are refused: so, or there is nothing to choose from
-abbrev pub MayRefuseItems : Config → List SubType → RefType → Error → Type 0
-MayRefuseItems config types ty e = MayRefuseFunctions config e ⊎ ((e ≡ EmptyChoose) × MayLack types (Ref ty))
+abbrev pub MayRefuseItems : Config → Context → RefType → Error → Type 0
+MayRefuseItems config context ty e = MayRefuseFunctions config e ⊎ ((e ≡ EmptyChoose) × MayLack config context (Ref ty))
 
 -- when a segment beside these tables is refused
-abbrev pub MayRefuseSegment : Config → List SubType → List TableType → Error → Type 0
-MayRefuseSegment config types tables e = MayRefuseFunctions config e ⊎ ((e ≡ EmptyChoose) × MayLackItem types tables)
+abbrev pub MayRefuseSegment : Config → Context → List TableType → Error → Type 0
+MayRefuseSegment config context tables e = MayRefuseFunctions config e ⊎ ((e ≡ EmptyChoose) × MayLackItem config context tables)
 
 -- when element segments are refused: one of them is, or no kind is offered
-abbrev pub MayRefuseElements : Config → List SubType → List TableType → Error → Type 0
-MayRefuseElements config types tables e =
-    MayRefuseSegment config types tables e
+abbrev pub MayRefuseElements : Config → Context → List TableType → Error → Type 0
+MayRefuseElements config context tables e =
+    MayRefuseSegment config context tables e
     ⊎ ((e ≡ IncorrectFormat (Unmet counts.ElementSegments)) × (0 < config.min_element_segments) × (config.bulk_memory_enabled ≡ false))

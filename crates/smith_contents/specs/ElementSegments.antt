@@ -29,6 +29,7 @@ use Rattle.smith_config.specs.declared.config.Config.{Config}
 use Rattle.smith_draw.specs.Choices.{chosen_at}
 use Rattle.smith_draw.specs.ConstExprs.{const_expr_at}
 use Rattle.smith_draw.specs.ConstOffers.{readable_globals}
+use Rattle.smith_draw.specs.Grounding.{without_globals}
 use Rattle.smith_draw.specs.MatchingTypes.{matching_ref_type_at}
 use Rattle.smith_draw.specs.Offsets.{offset_at}
 use Rattle.smith_draw.specs.TypeUses.{places_from}
@@ -76,7 +77,7 @@ kept_kinds config = if config.bulk_memory_enabled then choice.Passive ∷ choice
 unfoldable pub kinds_at : Config → List TableType → List ℕ → List KindChoice × List ℕ
 kinds_at config tables bytes = table_kinds_at config (kept_kinds config) 0 tables bytes
 
--- the globals that an offset may be read from: none where nothing may trap
+-- the globals that an offset may be read from: none with `disallow_traps`
 abbrev pub offset_globals : Config → Context → TableType → List ℕ
 offset_globals config context table = if config.disallow_traps then [] else readable_globals context (address_type table.table64)
 
@@ -88,8 +89,8 @@ most_offset config table = if config.disallow_traps then table.minimum else most
 abbrev pub constant_offset : TableType → ℕ → Offset
 constant_offset table offset = if table.table64 then Const64 (cast_signed w64 offset) else Const32 (cast_signed w32 offset)
 
--- how many elements fit between an offset and the minimum, where a segment is to fit: where nothing may trap, and in ten of
--- eleven cases where it can
+-- how many elements fit between an offset and the minimum, where a segment is to fit: with `disallow_traps`, and without it in ten
+-- of eleven cases where it can
 unfoldable pub hint_at : Config → TableType → ℕ → List ℕ → Option ℕ × List ℕ
 hint_at config table offset bytes =
     if config.disallow_traps then (Some (table.minimum - offset), bytes)
@@ -124,9 +125,9 @@ kind_at config context (choice.Active index table) bytes =
     ((element.Active index offset.0.0, offset.0.1), offset.1)
 
 -- the type of the items: one below that of the table's elements, and any where there is no table
-unfoldable pub item_type_at : Config → List SubType → KindChoice → List ℕ → RefType × List ℕ
-item_type_at config types (choice.Active index table) bytes = matching_ref_type_at config types table.element_type bytes
-item_type_at config types _ bytes = ref_type_at config types false (length types) bytes
+unfoldable pub item_type_at : Config → Context → KindChoice → List ℕ → RefType × List ℕ
+item_type_at config context (choice.Active index table) bytes = matching_ref_type_at config context table.element_type bytes
+item_type_at config context _ bytes = ref_type_at config context false (length context.types) bytes
 
 -- the most items of a segment, behind `total` items in all segments before
 abbrev pub most_items : Config → Option ℕ → ℕ → ℕ
@@ -192,7 +193,7 @@ unfoldable pub element_segment_at : Config → Context → List KindChoice → �
 element_segment_at config context kinds total bytes = do
   let chosen = chosen_at choice.Passive kinds bytes
   let kind = kind_at config context chosen.0 chosen.1
-  let ty = item_type_at config context.types chosen.0 kind.1
+  let ty = item_type_at config (without_globals context) chosen.0 kind.1
   items ← items_at config context ty.0 (most_items config kind.0.1 total) ty.1
   Ok (record { kind = kind.0.0; ty = ty.0; items = items.0 }, items.1)
 

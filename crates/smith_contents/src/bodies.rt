@@ -4,14 +4,15 @@ ghost use Rattle.smith_types.specs.Bodies.{IsBodyValid};
 ghost use Rattle.smith_types.specs.Floats.{IsNoFloat};
 ghost use Rattle.smith_config.specs.Features.{features_of};
 ghost use Rattle.smith_config.specs.Sanitized.{IsSanitized};
+ghost use Rattle.smith_draw.specs.Grounding.{standing_in};
 ghost use Rattle.smith_draw.specs.Drawing.{AlwaysDraws, Draws};
 ghost use Rattle.smith_contents.specs.DrawnBodies.{raw_bytes_at, is_raw_at, instructions_at, body_at, bodies_at};
 ghost use Rattle.smith_contents.specs.Held.{IsRaw};
 
 use smith_bytes::{Error, Unstructured};
 use smith_config::Config;
-use smith_draw::{Entities, Spaces, arbitrary_locals};
-use smith_types::{Code, Instructions, Items, TypeSpace};
+use smith_draw::{Spaces, arbitrary_locals};
+use smith_types::{Code, Instructions, Items};
 use std::alloc::Global;
 
 /// Draws a length, and takes that number of bytes.
@@ -57,7 +58,7 @@ fn draw_body(
     u: &mut Unstructured<'_>,
 ) -> Result<Code, Error>
     requires { IsSanitized config.now }
-    ensures { Draws (body_at config.now spaces.now.types.now.types u.old) result u.old u.new }
+    ensures { Draws (body_at config.now (standing_in config.now spaces.now) u.old) result u.old u.new }
 {
     let locals = arbitrary_locals(alloc, config, spaces, u)?;
     let instructions = draw_instructions(alloc, config, u)?;
@@ -71,38 +72,37 @@ fn draw_body(
 fn draw_bodies(
     alloc: Global,
     config: &Config,
-    types: &TypeSpace,
+    spaces: &Spaces<'_>,
     count: usize,
     u: &mut Unstructured<'_>,
 ) -> Result<Items<Code>, Error>
     requires { IsSanitized config.now }
-    ensures { Draws (bodies_at config.now types.now.types count u.old) result u.old u.new }
+    ensures { Draws (bodies_at config.now (standing_in config.now spaces.now) count u.old) result u.old u.new }
 {
-    let entities = Entities::none();
-    let spaces = Spaces { types, entities };
     let mut bodies = Items::with_capacity(alloc, count)?;
     for made in 0..count {
-        bodies.push(draw_body(alloc, config, &spaces, u)?)?;
+        bodies.push(draw_body(alloc, config, spaces, u)?)?;
     }
     Ok(bodies)
 }
 
-/// Draws the bodies of `count` functions: locals over `types`, then `unreachable`, or raw bytes where `config` allows these.
+/// Draws the bodies of `count` functions: locals over the types and functions of `spaces`, then `unreachable`, or raw bytes where
+/// `config` allows these.
 ///
 /// `config` is sanitised.
 pub fn arbitrary_bodies(
     alloc: Global,
     config: &Config,
-    types: &TypeSpace,
+    spaces: &Spaces<'_>,
     count: usize,
     u: &mut Unstructured<'_>,
 ) -> Result<Items<Code>, Error>
     requires { IsSanitized config.now }
-    ensures draws { Draws (bodies_at config.now types.now.types count u.old) result u.old u.new }
+    ensures draws { Draws (bodies_at config.now (standing_in config.now spaces.now) count u.old) result u.old u.new }
     ensures each { IfOk result (λ bodies. length bodies ≡ count) }
-    ensures valid { IfOk result (All (IsBodyValid (features_of config.now) (length types.now.types) config.now.allow_invalid_funcs)) }
+    ensures valid { IfOk result (All (IsBodyValid (features_of config.now) (length spaces.now.types.now.types) config.now.allow_invalid_funcs)) }
     ensures floats { config.now.allow_floats ≡ false → IfOk result (λ bodies. All IsNoFloat (flat_map (λ body. body.locals) bodies)) }
     ensures no_raw { config.now.allow_invalid_funcs ≡ false → IfOk result (λ bodies. ¬ Any (λ body. IsRaw body.instructions) bodies) }
 {
-    draw_bodies(alloc, config, types, count, u)
+    draw_bodies(alloc, config, spaces, count, u)
 }

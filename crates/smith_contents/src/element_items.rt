@@ -7,12 +7,13 @@ ghost use Rattle.smith_types.specs.declared.segments.Elements.TheVariants as lis
 ghost use Rattle.smith_types.specs.declared.value_type.RefType.{RefType};
 ghost use Rattle.smith_types.specs.declared.value_type.ValType.TheVariants.{Ref};
 ghost use Rattle.smith_config.specs.Sanitized.{IsSanitized};
-ghost use Rattle.smith_draw.specs.ConstBounds.{MayRefuseConstExpr};
+ghost use Rattle.smith_draw.specs.Grounding.{standing_in};
+ghost use Rattle.smith_draw.specs.ConstBounds.{IsUngrounded, MayRefuseConstExpr};
 ghost use Rattle.smith_draw.specs.ConstFloats.{GivesNoFloat};
 ghost use Rattle.smith_draw.specs.ConstScopes.{AreSpacesValid, seen_by};
 ghost use Rattle.smith_draw.specs.Drawing.{AlwaysDraws, Draws};
 ghost use Rattle.smith_imports.specs.Steps.{Gives};
-ghost use Rattle.smith_contents.specs.DrawnElements.{IsOffered, FitsTable, AreItemsFit, MayDrawElements, MayHoldItems, MayRefuseFunctions, MayRefuseItems, HasNonNullableElements};
+ghost use Rattle.smith_contents.specs.DrawnElements.{IsOffered, FitsTable, AreItemsFit, MayDrawElements, MayHoldItems, MayRefuseFunctions, MayRefuseItems, HasUngroundedElements};
 ghost use Rattle.smith_contents.specs.ElementSegments.{
   item_type_at,
   is_funcref,
@@ -44,7 +45,7 @@ fn draw_type_for(
     u: &mut Unstructured<'_>,
 ) -> Result<RefType, Error>
     requires { IsSanitized config.now }
-    ensures { Draws (item_type_at config.now spaces.now.types.now.types choice u.old) result u.old u.new }
+    ensures { Draws (item_type_at config.now (standing_in config.now spaces.now) choice u.old) result u.old u.new }
 {
     let limit = spaces.types.types().len() as u32;
     match choice {
@@ -65,10 +66,10 @@ pub(crate) fn draw_item_type(
 ) -> Result<RefType, Error>
     requires may { MayDrawElements config.now spaces.now }
     requires offered { IsOffered config.now spaces.now.types.now.types spaces.now.entities.tables.now choice }
-    ensures draws { Draws (item_type_at config.now spaces.now.types.now.types choice u.old) result u.old u.new }
+    ensures draws { Draws (item_type_at config.now (standing_in config.now spaces.now) choice u.old) result u.old u.new }
     ensures may { IfOk result (MayHoldItems config.now spaces.now) }
     ensures fits { IfOk result (FitsTable spaces.now.types.now.types choice) }
-    ensures needed { IfOk result (λ ty. ty.nullable ≡ false → HasNonNullableElements spaces.now.entities.tables.now) }
+    ensures needed { IfOk result (λ ty. IsUngrounded config.now (standing_in config.now spaces.now) (Ref ty) → HasUngroundedElements config.now (standing_in config.now spaces.now) spaces.now.entities.tables.now) }
 {
     draw_type_for(alloc, config, spaces, choice, u)
 }
@@ -202,7 +203,7 @@ fn draw_expression_item(
     ensures exact { IfOk result (λ drawn. expression_item_at config.now (seen_by config.now spaces.now true) ty u.old ≡ (drawn, u.new)) }
     ensures typed { IfOk result (IsConstExpr (seen_by config.now spaces.now true) (Ref ty)) }
     ensures floats { All HasNoFloat spaces.now.types.now.types → IfOk result (All GivesNoFloat) }
-    ensures refusal { IfErr result (MayRefuseConstExpr spaces.now.types.now.types (Ref ty)) }
+    ensures refusal { IfErr result (MayRefuseConstExpr config.now (standing_in config.now spaces.now) (Ref ty)) }
     ensures left { KeepsPieces u.old u.new }
 {
     arbitrary_const_expr(alloc, config, spaces, ValType::Ref(ty), true, u)
@@ -222,7 +223,7 @@ fn draw_each_expression(
     ensures exact { IfOk result (λ drawn. drawn_expressions_at config.now (seen_by config.now spaces.now true) ty most u.old ≡ (drawn, u.new)) }
     ensures typed { IfOk result (All (IsConstExpr (seen_by config.now spaces.now true) (Ref ty))) }
     ensures floats { All HasNoFloat spaces.now.types.now.types → IfOk result (All (All GivesNoFloat)) }
-    ensures refusal { IfErr result (MayRefuseConstExpr spaces.now.types.now.types (Ref ty)) }
+    ensures refusal { IfErr result (MayRefuseConstExpr config.now (standing_in config.now spaces.now) (Ref ty)) }
     ensures left { KeepsPieces u.old u.new }
 {
     let mut items = Items::new(alloc);
@@ -249,7 +250,7 @@ fn draw_expressions(
     ensures exact { Gives (λ items. (items, u.new)) result (expressions_at config.now (seen_by config.now spaces.now true) ty most u.old) }
     ensures few { IfOk result (λ items. length items ≤ most) }
     ensures fit { IfOk result (λ items. AreItemsFit config.now (seen_by config.now spaces.now true) ty (listed.Expressions items)) }
-    ensures refusal { IfErr result (MayRefuseItems config.now spaces.now.types.now.types ty) }
+    ensures refusal { IfErr result (MayRefuseItems config.now (standing_in config.now spaces.now) ty) }
     ensures left { KeepsPieces u.old u.new }
 {
     ask_enough(config, most)?;
@@ -270,7 +271,7 @@ pub(crate) fn draw_items(
     ensures exact { Gives (λ items. (items, u.new)) result (items_at config.now (seen_by config.now spaces.now true) ty most u.old) }
     ensures few { IfOk result (λ items. item_count items ≤ most) }
     ensures fit { IfOk result (AreItemsFit config.now (seen_by config.now spaces.now true) ty) }
-    ensures refusal { IfErr result (MayRefuseItems config.now spaces.now.types.now.types ty) }
+    ensures refusal { IfErr result (MayRefuseItems config.now (standing_in config.now spaces.now) ty) }
     ensures left { KeepsPieces u.old u.new }
 {
     if are_functions(config, ty, u) {

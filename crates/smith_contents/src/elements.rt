@@ -5,6 +5,7 @@ ghost use Rattle.smith_bytes.specs.Takes.{Takes};
 ghost use Rattle.smith_types.specs.Floats.{HasNoFloat};
 ghost use Rattle.smith_types.specs.Segments.{item_count, IsElementValid, IsElementInside};
 ghost use Rattle.smith_types.specs.declared.segments.ElementSegment.{ElementSegment};
+ghost use Rattle.smith_draw.specs.Grounding.{standing_in};
 ghost use Rattle.smith_draw.specs.ConstFloats.{GivesNoFloat};
 ghost use Rattle.smith_draw.specs.ConstScopes.{seen_by};
 ghost use Rattle.smith_bytes.specs.Spelling.{SpellsEmpty};
@@ -55,7 +56,7 @@ fn draw_segment(
     ensures within { IfOk result (λ segment. total + item_count segment.items ≤ config.now.max_elements) }
     ensures exact { Gives (λ segment. (segment, u.new)) result (element_segment_at config.now (seen_by config.now spaces.now true) kinds.now total u.old) }
     ensures fit { IfOk result (IsElementFit config.now (seen_by config.now spaces.now true) spaces.now.entities.tables.now) }
-    ensures refusal { IfErr result (MayRefuseSegment config.now spaces.now.types.now.types spaces.now.entities.tables.now) }
+    ensures refusal { IfErr result (MayRefuseSegment config.now (standing_in config.now spaces.now) spaces.now.entities.tables.now) }
     ensures left { KeepsPieces u.old u.new }
 {
     let choice = kinds.choose(u);
@@ -90,7 +91,7 @@ fn draw_segments(
     ensures exact { Gives (λ segments. (segments, u.new)) result (element_segments_at config.now (seen_by config.now spaces.now true) kinds.now config.now.max_element_segments [] u.old) }
     ensures fit { IfOk result (All (IsElementFit config.now (seen_by config.now spaces.now true) spaces.now.entities.tables.now)) }
     ensures most { IfOk result (λ segments. (length segments ≤ config.now.max_element_segments) × (items_in segments ≤ config.now.max_elements)) }
-    ensures refusal { IfErr result (MayRefuseSegment config.now spaces.now.types.now.types spaces.now.entities.tables.now) }
+    ensures refusal { IfErr result (MayRefuseSegment config.now (standing_in config.now spaces.now) spaces.now.entities.tables.now) }
     ensures left { KeepsPieces u.old u.new }
 {
     let mut segments = Items::new(alloc);
@@ -128,7 +129,7 @@ fn draw_elements(
     ensures exact { Gives (λ segments. (segments, u.new)) result (elements_at config.now (seen_by config.now spaces.now true) spaces.now.entities.tables.now u.old) }
     ensures fit { IfOk result (All (IsElementFit config.now (seen_by config.now spaces.now true) spaces.now.entities.tables.now)) }
     ensures most { IfOk result (λ segments. (length segments ≤ config.now.max_element_segments) × (items_in segments ≤ config.now.max_elements)) }
-    ensures refusal { IfErr result (MayRefuseElements config.now spaces.now.types.now.types spaces.now.entities.tables.now) }
+    ensures refusal { IfErr result (MayRefuseElements config.now (standing_in config.now spaces.now) spaces.now.entities.tables.now) }
     ensures left { KeepsPieces u.old u.new }
 {
     let kinds = offer_kinds(alloc, config, spaces, u)?;
@@ -149,7 +150,8 @@ fn draw_elements(
 ///
 /// `Unmet(ElementSegments)` where `config` asks for segments without bulk memory, and no table may be copied into;
 /// `Unmet(Elements)` where a segment may have fewer than `min_elements` items; `EmptyChoose` where nothing gives an item, which
-/// comes only where a field of a type, or an element of a table, is a reference that may not be null.
+/// comes only where a field of a type, or an element of a table, is a reference that may not be null, and, where `config` has
+/// references that aren't nullable, none that a struct type or a function of `spaces` grounds.
 pub fn arbitrary_elements(
     alloc: Global,
     config: &Config,
@@ -166,7 +168,7 @@ pub fn arbitrary_elements(
     ensures floats { All HasNoFloat spaces.now.types.now.types → IfOk result (λ segments. All (All GivesNoFloat) (flat_map (λ (segment : ElementSegment). expressions_of segment.items) segments)) }
     ensures none { config.now.min_element_segments ≡ 0 → spaces.now.entities.tables.now ≡ []
         → IfOk result (λ segments. Takes (SpellsEmpty (SpellsNone (if config.now.bulk_memory_enabled then config.now.max_element_segments else 0))) u.old segments u.new) }
-    ensures refusal { IfErr result (MayRefuseElements config.now spaces.now.types.now.types spaces.now.entities.tables.now) }
+    ensures refusal { IfErr result (MayRefuseElements config.now (standing_in config.now spaces.now) spaces.now.entities.tables.now) }
     ensures left { KeepsPieces u.old u.new }
 {
     draw_elements(alloc, config, spaces, u)

@@ -6,6 +6,7 @@ use Rattle.std.proofs.lemmas.List.{length-map}
 use Rattle.std.proofs.lemmas.List.Elements.{All-nil, All-weaker, recursion_from_All}
 use Rattle.smith_types.specs.Entities.{AreEntitiesValid, AreCountsEnabled}
 use Rattle.smith_types.specs.Grown.{Extends, IsContextGrown, AreSpacesGrown}
+use Rattle.smith_types.specs.Expressions.{Context}
 use Rattle.smith_types.specs.Imports.{IndexSpaces, Defines}
 use Rattle.smith_types.specs.Space.{Space}
 use Rattle.smith_types.specs.declared.composite_type.SubType.{SubType}
@@ -17,14 +18,14 @@ use Rattle.smith_config.specs.Faults.{Passes}
 use Rattle.smith_config.specs.Features.{features_of}
 use Rattle.smith_config.specs.Sanitized.{IsSanitized}
 use Rattle.smith_contents.proofs.PlaceOfListLemmas.{slice_get-behind}
-use Rattle.smith_imports.specs.Imported.{HasNoFloatValue}
-use Rattle.smith_definitions.specs.Defined.{nothing_defined, HasRoom, AreWithin, MayDefine, StandsBehind, AreFilled, AreDefinedMore, AreGlobalsDefined, HaveNoFloats, standing_in}
+use Rattle.smith_imports.specs.Imported.{HasNoFloatValue, HasGroundedElements}
+use Rattle.smith_definitions.specs.Defined.{nothing_defined, AreAdded, HasRoom, AreWithin, MayDefine, StandsBehind, AreFilled, AreDefinedMore, AreGlobalsDefined, HaveNoFloats, standing_in}
 use Rattle.smith_definitions.specs.DefinedTables.{IsTableFit, AreTablesDrawn}
 use Rattle.smith_definitions.specs.Definitions.{Standing, Table, standing_over, standing_among, context_at, table_scope}
 use Rattle.smith_definitions.specs.Module.{IsTableInitialised}
 use Rattle.smith_definitions.specs.declared.definitions.Definitions.{Definitions}
 use Rattle.smith_definitions.proofs.ExtensionLemmas.{all_kept}
-use Rattle.smith_definitions.proofs.DefinedTableLemmas.{initialised_at}
+use Rattle.smith_definitions.proofs.DefinedTableLemmas.{initialised_at, tables_added}
 use Rattle.smith_definitions.proofs.InitialLemmas.{IsTableInitialised-grown}
 use Rattle.smith_definitions.proofs.StandsBehindLemmas.{IsTablePlaced, defined_end, left_over, table_kept, global_kept}
 
@@ -172,7 +173,15 @@ module _ (config : Config) (imported : IndexSpaces) (space : Space) (before late
   }
 
 pub defined_more : (config : Config) (space : Space) (before later : IndexSpaces) (so_far defined : Definitions) → AddsTo config space before so_far later defined → AreDefinedMore config space before so_far later defined
-defined_more config space before later so_far defined adds = record { filled = adds.filled; stands = λ imported now. stands_later config imported space before later so_far defined adds now }
+defined_more config space before later so_far defined adds =
+    let drawn : ℕ → Context = λ imported. record { features = features_of config; types = space.types; funcs = later.funcs; globals = []; imported_funcs = imported; imported_globals = 0; visible = 0 } in
+    let whole = ap length adds.filled.funcs.extends.parts ∙ length-append before.funcs adds.filled.funcs.extends.more in
+    let same : length before.funcs - so_far.num_funcs ≡ length later.funcs - defined.num_funcs = omega (arith, whole, adds.num_funcs) in
+    record {
+      filled = adds.filled;
+      grounded = subst (λ (imported : ℕ). AreAdded (HasGroundedElements config (drawn imported)) before.tables later.tables) same (tables_added (HasGroundedElements config (drawn (length before.funcs - so_far.num_funcs))) (λ one fit. fit.grounded) adds.tables);
+      stands = λ imported now. stands_later config imported space before later so_far defined adds now;
+    }
 
 -- items may be defined behind what stands behind imports
 pub may_define_behind : {config : Config} {imported : IndexSpaces} {space : Space} {spaces : IndexSpaces} {defined : Definitions} → Passes config → IsSanitized config → config.min_types ≤ length space.types → length space.types < 2 ^ 32 → HasRoom spaces 0

@@ -1,12 +1,11 @@
 -- What tables are like that stand behind imported ones, with their initialisers.
-use Rattle.std.proofs.Common.{◌≡◌, ℕ, zero, suc, ◌<◌, ◌≤◌, Bool, true, false, ◌&&◌, cond, List, [], ◌∷◌, ◌++◌, map, length, refl, ap, subst, arith, inl, inr}
+use Rattle.std.proofs.Common.{◌≡◌, ℕ, zero, suc, ◌<◌, ◌≤◌, Bool, true, false, ◌&&◌, cond, List, [], ◌∷◌, ◌++◌, map, length, refl, ap, subst, arith}
 use Rattle.std.specs.Prelude.{Option, Some, None, All, IfSome, IsSome, IsTrue, slice_get}
 use Rattle.std.specs.List.{flat_map, AllByRecursion as Each}
 use Rattle.std.proofs.lemmas.Bool.{and_right}
 use Rattle.std.proofs.lemmas.List.{append-nil}
 use Rattle.std.proofs.lemmas.Grind.{flat_map-append}
 use Rattle.std.proofs.lemmas.List.Elements.{All-nil, All-cons, All-append, All-map, All-weaker, recursion_from_All}
-use Rattle.smith_bytes.specs.declared.error.Error.{Error}
 use Rattle.smith_bytes.specs.Takes.{Takes}
 use Rattle.smith_bytes.proofs.SpelledLemmas.{takes_by}
 use Rattle.smith_types.specs.Entities.{IsTableValid}
@@ -16,20 +15,19 @@ use Rattle.smith_types.specs.declared.const_instr.ConstInstr.{ConstInstr}
 use Rattle.smith_types.specs.declared.entity_type.TableType.{TableType}
 use Rattle.smith_types.specs.declared.value_type.ValType.TheVariants.{Ref}
 use Rattle.smith_types.specs.declared.value_type.RefType.{RefType}
-use Rattle.smith_types.specs.declared.composite_type.SubType.{SubType}
 use Rattle.smith_types.proofs.HeldValueLemmas.{all_of_parts}
 use Rattle.smith_config.specs.declared.config.Config.{Config}
 use Rattle.smith_config.specs.Features.{features_of}
 use Rattle.smith_config.specs.Sanitized.{IsSanitized}
 use Rattle.smith_draw.specs.Bounds.{IsTableWithin}
-use Rattle.smith_draw.specs.ConstBounds.{MayRefuseConstExpr}
 use Rattle.smith_draw.specs.ConstExprs.{table_init_at}
 use Rattle.smith_draw.specs.ConstFloats.{GivesNoFloat}
 use Rattle.smith_draw.specs.ConstScopes.{AreSpacesValid, seen_by}
 use Rattle.smith_draw.specs.TableTypes.{table_type_at}
 use Rattle.smith_draw.specs.declared.spaces.Spaces.{Spaces}
 use Rattle.smith_bytes.specs.Spelling.{SpellsEmpty}
-use Rattle.smith_definitions.specs.Defined.{IsFilled, AreAdded, MayInitialise, MayRefuseDrawn, standing_of}
+use Rattle.smith_imports.specs.Imported.{HasGroundedElements}
+use Rattle.smith_definitions.specs.Defined.{IsFilled, AreAdded, MayInitialise, drawn_over, standing_of}
 use Rattle.smith_definitions.specs.DefinedTables.{IsTableFit, AreTablesDrawn}
 use Rattle.smith_definitions.specs.Definitions.{Standing, Table, table_at, tables_at, table_scope}
 use Rattle.smith_definitions.specs.Promises.{initial_of}
@@ -56,28 +54,40 @@ spaces_valid config spaces may all = record {
 
 -- a table is that of its draws
 pub table_is : (config : Config) (spaces : Spaces) (bytes mid after : List ℕ) (table : TableType) (initial : Option (List ConstInstr)) → spaces.entities.imported_globals ≡ length spaces.entities.globals.now
-    → table_type_at config spaces.types.now.types bytes ≡ (table, mid) → table_init_at config (seen_by config spaces false) table.element_type mid ≡ Some (initial, after) → table_at config (standing_of spaces) bytes ≡ ((table, initial), after)
+    → table_type_at config (drawn_over config (standing_of spaces)) bytes ≡ (table, mid) → table_init_at config (seen_by config spaces false) table.element_type mid ≡ Some (initial, after) → table_at config (standing_of spaces) bytes ≡ ((table, initial), after)
 unfolding table_at
 table_is config spaces bytes mid after table initial all type_drawn init_drawn = rw (type_drawn, ← seen_by_table config spaces all, init_drawn) refl
 
+null_where : (b : Bool) → (b ≡ false → ⊥) → b ≡ true
+null_where true not_so = refl
+null_where false not_so = absurd (not_so refl)
+
+on_where : (on : Bool) (P : Type 0) → (on ≡ true → P) → (on ≡ false → ⊥) → P
+on_where true P holds never = holds refl
+on_where false P holds never = absurd (never refl)
+
+-- elements that may not be null are there only with garbage collection
+pub needs_gc : (config : Config) (element : RefType) → IsSanitized config → (config.non_nullable_enabled ≡ false → element.nullable ≡ true) → element.nullable ≡ false → config.gc_enabled ≡ true
+needs_gc config element sanitized nullable not_null = on_where config.non_nullable_enabled (config.gc_enabled ≡ true) sanitized.non_nullable (λ off. let null = nullable off in cc)
+
 pub table_fit : (config : Config) (spaces : Spaces) (table : TableType) (initial : Option (List ConstInstr)) → spaces.entities.imported_globals ≡ length spaces.entities.globals.now
-    → IsTableValid (features_of config) spaces.types.now.types table → IsTableWithin config table → table.element_type.nullable ≡ true
+    → IsTableValid (features_of config) spaces.types.now.types table → IsTableWithin config table → HasGroundedElements config (drawn_over config (standing_of spaces)) table → (table.element_type.nullable ≡ false → IsSome initial)
     → IfSome initial (IsConstExpr (seen_by config spaces false) (Ref table.element_type)) → (IsSome initial → IsTrue config.gc_enabled) → (All HasNoFloat spaces.types.now.types → IfSome initial (All GivesNoFloat))
     → IsTableFit config (standing_of spaces) (table, initial)
-table_fit config spaces table None all valid within nullable typed gc floats = record { valid = valid; within = within; nullable = nullable; initialised = nullable; floats = λ calm. All-nil (All GivesNoFloat) }
-table_fit config spaces table (Some expression) all valid within nullable typed gc floats = record {
+table_fit config spaces table None all valid within grounded needed typed gc floats = record {
   valid = valid;
   within = within;
-  nullable = nullable;
+  grounded = grounded;
+  initialised = null_where table.element_type.nullable (λ not_null. absurd (let some = needed not_null in cc));
+  floats = λ calm. All-nil (All GivesNoFloat);
+}
+table_fit config spaces table (Some expression) all valid within grounded needed typed gc floats = record {
+  valid = valid;
+  within = within;
+  grounded = grounded;
   initialised = (gc refl, rw (seen_by_table config spaces all) at typed);
   floats = λ calm. All-cons (All GivesNoFloat) expression [] (floats calm) (All-nil (All GivesNoFloat));
 }
-
--- the initialiser of a table, whose elements may be null, is refused as any that is drawn
-pub table_refused : (types : List SubType) (element : RefType) (e : Error) → element.nullable ≡ true → MayRefuseConstExpr types (Ref element) e → MayRefuseDrawn types e
-table_refused types element e nullable (inl memory) = inl memory
-table_refused types element e nullable (inr (empty, inl strict)) = absurd cc
-table_refused types element e nullable (inr (empty, inr holds)) = inr (empty, holds)
 
 -- what holds of the tables that were drawn holds of those that were added, and beside imported ones of all
 pub tables_added : (P : TableType → Type 0) {config : Config} {standing : Standing} {imported space : List TableType} {old initials : List (Option (List ConstInstr))}

@@ -12,9 +12,10 @@ use Rattle.smith_types.specs.declared.entity_type.GlobalType.{GlobalType}
 use Rattle.smith_types.specs.declared.const_instr.ConstInstr.{ConstInstr}
 use Rattle.smith_types.specs.declared.const_instr.ConstInstr.TheVariants.{I32Const}
 use Rattle.smith_types.specs.declared.value_type.ValType.TheVariants.{I32}
-use Rattle.smith_types.specs.declared.composite_type.SubType.{SubType}
 use Rattle.smith_config.specs.declared.config.Config.{Config}
+use Rattle.smith_types.specs.Expressions.{Context}
 use Rattle.smith_draw.specs.GlobalTypes.{global_type_at}
+use Rattle.smith_draw.specs.Grounding.{without_globals}
 use Rattle.smith_draw.specs.SpelledGlobals.{mutable_i32, SpellsMutableI32}
 use Rattle.smith_draw.specs.SpelledConstants.{SpellsConstExpr}
 use Rattle.smith_draw.proofs.GlobalTypeLemmas.{global_type_taken}
@@ -35,11 +36,11 @@ numbered index number = (mutable_i32, (index, I32Const number ∷ []))
 same_pair : {A B : Type 0} (r : A × B) (x : A) (y : B) → r.0 ≡ x → r.1 ≡ y → r ≡ (x, y)
 same_pair r x y e f = λ i. (e i, f i)
 
-type_read : (config : Config) (types : List SubType) (piece after : List ℕ) → SpellsMutableI32 config piece → global_type_at config types (piece ++ after) ≡ (mutable_i32, after)
-type_read config types piece after h =
+type_read : (config : Config) (context : Context) (piece after : List ℕ) → SpellsMutableI32 config piece → global_type_at config context (piece ++ after) ≡ (mutable_i32, after)
+type_read config context piece after h =
     let old = piece ++ after in
-    let drawn = global_type_at config types old in
-    let takes = global_type_taken config types old drawn.0 drawn.1 refl in
+    let drawn = global_type_at config context old in
+    let takes = global_type_taken config context old drawn.0 drawn.1 refl in
     same_pair drawn mutable_i32 after
     (takes.made mutable_i32 piece after (record { holds = refl; spelled = h }) refl)
     (takes.left mutable_i32 piece after (record { holds = refl; spelled = h }) refl)
@@ -53,8 +54,8 @@ global_read config standing before made number piece after mutable h =
     let constant : SpellsConstExpr config (I32Const number ∷ []) h.second = record { number = number; alone = refl; spelled = h.is_second } in
     rw (
       joined_parts h after,
-      type_read config standing.types h.first (h.second ++ after) h.is_first,
-      constant_read scope config.limit_arrays_in_const_exprs config.const_expr_fuel config (I32Const number ∷ []) h.second after (mutable_not_read scope I32 mutable) refl constant,
+      type_read config (without_globals scope) h.first (h.second ++ after) h.is_first,
+      constant_read scope config.const_expr_fuel config (I32Const number ∷ []) h.second after (mutable_not_read scope I32 mutable) refl constant,
     ) refl
 
 -- globals and constants for these numbers are behind those that were made

@@ -1,5 +1,5 @@
 -- What is defined with one more entity, and when it is refused.
-use Rattle.std.proofs.Common.{◌≡◌, ◌∙◌, ℕ, ◌+◌, false, true, List, [], ◌∷◌, ◌++◌, length, inl, inr, refl, sym, ap, subst}
+use Rattle.std.proofs.Common.{◌≡◌, ◌∙◌, ℕ, ◌+◌, Bool, false, true, List, [], ◌∷◌, ◌++◌, length, inl, inr, refl, sym, ap, subst}
 use Rattle.std.specs.Prelude.{Option, Some, None, Result, Ok, Err, IsErrAnd, IfOk, IfErr}
 use Rattle.smith_bytes.specs.declared.error.Error.{Error}
 use Rattle.smith_bytes.specs.declared.error.Error.TheVariants.{Memory, EmptyChoose}
@@ -16,6 +16,11 @@ use Rattle.smith_types.specs.declared.value_type.ValType.TheVariants.{Ref}
 use Rattle.smith_config.specs.declared.config.Config.{Config}
 use Rattle.smith_draw.specs.ConstBounds.{MayRefuseConstExpr}
 use Rattle.smith_draw.specs.ConstExprs.{const_expr_at, table_init_at}
+use Rattle.smith_draw.specs.ConstScopes.{seen_by}
+use Rattle.smith_draw.specs.Grounding.{standing_in, without_globals}
+use Rattle.smith_draw.specs.declared.spaces.Spaces.{Spaces}
+use Rattle.smith_draw.proofs.NullableLemmas.{ungrounded_not_null}
+use Rattle.smith_definitions.specs.Defined.{drawn_beside}
 use Rattle.smith_definitions.specs.Required.{MayRefuseInitial}
 use Rattle.smith_definitions.specs.RequiredExports.{Answers, scope_beside, made_of, with_table, with_global, defined_with_at}
 use Rattle.smith_definitions.specs.declared.definitions.Definitions.{Definitions}
@@ -25,15 +30,15 @@ pub answered : {X Y : Type 0} (view : X → Y) (result : Result X Error) (read :
 answered view (Ok x) read memory exact = exact
 answered view (Err e) read memory exact = subst (λ (one : Error). Answers view (Err one) read) (sym memory) tt
 
-refused_so : {X Y : Type 0} (view : X → Y) (types : List SubType) (wanted : ValType) (e : Error) (read : Result Y Error) → MayRefuseConstExpr types wanted e → (e ≡ EmptyChoose → read ≡ Err EmptyChoose) → Answers view (Err e) read
-refused_so view types wanted e read (inl memory) none = subst (λ (one : Error). Answers view (Err one) read) (sym memory) tt
-refused_so view types wanted e read (inr (empty, lacking)) none = subst (λ (one : Error). Answers view (Err one) read) (sym empty) (none empty)
+refused_so : {X Y : Type 0} (view : X → Y) (config : Config) (context : Context) (wanted : ValType) (e : Error) (read : Result Y Error) → MayRefuseConstExpr config context wanted e → (e ≡ EmptyChoose → read ≡ Err EmptyChoose) → Answers view (Err e) read
+refused_so view config context wanted e read (inl memory) none = subst (λ (one : Error). Answers view (Err one) read) (sym memory) tt
+refused_so view config context wanted e read (inr (empty, lacking)) none = subst (λ (one : Error). Answers view (Err one) read) (sym empty) (none empty)
 
 -- so is the refusal of an initialiser, where there is nothing to choose from
-pub refused_initial : {X Y : Type 0} (view : X → Y) (result : Result X Error) (types : List SubType) (wanted : ValType) (e : Error) (read : Result Y Error) → IsErrAnd result (λ y. y ≡ e) → MayRefuseConstExpr types wanted e
+pub refused_initial : {X Y : Type 0} (view : X → Y) (result : Result X Error) (config : Config) (context : Context) (wanted : ValType) (e : Error) (read : Result Y Error) → IsErrAnd result (λ y. y ≡ e) → MayRefuseConstExpr config context wanted e
     → (e ≡ EmptyChoose → read ≡ Err EmptyChoose) → Answers view result read
-refused_initial view (Ok x) types wanted e read passed refusal none = absurd passed
-refused_initial view (Err y) types wanted e read passed refusal none = subst (λ (one : Error). Answers view (Err one) read) (sym passed) (refused_so view types wanted e read refusal none)
+refused_initial view (Ok x) config context wanted e read passed refusal none = absurd passed
+refused_initial view (Err y) config context wanted e read passed refusal none = subst (λ (one : Error). Answers view (Err one) read) (sym passed) (refused_so view config context wanted e read refusal none)
 
 module _ (config : Config) (types : List SubType) (spaces : IndexSpaces) (defined : Definitions) (context : Context) (bytes : List ℕ) where
   -- a table is defined with the initialiser that is drawn, unless there is nothing to choose from
@@ -73,8 +78,18 @@ module _ (config : Config) (types : List SubType) (spaces : IndexSpaces) (define
   unfolding defined_with_at
   func_counted is = rw is refl
 
--- the refusal of a table's initialiser is that of the table's
-pub table_refused : (types : List SubType) (table : TableType) (added : EntityType) (e : Error) → added ≡ entity.Table table → MayRefuseConstExpr types (Ref table.element_type) e → MayRefuseInitial types added e
-table_refused types table added e is (inl memory) = inl memory
-table_refused types table added e is (inr (empty, inl strict)) = inr (empty, inl (rw is strict))
-table_refused types table added e is (inr (empty, inr holds)) = inr (empty, inr holds)
+-- the refusal of an initialiser is that of the table or the global that has it
+pub table_refused : (config : Config) (context : Context) (table : TableType) (added : EntityType) (e : Error) → added ≡ entity.Table table → MayRefuseConstExpr config context (Ref table.element_type) e → MayRefuseInitial config context added e
+table_refused config context table added e is (inl memory) = inl memory
+table_refused config context table added e is (inr (empty, inl lacks)) = inr (empty, inl (rw is lacks.0))
+table_refused config context table added e is (inr (empty, inr holds)) = inr (empty, inr holds)
+
+pub global_refused : (config : Config) (context : Context) (global : GlobalType) (added : EntityType) (e : Error) → added ≡ entity.Global global → MayRefuseConstExpr config context global.val_type e → MayRefuseInitial config context added e
+global_refused config context global added e is (inl memory) = inl memory
+global_refused config context global added e is (inr (empty, inl lacks)) = inr (empty, inl (rw is (ungrounded_not_null config context global.val_type lacks)))
+global_refused config context global added e is (inr (empty, inr holds)) = inr (empty, inr holds)
+
+-- what an initialiser may refer to says over what it is drawn
+pub refused_beside : (config : Config) (types : List SubType) (spaces : IndexSpaces) (defined : Definitions) (within : Spaces) (allow_defined : Bool) (wanted : ValType) (e : Error) → seen_by config within allow_defined ≡ scope_beside config types spaces defined allow_defined
+    → MayRefuseConstExpr config (standing_in config within) wanted e → MayRefuseConstExpr config (drawn_beside config types spaces defined) wanted e
+refused_beside config types spaces defined within allow_defined wanted e same h = subst (λ (context : Context). MayRefuseConstExpr config (without_globals context) wanted e) same h

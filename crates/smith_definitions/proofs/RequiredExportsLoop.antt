@@ -13,6 +13,7 @@ use Rattle.smith_bytes.specs.declared.error.Error.{Error}
 use Rattle.smith_bytes.specs.declared.error.Error.TheVariants as errors
 use Rattle.smith_bytes.specs.declared.error.Why.TheVariants.{SeveralMemories, SeveralTables}
 use Rattle.smith_types.specs.Exports.{AreDistinct, AreExportsStanding, AreExportsValid}
+use Rattle.smith_types.specs.Expressions.{Context}
 use Rattle.smith_types.specs.Grown.{Extends, AreSpacesGrown}
 use Rattle.smith_types.specs.Imports.{IndexSpaces}
 use Rattle.smith_types.specs.Space.{Space}
@@ -24,13 +25,13 @@ use Rattle.smith_types.proofs.ListLemmas.{slice_get-grown, AllZip-weaker}
 use Rattle.smith_config.specs.declared.config.Config.{Config}
 use Rattle.smith_config.specs.declared.shape.Shape.{Shape}
 use Rattle.smith_config.specs.Shapes.{most_listed, shape_types, shape_spaces, shape_values}
-use Rattle.smith_draw.specs.ConstBounds.{IsNonNullable, HoldsNonNullableField}
+use Rattle.smith_draw.specs.ConstBounds.{IsNonNullable, HoldsUngroundedField}
 use Rattle.smith_draw.specs.FuncSizes.{HasFewValues}
 use Rattle.smith_definitions.specs.Bounds.{counts_as}
 use Rattle.smith_imports.specs.ShapeImports.{count_in}
 use Rattle.smith_contents.specs.Exported.{IsStanding}
 use Rattle.smith_definitions.proofs.RequiredLimitLemmas.{no_limits, limits_both}
-use Rattle.smith_definitions.specs.Defined.{StandsBehind}
+use Rattle.smith_definitions.specs.Defined.{StandsBehind, drawn_beside}
 use Rattle.smith_definitions.specs.Required.{AddsLimitsOf, IsKeptType, MayRequire, MayDefineMore, IsRequiredMore, AreRequired, MayLackIn, MayRefuseExported, MayRefuseRequired}
 use Rattle.smith_definitions.specs.RequiredExports.{Answers, Required, entity_of, standing_with, export_required_at, required_from, required_at}
 use Rattle.smith_definitions.specs.ShapesKept.{Export, IsSameExport, IsSameFuncType}
@@ -96,7 +97,7 @@ pub record AreRequiring (own_types : Bool) (config : Config) (shape : Shape) (ol
   pub types_counted : length types.types ≤ length old_types.types + sum_by (λ (each : Export). counts_as counts.Types each.1) (take place shape.exports)
   pub limits : AddsLimitsOf shape old spaces
   pub unchanged : own_types ≡ false → types ≡ old_types
-  pub lacking : HoldsNonNullableField types.types → HoldsNonNullableField old_types.types
+  pub lacking : HoldsUngroundedField config (drawn_beside config types.types spaces defined) → HoldsUngroundedField config (drawn_beside config old_types.types old old_defined)
   pub few_values : All (HasFewValues most_listed) old_types.types → All (HasFewValues most_listed) types.types
   pub may : MayDefineMore config types spaces defined (length shape.exports - place)
   pub shape_may : MayRequire own_types config shape types
@@ -219,13 +220,13 @@ module _ {own_types : Bool} {config : Config} {shape : Shape} {old_types types :
     pub one_stands : IsStanding (shape_spaces shape) one.1 one.2
     one_stands = subst (λ (each : Export). IsStanding (shape_spaces shape) each.1 each.2) (sym is) (now.shape_may.valid.consistent.exports.stand place one inside)
 
-    lacking_for : (e : Error) → (e ≡ errors.Memory) ⊎ ((e ≡ errors.EmptyChoose) × (Any IsNonNullable (shape_values shape) ⊎ HoldsNonNullableField types.types))
-        → (e ≡ errors.Memory) ⊎ ((e ≡ errors.EmptyChoose) × (Any IsNonNullable (shape_values shape) ⊎ HoldsNonNullableField old_types.types))
+    lacking_for : (e : Error) → (e ≡ errors.Memory) ⊎ ((e ≡ errors.EmptyChoose) × (Any IsNonNullable (shape_values shape) ⊎ HoldsUngroundedField config (drawn_beside config types.types spaces defined)))
+        → (e ≡ errors.Memory) ⊎ ((e ≡ errors.EmptyChoose) × (Any IsNonNullable (shape_values shape) ⊎ HoldsUngroundedField config (drawn_beside config old_types.types old old_defined)))
     lacking_for e (inl memory) = inl memory
     lacking_for e (inr (empty, inl strict)) = inr (empty, inl strict)
     lacking_for e (inr (empty, inr holds)) = inr (empty, inr (now.lacking holds))
 
-    pub refused_for : (e : Error) → MayRefuseExported config types.types shape one e → MayRefuseRequired config old_types.types shape e
+    pub refused_for : (e : Error) → MayRefuseExported config (drawn_beside config types.types spaces defined) shape one e → MayRefuseRequired config (drawn_beside config old_types.types old old_defined) shape e
     refused_for (errors.IncorrectFormat SeveralMemories) (counted, few) = (some_counted (λ (each : Export). counts_as counts.Memories each.1) shape.exports place one inside is counted, few)
     refused_for (errors.IncorrectFormat SeveralTables) (counted, few) = (some_counted (λ (each : Export). counts_as counts.Tables each.1) shape.exports place one inside is counted, few)
     refused_for e refused = lacking_for e refused
@@ -255,7 +256,7 @@ not_empty : (e : Error) (A : Type 0) → (A → ⊥) → (e ≡ errors.Memory) �
 not_empty e A none (inl memory) = memory
 not_empty e A none (inr (empty, holds)) = absurd (none holds)
 
-pub only_memory : (config : Config) (types : List SubType) (shape : Shape) (e : Error) → (MayLackIn types shape → ⊥) → config.reference_types_enabled ≡ true → 2 ≤ config.max_memories → MayRefuseRequired config types shape e → e ≡ errors.Memory
-only_memory config types shape (errors.IncorrectFormat SeveralMemories) none on several (counted, few) = absurd (omega (arith, few, several))
-only_memory config types shape (errors.IncorrectFormat SeveralTables) none on several (counted, off) = absurd (cc (sym on ∙ off))
-only_memory config types shape e none on several refused = not_empty e (MayLackIn types shape) none refused
+pub only_memory : (config : Config) (context : Context) (shape : Shape) (e : Error) → (MayLackIn config context shape → ⊥) → config.reference_types_enabled ≡ true → 2 ≤ config.max_memories → MayRefuseRequired config context shape e → e ≡ errors.Memory
+only_memory config context shape (errors.IncorrectFormat SeveralMemories) none on several (counted, few) = absurd (omega (arith, few, several))
+only_memory config context shape (errors.IncorrectFormat SeveralTables) none on several (counted, off) = absurd (cc (sym on ∙ off))
+only_memory config context shape e none on several refused = not_empty e (MayLackIn config context shape) none refused

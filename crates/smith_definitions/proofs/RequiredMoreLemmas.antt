@@ -13,7 +13,7 @@ use Rattle.smith_types.specs.Entities.{IsTagValid, IsFuncValid, IsTableValid, Is
 use Rattle.smith_types.specs.Exports.{IsEntityAt}
 use Rattle.smith_types.specs.Expressions.{field_values}
 use Rattle.smith_types.specs.Features.{Features}
-use Rattle.smith_types.specs.Grown.{Extends}
+use Rattle.smith_types.specs.Grown.{Extends, IsContextGrown}
 use Rattle.smith_types.specs.HeldValues.{values_in}
 use Rattle.smith_types.specs.Imports.{IndexSpaces, tag_of}
 use Rattle.smith_types.specs.IndexSpaces.{with_entity}
@@ -37,7 +37,7 @@ use Rattle.smith_config.specs.declared.config.Config.{Config}
 use Rattle.smith_config.specs.declared.shape.Shape.{Shape}
 use Rattle.smith_config.specs.Features.{features_of}
 use Rattle.smith_config.specs.Shapes.{most_listed, space_of, shape_types, shape_spaces, shape_values, IsTypePlain, ArePlain}
-use Rattle.smith_draw.specs.ConstBounds.{IsNonNullable, HoldsNonNullableField}
+use Rattle.smith_draw.specs.ConstBounds.{IsNonNullable, IsUngrounded, HoldsUngroundedField}
 use Rattle.smith_draw.specs.ConstScopes.{fields_of}
 use Rattle.smith_draw.specs.FuncSizes.{HasFewValues}
 use Rattle.smith_contents.proofs.SizedLemmas.{shape_few}
@@ -46,7 +46,8 @@ use Rattle.smith_imports.specs.ShapeImports.{count_in}
 use Rattle.smith_imports.specs.Imported.{entity_spaces}
 use Rattle.smith_imports.specs.ImportedEntities.{kind_of}
 use Rattle.smith_definitions.proofs.RequiredLimitLemmas.{limits_more}
-use Rattle.smith_definitions.specs.Defined.{AreWithin, HasRoom}
+use Rattle.smith_draw.proofs.FilledLemmas.{any_weaker, fields_before, later_ungrounded}
+use Rattle.smith_definitions.specs.Defined.{AreWithin, HasRoom, drawn_beside}
 use Rattle.smith_definitions.specs.Required.{
   MayDefineMore,
   HasNoSupertypes,
@@ -134,16 +135,45 @@ module _ (features : Features) (types : List SubType) where
   one_alone spaces kind.Tag index one h (tag, at, is) = rw is (tag_alone tag (all_at (IsTagValid types) spaces.tags index tag h.tags at))
 
 -- a function type has no field that holds a reference
-no_field : (types : List SubType) (t : SubType) (function : FuncType) → t.composite_type.inner ≡ Func function → HoldsNonNullableField (types ++ t ∷ []) → HoldsNonNullableField types
-no_field types t function is (k, one, below, at, holds) =
+no_field : (config : Config) (types : List SubType) (t : SubType) (function : FuncType) → t.composite_type.inner ≡ Func function → (spaces : IndexSpaces) (defined : Definitions)
+    → HoldsUngroundedField config (drawn_beside config (types ++ t ∷ []) spaces defined) → HoldsUngroundedField config (drawn_beside config types spaces defined)
+no_field config types t function is spaces defined (k, one, below, at, holds) =
+    let before = drawn_beside config types spaces defined in
+    let Later = IsUngrounded config (drawn_beside config (types ++ t ∷ []) spaces defined) in
     let found : slice_get (types ++ t ∷ []) k ≡ Some one = slice_get-get_or (types ++ t ∷ []) k one below ∙ ap (λ (each : SubType). Some each) at in
     elim (slice_get-push types t k one found) [
-      | inl was ↦ (k, one, slice_get_within types k one was, get_or_from_slice_get types k one one was, holds)
+      | inl was ↦ (k, one, slice_get_within types k one was, get_or_from_slice_get types k one one was, any_weaker Later (IsUngrounded config before) (later_ungrounded config before types (t ∷ [])) (field_values (fields_of one.composite_type.inner)) holds)
       | inr (last, same) ↦
-          let none : Any IsNonNullable (field_values (fields_of (Func function))) = subst (λ inner. Any IsNonNullable (field_values (fields_of inner))) is (subst (λ (each : SubType). Any IsNonNullable (field_values (fields_of each.composite_type.inner))) (sym same) holds) in
+          let none : Any Later (field_values (fields_of (Func function))) = subst (λ inner. Any Later (field_values (fields_of inner))) is (subst (λ (each : SubType). Any Later (field_values (fields_of each.composite_type.inner))) (sym same) holds) in
           let (place, value, inside, at, strict) = none in
           absurd (omega (arith, inside))
     ]
+
+-- as many functions are imported beside one that is defined
+still_imported : (config : Config) (types : List SubType) (spaces later : IndexSpaces) (defined fuller : Definitions) (added : EntityType) → IsDefinedMore config types spaces defined later fuller added → length later.funcs - fuller.num_funcs ≡ length spaces.funcs - defined.num_funcs
+still_imported config types spaces later defined fuller (entity.Func index) more =
+    let longer = length-append spaces.funcs (index ∷ []) in
+    rw (more.spaces_are, more.initialised) (omega (arith, longer))
+still_imported config types spaces later defined fuller (entity.Tag index) more = rw (more.spaces_are, more.initialised) refl
+still_imported config types spaces later defined fuller (entity.Memory memory) more = rw (more.spaces_are, more.initialised) refl
+still_imported config types spaces later defined fuller (entity.Table table) more = let (given, is, initialised) = more.initialised in rw (more.spaces_are, is) refl
+still_imported config types spaces later defined fuller (entity.Global global) more = let (given, is, initialised) = more.initialised in rw (more.spaces_are, is) refl
+
+-- what holds no reference that is not grounded holds none beside one more entity
+lacking_before : (config : Config) (types : List SubType) (spaces later : IndexSpaces) (defined fuller : Definitions) (added : EntityType) → IsDefinedMore config types spaces defined later fuller added
+    → HoldsUngroundedField config (drawn_beside config types later fuller) → HoldsUngroundedField config (drawn_beside config types spaces defined)
+lacking_before config types spaces later defined fuller added more =
+    let funcs : Extends spaces.funcs later.funcs = rw more.spaces_are (spaces_grown spaces added).funcs in
+    let growth : IsContextGrown (drawn_beside config types spaces defined) (drawn_beside config types later fuller) = record {
+      features = refl;
+      types = all_kept types;
+      funcs = funcs;
+      globals = all_kept [];
+      imported_funcs = still_imported config types spaces later defined fuller added more;
+      imported_globals = refl;
+      visible = omega arith;
+    } in
+    fields_before config (drawn_beside config types spaces defined) (drawn_beside config types later fuller) growth refl
 
 -- types and an entity of a shape over those that stand
 pub record IsOver (own_types : Bool) (config : Config) (shape : Shape) (space types : Space) (of_kind : ExportKind) (theirs added : EntityType) : Type 0 where
@@ -155,7 +185,7 @@ pub record IsOver (own_types : Bool) (config : Config) (shape : Shape) (space ty
   pub entity : AreEntitiesValid (features_of config) types.types (entity_spaces added)
   pub enabled : 0 < length (tag_of added) → IsTrue config.exceptions_enabled
   pub unchanged : own_types ≡ false → types ≡ space
-  pub lacking : HoldsNonNullableField types.types → HoldsNonNullableField space.types
+  pub lacking : (spaces : IndexSpaces) (defined : Definitions) → HoldsUngroundedField config (drawn_beside config types.types spaces defined) → HoldsUngroundedField config (drawn_beside config space.types spaces defined)
   pub few_values : All (HasFewValues most_listed) space.types → All (HasFewValues most_listed) types.types
   pub same : IsKeptType own_types types.types (shape_types shape) added theirs
   pub kind : kind_of added ≡ of_kind
@@ -186,7 +216,7 @@ standing_over config shape space of_kind index theirs may valid at = record {
   entity = entities_longer (shape_types shape) space.types (entity_spaces theirs) (may.present refl) (one_alone (features_of config) (shape_types shape) (shape_spaces shape) of_kind index theirs may.valid.consistent.entities at);
   enabled = λ some. may.valid.counts.tags (some_tag (shape_spaces shape) of_kind index theirs at some);
   unchanged = λ off. refl;
-  lacking = λ holds. holds;
+  lacking = λ spaces defined holds. holds;
   few_values = λ few. few;
   same = refl;
   kind = kind_is (shape_spaces shape) of_kind index theirs at;
@@ -228,7 +258,7 @@ module _ (config : Config) (shape : Shape) (space : Space) (may : MayRequire tru
       entity = func_alone features (space.types ++ t ∷ []) (length space.types) (function, (t, own_stands, inner));
       enabled = λ some. absurd (let none : 0 < 0 = some in omega arith);
       unchanged = λ off. absurd cc;
-      lacking = no_field space.types t function inner;
+      lacking = no_field config space.types t function inner;
       few_values = own_few;
       same = own_same;
       kind = refl;
@@ -244,7 +274,7 @@ module _ (config : Config) (shape : Shape) (space : Space) (may : MayRequire tru
       entity = tag_alone features (space.types ++ t ∷ []) (length space.types) (function, (t, own_stands, inner), none);
       enabled = λ one. may.valid.counts.tags some;
       unchanged = λ off. absurd cc;
-      lacking = no_field space.types t function inner;
+      lacking = no_field config space.types t function inner;
       few_values = own_few;
       same = own_same;
       kind = refl;
@@ -262,7 +292,7 @@ module _ (config : Config) (shape : Shape) (space : Space) (may : MayRequire tru
     entity = fits;
     enabled = λ some. absurd (no_tag some);
     unchanged = λ off. refl;
-    lacking = λ holds. holds;
+    lacking = λ spaces defined holds. holds;
     few_values = λ few. few;
     same = same;
     kind = kind;
@@ -405,7 +435,7 @@ required_more {own_types = own_types} {config = config} {shape = shape} {space =
   types_counted = over.counted;
   limits = rw more.spaces_are (limits_more own_types types.types shape spaces one.2 theirs added over.same (rw over.kind (entity_stands (shape_spaces shape) one.1 one.2 theirs found)));
   unchanged = over.unchanged;
-  lacking = over.lacking;
+  lacking = λ holds. over.lacking spaces defined (lacking_before config types.types spaces later defined fuller added more holds);
   few_values = over.few_values;
   may = may_more config space types spaces defined over.grown over.valid added later fuller over.entity more;
   stands = λ imported now. stands_more config imported space types spaces defined now over.valid over.grown added later fuller over.entity over.enabled more;
@@ -455,15 +485,16 @@ never_null true space (entity.Func index) strict = strict
 never_null true space (entity.Tag index) strict = strict
 
 -- why an export is refused, where its entity is
-module _ (own_types : Bool) (config : Config) (shape : Shape) (space types : Space) (one : Export) (theirs added : EntityType) (found : entity_of (shape_spaces shape) one.1 one.2 ≡ Some theirs)
+module _ (own_types : Bool) (config : Config) (shape : Shape) (space types : Space) (spaces : IndexSpaces) (defined : Definitions) (one : Export) (theirs added : EntityType) (found : entity_of (shape_spaces shape) one.1 one.2 ≡ Some theirs)
     (is : added ≡ entity_over own_types space theirs) (over : IsOver own_types config shape space types one.1 theirs added) where
-  initial_refused : (e : Error) → MayRefuseInitial types.types added e → (e ≡ errors.Memory) ⊎ ((e ≡ errors.EmptyChoose) × (Any IsNonNullable (shape_values shape) ⊎ HoldsNonNullableField space.types))
+  initial_refused : (e : Error) → MayRefuseInitial config (drawn_beside config types.types spaces defined) added e
+      → (e ≡ errors.Memory) ⊎ ((e ≡ errors.EmptyChoose) × (Any IsNonNullable (shape_values shape) ⊎ HoldsUngroundedField config (drawn_beside config space.types spaces defined)))
   initial_refused e (inl memory) = inl memory
   initial_refused e (inr (empty, inl strict)) =
       inr (empty, inl (held (shape_types shape) (shape_spaces shape) one.1 one.2 theirs (entity_stands (shape_spaces shape) one.1 one.2 theirs found) (never_null own_types space theirs (subst IsNeverNull is strict))))
-  initial_refused e (inr (empty, inr holds)) = inr (empty, inr (over.lacking holds))
+  initial_refused e (inr (empty, inr holds)) = inr (empty, inr (over.lacking spaces defined holds))
 
-  pub export_refused : (e : Error) → MayRefuseEntity config types.types added e → MayRefuseExported config space.types shape one e
+  pub export_refused : (e : Error) → MayRefuseEntity config (drawn_beside config types.types spaces defined) added e → MayRefuseExported config (drawn_beside config space.types spaces defined) shape one e
   export_refused (errors.IncorrectFormat SeveralMemories) (counted, few) = (rw over.kind at counted, few)
   export_refused (errors.IncorrectFormat SeveralTables) (counted, few) = (rw over.kind at counted, few)
   export_refused e refused = initial_refused e refused

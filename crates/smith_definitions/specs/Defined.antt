@@ -1,10 +1,10 @@
 -- What holds of an index space once its definitions stand behind its imports.
-use Rattle.std.specs.Prelude.{◌≡◌, ℕ, ◌+◌, ◌<◌, ◌≤◌, ◌^◌, ◌⊎◌, max, Option, Some, List, [], ◌++◌, map, length, slice_get, All, if◌then◌else◌}
+use Rattle.std.specs.Prelude.{◌≡◌, ℕ, ◌+◌, ◌-◌, ◌<◌, ◌≤◌, ◌^◌, ◌⊎◌, max, Option, Some, List, [], ◌++◌, map, length, slice_get, All, if◌then◌else◌}
 use Rattle.std.specs.List.{flat_map}
 use Rattle.smith_bytes.specs.declared.error.Error.{Error}
 use Rattle.smith_bytes.specs.declared.error.Error.TheVariants as errors
 use Rattle.smith_types.specs.Entities.{IsFuncValid, IsGlobalValid, AreEntitiesValid, AreCountsEnabled}
-use Rattle.smith_types.specs.Expressions.{IsConstExpr}
+use Rattle.smith_types.specs.Expressions.{Context, IsConstExpr}
 use Rattle.smith_types.specs.Grown.{Extends}
 use Rattle.smith_types.specs.Imports.{IndexSpaces, Defines}
 use Rattle.smith_types.specs.Space.{Space}
@@ -18,11 +18,12 @@ use Rattle.smith_config.specs.Faults.{Passes}
 use Rattle.smith_config.specs.Features.{features_of}
 use Rattle.smith_config.specs.Sanitized.{IsSanitized}
 use Rattle.smith_draw.specs.Bounds.{IsTableWithin, IsMemoryWithin}
-use Rattle.smith_draw.specs.ConstBounds.{HoldsNonNullableField}
+use Rattle.smith_draw.specs.ConstBounds.{HoldsUngroundedField}
 use Rattle.smith_draw.specs.ConstFloats.{GivesNoFloat}
+use Rattle.smith_draw.specs.Grounding.{without_globals}
 use Rattle.smith_draw.specs.declared.spaces.Spaces.{Spaces}
-use Rattle.smith_definitions.specs.Definitions.{Standing, standing_over, context_at}
-use Rattle.smith_imports.specs.Imported.{HasNoFloatValue, HasNullableElements}
+use Rattle.smith_definitions.specs.Definitions.{Standing, standing_over, context_at, table_scope}
+use Rattle.smith_imports.specs.Imported.{HasNoFloatValue, HasGroundedElements}
 use Rattle.smith_definitions.specs.Module.{IsTableInitialised}
 use Rattle.smith_definitions.specs.Promises.{initial_of}
 use Rattle.smith_definitions.specs.Refusals.{MayRefuse}
@@ -59,9 +60,25 @@ pub record MayInitialise (config : Config) (space : Space) (standing : Standing)
   pub few_funcs : length standing.funcs < 2 ^ 32
   pub few_globals : length standing.imported_globals < 2 ^ 32
 
+-- what is drawn is over these types and functions
+abbrev pub drawn_over : Config → Standing → Context
+drawn_over config standing = without_globals (table_scope config standing)
+
+-- the same beside entities, of which those functions are imported that are not defined
+abbrev pub drawn_beside : Config → List SubType → IndexSpaces → Definitions → Context
+drawn_beside config types spaces defined = record {
+  features = features_of config;
+  types = types;
+  funcs = spaces.funcs;
+  globals = [];
+  imported_funcs = length spaces.funcs - defined.num_funcs;
+  imported_globals = 0;
+  visible = 0;
+}
+
 -- why an initialiser that is drawn may be refused: for want of memory, or where there may be nothing to choose from
-abbrev pub MayRefuseDrawn : List SubType → Error → Type 0
-MayRefuseDrawn types e = (e ≡ errors.Memory) ⊎ ((e ≡ errors.EmptyChoose) × HoldsNonNullableField types)
+abbrev pub MayRefuseDrawn : Config → Context → Error → Type 0
+MayRefuseDrawn config context e = (e ≡ errors.Memory) ⊎ ((e ≡ errors.EmptyChoose) × HoldsUngroundedField config context)
 
 -- what the initialisers of tables may refer to, over spaces whose globals are the imported ones
 abbrev pub standing_of : Spaces → Standing
@@ -108,8 +125,8 @@ pub record MayDefine (config : Config) (space : Space) (spaces : IndexSpaces) (d
   pub within : AreWithin spaces defined
 
 -- why definitions may be refused: so may a module be, or an initialiser that is drawn
-abbrev pub MayRefuseDefined : Config → List SubType → Error → Type 0
-MayRefuseDefined config types e = MayRefuse config e ⊎ MayRefuseDrawn types e
+abbrev pub MayRefuseDefined : Config → Context → Error → Type 0
+MayRefuseDefined config context e = MayRefuse config e ⊎ MayRefuseDrawn config context e
 
 -- what initialisers refer to, once functions are defined
 abbrev pub standing_in : List SubType → IndexSpaces → IndexSpaces → Standing
@@ -140,11 +157,11 @@ pub record AreFilled (config : Config) (before spaces : IndexSpaces) : Type 0 wh
   pub globals : IsFilled config.min_globals config.max_globals before.globals spaces.globals
   pub each_table : AreAdded (IsTableWithin config) before.tables spaces.tables
   pub each_memory : AreAdded (IsMemoryWithin config) before.memories spaces.memories
-  pub nullable_tables : AreAdded HasNullableElements before.tables spaces.tables
 
 -- index spaces hold what is defined behind what stood before, valid beside whatever was imported
 pub record AreDefinedMore (config : Config) (space : Space) (before : IndexSpaces) (so_far : Definitions) (spaces : IndexSpaces) (defined : Definitions) : Type 0 where
   pub filled : AreFilled config before spaces
+  pub grounded : AreAdded (HasGroundedElements config (drawn_beside config space.types spaces defined)) before.tables spaces.tables
   pub stands : (imported : IndexSpaces) → StandsBehind config imported space before so_far → StandsBehind config imported space spaces defined
 
 -- no global and no constant of what is defined is a float's

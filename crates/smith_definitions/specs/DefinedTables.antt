@@ -9,7 +9,8 @@ use Rattle.smith_config.specs.Features.{features_of}
 use Rattle.smith_draw.specs.Bounds.{IsTableWithin}
 use Rattle.smith_draw.specs.ConstFloats.{GivesNoFloat}
 use Rattle.smith_definitions.specs.Definitions.{Standing, Table, table_scope}
-use Rattle.smith_imports.specs.Imported.{HasNullableElements}
+use Rattle.smith_imports.specs.Imported.{HasGroundedElements}
+use Rattle.smith_definitions.specs.Defined.{drawn_over}
 use Rattle.smith_definitions.specs.Module.{IsTableInitialised}
 use Rattle.smith_definitions.specs.Promises.{initial_of}
 
@@ -17,7 +18,7 @@ use Rattle.smith_definitions.specs.Promises.{initial_of}
 pub record IsTableFit (config : Config) (standing : Standing) (one : Table) : Type 0 where
   pub valid : IsTableValid (features_of config) standing.types one.0
   pub within : IsTableWithin config one.0
-  pub nullable : HasNullableElements one.0
+  pub grounded : HasGroundedElements config (drawn_over config standing) one.0
   pub initialised : IsTableInitialised (table_scope config standing) one.0 one.1
   pub floats : All HasNoFloat standing.types → All (All GivesNoFloat) (initial_of one.1)
 

@@ -17,6 +17,7 @@ use Rattle.smith_config.specs.declared.config.Config.{Config}
 use Rattle.smith_config.specs.Features.{features_of}
 use Rattle.smith_draw.specs.Choices.{chosen_at}
 use Rattle.smith_draw.specs.ConstExprs.{const_expr_at, table_init_at}
+use Rattle.smith_draw.specs.Grounding.{without_globals}
 use Rattle.smith_draw.specs.GlobalTypes.{global_type_at}
 use Rattle.smith_draw.specs.Memories.{memtype_at}
 use Rattle.smith_draw.specs.TableTypes.{table_type_at}
@@ -102,7 +103,7 @@ Table = TableType × Option (List ConstInstr)
 -- where there is nothing to choose from for its initialiser, it has one that is no expression
 unfoldable pub table_at : Config → Standing → List ℕ → Table × List ℕ
 table_at config standing bytes =
-    let table = table_type_at config standing.types bytes in
+    let table = table_type_at config (without_globals (table_scope config standing)) bytes in
     let initial = unwrap_or (table_init_at config (table_scope config standing) table.0.element_type table.1) (Some [], table.1) in
     ((table.0, initial.0), initial.1)
 
@@ -123,7 +124,7 @@ globals_of before defined = before ++ map (λ (one : Global). one.0) defined
 -- a global behind those of a context, its index and its initialiser
 unfoldable pub initialised_at : Config → Context → List ℕ → Global × List ℕ
 initialised_at config context bytes =
-    let global = global_type_at config context.types bytes in
+    let global = global_type_at config (without_globals context) bytes in
     let initial = unwrap_or (const_expr_at config context global.0.val_type global.1) ([], global.1) in
     ((global.0, (length context.globals, initial.0)), initial.1)
 

@@ -9,7 +9,7 @@ use Rattle.smith_bytes.specs.declared.error.Which.{Which}
 use Rattle.smith_bytes.specs.declared.error.Which.TheVariants as which
 use Rattle.smith_bytes.specs.declared.error.Why.TheVariants.{SeveralMemories, SeveralTables}
 use Rattle.smith_types.specs.Entities.{AreEntitiesValid}
-use Rattle.smith_types.specs.Expressions.{IsConstExpr}
+use Rattle.smith_types.specs.Expressions.{Context, IsConstExpr}
 use Rattle.smith_types.specs.Grown.{Extends, AreSpacesGrown}
 use Rattle.smith_types.specs.Imports.{IndexSpaces}
 use Rattle.smith_types.specs.IndexSpaces.{with_entity}
@@ -25,11 +25,11 @@ use Rattle.smith_config.specs.declared.shape.Shape.{Shape}
 use Rattle.smith_config.specs.Features.{features_of}
 use Rattle.smith_config.specs.Sanitized.{IsSanitized}
 use Rattle.smith_config.specs.Shapes.{most_listed, shape_types, shape_spaces, shape_values, IsShapeValid}
-use Rattle.smith_draw.specs.ConstBounds.{IsNonNullable, HoldsNonNullableField}
+use Rattle.smith_draw.specs.ConstBounds.{IsNonNullable, HoldsUngroundedField}
 use Rattle.smith_draw.specs.FuncSizes.{HasFewValues}
 use Rattle.smith_definitions.specs.Bounds.{counts_as, exported_of}
 use Rattle.smith_imports.specs.ShapeImports.{count_in}
-use Rattle.smith_definitions.specs.Defined.{AreWithin, HasRoom, StandsBehind}
+use Rattle.smith_definitions.specs.Defined.{AreWithin, HasRoom, StandsBehind, drawn_beside}
 use Rattle.smith_imports.specs.ImportedEntities.{kind_of}
 use Rattle.smith_definitions.specs.Module.{IsTableInitialised}
 use Rattle.smith_definitions.specs.RequiredExports.{several, scope_beside, with_table, with_global}
@@ -76,14 +76,14 @@ IsNeverNull (entity.Global global) = IsNonNullable global.val_type
 IsNeverNull _ = ⊥
 
 -- why an initialiser of an entity may be refused: for want of memory, or where there may be nothing to choose from
-abbrev pub MayRefuseInitial : List SubType → EntityType → Error → Type 0
-MayRefuseInitial types added e = (e ≡ errors.Memory) ⊎ ((e ≡ errors.EmptyChoose) × (IsNeverNull added ⊎ HoldsNonNullableField types))
+abbrev pub MayRefuseInitial : Config → Context → EntityType → Error → Type 0
+MayRefuseInitial config context added e = (e ≡ errors.Memory) ⊎ ((e ≡ errors.EmptyChoose) × (IsNeverNull added ⊎ HoldsUngroundedField config context))
 
 -- why an entity may be refused: so may its initialiser, and a second memory or a second table without its feature
-abbrev pub MayRefuseEntity : Config → List SubType → EntityType → Error → Type 0
-MayRefuseEntity config types added (errors.IncorrectFormat SeveralMemories) = (counts_as counts.Memories (kind_of added) ≡ 1) × (config.max_memories ≤ 1)
-MayRefuseEntity config types added (errors.IncorrectFormat SeveralTables) = (counts_as counts.Tables (kind_of added) ≡ 1) × (config.reference_types_enabled ≡ false)
-MayRefuseEntity config types added e = MayRefuseInitial types added e
+abbrev pub MayRefuseEntity : Config → Context → EntityType → Error → Type 0
+MayRefuseEntity config context added (errors.IncorrectFormat SeveralMemories) = (counts_as counts.Memories (kind_of added) ≡ 1) × (config.max_memories ≤ 1)
+MayRefuseEntity config context added (errors.IncorrectFormat SeveralTables) = (counts_as counts.Tables (kind_of added) ≡ 1) × (config.reference_types_enabled ≡ false)
+MayRefuseEntity config context added e = MayRefuseInitial config context added e
 
 -- what the shape of a module is handed in for, where an entity has its own type or not
 abbrev pub use_of : Bool → Which
@@ -111,7 +111,7 @@ pub record IsRequiredMore (own_types : Bool) (config : Config) (shape : Shape) (
   pub types_counted : length types.types ≤ length old_types.types + counts_as counts.Types one.1
   pub limits : AddsLimitsOf shape old spaces
   pub unchanged : own_types ≡ false → types ≡ old_types
-  pub lacking : HoldsNonNullableField types.types → HoldsNonNullableField old_types.types
+  pub lacking : HoldsUngroundedField config (drawn_beside config types.types spaces defined) → HoldsUngroundedField config (drawn_beside config old_types.types old old_defined)
   pub few_values : All (HasFewValues most_listed) old_types.types → All (HasFewValues most_listed) types.types
   pub may : (more : ℕ) → MayDefineMore config old_types old old_defined (more + 1) → MayDefineMore config types spaces defined more
   pub stands : (imported : IndexSpaces) → StandsBehind config imported old_types old old_defined → StandsBehind config imported types spaces defined
@@ -126,23 +126,23 @@ pub record AreRequired (own_types : Bool) (config : Config) (shape : Shape) (old
   pub types_counted : length types.types ≤ length old_types.types + exported_of counts.Types shape
   pub limits : AddsLimitsOf shape old spaces
   pub unchanged : own_types ≡ false → types ≡ old_types
-  pub lacking : HoldsNonNullableField types.types → HoldsNonNullableField old_types.types
+  pub lacking : HoldsUngroundedField config (drawn_beside config types.types spaces defined) → HoldsUngroundedField config (drawn_beside config old_types.types old old_defined)
   pub few_values : All (HasFewValues most_listed) old_types.types → All (HasFewValues most_listed) types.types
   pub stands : (imported : IndexSpaces) → StandsBehind config imported old_types old old_defined → StandsBehind config imported types spaces defined
 
--- a shape holds a reference that may not be null, or types do
-abbrev pub MayLackIn : List SubType → Shape → Type 0
-MayLackIn types shape = Any IsNonNullable (shape_values shape) ⊎ HoldsNonNullableField types
+-- a shape holds a reference that may not be null, or a type holds one that, where the field is on, is not grounded
+abbrev pub MayLackIn : Config → Context → Shape → Type 0
+MayLackIn config context shape = Any IsNonNullable (shape_values shape) ⊎ HoldsUngroundedField config context
 
--- why an export of a shape may be refused, over these types
-abbrev pub MayRefuseExported : Config → List SubType → Shape → Export → Error → Type 0
-MayRefuseExported config types shape one (errors.IncorrectFormat SeveralMemories) = (counts_as counts.Memories one.1 ≡ 1) × (config.max_memories ≤ 1)
-MayRefuseExported config types shape one (errors.IncorrectFormat SeveralTables) = (counts_as counts.Tables one.1 ≡ 1) × (config.reference_types_enabled ≡ false)
-MayRefuseExported config types shape one e = (e ≡ errors.Memory) ⊎ ((e ≡ errors.EmptyChoose) × MayLackIn types shape)
+-- why an export of a shape may be refused, over these types and functions
+abbrev pub MayRefuseExported : Config → Context → Shape → Export → Error → Type 0
+MayRefuseExported config context shape one (errors.IncorrectFormat SeveralMemories) = (counts_as counts.Memories one.1 ≡ 1) × (config.max_memories ≤ 1)
+MayRefuseExported config context shape one (errors.IncorrectFormat SeveralTables) = (counts_as counts.Tables one.1 ≡ 1) × (config.reference_types_enabled ≡ false)
+MayRefuseExported config context shape one e = (e ≡ errors.Memory) ⊎ ((e ≡ errors.EmptyChoose) × MayLackIn config context shape)
 
--- why the exports of a shape may be refused, over these types: a reference is there that may not be null, or the shape has a
--- memory or a table that may not stand beside others
-abbrev pub MayRefuseRequired : Config → List SubType → Shape → Error → Type 0
-MayRefuseRequired config types shape (errors.IncorrectFormat SeveralMemories) = (0 < exported_of counts.Memories shape) × (config.max_memories ≤ 1)
-MayRefuseRequired config types shape (errors.IncorrectFormat SeveralTables) = (0 < exported_of counts.Tables shape) × (config.reference_types_enabled ≡ false)
-MayRefuseRequired config types shape e = (e ≡ errors.Memory) ⊎ ((e ≡ errors.EmptyChoose) × MayLackIn types shape)
+-- why the exports of a shape may be refused, over these types and functions: such a reference is there, or the shape has a memory or
+-- a table that may not stand beside others
+abbrev pub MayRefuseRequired : Config → Context → Shape → Error → Type 0
+MayRefuseRequired config context shape (errors.IncorrectFormat SeveralMemories) = (0 < exported_of counts.Memories shape) × (config.max_memories ≤ 1)
+MayRefuseRequired config context shape (errors.IncorrectFormat SeveralTables) = (0 < exported_of counts.Tables shape) × (config.reference_types_enabled ≡ false)
+MayRefuseRequired config context shape e = (e ≡ errors.Memory) ⊎ ((e ≡ errors.EmptyChoose) × MayLackIn config context shape)

@@ -4,16 +4,17 @@ ghost use Rattle.smith_types.specs.Floats.{HasNoFloat};
 ghost use Rattle.smith_types.specs.IndexSpaces.{spaces_in};
 ghost use Rattle.smith_definitions.specs.Definitions.{definitions_at};
 ghost use Rattle.smith_imports.specs.Steps.{Gives};
-ghost use Rattle.smith_definitions.specs.Defined.{nothing_defined, MayDefine, MayRefuseDefined, AreDefinedMore, HaveNoFloats};
+ghost use Rattle.smith_definitions.specs.Defined.{nothing_defined, drawn_beside, MayDefine, MayRefuseDefined, AreDefinedMore, HaveNoFloats};
 
 use crate::funcs::define_funcs;
 use crate::globals::define_globals;
 use crate::memories::define_memories;
-use crate::standing::standing_imported;
+use crate::standing::{standing, standing_imported};
 use crate::tables::define_tables;
 use crate::tags::define_tags;
 use smith_bytes::{Error, Unstructured};
 use smith_config::Config;
+use smith_draw::KeptGrounds;
 use smith_types::{ConstInstr, IndexSpaces, Items, TypeSpace};
 use std::alloc::Global;
 
@@ -58,7 +59,8 @@ impl Definitions {
 /// # Errors
 ///
 /// `Unmet(Tags)` or `Unmet(Funcs)` where no type is right for a tag or a function; `EmptyChoose` where nothing gives a value of
-/// an initialiser, which comes only where a field of a type is a reference that may not be null.
+/// an initialiser, which comes only where a field of a type is a reference that may not be null and, where `config` has references
+/// that aren't nullable, isn't grounded.
 #[tactic(auto, unfolding(crate::specs::Definitions::definitions_at))]
 pub fn define(
     alloc: Global,
@@ -72,7 +74,7 @@ pub fn define(
     ensures exact { Gives (λ _. ((spaces_in spaces.new, definitions.new), u.new)) result (definitions_at config.now types.now.types (spaces_in spaces.old) definitions.old u.old) }
     ensures defined { OnOk result (AreDefinedMore config.now types.now (spaces_in spaces.old) definitions.old (spaces_in spaces.new) definitions.new) }
     ensures floats { config.now.allow_floats ≡ false → All HasNoFloat types.now.types → HaveNoFloats (spaces_in spaces.old) definitions.old → OnOk result (HaveNoFloats (spaces_in spaces.new) definitions.new) }
-    ensures refusal { IfErr result (MayRefuseDefined config.now types.now.types) }
+    ensures refusal { IfErr result (MayRefuseDefined config.now (drawn_beside config.now types.now.types (spaces_in spaces.old) definitions.old)) }
     ensures left { KeepsPieces u.old u.new }
 {
     let tags_before = spaces.tags.len();
@@ -85,8 +87,12 @@ pub fn define(
     define_tags(alloc, config, types, &mut spaces.tags, u)?;
     define_funcs(alloc, config, types, &mut spaces.funcs, u)?;
     let func_types = spaces.funcs.as_slice();
+    let scope = standing(types, func_types, imported_funcs, &[], 0);
+    let mut grounds = KeptGrounds::new();
+    grounds.keep(alloc, config, &scope)?;
+    let drawn = grounds.standing(config, &scope);
     let all_globals = spaces.globals.as_slice();
-    let standing = standing_imported(
+    let imported = standing_imported(
         types,
         func_types,
         imported_funcs,
@@ -94,7 +100,15 @@ pub fn define(
         imported_globals,
     );
     let initials = &mut definitions.tables;
-    define_tables(alloc, config, &standing, &mut spaces.tables, initials, u)?;
+    define_tables(
+        alloc,
+        config,
+        &imported,
+        &drawn,
+        &mut spaces.tables,
+        initials,
+        u,
+    )?;
     define_memories(config, &mut spaces.memories, u)?;
     define_globals(
         alloc,
@@ -103,6 +117,7 @@ pub fn define(
         func_types,
         imported_funcs,
         imported_globals,
+        &drawn,
         &mut spaces.globals,
         &mut definitions.globals,
         u,

@@ -10,14 +10,15 @@ ghost use Rattle.smith_config.specs.Features.{features_of};
 ghost use Rattle.smith_config.specs.Sanitized.{IsSanitized};
 ghost use Rattle.smith_draw.specs.ConstFloats.{GivesNoFloat};
 ghost use Rattle.smith_draw.specs.ConstScopes.{AreSpacesValid, seen_by};
-ghost use Rattle.smith_definitions.specs.Defined.{IsFilled, MayInitialise, MayRefuseDrawn, AreGlobalsDefined};
+ghost use Rattle.smith_draw.specs.Grounding.{standing_in};
+ghost use Rattle.smith_definitions.specs.Defined.{IsFilled, MayInitialise, MayRefuseDrawn, AreGlobalsDefined, drawn_over};
 ghost use Rattle.smith_definitions.specs.Definitions.{standing_among, initialised_at, globals_at};
 ghost use Rattle.smith_definitions.specs.NumberedGlobals.{SpellsGlobals};
 
 use crate::past_full::ask_past_full;
 use smith_bytes::{Error, Unstructured, goes_on};
 use smith_config::Config;
-use smith_draw::{Entities, Spaces, arbitrary_const_expr, arbitrary_global_type};
+use smith_draw::{Entities, Spaces, Standing, arbitrary_const_expr, draw_global_type};
 use smith_types::{ConstInstr, GlobalType, Items, TypeSpace};
 use std::alloc::Global;
 
@@ -27,19 +28,21 @@ fn draw_initialised_global(
     alloc: Global,
     config: &Config,
     spaces: &Spaces<'_>,
+    standing: &Standing<'_>,
     u: &mut Unstructured<'_>,
 ) -> Result<(GlobalType, (u32, Items<ConstInstr>)), Error>
     requires sanitized { IsSanitized config.now }
-    requires standing { AreSpacesValid config.now spaces.now }
+    requires spaces { AreSpacesValid config.now spaces.now }
+    requires standing { standing.now ≡ standing_in config.now spaces.now }
     ensures exact { IfOk result (λ drawn. initialised_at config.now (seen_by config.now spaces.now true) u.old ≡ (drawn, u.new)) }
     ensures valid { IfOk result (λ drawn. IsGlobalValid (features_of config.now) spaces.now.types.now.types drawn.0) }
     ensures initialised { IfOk result (λ drawn. IsConstExpr (seen_by config.now spaces.now true) drawn.0.val_type drawn.1.1) }
     ensures floats { config.now.allow_floats ≡ false → IfOk result (λ drawn. IsNoFloat drawn.0.val_type) }
     ensures constants { config.now.allow_floats ≡ false → All HasNoFloat spaces.now.types.now.types → IfOk result (λ drawn. All GivesNoFloat drawn.1.1) }
-    ensures refusal { IfErr result (MayRefuseDrawn spaces.now.types.now.types) }
+    ensures refusal { IfErr result (MayRefuseDrawn config.now (standing_in config.now spaces.now)) }
     ensures left { KeepsPieces u.old u.new }
 {
-    let global = arbitrary_global_type(alloc, config, spaces, u)?;
+    let global = draw_global_type(config, standing, u);
     let initial = arbitrary_const_expr(alloc, config, spaces, global.val_type, true, u)?;
     let index = spaces.entities.globals.len() as u32;
     Ok((global, (index, initial)))
@@ -53,11 +56,13 @@ fn push_globals<'a>(
     funcs: &'a [u32],
     imported_funcs: usize,
     imported_globals: usize,
+    standing: &Standing<'_>,
     globals: &mut Items<GlobalType>,
     initials: &mut Items<(u32, Items<ConstInstr>)>,
     u: &mut Unstructured<'_>,
 ) -> Result<(), Error>
     requires may { MayInitialise config.now types.now (standing_among types.now.types funcs.now imported_funcs imported_globals globals.old) }
+    requires standing { standing.now ≡ drawn_over config.now (standing_among types.now.types funcs.now imported_funcs imported_globals globals.old) }
     requires valid { All (IsGlobalValid (features_of config.now) types.now.types) globals.old }
     requires imported { imported_globals ≤ length globals.old }
     requires few { length globals.old < 2 ^ 32 }
@@ -68,7 +73,7 @@ fn push_globals<'a>(
     ensures floats { config.now.allow_floats ≡ false → All (λ (global : GlobalType). IsNoFloat global.val_type) globals.old → OnOk result (All (λ (global : GlobalType). IsNoFloat global.val_type) globals.new) }
     ensures constants { config.now.allow_floats ≡ false → All HasNoFloat types.now.types → All (All GivesNoFloat) (map (λ (one : ℕ × List ConstInstr). one.1) initials.old)
         → OnOk result (All (All GivesNoFloat) (map (λ (one : ℕ × List ConstInstr). one.1) initials.new)) }
-    ensures refusal { IfErr result (MayRefuseDrawn types.now.types) }
+    ensures refusal { IfErr result (MayRefuseDrawn config.now (drawn_over config.now (standing_among types.now.types funcs.now imported_funcs imported_globals globals.old))) }
     ensures left { KeepsPieces u.old u.new }
 {
     let before = globals.len();
@@ -88,6 +93,7 @@ fn push_globals<'a>(
             alloc,
             config,
             &Spaces { types, entities },
+            standing,
             u,
         )?;
         globals.push(global)?;
@@ -106,11 +112,13 @@ pub(crate) fn define_globals<'a>(
     funcs: &'a [u32],
     imported_funcs: usize,
     imported_globals: usize,
+    standing: &Standing<'_>,
     globals: &mut Items<GlobalType>,
     initials: &mut Items<(u32, Items<ConstInstr>)>,
     u: &mut Unstructured<'_>,
 ) -> Result<(), Error>
     requires may { MayInitialise config.now types.now (standing_among types.now.types funcs.now imported_funcs imported_globals globals.old) }
+    requires standing { standing.now ≡ drawn_over config.now (standing_among types.now.types funcs.now imported_funcs imported_globals globals.old) }
     requires valid { All (IsGlobalValid (features_of config.now) types.now.types) globals.old }
     requires imported { imported_globals ≤ length globals.old }
     requires few { length globals.old < 2 ^ 32 }
@@ -124,7 +132,7 @@ pub(crate) fn define_globals<'a>(
         → OnOk result (All (All GivesNoFloat) (map (λ (one : ℕ × List ConstInstr). one.1) initials.new)) }
     ensures reach { config.now.min_globals ≡ 0 → globals.old ≡ [] → initials.old ≡ []
         → OnOk result (Takes (SpellsGlobals config.now) u.old (globals.new, map (λ (one : ℕ × List ConstInstr). one.1) initials.new) u.new) }
-    ensures refusal { IfErr result (MayRefuseDrawn types.now.types) }
+    ensures refusal { IfErr result (MayRefuseDrawn config.now (drawn_over config.now (standing_among types.now.types funcs.now imported_funcs imported_globals globals.old))) }
     ensures left { KeepsPieces u.old u.new }
 {
     push_globals(
@@ -134,6 +142,7 @@ pub(crate) fn define_globals<'a>(
         funcs,
         imported_funcs,
         imported_globals,
+        standing,
         globals,
         initials,
         u,

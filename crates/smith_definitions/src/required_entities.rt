@@ -8,7 +8,7 @@ ghost use Rattle.smith_config.specs.Features.{features_of};
 ghost use Rattle.smith_draw.specs.ConstBounds.{MayRefuseConstExpr};
 ghost use Rattle.smith_draw.specs.ConstScopes.{AreSpacesValid, seen_by};
 ghost use Rattle.smith_imports.specs.Imported.{entity_spaces};
-ghost use Rattle.smith_definitions.specs.Defined.{AreWithin};
+ghost use Rattle.smith_definitions.specs.Defined.{AreWithin, drawn_beside};
 ghost use Rattle.smith_definitions.specs.Required.{MayDefineMore, IsInitialised, IsDefinedMore, MayRefuseInitial, MayRefuseEntity};
 ghost use Rattle.smith_definitions.specs.RequiredExports.{Answers, next_index, several, scope_beside, defined_with_at, entity_required_at};
 
@@ -78,7 +78,7 @@ fn define_table(
     requires valid { IsTableValid (features_of config.now) types.now.types table }
     ensures exact { Answers (λ _. (definitions.new, u.new)) result (defined_with_at config.now types.now.types (spaces_in spaces.now) definitions.old (EntityType.Table table) u.old) }
     ensures initialised { OnOk result (IsInitialised config.now types.now.types (spaces_in spaces.now) definitions.old definitions.new (EntityType.Table table)) }
-    ensures refusal { IfErr result (MayRefuseConstExpr types.now.types (Ref table.element_type)) }
+    ensures refusal { IfErr result (MayRefuseConstExpr config.now (drawn_beside config.now types.now.types (spaces_in spaces.now) definitions.old) (Ref table.element_type)) }
     ensures left { KeepsPieces u.old u.new }
 {
     let spaces = scope(types, spaces, definitions);
@@ -100,7 +100,7 @@ fn define_global(
     requires valid { IsGlobalValid (features_of config.now) types.now.types global }
     ensures exact { Answers (λ _. (definitions.new, u.new)) result (defined_with_at config.now types.now.types (spaces_in spaces.now) definitions.old (EntityType.Global global) u.old) }
     ensures initialised { OnOk result (IsInitialised config.now types.now.types (spaces_in spaces.now) definitions.old definitions.new (EntityType.Global global)) }
-    ensures refusal { IfErr result (MayRefuseConstExpr types.now.types global.val_type) }
+    ensures refusal { IfErr result (MayRefuseConstExpr config.now (drawn_beside config.now types.now.types (spaces_in spaces.now) definitions.old) global.val_type) }
     ensures left { KeepsPieces u.old u.new }
 {
     let index = spaces.globals.len() as u32;
@@ -124,7 +124,7 @@ fn define_initial(
     requires valid { AreEntitiesValid (features_of config.now) types.now.types (entity_spaces added) }
     ensures exact { Answers (λ _. (definitions.new, u.new)) result (defined_with_at config.now types.now.types (spaces_in spaces.now) definitions.old added u.old) }
     ensures initialised { OnOk result (IsInitialised config.now types.now.types (spaces_in spaces.now) definitions.old definitions.new added) }
-    ensures refusal { IfErr result (MayRefuseInitial types.now.types added) }
+    ensures refusal { IfErr result (MayRefuseInitial config.now (drawn_beside config.now types.now.types (spaces_in spaces.now) definitions.old) added) }
     ensures left { KeepsPieces u.old u.new }
 {
     match added {
@@ -156,7 +156,7 @@ pub(crate) fn define_entity(
     requires valid { AreEntitiesValid (features_of config.now) types.now.types (entity_spaces added) }
     ensures exact { Answers (λ _. ((spaces_in spaces.new, definitions.new), u.new)) result (entity_required_at config.now types.now.types (spaces_in spaces.old) definitions.old added u.old) }
     ensures defined { OnOk result (IsDefinedMore config.now types.now.types (spaces_in spaces.old) definitions.old (spaces_in spaces.new) definitions.new added) }
-    ensures refusal { IfErr result (MayRefuseEntity config.now types.now.types added) }
+    ensures refusal { IfErr result (MayRefuseEntity config.now (drawn_beside config.now types.now.types (spaces_in spaces.old) definitions.old) added) }
     ensures left { KeepsPieces u.old u.new }
 {
     if let Some(why) = several(config, spaces, &added) {

@@ -9,13 +9,13 @@ ghost use Rattle.smith_types.specs.Grown.{Extends, AreSpacesGrown};
 ghost use Rattle.smith_types.specs.Imports.{IndexSpaces as Spaces, imported_spaces};
 ghost use Rattle.smith_types.specs.IndexSpaces.{spaces_in};
 ghost use Rattle.smith_config.specs.Shapes.{most_listed, shape_imports, shape_spaces, shape_types, IsShapeValid};
-ghost use Rattle.smith_draw.specs.ConstBounds.{HoldsNonNullableField};
+ghost use Rattle.smith_draw.specs.ConstBounds.{HoldsUngroundedField};
 ghost use Rattle.smith_draw.specs.FuncSizes.{HasFewValues};
 ghost use Rattle.smith_definitions.specs.Bounds.{exported_of};
 ghost use Rattle.smith_imports.specs.ShapeImports.{count_in};
 ghost use Rattle.smith_contents.specs.Exported.{IsStanding};
 ghost use Rattle.smith_contents.specs.Exporting.{Export};
-ghost use Rattle.smith_definitions.specs.Defined.{StandsBehind};
+ghost use Rattle.smith_definitions.specs.Defined.{StandsBehind, drawn_beside};
 ghost use Rattle.smith_definitions.specs.Required.{AddsLimitsOf, MayDefineMore, MayRequire, IsRequiredMore, AreRequired, MayLackIn, MayRefuseRequired, MayRefuseExported};
 ghost use Rattle.smith_definitions.specs.RequiredExports.{Answers, entity_of, standing_with, export_required_at, required_at};
 ghost use Rattle.smith_definitions.specs.ShapesKept.{IsSameExport, IsSameType};
@@ -50,7 +50,7 @@ fn make_export(
     ensures exact { (before : List Export) → Answers (λ made. (standing_with types.new (spaces_in spaces.new) definitions.new (before ++ made ∷ []), u.new)) result
         (export_required_at own_types config.now shape.now one.now (standing_with types.old (spaces_in spaces.old) definitions.old before) u.old (entity_of (shape_spaces shape.now) one.now.1 one.now.2)) }
     ensures required { IfOk result (IsRequiredMore own_types config.now shape.now types.old (spaces_in spaces.old) definitions.old types.new (spaces_in spaces.new) definitions.new one.now) }
-    ensures refusal { IfErr result (MayRefuseExported config.now types.old.types shape.now one.now) }
+    ensures refusal { IfErr result (MayRefuseExported config.now (drawn_beside config.now types.old.types (spaces_in spaces.old) definitions.old) shape.now one.now) }
     ensures left { KeepsPieces u.old u.new }
 {
     let theirs = entity_of_shape(shape, imported, one.1, one.2);
@@ -78,7 +78,7 @@ fn push_exports(
     ensures exact { Answers (λ exports. (standing_with types.new (spaces_in spaces.new) definitions.new exports, u.new)) result
         (required_at own_types config.now shape.now types.old (spaces_in spaces.old) definitions.old u.old) }
     ensures required { IfOk result (AreRequired own_types config.now shape.now types.old (spaces_in spaces.old) definitions.old types.new (spaces_in spaces.new) definitions.new) }
-    ensures refusal { IfErr result (MayRefuseRequired config.now types.old.types shape.now) }
+    ensures refusal { IfErr result (MayRefuseRequired config.now (drawn_beside config.now types.old.types (spaces_in spaces.old) definitions.old) shape.now) }
     ensures left { KeepsPieces u.old u.new }
 {
     let imported = imported_spaces_of(alloc, shape.imports.as_slice())?;
@@ -132,13 +132,13 @@ pub fn make_required_exports(
     ensures types { OnOk result (Extends types.old.types types.new.types) }
     ensures groups { OnOk result (Extends types.old.groups types.new.groups) }
     ensures types_most { OnOk result (length types.new.types ≤ length types.old.types + exported_of Types shape.now) }
-    ensures lacking { OnOk result (HoldsNonNullableField types.new.types → HoldsNonNullableField types.old.types) }
+    ensures lacking { OnOk result (HoldsUngroundedField config.now (drawn_beside config.now types.new.types (spaces_in spaces.new) definitions.new) → HoldsUngroundedField config.now (drawn_beside config.now types.old.types (spaces_in spaces.old) definitions.old)) }
     ensures few_values { All (HasFewValues most_listed) types.old.types → OnOk result (All (HasFewValues most_listed) types.new.types) }
     ensures spaces { OnOk result (AreSpacesGrown (spaces_in spaces.old) (spaces_in spaces.new)) }
     ensures limits { OnOk result (AddsLimitsOf shape.now (spaces_in spaces.old) (spaces_in spaces.new)) }
     ensures counted { (count : Count) → (count ≡ Types → ⊥) → OnOk result (count_in (spaces_in spaces.new) count ≡ count_in (spaces_in spaces.old) count + exported_of count shape.now) }
-    ensures refusal { IfErr result (MayRefuseRequired config.now types.old.types shape.now) }
-    ensures memory { (MayLackIn types.old.types shape.now → ⊥) → IsTrue config.now.reference_types_enabled → 2 ≤ config.now.max_memories → IfErr result (λ e. e ≡ Error.Memory) }
+    ensures refusal { IfErr result (MayRefuseRequired config.now (drawn_beside config.now types.old.types (spaces_in spaces.old) definitions.old) shape.now) }
+    ensures memory { (MayLackIn config.now (drawn_beside config.now types.old.types (spaces_in spaces.old) definitions.old) shape.now → ⊥) → IsTrue config.now.reference_types_enabled → 2 ≤ config.now.max_memories → IfErr result (λ e. e ≡ Error.Memory) }
     ensures left { KeepsPieces u.old u.new }
 {
     push_exports(alloc, config, true, shape, types, spaces, definitions, u)
@@ -170,8 +170,8 @@ pub fn make_shape_exports(
     ensures spaces { OnOk result (AreSpacesGrown (spaces_in spaces.old) (spaces_in spaces.new)) }
     ensures limits { OnOk result (AddsLimitsOf shape.now (spaces_in spaces.old) (spaces_in spaces.new)) }
     ensures counted { (count : Count) → (count ≡ Types → ⊥) → OnOk result (count_in (spaces_in spaces.new) count ≡ count_in (spaces_in spaces.old) count + exported_of count shape.now) }
-    ensures refusal { IfErr result (MayRefuseRequired config.now types.old.types shape.now) }
-    ensures memory { (MayLackIn types.old.types shape.now → ⊥) → IsTrue config.now.reference_types_enabled → 2 ≤ config.now.max_memories → IfErr result (λ e. e ≡ Error.Memory) }
+    ensures refusal { IfErr result (MayRefuseRequired config.now (drawn_beside config.now types.old.types (spaces_in spaces.old) definitions.old) shape.now) }
+    ensures memory { (MayLackIn config.now (drawn_beside config.now types.old.types (spaces_in spaces.old) definitions.old) shape.now → ⊥) → IsTrue config.now.reference_types_enabled → 2 ≤ config.now.max_memories → IfErr result (λ e. e ≡ Error.Memory) }
     ensures left { KeepsPieces u.old u.new }
 {
     push_exports(alloc, config, false, shape, types, spaces, definitions, u)

@@ -6,6 +6,7 @@ use Rattle.std.proofs.lemmas.List.Elements.{All-nil, All-append, All-weaker, rec
 use Rattle.smith_bytes.specs.Draws.{range_at}
 use Rattle.smith_bytes.proofs.DrawnLemmas.{range_within}
 use Rattle.smith_bytes.proofs.GrownLemmas.{grow_most, grow_all}
+use Rattle.smith_types.specs.Expressions.{Context}
 use Rattle.smith_types.specs.Flags.{IsInnerEnabled}
 use Rattle.smith_types.specs.Subtyping.{IsValInRange}
 use Rattle.smith_types.specs.Matching.{IsFieldInRange, IsInnerInRange}
@@ -28,16 +29,16 @@ use Rattle.smith_draw.proofs.ValueTypeLemmas.{MayShare, sharedness_may, IsValTyp
 use Rattle.smith_draw.proofs.FieldTypeLemmas.{IsFieldDrawn, field_type_drawn, fields_until_drawn, fields_until_most, values_of_fields}
 
 -- drawn lists of value types
-pub val_types_drawn : (config : Config) (types : List SubType) (must_share : Bool) (limit most : ℕ) (bytes : List ℕ) → IsSanitized config → MayShare config must_share
-    → All (IsValTypeDrawn config types must_share limit) (val_types_at config types must_share limit most bytes).0
+pub val_types_drawn : (config : Config) (context : Context) (must_share : Bool) (limit most : ℕ) (bytes : List ℕ) → IsSanitized config → MayShare config must_share
+    → All (IsValTypeDrawn config context.types must_share limit) (val_types_at config context must_share limit most bytes).0
 unfolding val_types_at
-val_types_drawn config types must_share limit most bytes sanitized may =
-    let P = λ (v : ValType). IsValTypeDrawn config types must_share limit v in
-    grow_all P (λ _. val_type_at config types must_share limit) (λ _ after. val_type_drawn config types must_share limit after sanitized may) 0 most [] bytes (All-nil P)
+val_types_drawn config context must_share limit most bytes sanitized may =
+    let P = λ (v : ValType). IsValTypeDrawn config context.types must_share limit v in
+    grow_all P (λ _. val_type_at config context must_share limit) (λ _ after. val_type_drawn config context must_share limit after sanitized may) 0 most [] bytes (All-nil P)
 
-results_few : (config : Config) (types : List SubType) (must_share : Bool) (limit : ℕ) (bytes : List ℕ) → length (val_types_at config types must_share limit (most_results config) bytes).0 ≤ most_results config
+results_few : (config : Config) (context : Context) (must_share : Bool) (limit : ℕ) (bytes : List ℕ) → length (val_types_at config context must_share limit (most_results config) bytes).0 ≤ most_results config
 unfolding val_types_at
-results_few config types must_share limit bytes = grow_most (λ _. val_type_at config types must_share limit) 0 (most_results config) (most_results config) [] bytes (omega arith)
+results_few config context must_share limit bytes = grow_most (λ _. val_type_at config context must_share limit) 0 (most_results config) (most_results config) [] bytes (omega arith)
 
 several : (b : Bool) (n : ℕ) → n ≤ cond b 20 1 → 1 < n → IsTrue b
 several true n le lt = refl
@@ -49,15 +50,15 @@ pub record IsFuncTypeDrawn (config : Config) (types : List SubType) (must_share 
   pub params : All (IsValTypeDrawn config types must_share limit) function.params
   pub results : All (IsValTypeDrawn config types must_share limit) function.results
 
-pub func_type_drawn : (config : Config) (types : List SubType) (must_share : Bool) (limit : ℕ) (bytes : List ℕ) → IsSanitized config → MayShare config must_share
-    → IsFuncTypeDrawn config types must_share limit (func_type_at config types must_share limit bytes).0
+pub func_type_drawn : (config : Config) (context : Context) (must_share : Bool) (limit : ℕ) (bytes : List ℕ) → IsSanitized config → MayShare config must_share
+    → IsFuncTypeDrawn config context.types must_share limit (func_type_at config context must_share limit bytes).0
 unfolding func_type_at
-func_type_drawn config types must_share limit bytes sanitized may =
-    let after = (val_types_at config types must_share limit 20 bytes).1 in
+func_type_drawn config context must_share limit bytes sanitized may =
+    let after = (val_types_at config context must_share limit 20 bytes).1 in
     record {
-      results_few = several config.multi_value_enabled (length (val_types_at config types must_share limit (most_results config) after).0) (results_few config types must_share limit after);
-      params = val_types_drawn config types must_share limit 20 bytes sanitized may;
-      results = val_types_drawn config types must_share limit (most_results config) after sanitized may;
+      results_few = several config.multi_value_enabled (length (val_types_at config context must_share limit (most_results config) after).0) (results_few config context must_share limit after);
+      params = val_types_drawn config context must_share limit 20 bytes sanitized may;
+      results = val_types_drawn config context must_share limit (most_results config) after sanitized may;
     }
 
 pub func_type_valid : (config : Config) (types : List SubType) (must_share : Bool) (limit : ℕ) (function : FuncType) → IsFuncTypeDrawn config types must_share limit function → IsFuncTypeValid (features_of config) limit function
@@ -72,14 +73,14 @@ pub record IsStructTypeDrawn (config : Config) (types : List SubType) (must_shar
   pub few : length structure.fields ≤ 20
   pub fields : All (IsFieldDrawn config types must_share limit) structure.fields
 
-pub struct_type_drawn : (config : Config) (types : List SubType) (must_share : Bool) (limit : ℕ) (bytes : List ℕ) → IsSanitized config → MayShare config must_share
-    → IsStructTypeDrawn config types must_share limit (struct_type_at config types must_share limit bytes).0
+pub struct_type_drawn : (config : Config) (context : Context) (must_share : Bool) (limit : ℕ) (bytes : List ℕ) → IsSanitized config → MayShare config must_share
+    → IsStructTypeDrawn config context.types must_share limit (struct_type_at config context must_share limit bytes).0
 unfolding struct_type_at
-struct_type_drawn config types must_share limit bytes sanitized may =
+struct_type_drawn config context must_share limit bytes sanitized may =
     let count = range_at 0 20 bytes in
     record {
-      few = fields_until_most config types must_share limit count.0 20 [] count.1 (omega arith) (range_within 0 20 bytes (omega arith));
-      fields = fields_until_drawn config types must_share limit count.0 [] count.1 sanitized may (All-nil (IsFieldDrawn config types must_share limit));
+      few = fields_until_most config context must_share limit count.0 20 [] count.1 (omega arith) (range_within 0 20 bytes (omega arith));
+      fields = fields_until_drawn config context must_share limit count.0 [] count.1 sanitized may (All-nil (IsFieldDrawn config context.types must_share limit));
     }
 
 -- the values of fields that were drawn
@@ -119,14 +120,14 @@ struct_drawn config types must_share limit structure gc h = record {
   stands = All-weaker (IsFieldDrawn config types must_share limit) (IsFieldInRange types) (λ field d. d.stands) structure.fields h;
 }
 
-inner_of_number_drawn : (config : Config) (types : List SubType) (must_share : Bool) (limit number : ℕ) (bytes : List ℕ) → IsSanitized config → MayShare config must_share → ((number ≡ 1 → ⊥) → IsTrue config.gc_enabled)
-    → IsInnerDrawn config types must_share limit (inner_of_number_at config types must_share limit number bytes).0
-inner_of_number_drawn config types must_share limit zero bytes sanitized may gc =
-    array_drawn config types must_share limit (field_type_at config types must_share limit bytes).0 (gc (λ no. cc)) (field_type_drawn config types must_share limit bytes sanitized may)
-inner_of_number_drawn config types must_share limit (suc zero) bytes sanitized may gc =
-    func_drawn config types must_share limit (func_type_at config types must_share limit bytes).0 (func_type_drawn config types must_share limit bytes sanitized may)
-inner_of_number_drawn config types must_share limit (suc (suc number)) bytes sanitized may gc =
-    struct_drawn config types must_share limit (struct_type_at config types must_share limit bytes).0 (gc (λ no. omega arith)) (struct_type_drawn config types must_share limit bytes sanitized may).fields
+inner_of_number_drawn : (config : Config) (context : Context) (must_share : Bool) (limit number : ℕ) (bytes : List ℕ) → IsSanitized config → MayShare config must_share → ((number ≡ 1 → ⊥) → IsTrue config.gc_enabled)
+    → IsInnerDrawn config context.types must_share limit (inner_of_number_at config context must_share limit number bytes).0
+inner_of_number_drawn config context must_share limit zero bytes sanitized may gc =
+    array_drawn config context.types must_share limit (field_type_at config context must_share limit bytes).0 (gc (λ no. cc)) (field_type_drawn config context must_share limit bytes sanitized may)
+inner_of_number_drawn config context must_share limit (suc zero) bytes sanitized may gc =
+    func_drawn config context.types must_share limit (func_type_at config context must_share limit bytes).0 (func_type_drawn config context must_share limit bytes sanitized may)
+inner_of_number_drawn config context must_share limit (suc (suc number)) bytes sanitized may gc =
+    struct_drawn config context.types must_share limit (struct_type_at config context must_share limit bytes).0 (gc (λ no. omega arith)) (struct_type_drawn config context must_share limit bytes sanitized may).fields
 
 number_gc : (gc : Bool) (drawn : ℕ × List ℕ) (bytes : List ℕ) → ((cond gc drawn (1, bytes)).0 ≡ 1 → ⊥) → IsTrue gc
 number_gc true drawn bytes other = refl
@@ -137,13 +138,13 @@ pub record IsCompositeDrawn (config : Config) (types : List SubType) (limit : �
   pub shared : MayShare config composite.shared
   pub inner : IsInnerDrawn config types composite.shared limit composite.inner
 
-pub composite_type_drawn : (config : Config) (types : List SubType) (limit : ℕ) (bytes : List ℕ) → IsSanitized config → IsCompositeDrawn config types limit (composite_type_at config types limit bytes).0
+pub composite_type_drawn : (config : Config) (context : Context) (limit : ℕ) (bytes : List ℕ) → IsSanitized config → IsCompositeDrawn config context.types limit (composite_type_at config context limit bytes).0
 unfolding composite_type_at
-composite_type_drawn config types limit bytes sanitized =
+composite_type_drawn config context limit bytes sanitized =
     let shared = sharedness_at config false bytes in
     let may = sharedness_may config false bytes (λ no. cc) in
     let number = inner_number_at config shared.1 in
     record {
       shared = may;
-      inner = inner_of_number_drawn config types shared.0 limit number.0 number.1 sanitized may (number_gc config.gc_enabled (range_at 0 2 shared.1) shared.1);
+      inner = inner_of_number_drawn config context shared.0 limit number.0 number.1 sanitized may (number_gc config.gc_enabled (range_at 0 2 shared.1) shared.1);
     }

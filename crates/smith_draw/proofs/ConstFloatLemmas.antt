@@ -23,6 +23,7 @@ use Rattle.smith_types.specs.declared.composite_type.CompositeInnerType.TheVaria
 use Rattle.smith_types.specs.declared.composite_type.SubType.{SubType}
 use Rattle.smith_types.specs.declared.const_instr.ConstInstr.{ConstInstr}
 use Rattle.smith_types.specs.declared.const_instr.ConstInstr.TheVariants as instr
+use Rattle.smith_config.specs.declared.config.Config.{Config}
 use Rattle.smith_draw.specs.Constants.{constant_at, is_wide, operation, operator_at, extended_by, extended_within, extended_at}
 use Rattle.smith_draw.specs.ConstScopes.{fields_of}
 use Rattle.smith_draw.specs.ConstOffers.{offers}
@@ -160,36 +161,36 @@ operands_stay draw each [] s h so_far = so_far
 operands_stay draw each (operand ∷ operands) s h so_far =
     then_stays (operands_at draw operands) (draw operand s) (λ t now. operands_stay draw each operands t h.1 now) (each operand s h.0 so_far)
 
-module _ (context : Context) (limited : Bool) (calm : All HasNoFloat context.types) where
+module _ (context : Context) (config : Config) (calm : All HasNoFloat context.types) where
   operand_stays : (draw : ValType → State → Option State) → ((value : ValType) (s : State) → IsNoFloat value → All GivesNoFloat s.made → Stays (draw value s)) → (operand : Operand) (s : State) → IsNoFloatOperand operand → All GivesNoFloat s.made
-      → Stays (operand_at limited draw operand s)
+      → Stays (operand_at config draw operand s)
   operand_stays draw each (Value value) s h so_far = each value s h so_far
   operand_stays draw each Length s h so_far =
-      cond_both Stays limited (Some (length_at s)) (draw I32 s) (All-push GivesNoFloat s.made (instr.I32Const (cast_signed w32 (range_at 0 s.fuel s.bytes).0)) so_far tt) (each I32 s tt so_far)
+      cond_both Stays config.limit_arrays_in_const_exprs (Some (length_at s)) (draw I32 s) (All-push GivesNoFloat s.made (instr.I32Const (cast_signed w32 (range_at 0 s.fuel s.bytes).0)) so_far tt) (each I32 s tt so_far)
 
   made_stays : (draw : ValType → State → Option State) → ((value : ValType) (s : State) → IsNoFloat value → All GivesNoFloat s.made → Stays (draw value s)) → (wanted : ValType) (s : State) (choice : Option Choice) → IsNoFloat wanted → All GivesNoFloat s.made
-      → Stays (chosen_at context limited draw wanted s choice)
+      → Stays (chosen_at context config draw wanted s choice)
   made_stays draw each wanted s None h so_far = tt
   made_stays draw each wanted s (Some choice) h so_far =
       let drawn = node_at context.types wanted choice s.bytes in
       let whole = extended_at wanted s.bytes in
-      let before = operands_at (operand_at limited draw) drawn.0.operands (state_of s.made (s.fuel - 1) drawn.1) in
+      let before = operands_at (operand_at config draw) drawn.0.operands (state_of s.made (s.fuel - 1) drawn.1) in
       let calm_node = node context.types wanted choice s.bytes calm h in
       cond_both Stays (is_extended choice) (Some (state_of (s.made ++ whole.0) (s.fuel - 1) whole.1)) (option_map (behind drawn.0.instruction) before)
       (All-append GivesNoFloat s.made whole.0 so_far (extended_whole wanted s.bytes h))
-      (behind_stays drawn.0.instruction before calm_node.instruction (operands_stay (operand_at limited draw) (operand_stays draw each) drawn.0.operands (state_of s.made (s.fuel - 1) drawn.1) calm_node.operands so_far))
+      (behind_stays drawn.0.instruction before calm_node.instruction (operands_stay (operand_at config draw) (operand_stays draw each) drawn.0.operands (state_of s.made (s.fuel - 1) drawn.1) calm_node.operands so_far))
 
-  expression_stays : (depth : ℕ) (wanted : ValType) (s : State) → IsNoFloat wanted → All GivesNoFloat s.made → Stays (expression_at context limited depth wanted s)
+  expression_stays : (depth : ℕ) (wanted : ValType) (s : State) → IsNoFloat wanted → All GivesNoFloat s.made → Stays (expression_at context config depth wanted s)
   unfolding expression_at
   expression_stays zero wanted s h so_far = tt
   expression_stays (suc depth) wanted s h so_far =
-      let chosen = choose_at (offers context wanted s.fuel) s.bytes in
-      made_stays (expression_at context limited depth) (expression_stays depth) wanted (state_of s.made s.fuel chosen.1) chosen.0 h so_far
+      let chosen = choose_at (offers config context wanted s.fuel) s.bytes in
+      made_stays (expression_at context config depth) (expression_stays depth) wanted (state_of s.made s.fuel chosen.1) chosen.0 h so_far
 
-  pub const_expr_no_float : (fuel : ℕ) (wanted : ValType) (bytes : List ℕ) (drawn : List ConstInstr) (after : List ℕ) → IsNoFloat wanted → expression_alone_at context limited fuel wanted bytes ≡ Some (drawn, after) → All GivesNoFloat drawn
+  pub const_expr_no_float : (fuel : ℕ) (wanted : ValType) (bytes : List ℕ) (drawn : List ConstInstr) (after : List ℕ) → IsNoFloat wanted → expression_alone_at context config fuel wanted bytes ≡ Some (drawn, after) → All GivesNoFloat drawn
   unfolding expression_alone_at
   const_expr_no_float fuel wanted bytes drawn after h reads =
-      of (expression_at context limited (suc fuel) wanted (state_of [] fuel bytes)) (expression_stays (suc fuel) wanted (state_of [] fuel bytes) h (All-nil GivesNoFloat)) reads
+      of (expression_at context config (suc fuel) wanted (state_of [] fuel bytes)) (expression_stays (suc fuel) wanted (state_of [] fuel bytes) h (All-nil GivesNoFloat)) reads
     where
       of : (made : Option State) → Stays made → option_map {U = List ConstInstr × List ℕ} (λ (s : State). (s.made, s.bytes)) made ≡ Some (drawn, after) → All GivesNoFloat drawn
       of None stays is = cc

@@ -1,12 +1,13 @@
 -- Going on through lists of choices, counting them, and finding one.
 use Rattle.std.proofs.Common.{rules, ◌≡◌, ℕ, zero, suc, ◌+◌, ◌*◌, ◌-◌, ◌<◌, ◌≤◌, ◌^◌, Bool, true, false, cond, List, [], ◌∷◌, ◌++◌, Some, length, get_or, drop, take, refl, sym, ap, ◌∙◌, arith, length-append}
-use Rattle.std.specs.Prelude.{Result, Ok, Err, IsErrAnd, slice_get, nat_lt, ◌&&◌, not}
+use Rattle.std.specs.Prelude.{Result, Ok, Err, IsErrAnd, slice_get, nat_lt, ◌&&◌, ◌||◌, not}
 use Rattle.std.proofs.lemmas.List.{drop_more}
 use Rattle.std.specs.Result.{result_unwrap_or}
 use Rattle.smith_bytes.specs.Draws.{range_at, choose_at}
 use Rattle.smith_types.specs.Expressions.{Context, reference_to, function_reference}
 use Rattle.smith_types.specs.declared.value_type.AbstractHeapType.TheVariants as heap
 use Rattle.smith_types.specs.declared.value_type.HeapType.TheVariants.{Abstract}
+use Rattle.smith_config.specs.declared.config.Config.{Config}
 use Rattle.smith_draw.specs.Below.{is_val_below}
 use Rattle.smith_types.specs.declared.value_type.HeapType.{HeapType}
 use Rattle.smith_types.specs.declared.value_type.RefType.{RefType}
@@ -15,7 +16,8 @@ use Rattle.smith_types.specs.declared.value_type.ValType.TheVariants.{I32, I64, 
 use Rattle.smith_types.specs.declared.composite_type.CompositeInnerType.{CompositeInnerType}
 use Rattle.smith_types.specs.declared.composite_type.SubType.{SubType}
 use Rattle.smith_draw.specs.ConstScopes.{IsScope}
-use Rattle.smith_draw.specs.ConstOffers.{past, each_from, offered_if, is_defaultable, is_integer, global_offers, function_offers, type_offers, types_offers, conversions, other_offers, created_offers, reference_offers, offers}
+use Rattle.smith_draw.specs.ConstOffers.{past, each_from, offered_if, is_integer, global_offers, function_offers, type_offers, types_offers, conversions_to, conversions, other_offers, created_offers, reference_offers, offers}
+use Rattle.smith_types.specs.Grounded.{is_defaultable}
 use Rattle.smith_draw.specs.declared.const_expr.node_choice.Choice.{Choice}
 use Rattle.smith_draw.specs.declared.const_expr.node_choice.Choice.TheVariants as choice
 
@@ -106,42 +108,45 @@ few_type context wanted fuel arrays index i = search rules
 few_types : (context : Context) (wanted : ValType) (fuel : ℕ) (arrays : Bool) → length (types_offers context wanted fuel arrays) ≤ 3 * length context.types
 few_types context wanted fuel arrays = few_each (λ index (t : SubType). type_offers context wanted fuel arrays index t.composite_type.inner) 3 (λ i t. few_type context wanted fuel arrays i t.composite_type.inner) 0 context.types
 
-few_conversions : (h : HeapType) → length (conversions h) ≤ 1
-few_conversions h = search rules
+few_conversions_to : (h : HeapType) → length (conversions_to h) ≤ 1
+few_conversions_to h = search rules
 
-few_others : (context : Context) (r : RefType) (fuel : ℕ) → length (other_offers context r fuel) ≤ 3
-few_others context r fuel =
+few_conversions : (config : Config) (r : RefType) → length (conversions config r) ≤ 1
+few_conversions config r = few_cond (r.nullable || not config.non_nullable_enabled) (conversions_to r.heap_type) 1 (few_conversions_to r.heap_type)
+
+few_others : (config : Config) (context : Context) (r : RefType) (fuel : ℕ) → length (other_offers config context r fuel) ≤ 3
+few_others config context r fuel =
     few_cond (nat_lt 0 fuel) (offered_if (is_val_below context.types (reference_to (Abstract false heap.I31)) (Ref r)) choice.I31
-    ++ (offered_if (context.features.shared_everything_threads && is_val_below context.types (reference_to (Abstract true heap.I31)) (Ref r)) choice.SharedI31 ++ conversions r.heap_type)) 3
+    ++ (offered_if (context.features.shared_everything_threads && is_val_below context.types (reference_to (Abstract true heap.I31)) (Ref r)) choice.SharedI31 ++ conversions config r)) 3
     (few_join (offered_if (is_val_below context.types (reference_to (Abstract false heap.I31)) (Ref r)) choice.I31)
-    (offered_if (context.features.shared_everything_threads && is_val_below context.types (reference_to (Abstract true heap.I31)) (Ref r)) choice.SharedI31 ++ conversions r.heap_type) 1 2 3
+    (offered_if (context.features.shared_everything_threads && is_val_below context.types (reference_to (Abstract true heap.I31)) (Ref r)) choice.SharedI31 ++ conversions config r) 1 2 3
     (few_if (is_val_below context.types (reference_to (Abstract false heap.I31)) (Ref r)) choice.I31)
-    (few_join (offered_if (context.features.shared_everything_threads && is_val_below context.types (reference_to (Abstract true heap.I31)) (Ref r)) choice.SharedI31) (conversions r.heap_type) 1 1 2
-    (few_if (context.features.shared_everything_threads && is_val_below context.types (reference_to (Abstract true heap.I31)) (Ref r)) choice.SharedI31) (few_conversions r.heap_type) (omega arith)) (omega arith))
+    (few_join (offered_if (context.features.shared_everything_threads && is_val_below context.types (reference_to (Abstract true heap.I31)) (Ref r)) choice.SharedI31) (conversions config r) 1 1 2
+    (few_if (context.features.shared_everything_threads && is_val_below context.types (reference_to (Abstract true heap.I31)) (Ref r)) choice.SharedI31) (few_conversions config r) (omega arith)) (omega arith))
 
-few_references : (context : Context) (wanted : ValType) (fuel : ℕ) → length (reference_offers context wanted fuel) ≤ length context.funcs + 6 * length context.types + 3
-few_references context I32 fuel = omega arith
-few_references context I64 fuel = omega arith
-few_references context F32 fuel = omega arith
-few_references context F64 fuel = omega arith
-few_references context V128 fuel = omega arith
-few_references context (Ref r) fuel =
+few_references : (config : Config) (context : Context) (wanted : ValType) (fuel : ℕ) → length (reference_offers config context wanted fuel) ≤ length context.funcs + 6 * length context.types + 3
+few_references config context I32 fuel = omega arith
+few_references config context I64 fuel = omega arith
+few_references config context F32 fuel = omega arith
+few_references config context F64 fuel = omega arith
+few_references config context V128 fuel = omega arith
+few_references config context (Ref r) fuel =
     let structs = few_types context (Ref r) fuel false in
     let arrays = few_types context (Ref r) fuel true in
     let functions = few_each (function_offers context (Ref r)) 1 (λ i index. few_if (is_val_below context.types (function_reference context i index) (Ref r)) (choice.Function i)) 0 context.funcs in
-    let others = few_others context r fuel in
-    let created : length (created_offers context r fuel) ≤ 6 * length context.types + 3 = simp length-append (omega arith) in
-    few_join (each_from (function_offers context (Ref r)) 0 context.funcs) (cond context.features.gc (created_offers context r fuel) []) (length context.funcs) (6 * length context.types + 3) (length context.funcs + 6 * length context.types + 3)
-    (omega arith) (few_cond context.features.gc (created_offers context r fuel) (6 * length context.types + 3) created) (omega arith)
+    let others = few_others config context r fuel in
+    let created : length (created_offers config context r fuel) ≤ 6 * length context.types + 3 = simp length-append (omega arith) in
+    few_join (each_from (function_offers context (Ref r)) 0 context.funcs) (cond context.features.gc (created_offers config context r fuel) []) (length context.funcs) (6 * length context.types + 3) (length context.funcs + 6 * length context.types + 3)
+    (omega arith) (few_cond context.features.gc (created_offers config context r fuel) (6 * length context.types + 3) created) (omega arith)
 
-pub offers_few : (context : Context) (wanted : ValType) (fuel : ℕ) → IsScope context → length (offers context wanted fuel) < 2 ^ 64
+pub offers_few : (config : Config) (context : Context) (wanted : ValType) (fuel : ℕ) → IsScope context → length (offers config context wanted fuel) < 2 ^ 64
 unfolding offers
-offers_few context wanted fuel scope =
+offers_few config context wanted fuel scope =
     let globals = few_each (global_offers context wanted) 1 (λ i g. few_if (not g.mutable && is_val_below context.types g.val_type wanted) (choice.Global i)) 0 (take context.visible context.globals) in
     let fewer = few_taken context.visible context.globals in
     let first = few_if (is_defaultable wanted) choice.Constant in
     let second = few_if (is_integer wanted && context.features.extended_const) choice.Extended in
-    let references = few_references context wanted fuel in
+    let references = few_references config context wanted fuel in
     let few_types = scope.few_types in
     let few_funcs = scope.few_funcs in
     let few_globals = scope.few_globals in

@@ -1,5 +1,5 @@
 -- Each choice that is offered makes a node that fits.
-use Rattle.std.proofs.Common.{◌≡◌, ◌⊎◌, inl, inr, ℕ, zero, suc, ◌+◌, ◌-◌, ◌<◌, ◌≤◌, Bool, true, false, cond, List, [], ◌∷◌, ◌++◌, Option, Some, length, take, map, refl, sym, subst, ap, ◌∙◌, arith}
+use Rattle.std.proofs.Common.{◌≡◌, ◌⊎◌, inl, inr, ℕ, zero, suc, ◌+◌, ◌-◌, ◌<◌, ◌≤◌, Bool, true, false, cond, List, [], ◌∷◌, ◌++◌, Option, Some, length, take, map, refl, sym, subst, ap, ◌∙◌, arith, length-append}
 use Rattle.std.specs.Prelude.{slice_get, IsTrue, ◌&&◌, ◌||◌, ◌==◌, not, nat_lt, replicate}
 use Rattle.std.specs.List.{AllByRecursion as Each}
 use Rattle.std.proofs.lemmas.Bool.Decides.{nat_tests}
@@ -26,12 +26,15 @@ use Rattle.smith_types.specs.declared.composite_type.SubType.{SubType}
 use Rattle.smith_types.specs.declared.entity_type.GlobalType.{GlobalType}
 use Rattle.smith_types.specs.declared.const_instr.ConstInstr.{ConstInstr}
 use Rattle.smith_types.specs.declared.const_instr.ConstInstr.TheVariants as instr
+use Rattle.smith_config.specs.declared.config.Config.{Config}
 use Rattle.smith_draw.specs.Constants.{constant_at}
-use Rattle.smith_draw.specs.Below.{is_val_below}
+use Rattle.smith_draw.specs.Below.{is_heap_below, is_val_below}
 use Rattle.smith_draw.specs.ConstScopes.{IsScope, fields_of}
-use Rattle.smith_draw.specs.ConstOffers.{each_from, offered_if, is_defaultable, are_defaultable, is_integer, global_offers, function_offers, struct_ways, array_ways, type_offers, types_offers, conversions, other_offers, created_offers, reference_offers, constant_offers, offers}
+use Rattle.smith_draw.specs.ConstOffers.{each_from, offered_if, is_integer, global_offers, function_offers, struct_ways, array_ways, type_offers, types_offers, conversions_to, conversions, other_offers, created_offers, reference_offers, constant_offers, offers}
+use Rattle.smith_types.proofs.GroundedLemmas.{default_for, defaults_each}
+use Rattle.smith_types.specs.Grounded.{IsGrounded, is_defaultable, are_defaultable}
 use Rattle.smith_draw.specs.ConstNodes.{field_operands, repeated, is_shared_heap, node_of, node_at}
-use Rattle.smith_draw.specs.ConstBounds.{widest, field_count, IsNonNullable, MayLack, MayRefuseConstExpr}
+use Rattle.smith_draw.specs.ConstBounds.{widest, field_count, IsUngrounded, MayLack, MayRefuseConstExpr}
 use Rattle.smith_draw.specs.ConstSteps.{operand_type, IsNode, IsFit}
 use Rattle.smith_draw.specs.declared.const_expr.node_choice.Choice.{Choice}
 use Rattle.smith_draw.specs.declared.const_expr.node_choice.Choice.TheVariants as choice
@@ -103,26 +106,12 @@ types_of : (values : List ValType) → map operand_type (map Value values) ≡ v
 types_of [] = refl
 types_of (value ∷ values) = ap (λ (vs : List ValType). value ∷ vs) (types_of values)
 
-default_for : (value : ValType) → is_defaultable value ≡ true → IsDefaultable value
-default_for (Ref reference) e = e
-default_for I32 e = tt
-default_for I64 e = tt
-default_for F32 e = tt
-default_for F64 e = tt
-default_for V128 e = tt
-
-defaults_each : (fields : List FieldType) → are_defaultable fields ≡ true → Each IsDefaultable (field_values fields)
-defaults_each [] e = tt
-defaults_each (field ∷ fields) e =
-    let (p, q) = both (is_defaultable (unpacked field.element_type)) (are_defaultable fields) e in
-    (default_for (unpacked field.element_type) p, defaults_each fields q)
-
-module _ (context : Context) (wanted : ValType) (fuel : ℕ) (scope : IsScope context) (valid : IsValTypeValid context.features (length context.types) wanted) where
+module _ (config : Config) (context : Context) (wanted : ValType) (fuel : ℕ) (scope : IsScope context) (valid : IsValTypeValid context.features (length context.types) wanted) where
   below : (value : ValType) → is_val_below context.types value wanted ≡ true → IsValBelow context.types value wanted
   below value e = (val_decides context.types scope.orderly value wanted).0 e
 
   -- a node without operands
-  leaf : (instruction : ConstInstr) (result : ValType) → HasType context instruction [] result → IsValBelow context.types result wanted → IsInstrEnabled context.features context.imported_globals instruction → IsNode context wanted fuel (node_of [] instruction)
+  leaf : (instruction : ConstInstr) (result : ValType) → HasType context instruction [] result → IsValBelow context.types result wanted → IsInstrEnabled context.features context.imported_globals instruction → IsNode config context wanted fuel (node_of [] instruction)
   leaf instruction result typed lower enabled = record {
     result = result;
     typed = typed;
@@ -136,21 +125,21 @@ module _ (context : Context) (wanted : ValType) (fuel : ℕ) (scope : IsScope co
 
   -- an operand is valid, and where nothing may be offered for it, so it is for the node
   Calm : Operand → Type 0
-  Calm operand = IsValTypeValid context.features (length context.types) (operand_type operand) × (MayLack context.types (operand_type operand) → MayLack context.types wanted)
+  Calm operand = IsValTypeValid context.features (length context.types) (operand_type operand) × (MayLack config context (operand_type operand) → MayLack config context wanted)
 
   calm_valid : (operands : List Operand) → Each Calm operands → Each (λ (operand : Operand). IsValTypeValid context.features (length context.types) (operand_type operand)) operands
   unfolding Calm
   calm_valid [] h = tt
   calm_valid (operand ∷ operands) (p, h) = (p.0, calm_valid operands h)
 
-  calm_lacks : (operands : List Operand) → Each Calm operands → (operand : Operand) (place : ℕ) → slice_get operands place ≡ Some operand → MayLack context.types (operand_type operand) → MayLack context.types wanted
+  calm_lacks : (operands : List Operand) → Each Calm operands → (operand : Operand) (place : ℕ) → slice_get operands place ≡ Some operand → MayLack config context (operand_type operand) → MayLack config context wanted
   unfolding Calm
   calm_lacks [] h operand place at lacks = cc
-  calm_lacks (first ∷ operands) (p, h) operand zero at lacks = p.1 (subst (λ (o : Operand). MayLack context.types (operand_type o)) (sym (same_Some first operand at)) lacks)
+  calm_lacks (first ∷ operands) (p, h) operand zero at lacks = p.1 (subst (λ (o : Operand). MayLack config context (operand_type o)) (sym (same_Some first operand at)) lacks)
   calm_lacks (first ∷ operands) (p, h) operand (suc place) at lacks = calm_lacks operands h operand place at lacks
 
   node_by : (instruction : ConstInstr) (operands : List Operand) (result : ValType) → HasType context instruction (map operand_type operands) result → IsValBelow context.types result wanted → IsInstrEnabled context.features context.imported_globals instruction
-      → (0 < length operands → 0 < fuel) → length operands ≤ widest context.types → Each Calm operands → IsNode context wanted fuel (node_of operands instruction)
+      → (0 < length operands → 0 < fuel) → length operands ≤ widest context.types → Each Calm operands → IsNode config context wanted fuel (node_of operands instruction)
   node_by instruction operands result typed lower enabled paid few calm = record {
     result = result;
     typed = typed;
@@ -180,7 +169,7 @@ module _ (context : Context) (wanted : ValType) (fuel : ℕ) (scope : IsScope co
         (
           p,
           λ lacks. elim lacks [
-            | inl not_null ↦ inr (any_at (λ (ty : SubType). Any IsNonNullable (field_values (fields_of ty.composite_type.inner))) context.types index t at (any_at IsNonNullable (field_values (fields_of t.composite_type.inner)) start v held not_null))
+            | inl lacks ↦ inr (any_at (λ (ty : SubType). Any (IsUngrounded config context) (field_values (fields_of ty.composite_type.inner))) context.types index t at (any_at (IsUngrounded config context) (field_values (fields_of t.composite_type.inner)) start v held lacks))
             | inr holds ↦ inr holds
           ],
         ),
@@ -199,17 +188,17 @@ module _ (context : Context) (wanted : ValType) (fuel : ℕ) (scope : IsScope co
   on_beyond false seen i less over = let within = seen refl in absurd (omega arith)
 
   -- a visible global
-  global_fits : (i : ℕ) (g : GlobalType) → slice_get context.globals i ≡ Some g → i < context.visible → g.mutable ≡ false → IsValBelow context.types g.val_type wanted → IsFit context wanted fuel (choice.Global i)
+  global_fits : (i : ℕ) (g : GlobalType) → slice_get context.globals i ≡ Some g → i < context.visible → g.mutable ≡ false → IsValBelow context.types g.val_type wanted → IsFit config context wanted fuel (choice.Global i)
   unfolding node_at
   global_fits i g there seen constant lower = record {
     node = λ bytes. leaf (instr.GlobalGet i) g.val_type (refl, (g, there, seen, constant, refl)) lower (on_beyond context.features.gc scope.imported_seen i seen);
     extended = λ e. cc;
   }
 
-  globals_fit : Each (IsFit context wanted fuel) (each_from (global_offers context wanted) 0 (take context.visible context.globals))
-  globals_fit = each_all (IsFit context wanted fuel) (global_offers context wanted) (take context.visible context.globals) (λ i g at.
+  globals_fit : Each (IsFit config context wanted fuel) (each_from (global_offers context wanted) 0 (take context.visible context.globals))
+  globals_fit = each_all (IsFit config context wanted fuel) (global_offers context wanted) (take context.visible context.globals) (λ i g at.
       let (there, seen) = taken context.visible context.globals i g at in
-      each_if (IsFit context wanted fuel) (not g.mutable && is_val_below context.types g.val_type wanted) (choice.Global i) (λ yes.
+      each_if (IsFit config context wanted fuel) (not g.mutable && is_val_below context.types g.val_type wanted) (choice.Global i) (λ yes.
       let (constant, lower) = both (not g.mutable) (is_val_below context.types g.val_type wanted) yes in
       global_fits i g there seen (off g.mutable constant) (below g.val_type lower)))
 
@@ -222,7 +211,7 @@ module _ (context : Context) (wanted : ValType) (fuel : ℕ) (scope : IsScope co
   constant_typed V128 ok default bytes = ((refl, refl), ok)
   constant_typed (Ref r) ok default bytes = ((ok.1.heap_type, refl, ap (λ (b : Bool). Ref (record { nullable = b; heap_type = r.heap_type })) default), ok.0)
 
-  constant_node : is_defaultable wanted ≡ true → (bytes : List ℕ) → IsNode context wanted fuel (node_of [] (constant_at wanted bytes).0)
+  constant_node : is_defaultable wanted ≡ true → (bytes : List ℕ) → IsNode config context wanted fuel (node_of [] (constant_at wanted bytes).0)
   constant_node default bytes = let typed = constant_typed wanted valid default bytes in leaf (constant_at wanted bytes).0 wanted typed.0 (below_itself context wanted) typed.1
 
   integer : (value : ValType) → is_integer value ≡ true → ((value ≡ I32) ⊎ (value ≡ I64)) × (is_defaultable value ≡ true)
@@ -233,20 +222,20 @@ module _ (context : Context) (wanted : ValType) (fuel : ℕ) (scope : IsScope co
   integer V128 e = cc
   integer (Ref r) e = cc
 
-  constants_fit : Each (IsFit context wanted fuel) (constant_offers context wanted)
+  constants_fit : Each (IsFit config context wanted fuel) (constant_offers context wanted)
   unfolding node_at
-  constants_fit = each_join (IsFit context wanted fuel) (offered_if (is_defaultable wanted) choice.Constant) (offered_if (is_integer wanted && context.features.extended_const) choice.Extended)
-      (each_if (IsFit context wanted fuel) (is_defaultable wanted) choice.Constant (λ default. record { node = constant_node default; extended = λ e. cc }))
-      (each_if (IsFit context wanted fuel) (is_integer wanted && context.features.extended_const) choice.Extended (λ yes.
+  constants_fit = each_join (IsFit config context wanted fuel) (offered_if (is_defaultable wanted) choice.Constant) (offered_if (is_integer wanted && context.features.extended_const) choice.Extended)
+      (each_if (IsFit config context wanted fuel) (is_defaultable wanted) choice.Constant (λ default. record { node = constant_node default; extended = λ e. cc }))
+      (each_if (IsFit config context wanted fuel) (is_integer wanted && context.features.extended_const) choice.Extended (λ yes.
       let (number, on) = both (is_integer wanted) context.features.extended_const yes in
       let (kind, default) = integer wanted number in
       record { node = constant_node default; extended = λ e. (kind, on) }))
 
   -- functions
-  functions_fit : IsTrue context.features.reference_types → Each (IsFit context wanted fuel) (each_from (function_offers context wanted) 0 context.funcs)
+  functions_fit : IsTrue context.features.reference_types → Each (IsFit config context wanted fuel) (each_from (function_offers context wanted) 0 context.funcs)
   unfolding node_at
-  functions_fit on = each_all (IsFit context wanted fuel) (function_offers context wanted) context.funcs (λ i index at.
-      each_if (IsFit context wanted fuel) (is_val_below context.types (function_reference context i index) wanted) (choice.Function i) (λ lower. record {
+  functions_fit on = each_all (IsFit config context wanted fuel) (function_offers context wanted) context.funcs (λ i index at.
+      each_if (IsFit config context wanted fuel) (is_val_below context.types (function_reference context i index) wanted) (choice.Function i) (λ lower. record {
         node = λ bytes. leaf (instr.RefFunc i) (function_reference context i index) (index, at, refl, refl) (below (function_reference context i index) lower) on;
         extended = λ e. cc;
       }))
@@ -271,7 +260,7 @@ module _ (context : Context) (wanted : ValType) (fuel : ℕ) (scope : IsScope co
   some_fuel (suc f) e = omega arith
 
   -- structs and arrays
-  type_fits : IsTrue context.features.gc → (arrays : Bool) (index : ℕ) (t : SubType) → slice_get context.types index ≡ Some t → (i : CompositeInnerType) → t.composite_type.inner ≡ i → Each (IsFit context wanted fuel) (type_offers context wanted fuel arrays index i)
+  type_fits : IsTrue context.features.gc → (arrays : Bool) (index : ℕ) (t : SubType) → slice_get context.types index ≡ Some t → (i : CompositeInnerType) → t.composite_type.inner ≡ i → Each (IsFit config context wanted fuel) (type_offers context wanted fuel arrays index i)
   unfolding node_at
   type_fits on false index t at (inner.Struct structure) is =
       let fields = structure.fields in
@@ -279,15 +268,15 @@ module _ (context : Context) (wanted : ValType) (fuel : ℕ) (scope : IsScope co
       let calm : Each Calm (map Value (field_values fields)) = rw is at (calm_type index t at) in
       let count : length (map Value (field_values fields)) ≡ length fields = length_map Value (field_values fields) ∙ length_map (λ (field : FieldType). unpacked field.element_type) fields in
       let wide : length fields ≤ widest context.types = rw is at (widest_at context.types index t at) in
-      each_cond (IsFit context wanted fuel) (is_val_below context.types (created context index) wanted) (struct_ways fuel index fields) (λ lower.
-      each_join (IsFit context wanted fuel) (offered_if (nat_lt 0 fuel || (length fields == 0)) (choice.Struct index)) (offered_if (are_defaultable fields) (choice.StructDefault index))
-      (each_if (IsFit context wanted fuel) (nat_lt 0 fuel || (length fields == 0)) (choice.Struct index) (λ paid. record {
+      each_cond (IsFit config context wanted fuel) (is_val_below context.types (created context index) wanted) (struct_ways fuel index fields) (λ lower.
+      each_join (IsFit config context wanted fuel) (offered_if (nat_lt 0 fuel || (length fields == 0)) (choice.Struct index)) (offered_if (are_defaultable fields) (choice.StructDefault index))
+      (each_if (IsFit config context wanted fuel) (nat_lt 0 fuel || (length fields == 0)) (choice.Struct index) (λ paid. record {
         node = λ bytes. rw there
             (node_by (instr.StructNew index) (map Value (field_values fields)) (created context index) (fields, (t, at, is), types_of (field_values fields), refl) (below (created context index) lower) on
             (λ some. paid_by fuel (length fields) paid (rw count at some)) (rw count wide) calm);
         extended = λ e. cc;
       }))
-      (each_if (IsFit context wanted fuel) (are_defaultable fields) (choice.StructDefault index) (λ defaults. record {
+      (each_if (IsFit config context wanted fuel) (are_defaultable fields) (choice.StructDefault index) (λ defaults. record {
         node = λ bytes. leaf (instr.StructNewDefault index) (created context index) (fields, (t, at, is), All-from_recursion IsDefaultable (field_values fields) (defaults_each fields defaults), refl, refl) (below (created context index) lower) on;
         extended = λ e. cc;
       })))
@@ -297,7 +286,7 @@ module _ (context : Context) (wanted : ValType) (fuel : ℕ) (scope : IsScope co
       let there : field_operands context.types index ≡ Value value ∷ [] = rw (at, is) refl in
       let calm : Each Calm (Value value ∷ []) = rw is at (calm_type index t at) in
       let three = widest_three context.types in
-      each_cond (IsFit context wanted fuel) (nat_lt 0 fuel && is_val_below context.types (created context index) wanted) (array_ways index element) (λ yes.
+      each_cond (IsFit config context wanted fuel) (nat_lt 0 fuel && is_val_below context.types (created context index) wanted) (array_ways index element) (λ yes.
       let (enough, lower) = both (nat_lt 0 fuel) (is_val_below context.types (created context index) wanted) yes in
       let paid : 0 < fuel = some_fuel fuel enough in (
         record {
@@ -316,7 +305,7 @@ module _ (context : Context) (wanted : ValType) (fuel : ℕ) (scope : IsScope co
                 (λ some. paid) (omega arith) (repeat_calm n (Value value) calm.0));
             extended = λ e. cc;
           },
-          each_if (IsFit context wanted fuel) (is_defaultable value) (choice.ArrayDefault index) (λ default. record {
+          each_if (IsFit config context wanted fuel) (is_defaultable value) (choice.ArrayDefault index) (λ default. record {
             node = λ bytes. node_by (instr.ArrayNewDefault index) (Length ∷ []) (created context index) (element, (t, at, is), default_for value default, refl, refl) (below (created context index) lower) on
                 (λ some. paid) (omega arith) (calm_length, tt);
             extended = λ e. cc;
@@ -325,11 +314,11 @@ module _ (context : Context) (wanted : ValType) (fuel : ℕ) (scope : IsScope co
       ))
   type_fits on arrays index t at i is = tt
 
-  types_fit : IsTrue context.features.gc → (arrays : Bool) → Each (IsFit context wanted fuel) (types_offers context wanted fuel arrays)
-  types_fit on arrays = each_all (IsFit context wanted fuel) (λ index (t : SubType). type_offers context wanted fuel arrays index t.composite_type.inner) context.types (λ index t at. type_fits on arrays index t at t.composite_type.inner refl)
+  types_fit : IsTrue context.features.gc → (arrays : Bool) → Each (IsFit config context wanted fuel) (types_offers context wanted fuel arrays)
+  types_fit on arrays = each_all (IsFit config context wanted fuel) (λ index (t : SubType). type_offers context wanted fuel arrays index t.composite_type.inner) context.types (λ index t at. type_fits on arrays index t at t.composite_type.inner refl)
 
   -- i31 references
-  i31_fits : IsTrue context.features.gc → 0 < fuel → is_val_below context.types (reference_to (Abstract false heap.I31)) wanted ≡ true → IsFit context wanted fuel choice.I31
+  i31_fits : IsTrue context.features.gc → 0 < fuel → is_val_below context.types (reference_to (Abstract false heap.I31)) wanted ≡ true → IsFit config context wanted fuel choice.I31
   unfolding node_at
   i31_fits on paid lower =
       let three = widest_three context.types in
@@ -338,7 +327,7 @@ module _ (context : Context) (wanted : ValType) (fuel : ℕ) (scope : IsScope co
         extended = λ e. cc;
       }
 
-  shared_i31_fits : IsTrue context.features.gc → IsTrue context.features.shared_everything_threads → 0 < fuel → is_val_below context.types (reference_to (Abstract true heap.I31)) wanted ≡ true → IsFit context wanted fuel choice.SharedI31
+  shared_i31_fits : IsTrue context.features.gc → IsTrue context.features.shared_everything_threads → 0 < fuel → is_val_below context.types (reference_to (Abstract true heap.I31)) wanted ≡ true → IsFit config context wanted fuel choice.SharedI31
   unfolding node_at
   shared_i31_fits on shared paid lower =
       let three = widest_three context.types in
@@ -348,74 +337,84 @@ module _ (context : Context) (wanted : ValType) (fuel : ℕ) (scope : IsScope co
       }
 
 -- what is offered of a reference
-module _ (context : Context) (r : RefType) (fuel : ℕ) (scope : IsScope context) (valid : IsValTypeValid context.features (length context.types) (Ref r)) where
-  conversions_fit : IsTrue context.features.gc → 0 < fuel → (h : HeapType) → r.heap_type ≡ h → Each (IsFit context (Ref r) fuel) (conversions h)
-  unfolding node_at Calm
-  conversions_fit on paid (Abstract shared heap.Any) is =
-      let three = widest_three context.types in
-      let same : is_shared_heap r.heap_type ≡ shared = rw is refl in
-      let enabled = rw is at valid.1.heap_type in (
-        record {
-          node = λ bytes. rw same
-              (node_by context (Ref r) fuel scope valid instr.AnyConvertExtern (Value (Ref (record { nullable = r.nullable; heap_type = Abstract shared heap.Extern })) ∷ []) (Ref r)
-              (record { shared = shared; nullable = r.nullable; taken = refl; given = ap (λ (h : HeapType). Ref (record { nullable = r.nullable; heap_type = h })) is }) (below_itself context (Ref r)) on (λ some. paid) (omega arith)
-              (((valid.0, record { heap_type = (tt, enabled.1); nullable = valid.1.nullable }), λ lacks. lacks), tt));
-          extended = λ e. cc;
-        },
-        tt,
-      )
-  conversions_fit on paid (Abstract shared heap.Extern) is =
-      let three = widest_three context.types in
-      let same : is_shared_heap r.heap_type ≡ shared = rw is refl in
-      let enabled = rw is at valid.1.heap_type in (
-        record {
-          node = λ bytes. rw same
-              (node_by context (Ref r) fuel scope valid instr.ExternConvertAny (Value (Ref (record { nullable = r.nullable; heap_type = Abstract shared heap.Any })) ∷ []) (Ref r)
-              (record { shared = shared; nullable = r.nullable; taken = refl; given = ap (λ (h : HeapType). Ref (record { nullable = r.nullable; heap_type = h })) is }) (below_itself context (Ref r)) on (λ some. paid) (omega arith)
-              (((valid.0, record { heap_type = (on, enabled.1); nullable = valid.1.nullable }), λ lacks. lacks), tt));
-          extended = λ e. cc;
-        },
-        tt,
-      )
-  conversions_fit on paid h is = tt
+module _ (config : Config) (context : Context) (r : RefType) (fuel : ℕ) (scope : IsScope context) (valid : IsValTypeValid context.features (length context.types) (Ref r)) where
+  -- a conversion is offered of a nullable reference, or with the field off: where its operand may lack, so may the reference
+  lacking_by : (nullable on : Bool) (P Q : Type 0) → (nullable || not on) ≡ true → (nullable ≡ false) × (IsTrue on → P) → (nullable ≡ false) × (IsTrue on → Q)
+  lacking_by true on P Q may (not_null, h) = cc
+  lacking_by false true P Q may (not_null, h) = cc
+  lacking_by false false P Q may (not_null, h) = (refl, λ on. cc)
 
-  others_fit : IsTrue context.features.gc → Each (IsFit context (Ref r) fuel) (other_offers context r fuel)
+  converted_lacks : (r.nullable || not config.non_nullable_enabled) ≡ true → {h : HeapType} → MayLack config context (Ref (record { nullable = r.nullable; heap_type = h })) → MayLack config context (Ref r)
+  converted_lacks may {h = h} (inl lacks) = inl (lacking_by r.nullable config.non_nullable_enabled (¬ IsGrounded context h) (¬ IsGrounded context r.heap_type) may lacks)
+  converted_lacks may (inr holds) = inr holds
+
+  conversions_fit : (r.nullable || not config.non_nullable_enabled) ≡ true → IsTrue context.features.gc → 0 < fuel → (h : HeapType) → r.heap_type ≡ h → Each (IsFit config context (Ref r) fuel) (conversions_to h)
+  unfolding node_at Calm
+  conversions_fit may on paid (Abstract shared heap.Any) is =
+      let three = widest_three context.types in
+      let same : is_shared_heap r.heap_type ≡ shared = rw is refl in
+      let enabled = rw is at valid.1.heap_type in (
+        record {
+          node = λ bytes. rw same
+              (node_by config context (Ref r) fuel scope valid instr.AnyConvertExtern (Value (Ref (record { nullable = r.nullable; heap_type = Abstract shared heap.Extern })) ∷ []) (Ref r)
+              (record { shared = shared; nullable = r.nullable; taken = refl; given = ap (λ (h : HeapType). Ref (record { nullable = r.nullable; heap_type = h })) is }) (below_itself context (Ref r)) on (λ some. paid) (omega arith)
+              (((valid.0, record { heap_type = (tt, enabled.1); nullable = valid.1.nullable }), converted_lacks may), tt));
+          extended = λ e. cc;
+        },
+        tt,
+      )
+  conversions_fit may on paid (Abstract shared heap.Extern) is =
+      let three = widest_three context.types in
+      let same : is_shared_heap r.heap_type ≡ shared = rw is refl in
+      let enabled = rw is at valid.1.heap_type in (
+        record {
+          node = λ bytes. rw same
+              (node_by config context (Ref r) fuel scope valid instr.ExternConvertAny (Value (Ref (record { nullable = r.nullable; heap_type = Abstract shared heap.Any })) ∷ []) (Ref r)
+              (record { shared = shared; nullable = r.nullable; taken = refl; given = ap (λ (h : HeapType). Ref (record { nullable = r.nullable; heap_type = h })) is }) (below_itself context (Ref r)) on (λ some. paid) (omega arith)
+              (((valid.0, record { heap_type = (on, enabled.1); nullable = valid.1.nullable }), converted_lacks may), tt));
+          extended = λ e. cc;
+        },
+        tt,
+      )
+  conversions_fit may on paid h is = tt
+
+  others_fit : IsTrue context.features.gc → Each (IsFit config context (Ref r) fuel) (other_offers config context r fuel)
   others_fit on =
       let first = is_val_below context.types (reference_to (Abstract false heap.I31)) (Ref r) in
       let second = is_val_below context.types (reference_to (Abstract true heap.I31)) (Ref r) in
       let shared = context.features.shared_everything_threads in
-      each_cond (IsFit context (Ref r) fuel) (nat_lt 0 fuel) (offered_if first choice.I31 ++ (offered_if (shared && second) choice.SharedI31 ++ conversions r.heap_type)) (λ enough.
-      let paid : 0 < fuel = some_fuel context (Ref r) fuel scope valid fuel enough in
-      each_join (IsFit context (Ref r) fuel) (offered_if first choice.I31) (offered_if (shared && second) choice.SharedI31 ++ conversions r.heap_type)
-      (each_if (IsFit context (Ref r) fuel) first choice.I31 (λ lower. i31_fits context (Ref r) fuel scope valid on paid lower))
-      (each_join (IsFit context (Ref r) fuel) (offered_if (shared && second) choice.SharedI31) (conversions r.heap_type)
-      (each_if (IsFit context (Ref r) fuel) (shared && second) choice.SharedI31 (λ yes. let (may, lower) = both shared second yes in shared_i31_fits context (Ref r) fuel scope valid on may paid lower))
-      (conversions_fit on paid r.heap_type refl)))
+      each_cond (IsFit config context (Ref r) fuel) (nat_lt 0 fuel) (offered_if first choice.I31 ++ (offered_if (shared && second) choice.SharedI31 ++ conversions config r)) (λ enough.
+      let paid : 0 < fuel = some_fuel config context (Ref r) fuel scope valid fuel enough in
+      each_join (IsFit config context (Ref r) fuel) (offered_if first choice.I31) (offered_if (shared && second) choice.SharedI31 ++ conversions config r)
+      (each_if (IsFit config context (Ref r) fuel) first choice.I31 (λ lower. i31_fits config context (Ref r) fuel scope valid on paid lower))
+      (each_join (IsFit config context (Ref r) fuel) (offered_if (shared && second) choice.SharedI31) (conversions config r)
+      (each_if (IsFit config context (Ref r) fuel) (shared && second) choice.SharedI31 (λ yes. let (may, lower) = both shared second yes in shared_i31_fits config context (Ref r) fuel scope valid on may paid lower))
+      (each_cond (IsFit config context (Ref r) fuel) (r.nullable || not config.non_nullable_enabled) (conversions_to r.heap_type) (λ may. conversions_fit may on paid r.heap_type refl))))
 
-  created_fit : IsTrue context.features.gc → Each (IsFit context (Ref r) fuel) (created_offers context r fuel)
+  created_fit : IsTrue context.features.gc → Each (IsFit config context (Ref r) fuel) (created_offers config context r fuel)
   created_fit on =
       let arrays = types_offers context (Ref r) fuel true in
-      each_join (IsFit context (Ref r) fuel) (types_offers context (Ref r) fuel false) (arrays ++ other_offers context r fuel) (types_fit context (Ref r) fuel scope valid on false)
-      (each_join (IsFit context (Ref r) fuel) arrays (other_offers context r fuel) (types_fit context (Ref r) fuel scope valid on true) (others_fit on))
+      each_join (IsFit config context (Ref r) fuel) (types_offers context (Ref r) fuel false) (arrays ++ other_offers config context r fuel) (types_fit config context (Ref r) fuel scope valid on false)
+      (each_join (IsFit config context (Ref r) fuel) arrays (other_offers config context r fuel) (types_fit config context (Ref r) fuel scope valid on true) (others_fit on))
 
-references_fit : (context : Context) (wanted : ValType) (fuel : ℕ) → IsScope context → IsValTypeValid context.features (length context.types) wanted → Each (IsFit context wanted fuel) (reference_offers context wanted fuel)
-references_fit context (Ref r) fuel scope valid =
-    each_join (IsFit context (Ref r) fuel) (each_from (function_offers context (Ref r)) 0 context.funcs) (cond context.features.gc (created_offers context r fuel) [])
-    (functions_fit context (Ref r) fuel scope valid valid.0)
-    (each_cond (IsFit context (Ref r) fuel) context.features.gc (created_offers context r fuel) (λ on. created_fit context r fuel scope valid on))
-references_fit context I32 fuel scope valid = tt
-references_fit context I64 fuel scope valid = tt
-references_fit context F32 fuel scope valid = tt
-references_fit context F64 fuel scope valid = tt
-references_fit context V128 fuel scope valid = tt
+references_fit : (config : Config) (context : Context) (wanted : ValType) (fuel : ℕ) → IsScope context → IsValTypeValid context.features (length context.types) wanted → Each (IsFit config context wanted fuel) (reference_offers config context wanted fuel)
+references_fit config context (Ref r) fuel scope valid =
+    each_join (IsFit config context (Ref r) fuel) (each_from (function_offers context (Ref r)) 0 context.funcs) (cond context.features.gc (created_offers config context r fuel) [])
+    (functions_fit config context (Ref r) fuel scope valid valid.0)
+    (each_cond (IsFit config context (Ref r) fuel) context.features.gc (created_offers config context r fuel) (λ on. created_fit config context r fuel scope valid on))
+references_fit config context I32 fuel scope valid = tt
+references_fit config context I64 fuel scope valid = tt
+references_fit config context F32 fuel scope valid = tt
+references_fit config context F64 fuel scope valid = tt
+references_fit config context V128 fuel scope valid = tt
 
 -- whatever is offered fits
-pub offers_fit : (context : Context) (wanted : ValType) (fuel : ℕ) → IsScope context → IsValTypeValid context.features (length context.types) wanted → Each (IsFit context wanted fuel) (offers context wanted fuel)
+pub offers_fit : (config : Config) (context : Context) (wanted : ValType) (fuel : ℕ) → IsScope context → IsValTypeValid context.features (length context.types) wanted → Each (IsFit config context wanted fuel) (offers config context wanted fuel)
 unfolding offers
-offers_fit context wanted fuel scope valid =
-    each_join (IsFit context wanted fuel) (each_from (global_offers context wanted) 0 (take context.visible context.globals)) (constant_offers context wanted ++ reference_offers context wanted fuel)
-    (globals_fit context wanted fuel scope valid)
-    (each_join (IsFit context wanted fuel) (constant_offers context wanted) (reference_offers context wanted fuel) (constants_fit context wanted fuel scope valid) (references_fit context wanted fuel scope valid))
+offers_fit config context wanted fuel scope valid =
+    each_join (IsFit config context wanted fuel) (each_from (global_offers context wanted) 0 (take context.visible context.globals)) (constant_offers context wanted ++ reference_offers config context wanted fuel)
+    (globals_fit config context wanted fuel scope valid)
+    (each_join (IsFit config context wanted fuel) (constant_offers context wanted) (reference_offers config context wanted fuel) (constants_fit config context wanted fuel scope valid) (references_fit config context wanted fuel scope valid))
 
 -- a chosen item is one of the list
 pub chosen_each : {A : Type 0} (P : A → Type 0) (items : List A) (n : ℕ) (x : A) → Each P items → slice_get items n ≡ Some x → P x
@@ -424,29 +423,104 @@ chosen_each P (y ∷ items) zero x (p, h) at = subst P (same_Some y x at) p
 chosen_each P (y ∷ items) (suc n) x (p, h) at = chosen_each P items n x h at
 
 -- the choice among what is offered fits
-pub chosen_fits : (context : Context) (wanted : ValType) (fuel : ℕ) → IsScope context → IsValTypeValid context.features (length context.types) wanted → (items : List Choice) → items ≡ offers context wanted fuel → (bytes after : List ℕ) (x : Choice) → choose_at items bytes ≡ (Some x, after) → IsFit context wanted fuel x
+pub chosen_fits : (config : Config) (context : Context) (wanted : ValType) (fuel : ℕ) → IsScope context → IsValTypeValid context.features (length context.types) wanted → (items : List Choice) → items ≡ offers config context wanted fuel → (bytes after : List ℕ) (x : Choice) → choose_at items bytes ≡ (Some x, after) → IsFit config context wanted fuel x
 unfolding choose_at
-chosen_fits context wanted fuel scope valid items is bytes after x chosen =
-    chosen_each (IsFit context wanted fuel) items (range_at 0 (length items - 1) bytes).0 x (subst (Each (IsFit context wanted fuel)) (sym is) (offers_fit context wanted fuel scope valid)) (ap (λ (d : Option Choice × List ℕ). d.0) chosen)
+chosen_fits config context wanted fuel scope valid items is bytes after x chosen =
+    chosen_each (IsFit config context wanted fuel) items (range_at 0 (length items - 1) bytes).0 x (subst (Each (IsFit config context wanted fuel)) (sym is) (offers_fit config context wanted fuel scope valid)) (ap (λ (d : Option Choice × List ℕ). d.0) chosen)
 
 constants_some : (context : Context) (value : ValType) (before behind : List Choice) → is_defaultable value ≡ true → 0 < length (before ++ (constant_offers context value ++ behind))
 constants_some context value [] behind default = rw default (omega arith)
 constants_some context value (x ∷ before) behind default = omega arith
 
-lacking : (context : Context) (value : ValType) (before behind : List Choice) → length (before ++ (constant_offers context value ++ behind)) ≡ 0 → IsNonNullable value
-lacking context I32 before behind none = let some = constants_some context I32 before behind refl in absurd (omega arith)
-lacking context I64 before behind none = let some = constants_some context I64 before behind refl in absurd (omega arith)
-lacking context F32 before behind none = let some = constants_some context F32 before behind refl in absurd (omega arith)
-lacking context F64 before behind none = let some = constants_some context F64 before behind refl in absurd (omega arith)
-lacking context V128 before behind none = let some = constants_some context V128 before behind refl in absurd (omega arith)
-lacking context (Ref r) before behind none = not_true r.nullable (λ default. let some = constants_some context (Ref r) before behind default in absurd (omega arith))
-  where
-    not_true : (b : Bool) → (b ≡ true → ⊥) → b ≡ false
-    not_true true h = absurd (h refl)
-    not_true false h = refl
+-- what is offered by one item of a list is offered by all
+some_join : {A : Type 0} (xs ys : List A) → 0 < length ys → 0 < length (xs ++ ys)
+some_join xs ys some = simp length-append (omega arith)
 
--- nothing is offered only for a reference that may not be null
-pub nothing_offered : (context : Context) (wanted : ValType) (fuel : ℕ) (items : List Choice) (e : Error) → items ≡ offers context wanted fuel → length items ≡ 0 → e ≡ EmptyChoose → MayRefuseConstExpr context.types wanted e
+some_front : {A : Type 0} (xs ys : List A) → 0 < length xs → 0 < length (xs ++ ys)
+some_front xs ys some = simp length-append (omega arith)
+
+some_each : {A B : Type 0} (offer : ℕ → A → List B) (start n place : ℕ) (xs : List A) (x : A) → slice_get xs place ≡ Some x → n ≡ start + place → 0 < length (offer n x) → 0 < length (each_from offer start xs)
+some_each offer start n place [] x at same some = cc
+some_each {A = A} offer start n zero (y ∷ xs) x at same some =
+    let one : y ≡ x = same_Some y x at in
+    let first : n ≡ start = omega arith in
+    some_front (offer start y) (each_from offer (start + 1) xs) (subst (λ (z : A). 0 < length (offer start z)) (sym one) (subst (λ (k : ℕ). 0 < length (offer k x)) first some))
+some_each offer start n (suc place) (y ∷ xs) x at same some = some_join (offer start y) (each_from offer (start + 1) xs) (some_each offer (start + 1) n place xs x at (omega arith) some)
+
+some_cond : {A : Type 0} (b : Bool) (xs : List A) → b ≡ true → 0 < length xs → 0 < length (cond b xs [])
+some_cond true xs on some = some
+some_cond false xs on some = cc
+
+both_are : (a b : Bool) → a ≡ true → b ≡ true → (a && b) ≡ true
+both_are true b on e = e
+both_are false b on e = cc
+
+default_is : (value : ValType) → IsDefaultable value → is_defaultable value ≡ true
+default_is I32 h = refl
+default_is I64 h = refl
+default_is F32 h = refl
+default_is F64 h = refl
+default_is V128 h = refl
+default_is (Ref r) h = h
+
+defaults_are : (fields : List FieldType) → Each IsDefaultable (field_values fields) → are_defaultable fields ≡ true
+defaults_are [] h = refl
+defaults_are (field ∷ fields) h = both_are (is_defaultable (unpacked field.element_type)) (are_defaultable fields) (default_is (unpacked field.element_type) h.0) (defaults_are fields h.1)
+
+-- a struct of defaults and a function that ground a reference are offered for it, whatever fuel is left
+struct_offered : (context : Context) (r : RefType) (fuel index : ℕ) (i : CompositeInnerType) (fields : List FieldType) → i ≡ inner.Struct (record { fields = fields }) → are_defaultable fields ≡ true → is_val_below context.types (created context index) (Ref r) ≡ true
+    → 0 < length (type_offers context (Ref r) fuel false index i)
+struct_offered context r fuel index i fields is defaults below =
+    rw (is, below) (some_join (offered_if (nat_lt 0 fuel || (length fields == 0)) (choice.Struct index)) (offered_if (are_defaultable fields) (choice.StructDefault index)) (rw defaults (omega arith)))
+
+below_any : (types : List SubType) (value : ValType) (r : RefType) → is_val_below types value (reference_to r.heap_type) ≡ true → is_val_below types value (Ref r) ≡ true
+below_any types (Ref a) r e = let (first, second) = both (not a.nullable || false) (is_heap_below types a.heap_type r.heap_type) e in both_are (not a.nullable || r.nullable) (is_heap_below types a.heap_type r.heap_type) (wider a.nullable r.nullable first) second
+  where
+    wider : (a b : Bool) → (not a || false) ≡ true → (not a || b) ≡ true
+    wider true b e = cc
+    wider false b e = refl
+below_any types I32 r e = cc
+below_any types I64 r e = cc
+below_any types F32 r e = cc
+below_any types F64 r e = cc
+below_any types V128 r e = cc
+
+grounded_offered : (config : Config) (context : Context) (r : RefType) (fuel : ℕ) → IsScope context → IsGrounded context r.heap_type → 0 < length (reference_offers config context (Ref r) fuel)
+grounded_offered config context r fuel scope (inl (index, by)) =
+    let (t, at, is) = by.struct in
+    let gc = scope.structs index by.fields by.struct in
+    let below = (val_decides context.types scope.orderly (created context index) (reference_to r.heap_type)).1 (record { heap = by.below; nullable = λ is. is }) in
+    let offer = λ (i : ℕ) (ty : SubType). type_offers context (Ref r) fuel false i ty.composite_type.inner in
+    let first = struct_offered context r fuel index t.composite_type.inner by.fields is (defaults_are by.fields (recursion_from_All IsDefaultable (field_values by.fields) by.defaults)) (below_any context.types (created context index) r below) in
+    let structs : 0 < length (types_offers context (Ref r) fuel false) = some_each offer 0 index index context.types t at (omega arith) first in
+    some_join (each_from (function_offers context (Ref r)) 0 context.funcs) (cond context.features.gc (created_offers config context r fuel) [])
+    (some_cond context.features.gc (created_offers config context r fuel) gc (some_front (types_offers context (Ref r) fuel false) (types_offers context (Ref r) fuel true ++ other_offers config context r fuel) structs))
+grounded_offered config context r fuel scope (inr (function, index, at, lower)) =
+    let below = below_any context.types (function_reference context function index) r ((val_decides context.types scope.orderly (function_reference context function index) (reference_to r.heap_type)).1 lower) in
+    some_front (each_from (function_offers context (Ref r)) 0 context.funcs) (cond context.features.gc (created_offers config context r fuel) [])
+    (some_each (function_offers context (Ref r)) 0 function function context.funcs index at (omega arith) (rw below (omega arith)))
+
+references_some : (context : Context) (value : ValType) (before behind : List Choice) → 0 < length behind → 0 < length (before ++ (constant_offers context value ++ behind))
+references_some context value before behind some = some_join before (constant_offers context value ++ behind) (some_join (constant_offers context value) behind some)
+
+not_true : (b : Bool) → (b ≡ true → ⊥) → b ≡ false
+not_true true h = absurd (h refl)
+not_true false h = refl
+
+lacking : (config : Config) (context : Context) (value : ValType) (fuel : ℕ) (before : List Choice) → IsScope context → length (before ++ (constant_offers context value ++ reference_offers config context value fuel)) ≡ 0 → IsUngrounded config context value
+lacking config context I32 fuel before scope none = let some = constants_some context I32 before [] refl in absurd (omega arith)
+lacking config context I64 fuel before scope none = let some = constants_some context I64 before [] refl in absurd (omega arith)
+lacking config context F32 fuel before scope none = let some = constants_some context F32 before [] refl in absurd (omega arith)
+lacking config context F64 fuel before scope none = let some = constants_some context F64 before [] refl in absurd (omega arith)
+lacking config context V128 fuel before scope none = let some = constants_some context V128 before [] refl in absurd (omega arith)
+lacking config context (Ref r) fuel before scope none =
+    let references = reference_offers config context (Ref r) fuel in (
+      not_true r.nullable (λ default. let some = constants_some context (Ref r) before references default in absurd (omega arith)),
+      λ on grounded. let some = references_some context (Ref r) before references (grounded_offered config context r fuel scope grounded) in absurd (omega arith),
+    )
+
+-- nothing is offered only for a reference that may not be null, and, with the field on, is not grounded
+pub nothing_offered : (config : Config) (context : Context) (wanted : ValType) (fuel : ℕ) (items : List Choice) (e : Error) → IsScope context → items ≡ offers config context wanted fuel → length items ≡ 0 → e ≡ EmptyChoose → MayRefuseConstExpr config context wanted e
 unfolding offers
-nothing_offered context wanted fuel items e is none empty =
-    inr (empty, inl (lacking context wanted (each_from (global_offers context wanted) 0 (take context.visible context.globals)) (reference_offers context wanted fuel) (rw is at none)))
+nothing_offered config context wanted fuel items e scope is none empty =
+    inr (empty, inl (lacking config context wanted fuel (each_from (global_offers context wanted) 0 (take context.visible context.globals)) scope (rw is at none)))

@@ -1,15 +1,16 @@
 -- What is drawn over, where the spaces are valid.
-use Rattle.std.proofs.Common.{◌≡◌, ℕ, ◌+◌, ◌*◌, ◌<◌, ◌≤◌, ◌^◌, if◌then◌else◌, Bool, true, false, List, [], ◌∷◌, ◌++◌, Some, length, arith}
-use Rattle.std.specs.Prelude.{All, slice_get, ◌&&◌}
+use Rattle.std.proofs.Common.{◌≡◌, ℕ, ◌+◌, ◌*◌, ◌<◌, ◌≤◌, ◌^◌, if◌then◌else◌, Bool, true, false, List, [], ◌∷◌, ◌++◌, Some, length, subst, arith}
+use Rattle.std.specs.Prelude.{All, IsTrue, slice_get, ◌&&◌}
 use Rattle.std.specs.List.{AllByRecursion as Each, flat_map}
 use Rattle.std.specs.declared.ops.Range.{Range}
 use Rattle.std.proofs.lemmas.List.Elements.{All-from_recursion, recursion_from_All, All-weaker}
 use Rattle.std.proofs.lemmas.Option.{slice_get_within}
-use Rattle.smith_types.specs.Expressions.{Context, IsConstExpr, unpacked, field_values}
+use Rattle.smith_types.specs.Expressions.{Context, IsConstExpr, IsStructAt, unpacked, field_values}
 use Rattle.smith_types.specs.Features.{Features}
+use Rattle.smith_types.specs.Flags.{IsInnerEnabled}
 use Rattle.smith_types.specs.Space.{Space}
 use Rattle.smith_types.specs.Types.{IsOrderly}
-use Rattle.smith_types.specs.ValidTypes.{IsValTypeValid, IsGroupValid, AreTypesValid, values_of, values_of_storage}
+use Rattle.smith_types.specs.ValidTypes.{IsValTypeValid, IsTypeValid, IsGroupValid, AreTypesValid, values_of, values_of_storage}
 use Rattle.smith_types.specs.Entities.{IsFuncValid, IsGlobalValid}
 use Rattle.smith_types.specs.declared.value_type.ValType.{ValType}
 use Rattle.smith_types.specs.declared.composite_type.StorageType.{StorageType}
@@ -38,6 +39,12 @@ each_front : {A : Type 0} (P : A → Type 0) (xs ys : List A) → Each P (xs ++ 
 each_front P [] ys h = (tt, h)
 each_front P (x ∷ xs) ys (p, h) = let (front, back) = each_front P xs ys h in ((p, front), back)
 
+-- a type that stands is valid in its group, which ends within the types
+record IsMember (features : Features) (space : Space) (t : SubType) : Type 0 where
+  end : ℕ
+  within : end ≤ length space.types
+  valid : IsTypeValid features space.types end t
+
 module _ (features : Features) (space : Space) (valid : AreTypesValid features space) where
   -- the value that a stored one unpacks to
   stored : (end : ℕ) → end ≤ length space.types → (ty : StorageType) → Each (IsValTypeValid features end) (values_of_storage ty) → IsValTypeValid features (length space.types) (unpacked ty)
@@ -56,16 +63,24 @@ module _ (features : Features) (space : Space) (valid : AreTypesValid features s
   held end within (Func function) h = tt
   held end within (Struct structure) h = each_stored end within structure.fields h
 
-  pub fields_valid : (index : ℕ) (t : SubType) → slice_get space.types index ≡ Some t → All (IsValTypeValid features (length space.types)) (field_values (fields_of t.composite_type.inner))
-  fields_valid index t at =
+  member_at : (index : ℕ) (t : SubType) → slice_get space.types index ≡ Some t → IsMember features space t
+  member_at index t at =
       let inside : index < length space.types = slice_get_within space.types index t at in
       let whole = valid.covered.whole in
       let (low, ends) = ends_within 0 space.groups valid.covered.consecutive in
       let each = each_pair (IsGroupValid features space.types) (λ (g : Range ℕ). g.end ≤ length space.types) space.groups (recursion_from_All (IsGroupValid features space.types) space.groups valid.groups) (rw whole at ends) in
       let (group, (h, within), begins, over) = group_at (λ (g : Range ℕ). IsGroupValid features space.types g × (g.end ≤ length space.types)) 0 space.groups index valid.covered.consecutive each (omega arith) (omega arith) in
-      let member = h.members index t begins over at in
+      record { end = group.end; within = within; valid = h.members index t begins over at }
+
+  pub fields_valid : (index : ℕ) (t : SubType) → slice_get space.types index ≡ Some t → All (IsValTypeValid features (length space.types)) (field_values (fields_of t.composite_type.inner))
+  fields_valid index t at =
+      let member = member_at index t at in
       All-from_recursion (IsValTypeValid features (length space.types)) (field_values (fields_of t.composite_type.inner))
-      (held group.end within t.composite_type.inner (recursion_from_All (IsValTypeValid features group.end) (values_of t.composite_type.inner) member.values))
+      (held member.end member.within t.composite_type.inner (recursion_from_All (IsValTypeValid features member.end) (values_of t.composite_type.inner) member.valid.values))
+
+  -- a struct type stands only with garbage collection
+  pub structs_gc : (index : ℕ) (fields : List FieldType) → IsStructAt space.types index fields → IsTrue features.gc
+  structs_gc index fields (t, at, is) = subst (IsInnerEnabled features) is (member_at index t at).valid.enabled.inner
 
 visible_within : (b : Bool) (all imported : ℕ) → imported ≤ all → (if b then all else imported) ≤ all
 visible_within true all imported h = omega arith
@@ -84,6 +99,7 @@ scope_of config spaces allow valid orderly few = record {
   imported_seen = visible_imported config.gc_enabled allow (length spaces.entities.globals.now) spaces.entities.imported_globals;
   funcs = All-weaker (IsFuncValid spaces.types.now.types) (λ index. index < length spaces.types.now.types) (λ index (function, (t, at, is)). slice_get_within spaces.types.now.types index t at) spaces.entities.funcs.now valid.funcs;
   globals = All-weaker (IsGlobalValid (features_of config) spaces.types.now.types) (λ (global : GlobalType). IsValTypeValid (features_of config) (length spaces.types.now.types) global.val_type) (λ global h. h.value) spaces.entities.globals.now valid.globals;
+  structs = structs_gc (features_of config) spaces.types.now valid.types;
   fields = fields_valid (features_of config) spaces.types.now valid.types;
 }
 

@@ -8,6 +8,7 @@ use Rattle.smith_types.specs.declared.value_type.ValType.TheVariants.{I32}
 use Rattle.smith_types.specs.declared.composite_type.SubType.{SubType}
 use Rattle.smith_types.specs.declared.const_instr.ConstInstr.{ConstInstr}
 use Rattle.smith_types.specs.declared.const_instr.ConstInstr.TheVariants as instr
+use Rattle.smith_config.specs.declared.config.Config.{Config}
 use Rattle.smith_draw.specs.Putting.{Puts}
 use Rattle.smith_draw.specs.ConstBounds.{widest}
 use Rattle.smith_draw.specs.ConstSteps.{operand_type, IsDrawn, IsNode, IsFit}
@@ -44,7 +45,7 @@ spend w l g m o n (suc f) few paid short longer =
     omega arith
 
 -- a node behind its operands
-pub drawn_by : {context : Context} {wanted : ValType} {fuel left : ℕ} {node : Node} {old middle new : List ConstInstr} → IsNode context wanted fuel node → IsDrawn context (map operand_type node.operands) old (fuel - 1) middle left → new ≡ middle ++ node.instruction ∷ []
+pub drawn_by : {config : Config} {context : Context} {wanted : ValType} {fuel left : ℕ} {node : Node} {old middle new : List ConstInstr} → IsNode config context wanted fuel node → IsDrawn context (map operand_type node.operands) old (fuel - 1) middle left → new ≡ middle ++ node.instruction ∷ []
     → IsDrawn context (wanted ∷ []) old fuel new left
 drawn_by {context = context} {wanted = wanted} {fuel = fuel} {left = left} {node = node} {old = old} {middle = middle} {new = new} fits drawn longer =
     let spent = drawn.spent in
@@ -86,6 +87,6 @@ passed_on Q (Ok x) e h q = tt
 passed_on Q (Err y) e h q = subst Q (sym h) q
 
 -- the node that was made of a choice that fits
-pub node_made : (context : Context) (wanted : ValType) (fuel : ℕ) (choice : Choice) (types : List SubType) (bytes : List ℕ) (node : Node) (after : List ℕ) → types ≡ context.types → IsFit context wanted fuel choice → node_at types wanted choice bytes ≡ (node, after) → IsNode context wanted fuel node
-node_made context wanted fuel choice types bytes node after sees fits drawn =
-    subst (IsNode context wanted fuel) (ap (λ (d : Node × List ℕ). d.0) (rw sees at drawn)) (fits.node bytes)
+pub node_made : (config : Config) (context : Context) (wanted : ValType) (fuel : ℕ) (choice : Choice) (types : List SubType) (bytes : List ℕ) (node : Node) (after : List ℕ) → types ≡ context.types → IsFit config context wanted fuel choice → node_at types wanted choice bytes ≡ (node, after) → IsNode config context wanted fuel node
+node_made config context wanted fuel choice types bytes node after sees fits drawn =
+    subst (IsNode config context wanted fuel) (ap (λ (d : Node × List ℕ). d.0) (rw sees at drawn)) (fits.node bytes)

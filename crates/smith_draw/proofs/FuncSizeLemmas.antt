@@ -2,12 +2,14 @@
 use Rattle.std.proofs.Common.{◌≡◌, ℕ, zero, suc, ◌≤◌, Bool, true, false, cond, Option, Some, None, List, [], length, refl, arith}
 use Rattle.std.specs.Prelude.{slice_get, All}
 use Rattle.smith_bytes.proofs.GrownLemmas.{cond_both, grow_most}
+use Rattle.smith_types.specs.Expressions.{Context}
 use Rattle.smith_types.specs.Space.{Space}
 use Rattle.smith_types.specs.declared.composite_type.CompositeInnerType.{CompositeInnerType}
 use Rattle.smith_types.specs.declared.composite_type.CompositeInnerType.TheVariants.{Array, Func, Struct}
 use Rattle.smith_types.specs.declared.composite_type.FuncType.{FuncType}
 use Rattle.smith_types.specs.declared.composite_type.SubType.{SubType}
 use Rattle.smith_config.specs.declared.config.Config.{Config}
+use Rattle.smith_draw.specs.Grounding.{over}
 use Rattle.smith_draw.specs.Choices.{chosen_at}
 use Rattle.smith_draw.specs.CompositeTypes.{val_types_at, most_results, func_type_at, inner_of_number_at, inner_number_at, composite_type_at}
 use Rattle.smith_draw.specs.FuncSizes.{IsFunctionWithin, IsInnerWithin, HasFewValues, IsSmallInner, IsSmall}
@@ -20,34 +22,34 @@ use Rattle.smith_draw.proofs.EachTypeLemmas.{types_keep}
 use Rattle.smith_draw.proofs.FloatLemmas.{stands_in}
 use Rattle.smith_draw.proofs.MatchingLemmas.{length-each_at}
 
-values_few : (config : Config) (types : List SubType) (must_share : Bool) (limit most : ℕ) (bytes : List ℕ) → length (val_types_at config types must_share limit most bytes).0 ≤ most
+values_few : (config : Config) (context : Context) (must_share : Bool) (limit most : ℕ) (bytes : List ℕ) → length (val_types_at config context must_share limit most bytes).0 ≤ most
 unfolding val_types_at
-values_few config types must_share limit most bytes = grow_most (λ _. val_type_at config types must_share limit) 0 most most [] bytes (omega arith)
+values_few config context must_share limit most bytes = grow_most (λ _. val_type_at config context must_share limit) 0 most most [] bytes (omega arith)
 
 results_few : (several : Bool) → cond several 20 1 ≤ 20
 results_few true = omega arith
 results_few false = omega arith
 
-function_small : (config : Config) (types : List SubType) (must_share : Bool) (limit : ℕ) (bytes : List ℕ) → IsFunctionWithin 20 (func_type_at config types must_share limit bytes).0
+function_small : (config : Config) (context : Context) (must_share : Bool) (limit : ℕ) (bytes : List ℕ) → IsFunctionWithin 20 (func_type_at config context must_share limit bytes).0
 unfolding func_type_at
-function_small config types must_share limit bytes =
-    let params = val_types_at config types must_share limit 20 bytes in
-    let results = values_few config types must_share limit (most_results config) params.1 in
+function_small config context must_share limit bytes =
+    let params = val_types_at config context must_share limit 20 bytes in
+    let results = values_few config context must_share limit (most_results config) params.1 in
     let most = results_few config.multi_value_enabled in
-    record { params = values_few config types must_share limit 20 bytes; results = omega arith }
+    record { params = values_few config context must_share limit 20 bytes; results = omega arith }
 
-number_small : (config : Config) (types : List SubType) (must_share : Bool) (limit number : ℕ) (bytes : List ℕ) → IsSmallInner (inner_of_number_at config types must_share limit number bytes).0
-number_small config types must_share limit zero bytes = tt
-number_small config types must_share limit (suc zero) bytes = function_small config types must_share limit bytes
-number_small config types must_share limit (suc (suc number)) bytes = tt
+number_small : (config : Config) (context : Context) (must_share : Bool) (limit number : ℕ) (bytes : List ℕ) → IsSmallInner (inner_of_number_at config context must_share limit number bytes).0
+number_small config context must_share limit zero bytes = tt
+number_small config context must_share limit (suc zero) bytes = function_small config context must_share limit bytes
+number_small config context must_share limit (suc (suc number)) bytes = tt
 
-root_small : (config : Config) (types : List SubType) (limit : ℕ) (bytes : List ℕ) → IsSmall (root_type_at config types limit bytes).0
+root_small : (config : Config) (context : Context) (limit : ℕ) (bytes : List ℕ) → IsSmall (root_type_at config context limit bytes).0
 unfolding root_type_at composite_type_at
-root_small config types limit bytes =
+root_small config context limit bytes =
     let is_final = is_final_at config bytes in
     let shared = sharedness_at config false is_final.1 in
     let number = inner_number_at config shared.1 in
-    number_small config types shared.0 limit number.0 number.1
+    number_small config context shared.0 limit number.0 number.1
 
 -- whatever bound of 20 or more the function types keep that stand, those that are drawn over them keep too
 module _ (most : ℕ) (enough : 20 ≤ most) where
@@ -56,35 +58,35 @@ module _ (most : ℕ) (enough : 20 ≤ most) where
   small_within (Func function) h = record { params = omega (arith, enough, h.params); results = omega (arith, enough, h.results) }
   small_within (Struct structure) h = tt
 
-  root_within : (config : Config) (types : List SubType) (limit : ℕ) (bytes : List ℕ) → HasFewValues most (root_type_at config types limit bytes).0
-  root_within config types limit bytes = small_within (root_type_at config types limit bytes).0.composite_type.inner (root_small config types limit bytes)
+  root_within : (config : Config) (context : Context) (limit : ℕ) (bytes : List ℕ) → HasFewValues most (root_type_at config context limit bytes).0
+  root_within config context limit bytes = small_within (root_type_at config context limit bytes).0.composite_type.inner (root_small config context limit bytes)
 
-  matched_function_within : (config : Config) (types : List SubType) (function : FuncType) (bytes : List ℕ) → IsFunctionWithin most function → IsFunctionWithin most (matching_func_type_at config types function bytes).0
+  matched_function_within : (config : Config) (context : Context) (function : FuncType) (bytes : List ℕ) → IsFunctionWithin most function → IsFunctionWithin most (matching_func_type_at config context function bytes).0
   unfolding matching_func_type_at
-  matched_function_within config types function bytes h =
-      let drawn = each_at (super_val_type_at config types) function.params bytes in
-      let params = length-each_at (super_val_type_at config types) function.params bytes in
-      let results = length-each_at (matching_val_type_at config types) function.results drawn.1 in
+  matched_function_within config context function bytes h =
+      let drawn = each_at (super_val_type_at config context.types) function.params bytes in
+      let params = length-each_at (super_val_type_at config context.types) function.params bytes in
+      let results = length-each_at (matching_val_type_at config context) function.results drawn.1 in
       record { params = omega (arith, h.params, params); results = omega (arith, h.results, results) }
 
-  matched_within : (config : Config) (types : List SubType) (must_share : Bool) (limit : ℕ) (inner : CompositeInnerType) (bytes : List ℕ) → IsInnerWithin most inner → IsInnerWithin most (matching_inner_at config types must_share limit inner bytes).0
-  matched_within config types must_share limit (Array array) bytes h = tt
-  matched_within config types must_share limit (Func function) bytes h = matched_function_within config types function bytes h
-  matched_within config types must_share limit (Struct structure) bytes h = tt
+  matched_within : (config : Config) (context : Context) (must_share : Bool) (limit : ℕ) (inner : CompositeInnerType) (bytes : List ℕ) → IsInnerWithin most inner → IsInnerWithin most (matching_inner_at config context must_share limit inner bytes).0
+  matched_within config context must_share limit (Array array) bytes h = tt
+  matched_within config context must_share limit (Func function) bytes h = matched_function_within config context function bytes h
+  matched_within config context must_share limit (Struct structure) bytes h = tt
 
-  below_within : (config : Config) (types : List SubType) (limit index : ℕ) (at : Option SubType) (bytes : List ℕ) → ((t : SubType) → at ≡ Some t → HasFewValues most t) → HasFewValues most (sub_type_below_at config types limit index at bytes).0
+  below_within : (config : Config) (context : Context) (limit index : ℕ) (at : Option SubType) (bytes : List ℕ) → ((t : SubType) → at ≡ Some t → HasFewValues most t) → HasFewValues most (sub_type_below_at config context limit index at bytes).0
   unfolding matching_composite_type_at
-  below_within config types limit index None bytes h = root_within config types limit bytes
-  below_within config types limit index (Some t) bytes h = matched_within config types t.composite_type.shared limit t.composite_type.inner bytes (h t refl)
+  below_within config context limit index None bytes h = root_within config context limit bytes
+  below_within config context limit index (Some t) bytes h = matched_within config context t.composite_type.shared limit t.composite_type.inner bytes (h t refl)
 
-  sub_type_within : (config : Config) (types : List SubType) (limit : ℕ) (bytes : List ℕ) → All (HasFewValues most) types → HasFewValues most (sub_type_at config types limit bytes).0
+  sub_type_within : (config : Config) (context : Context) (limit : ℕ) (bytes : List ℕ) → All (HasFewValues most) context.types → HasFewValues most (sub_type_at config context limit bytes).0
   unfolding sub_type_at sub_type_of_at
-  sub_type_within config types limit bytes all =
-      let wanted = supertype_wanted_at config (length (supertypes types)) bytes in
-      let index = chosen_at 0 (supertypes types) wanted.1 in
-      cond_both (λ (r : SubType × List ℕ). HasFewValues most r.0) wanted.0 (sub_type_of_at config types limit (supertypes types) wanted.1) (root_type_at config types limit wanted.1)
-      (below_within config types limit index.0 (slice_get types index.0) index.1 (λ t at. stands_in (HasFewValues most) types index.0 t at all)) (root_within config types limit wanted.1)
+  sub_type_within config context limit bytes all =
+      let wanted = supertype_wanted_at config (length (supertypes context.types)) bytes in
+      let index = chosen_at 0 (supertypes context.types) wanted.1 in
+      cond_both (λ (r : SubType × List ℕ). HasFewValues most r.0) wanted.0 (sub_type_of_at config context limit (supertypes context.types) wanted.1) (root_type_at config context limit wanted.1)
+      (below_within config context limit index.0 (slice_get context.types index.0) index.1 (λ t at. stands_in (HasFewValues most) context.types index.0 t at all)) (root_within config context limit wanted.1)
 
   -- so do those of a type space that groups are drawn into
-  pub types_within : (config : Config) (space : Space) (bytes : List ℕ) → All (HasFewValues most) space.types → All (HasFewValues most) (types_at config space bytes).0.types
-  types_within config space bytes all = types_keep config (HasFewValues most) (sub_type_within config) space bytes all
+  pub types_within : (config : Config) (context : Context) (space : Space) (bytes : List ℕ) → All (HasFewValues most) space.types → All (HasFewValues most) (types_at config context space bytes).0.types
+  types_within config context space bytes all = types_keep config context (HasFewValues most) (λ types. sub_type_within config (over context types)) space bytes all

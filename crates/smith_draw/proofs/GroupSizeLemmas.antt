@@ -7,10 +7,12 @@ use Rattle.std.proofs.lemmas.Bool.{ltb-true, leb-true}
 use Rattle.smith_bytes.specs.Draws.{range_at, ratio_at}
 use Rattle.smith_bytes.proofs.DrawnLemmas.{range_within}
 use Rattle.smith_bytes.proofs.GrownLemmas.{grow_most, grow_least}
+use Rattle.smith_types.specs.Expressions.{Context}
 use Rattle.smith_types.specs.Space.{Space}
 use Rattle.smith_types.specs.Types.{AreConsecutive, next_start}
 use Rattle.smith_types.specs.declared.composite_type.SubType.{SubType}
 use Rattle.smith_config.specs.declared.config.Config.{Config}
+use Rattle.smith_draw.specs.Grounding.{over}
 use Rattle.smith_draw.specs.Choices.{chosen_at}
 use Rattle.smith_draw.specs.SubTypes.{sub_type_at}
 use Rattle.smith_draw.specs.RecGroups.{types_left, types_until_at, group_size_at, new_group_at, members, may_be_cloned, with_clone, clone_rec_group_at, clone_wanted_at, cloned_or_new_at, rec_group_at}
@@ -35,20 +37,20 @@ size_by true false most bytes some = (range_within 1 most bytes (omega arith), �
 size_by false allow_empty most bytes some = (omega arith, λ e. omega arith)
 
 -- types that are drawn until there are `limit` are `limit` types
-pub types_until_length : (config : Config) (limit : ℕ) (types : List SubType) (bytes : List ℕ) → length types ≤ limit → length (types_until_at config limit types bytes).0 ≡ limit
+pub types_until_length : (config : Config) (context : Context) (limit : ℕ) (types : List SubType) (bytes : List ℕ) → length types ≤ limit → length (types_until_at config context limit types bytes).0 ≡ limit
 unfolding types_until_at
-types_until_length config limit types bytes le =
-    let draw = λ (made : List SubType). sub_type_at config made limit in
+types_until_length config context limit types bytes le =
+    let draw = λ (made : List SubType). sub_type_at config (over context made) limit in
     let most = grow_most draw limit (limit - length types) limit types bytes (omega arith) in
     let least = grow_least draw limit (limit - length types) types bytes (omega arith) in
     omega (arith, most, least)
 
-pub new_group_more : (config : Config) (allow_empty : Bool) (space : Space) (bytes : List ℕ) → length space.types < config.max_types → HasMore config allow_empty space (new_group_at config allow_empty space bytes).0
+pub new_group_more : (config : Config) (context : Context) (allow_empty : Bool) (space : Space) (bytes : List ℕ) → length space.types < config.max_types → HasMore config allow_empty space (new_group_at config context allow_empty space bytes).0
 unfolding new_group_at
-new_group_more config allow_empty space bytes room =
+new_group_more config context allow_empty space bytes room =
     let size = group_size_at config allow_empty (types_left config space) bytes in
     let (most, some) = size_by config.gc_enabled allow_empty (types_left config space) bytes (omega arith) in
-    let len = types_until_length config (length space.types + size.0) space.types size.1 (omega arith) in
+    let len = types_until_length config context (length space.types + size.0) space.types size.1 (omega arith) in
     record { most = omega (arith, len, most); kept = omega (arith, len); some = λ e. let one = some e in omega (arith, len, one) }
 
 both_true : (a b : Bool) → (a && b) ≡ true → IsTrue a × IsTrue b
@@ -112,28 +114,28 @@ clone_rec_group_most config allow_empty space bytes within some room =
     let group = chosen_at (record { start = 0; end = 0 }) space.groups bytes in
     clone_most config allow_empty space group.0 (may_be_cloned config allow_empty space group.0) refl (chosen_within space bytes within some) room
 
-clone_or : (config : Config) (space : Space) (group : Range ℕ) (left : List ℕ) (cloned : Bool) → may_be_cloned config false space group ≡ cloned → IsWithin space group → length space.types < config.max_types
-    → HasMore config false space (cond {A = Space × List ℕ} (cloned || false) ((cond cloned (with_clone space group) space), left) (new_group_at config false (cond cloned (with_clone space group) space) left)).0
-clone_or config space group left true may within room = with_clone_more config false space group within room (clonable config false space group may)
-clone_or config space group left false may within room = new_group_more config false space left room
+clone_or : (config : Config) (context : Context) (space : Space) (group : Range ℕ) (left : List ℕ) (cloned : Bool) → may_be_cloned config false space group ≡ cloned → IsWithin space group → length space.types < config.max_types
+    → HasMore config false space (cond {A = Space × List ℕ} (cloned || false) ((cond cloned (with_clone space group) space), left) (new_group_at config context false (cond cloned (with_clone space group) space) left)).0
+clone_or config context space group left true may within room = with_clone_more config false space group within room (clonable config false space group may)
+clone_or config context space group left false may within room = new_group_more config context false space left room
 
-clone_if : (config : Config) (space : Space) (group : Range ℕ) (left : List ℕ) (cloned : Bool) → may_be_cloned config true space group ≡ cloned → IsWithin space group → length space.types < config.max_types
-    → HasMore config true space (cond {A = Space × List ℕ} (cloned || true) ((cond cloned (with_clone space group) space), left) (new_group_at config true (cond cloned (with_clone space group) space) left)).0
-clone_if config space group left true may within room = with_clone_more config true space group within room (clonable config true space group may)
-clone_if config space group left false may within room = record { most = omega arith; kept = omega arith; some = λ e. cc }
+clone_if : (config : Config) (context : Context) (space : Space) (group : Range ℕ) (left : List ℕ) (cloned : Bool) → may_be_cloned config true space group ≡ cloned → IsWithin space group → length space.types < config.max_types
+    → HasMore config true space (cond {A = Space × List ℕ} (cloned || true) ((cond cloned (with_clone space group) space), left) (new_group_at config context true (cond cloned (with_clone space group) space) left)).0
+clone_if config context space group left true may within room = with_clone_more config true space group within room (clonable config true space group may)
+clone_if config context space group left false may within room = record { most = omega arith; kept = omega arith; some = λ e. cc }
 
-cloned_or_new_more : (config : Config) (allow_empty : Bool) (space : Space) (bytes : List ℕ) → AreWithin space → 0 < length space.groups → length space.types < config.max_types → HasMore config allow_empty space (cloned_or_new_at config allow_empty space bytes).0
+cloned_or_new_more : (config : Config) (context : Context) (allow_empty : Bool) (space : Space) (bytes : List ℕ) → AreWithin space → 0 < length space.groups → length space.types < config.max_types → HasMore config allow_empty space (cloned_or_new_at config context allow_empty space bytes).0
 unfolding clone_rec_group_at
-cloned_or_new_more config true space bytes within some room =
+cloned_or_new_more config context true space bytes within some room =
     let group = chosen_at (record { start = 0; end = 0 }) space.groups bytes in
-    clone_if config space group.0 group.1 (may_be_cloned config true space group.0) refl (chosen_within space bytes within some) room
-cloned_or_new_more config false space bytes within some room =
+    clone_if config context space group.0 group.1 (may_be_cloned config true space group.0) refl (chosen_within space bytes within some) room
+cloned_or_new_more config context false space bytes within some room =
     let group = chosen_at (record { start = 0; end = 0 }) space.groups bytes in
-    clone_or config space group.0 group.1 (may_be_cloned config false space group.0) refl (chosen_within space bytes within some) room
+    clone_or config context space group.0 group.1 (may_be_cloned config false space group.0) refl (chosen_within space bytes within some) room
 
-pub rec_group_more : (config : Config) (allow_empty : Bool) (space : Space) (bytes : List ℕ) → AreWithin space → length space.types < config.max_types → HasMore config allow_empty space (rec_group_at config allow_empty space bytes).0
+pub rec_group_more : (config : Config) (context : Context) (allow_empty : Bool) (space : Space) (bytes : List ℕ) → AreWithin space → length space.types < config.max_types → HasMore config allow_empty space (rec_group_at config context allow_empty space bytes).0
 unfolding rec_group_at
-rec_group_more config allow_empty space bytes within room =
+rec_group_more config context allow_empty space bytes within room =
     let wanted = clone_wanted_at config space bytes in
-    cond_where (λ (r : Space × List ℕ). HasMore config allow_empty space r.0) wanted.0 (cloned_or_new_at config allow_empty space wanted.1) (new_group_at config allow_empty space wanted.1)
-    (λ on. cloned_or_new_more config allow_empty space wanted.1 within (clone_wanted config space bytes on).1 room) (new_group_more config allow_empty space wanted.1 room)
+    cond_where (λ (r : Space × List ℕ). HasMore config allow_empty space r.0) wanted.0 (cloned_or_new_at config context allow_empty space wanted.1) (new_group_at config context allow_empty space wanted.1)
+    (λ on. cloned_or_new_more config context allow_empty space wanted.1 within (clone_wanted config space bytes on).1 room) (new_group_more config context allow_empty space wanted.1 room)

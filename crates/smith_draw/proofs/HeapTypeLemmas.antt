@@ -46,7 +46,7 @@ gc_supertypes_above types (Concrete i) =
 gc_supertypes_above types (Exact i) = (itself, tt)
 
 -- with garbage collection or without it
-offered_each : (P : HeapType → Type 0) (gc : Bool) (ty : HeapType) (offered : List HeapType) → P ty → (IsTrue gc → Each P offered) → Each P (cond gc offered (ty ∷ []))
+pub offered_each : (P : HeapType → Type 0) (gc : Bool) (ty : HeapType) (offered : List HeapType) → P ty → (IsTrue gc → Each P offered) → Each P (cond gc offered (ty ∷ []))
 offered_each P true ty offered own each = each refl
 offered_each P false ty offered own each = (own, tt)
 
@@ -88,7 +88,7 @@ shared_enabled features types sharing i t at =
     let inside = slice_get_within types i t at in
     subst (IsSharingEnabled features) (get_or_from_slice_get types i t t at) (sharing i t inside)
 
-gc_subtypes_valid : (config : Config) (types : List SubType) (ty : HeapType) (end : ℕ) → IsTrue config.gc_enabled → length types ≤ end → All (IsSharingEnabled (features_of config)) types → IsHeapTypeValid (features_of config) end ty
+pub gc_subtypes_valid : (config : Config) (types : List SubType) (ty : HeapType) (end : ℕ) → IsTrue config.gc_enabled → length types ≤ end → All (IsSharingEnabled (features_of config)) types → IsHeapTypeValid (features_of config) end ty
     → Each (IsHeapTypeValid (features_of config) end) (gc_subtypes config types ty)
 gc_subtypes_valid config types (Abstract s a) end gc le sharing valid =
     below_abstract_each (IsHeapTypeValid (features_of config) end) types s a (λ b below. (enabled_below (features_of config) a b gc below valid.0, valid.1))

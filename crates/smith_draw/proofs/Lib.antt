@@ -8,6 +8,7 @@ pub mod OfferedPlaceLemmas
 pub mod HeapTypeLemmas
 pub mod SharedLemmas
 pub mod StandingLemmas
+pub mod GroundedLoop
 pub mod MatchingLemmas
 pub mod ChosenLemmas
 pub mod ValueTypeLemmas
@@ -29,6 +30,7 @@ pub mod RecGroupLemmas
 pub mod EachTypeLemmas
 pub mod FloatLemmas
 pub mod FuncSizeLemmas
+pub mod FilledLemmas
 pub mod NullableLemmas
 pub mod SharedHeapTypeLemmas
 pub mod GlobalTypeLemmas
@@ -38,6 +40,8 @@ pub mod PlaceLemmas
 pub mod TypeUseLemmas
 pub mod MemoryLemmas
 pub mod BelowLemmas
+pub mod GroundingLemmas
+pub mod KeptGroundLemmas
 pub mod ReadableLemmas
 pub mod ConstScopeLemmas
 pub mod ConstOfferLemmas

@@ -3,10 +3,10 @@ use Rattle.std.proofs.Common.{◌≡◌, ℕ, ◌≤◌, false, List, [], length
 use Rattle.std.specs.Prelude.{All}
 use Rattle.std.proofs.lemmas.List.Elements.{All-nil}
 use Rattle.smith_bytes.proofs.GrownLemmas.{grow_most, grow_all}
+use Rattle.smith_types.specs.Expressions.{Context}
 use Rattle.smith_types.specs.Floats.{IsNoFloat}
 use Rattle.smith_types.specs.ValidTypes.{IsValTypeValid}
 use Rattle.smith_types.specs.declared.value_type.ValType.{ValType}
-use Rattle.smith_types.specs.declared.composite_type.SubType.{SubType}
 use Rattle.smith_config.specs.declared.config.Config.{Config}
 use Rattle.smith_config.specs.Features.{features_of}
 use Rattle.smith_config.specs.Sanitized.{IsSanitized}
@@ -19,21 +19,21 @@ use Rattle.smith_draw.proofs.FloatLemmas.{values_no_float}
 use Rattle.smith_draw.proofs.NullableLemmas.{val_type_nullable}
 use Rattle.smith_draw.proofs.ValueTypeLemmas.{values_valid}
 
-pub locals_most : (config : Config) (types : List SubType) (bytes : List ℕ) → length (locals_at config types bytes).0 ≤ 100
+pub locals_most : (config : Config) (context : Context) (bytes : List ℕ) → length (locals_at config context bytes).0 ≤ 100
 unfolding locals_at val_types_at
-locals_most config types bytes = grow_most (λ _. val_type_at config types false (length types)) 0 100 100 [] bytes (omega arith)
+locals_most config context bytes = grow_most (λ _. val_type_at config context false (length context.types)) 0 100 100 [] bytes (omega arith)
 
-pub locals_valid : (config : Config) (types : List SubType) (bytes : List ℕ) → IsSanitized config → All (IsValTypeValid (features_of config) (length types)) (locals_at config types bytes).0
+pub locals_valid : (config : Config) (context : Context) (bytes : List ℕ) → IsSanitized config → All (IsValTypeValid (features_of config) (length context.types)) (locals_at config context bytes).0
 unfolding locals_at
-locals_valid config types bytes sanitized =
-    values_valid config types false (length types) (locals_at config types bytes).0 (val_types_drawn config types false (length types) 100 bytes sanitized (λ no. cc))
+locals_valid config context bytes sanitized =
+    values_valid config context.types false (length context.types) (locals_at config context bytes).0 (val_types_drawn config context false (length context.types) 100 bytes sanitized (λ no. cc))
 
-pub locals_no_float : (config : Config) (types : List SubType) (bytes : List ℕ) → config.allow_floats ≡ false → All IsNoFloat (locals_at config types bytes).0
+pub locals_no_float : (config : Config) (context : Context) (bytes : List ℕ) → config.allow_floats ≡ false → All IsNoFloat (locals_at config context bytes).0
 unfolding locals_at
-locals_no_float config types bytes off = values_no_float config off types false (length types) 100 bytes
+locals_no_float config context bytes off = values_no_float config off context false (length context.types) 100 bytes
 
-pub locals_nullable : (config : Config) (types : List SubType) (bytes : List ℕ) → All (λ (ty : ValType). ¬ IsNonNullable ty) (locals_at config types bytes).0
+pub locals_nullable : (config : Config) (off : config.non_nullable_enabled ≡ false) (context : Context) (bytes : List ℕ) → All (λ (ty : ValType). ¬ IsNonNullable ty) (locals_at config context bytes).0
 unfolding locals_at val_types_at
-locals_nullable config types bytes =
+locals_nullable config off context bytes =
     let Nullable = λ (ty : ValType). ¬ IsNonNullable ty in
-    grow_all Nullable (λ _. val_type_at config types false (length types)) (λ _ after. val_type_nullable config types false (length types) after) 0 100 [] bytes (All-nil Nullable)
+    grow_all Nullable (λ _. val_type_at config context false (length context.types)) (λ _ after. val_type_nullable config off context false (length context.types) after) 0 100 [] bytes (All-nil Nullable)

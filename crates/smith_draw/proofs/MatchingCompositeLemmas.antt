@@ -6,6 +6,7 @@ use Rattle.std.proofs.lemmas.List.Elements.{All-append, All-from_recursion, recu
 use Rattle.smith_bytes.specs.Draws.{range_at}
 use Rattle.smith_bytes.specs.Growth.{goes_at, grow_at}
 use Rattle.smith_bytes.proofs.GrownLemmas.{cond_both}
+use Rattle.smith_types.specs.Expressions.{Context}
 use Rattle.smith_types.specs.Flags.{IsInnerEnabled}
 use Rattle.smith_types.specs.Kinds.{kind_of}
 use Rattle.smith_types.specs.Types.{IsOrderly}
@@ -42,19 +43,19 @@ grow_keeps {A = A} P draw keeps least (suc most) made bytes h =
     (grow_keeps P draw keeps least most (made ++ x.0 ∷ []) x.1 (keeps made go.1 h)) h
 
 -- fields match what those matched that they were made of
-fields_until_match : (config : Config) (types : List SubType) (must_share : Bool) (limit end : ℕ) (fields upper : List FieldType) (bytes : List ℕ) → AreFieldsMatched types fields upper → AreFieldsMatched types (fields_until_at config types must_share limit end fields bytes).0 upper
+fields_until_match : (config : Config) (context : Context) (must_share : Bool) (limit end : ℕ) (fields upper : List FieldType) (bytes : List ℕ) → AreFieldsMatched context.types fields upper → AreFieldsMatched context.types (fields_until_at config context must_share limit end fields bytes).0 upper
 unfolding fields_until_at
-fields_until_match config types must_share limit end fields upper bytes =
-    grow_keeps (λ (made : List FieldType). AreFieldsMatched types made upper) (λ _. field_type_at config types must_share limit)
-    (λ made after. AreFieldsMatched-longer types made upper ((field_type_at config types must_share limit after).0 ∷ [])) end (end - length fields) fields bytes
+fields_until_match config context must_share limit end fields upper bytes =
+    grow_keeps (λ (made : List FieldType). AreFieldsMatched context.types made upper) (λ _. field_type_at config context must_share limit)
+    (λ made after. AreFieldsMatched-longer context.types made upper ((field_type_at config context must_share limit after).0 ∷ [])) end (end - length fields) fields bytes
 
 -- what holds of each field that is drawn, and of those that were there, holds of all
-fields_until_keep : (P : FieldType → Type 0) (config : Config) (types : List SubType) (must_share : Bool) (limit end : ℕ) (fields : List FieldType) (bytes : List ℕ) → ((field : FieldType) → IsFieldDrawn config types must_share limit field → P field) → IsSanitized config → MayShare config must_share
-    → Each P fields → Each P (fields_until_at config types must_share limit end fields bytes).0
+fields_until_keep : (P : FieldType → Type 0) (config : Config) (context : Context) (must_share : Bool) (limit end : ℕ) (fields : List FieldType) (bytes : List ℕ) → ((field : FieldType) → IsFieldDrawn config context.types must_share limit field → P field) → IsSanitized config → MayShare config must_share
+    → Each P fields → Each P (fields_until_at config context must_share limit end fields bytes).0
 unfolding fields_until_at
-fields_until_keep P config types must_share limit end fields bytes holds sanitized may =
-    grow_keeps (λ (made : List FieldType). Each P made) (λ _. field_type_at config types must_share limit)
-    (λ made after h. (each_join P made ((field_type_at config types must_share limit after).0 ∷ [])).1 (h, (holds (field_type_at config types must_share limit after).0 (field_type_drawn config types must_share limit after sanitized may), tt)))
+fields_until_keep P config context must_share limit end fields bytes holds sanitized may =
+    grow_keeps (λ (made : List FieldType). Each P made) (λ _. field_type_at config context must_share limit)
+    (λ made after h. (each_join P made ((field_type_at config context must_share limit after).0 ∷ [])).1 (h, (holds (field_type_at config context must_share limit after).0 (field_type_drawn config context must_share limit after sanitized may), tt)))
     end (end - length fields) fields bytes
 
 -- what holds of the values of a struct holds of those of each field
@@ -83,46 +84,46 @@ pub record MayBeMatched (config : Config) (types : List SubType) (must_share : B
   pub values : All (IsValTypeValid (features_of config) limit) (values_of old)
 
 -- what each field that is drawn has, and each matched one, each field of the struct has
-struct_fields_keep : (P : FieldType → Type 0) (config : Config) (types : List SubType) (must_share : Bool) (limit : ℕ) (structure : StructType) (bytes : List ℕ) → ((field : FieldType) → IsFieldDrawn config types must_share limit field → P field) → IsSanitized config → MayShare config must_share
-    → All P (matched_fields_at config types structure.fields (range_at 0 5 bytes).1).0 → Each P (matching_struct_type_at config types must_share limit structure bytes).0.fields
+struct_fields_keep : (P : FieldType → Type 0) (config : Config) (context : Context) (must_share : Bool) (limit : ℕ) (structure : StructType) (bytes : List ℕ) → ((field : FieldType) → IsFieldDrawn config context.types must_share limit field → P field) → IsSanitized config → MayShare config must_share
+    → All P (matched_fields_at config context structure.fields (range_at 0 5 bytes).1).0 → Each P (matching_struct_type_at config context must_share limit structure bytes).0.fields
 unfolding matching_struct_type_at
-struct_fields_keep P config types must_share limit structure bytes holds sanitized may all =
+struct_fields_keep P config context must_share limit structure bytes holds sanitized may all =
     let extra = range_at 0 5 bytes in
-    let matched = matched_fields_at config types structure.fields extra.1 in
-    fields_until_keep P config types must_share limit (length matched.0 + extra.0) matched.0 matched.1 holds sanitized may (recursion_from_All P matched.0 all)
+    let matched = matched_fields_at config context structure.fields extra.1 in
+    fields_until_keep P config context must_share limit (length matched.0 + extra.0) matched.0 matched.1 holds sanitized may (recursion_from_All P matched.0 all)
 
-pub matching_struct_match : (config : Config) (types : List SubType) (must_share : Bool) (limit : ℕ) (structure : StructType) (bytes : List ℕ) → AreFieldsMatched types (matching_struct_type_at config types must_share limit structure bytes).0.fields structure.fields
+pub matching_struct_match : (config : Config) (context : Context) (must_share : Bool) (limit : ℕ) (structure : StructType) (bytes : List ℕ) → AreFieldsMatched context.types (matching_struct_type_at config context must_share limit structure bytes).0.fields structure.fields
 unfolding matching_struct_type_at
-matching_struct_match config types must_share limit structure bytes =
+matching_struct_match config context must_share limit structure bytes =
     let extra = range_at 0 5 bytes in
-    let matched = matched_fields_at config types structure.fields extra.1 in
-    fields_until_match config types must_share limit (length matched.0 + extra.0) matched.0 structure.fields matched.1 (matched_fields_match config types structure.fields extra.1)
+    let matched = matched_fields_at config context structure.fields extra.1 in
+    fields_until_match config context must_share limit (length matched.0 + extra.0) matched.0 structure.fields matched.1 (matched_fields_match config context structure.fields extra.1)
 
-pub matching_struct_valid : (config : Config) (types : List SubType) (must_share : Bool) (limit : ℕ) (structure : StructType) (bytes : List ℕ) → IsSanitized config → MayShare config must_share → length types ≤ limit → All (IsSharingEnabled (features_of config)) types
-    → All (IsValTypeValid (features_of config) limit) (values_of (Struct structure)) → All (IsValTypeValid (features_of config) limit) (values_of (Struct (matching_struct_type_at config types must_share limit structure bytes).0))
-matching_struct_valid config types must_share limit structure bytes sanitized may room sharing old =
+pub matching_struct_valid : (config : Config) (context : Context) (must_share : Bool) (limit : ℕ) (structure : StructType) (bytes : List ℕ) → IsSanitized config → MayShare config must_share → length context.types ≤ limit → All (IsSharingEnabled (features_of config)) context.types
+    → All (IsValTypeValid (features_of config) limit) (values_of (Struct structure)) → All (IsValTypeValid (features_of config) limit) (values_of (Struct (matching_struct_type_at config context must_share limit structure bytes).0))
+matching_struct_valid config context must_share limit structure bytes sanitized may room sharing old =
     let P = IsValTypeValid (features_of config) limit in
     let Valid = λ (field : FieldType). IsFieldValid (features_of config) limit field in
     let before = fields_of_values P structure.fields (recursion_from_All P (values_of (Struct structure)) old) in
-    let matched = (matched_fields_valid config types structure.fields (range_at 0 5 bytes).1).against limit room sharing (All-from_recursion Valid structure.fields before) in
-    values_of_fields P (matching_struct_type_at config types must_share limit structure bytes).0.fields
-    (struct_fields_keep Valid config types must_share limit structure bytes (λ field drawn. values_valid config types must_share limit (values_of_storage field.element_type) drawn.values) sanitized may matched)
+    let matched = (matched_fields_valid config context structure.fields (range_at 0 5 bytes).1).against limit room sharing (All-from_recursion Valid structure.fields before) in
+    values_of_fields P (matching_struct_type_at config context must_share limit structure bytes).0.fields
+    (struct_fields_keep Valid config context must_share limit structure bytes (λ field drawn. values_valid config context.types must_share limit (values_of_storage field.element_type) drawn.values) sanitized may matched)
 
-pub matching_struct_shareable : (config : Config) (types : List SubType) (must_share : Bool) (limit : ℕ) (structure : StructType) (bytes : List ℕ) → IsSanitized config → MayShare config must_share → IsOrderly types → IsTrue must_share
-    → All (IsShareable types) (values_of (Struct structure)) → All (IsShareable types) (values_of (Struct (matching_struct_type_at config types must_share limit structure bytes).0))
+pub matching_struct_shareable : (config : Config) (context : Context) (must_share : Bool) (limit : ℕ) (structure : StructType) (bytes : List ℕ) → IsSanitized config → MayShare config must_share → IsOrderly context.types → IsTrue must_share
+    → All (IsShareable context.types) (values_of (Struct structure)) → All (IsShareable context.types) (values_of (Struct (matching_struct_type_at config context must_share limit structure bytes).0))
 unfolding matched_fields_at
-matching_struct_shareable config types must_share limit structure bytes sanitized may orderly must old =
-    let Shared = λ (field : FieldType). IsStorageShareable types field.element_type in
-    let before = fields_of_values (IsShareable types) structure.fields (recursion_from_All (IsShareable types) (values_of (Struct structure)) old) in
-    let matched = all_stay Shared (matching_field_type_at config types)
-    (λ x rest s. (storage_shareable types orderly (matching_field_type_at config types x rest).0.element_type x.element_type (matching_field_match config types x rest).below).1 s) structure.fields (range_at 0 5 bytes).1 (All-from_recursion Shared structure.fields before) in
-    values_of_fields (IsShareable types) (matching_struct_type_at config types must_share limit structure bytes).0.fields
-    (struct_fields_keep Shared config types must_share limit structure bytes (λ field drawn. values_shared config types must_share limit (values_of_storage field.element_type) must drawn.values) sanitized may matched)
+matching_struct_shareable config context must_share limit structure bytes sanitized may orderly must old =
+    let Shared = λ (field : FieldType). IsStorageShareable context.types field.element_type in
+    let before = fields_of_values (IsShareable context.types) structure.fields (recursion_from_All (IsShareable context.types) (values_of (Struct structure)) old) in
+    let matched = all_stay Shared (matching_field_type_at config context)
+    (λ x rest s. (storage_shareable context.types orderly (matching_field_type_at config context x rest).0.element_type x.element_type (matching_field_match config context x rest).below).1 s) structure.fields (range_at 0 5 bytes).1 (All-from_recursion Shared structure.fields before) in
+    values_of_fields (IsShareable context.types) (matching_struct_type_at config context must_share limit structure bytes).0.fields
+    (struct_fields_keep Shared config context must_share limit structure bytes (λ field drawn. values_shared config context.types must_share limit (values_of_storage field.element_type) must drawn.values) sanitized may matched)
 
-matching_func : (config : Config) (types : List SubType) (must_share : Bool) (limit : ℕ) (function : FuncType) (bytes : List ℕ) → MayBeMatched config types must_share limit (Func function)
-    → IsInnerMatching config types must_share limit (Func function) (Func (matching_func_type_at config types function bytes).0)
-matching_func config types must_share limit function bytes h =
-    let drawn = (matching_func_type_at config types function bytes).0 in
+matching_func : (config : Config) (context : Context) (must_share : Bool) (limit : ℕ) (function : FuncType) (bytes : List ℕ) → MayBeMatched config context.types must_share limit (Func function)
+    → IsInnerMatching config context.types must_share limit (Func function) (Func (matching_func_type_at config context function bytes).0)
+matching_func config context must_share limit function bytes h =
+    let drawn = (matching_func_type_at config context function bytes).0 in
     let P = λ (v : ValType). IsValTypeValid (features_of config) limit v in
     let apart = (each_join P function.params function.results).0 (recursion_from_All P (values_of (Func function)) h.values) in
     let old : IsFuncTypeValid (features_of config) limit function = record {
@@ -130,36 +131,36 @@ matching_func config types must_share limit function bytes h =
       params_valid = All-from_recursion P function.params apart.0;
       results_valid = All-from_recursion P function.results apart.1;
     } in
-    let new = (matching_func_valid config types h.orderly function bytes).against limit h.room h.sharing old in
-    let matched = matching_func_match config types function bytes in
+    let new = (matching_func_valid config context h.orderly function bytes).against limit h.room h.sharing old in
+    let matched = matching_func_match config context function bytes in
     record {
       enabled = new.results;
       values = All-append P drawn.params drawn.results new.params_valid new.results_valid;
       matched = matched;
-      shareable = λ must. (func_shareable types h.orderly drawn function matched).1;
+      shareable = λ must. (func_shareable context.types h.orderly drawn function matched).1;
     }
 
-pub matching_inner : (config : Config) (types : List SubType) (must_share : Bool) (limit : ℕ) (inner : CompositeInnerType) (bytes : List ℕ) → MayBeMatched config types must_share limit inner
-    → IsInnerMatching config types must_share limit inner (matching_inner_at config types must_share limit inner bytes).0
-matching_inner config types must_share limit (Array array) bytes h =
-    let drawn = (matching_field_type_at config types array.0 bytes).0 in
-    let matched = matching_field_match config types array.0 bytes in
+pub matching_inner : (config : Config) (context : Context) (must_share : Bool) (limit : ℕ) (inner : CompositeInnerType) (bytes : List ℕ) → MayBeMatched config context.types must_share limit inner
+    → IsInnerMatching config context.types must_share limit inner (matching_inner_at config context must_share limit inner bytes).0
+matching_inner config context must_share limit (Array array) bytes h =
+    let drawn = (matching_field_type_at config context array.0 bytes).0 in
+    let matched = matching_field_match config context array.0 bytes in
     record {
       enabled = h.gc;
-      values = (matching_field_valid config types array.0 bytes).against limit h.room h.sharing h.values;
+      values = (matching_field_valid config context array.0 bytes).against limit h.room h.sharing h.values;
       matched = matched;
-      shareable = λ must. (storage_shareable types h.orderly drawn.element_type array.0.element_type matched.below).1;
+      shareable = λ must. (storage_shareable context.types h.orderly drawn.element_type array.0.element_type matched.below).1;
     }
-matching_inner config types must_share limit (Func function) bytes h = matching_func config types must_share limit function bytes h
-matching_inner config types must_share limit (Struct structure) bytes h = record {
+matching_inner config context must_share limit (Func function) bytes h = matching_func config context must_share limit function bytes h
+matching_inner config context must_share limit (Struct structure) bytes h = record {
   enabled = h.gc;
-  values = matching_struct_valid config types must_share limit structure bytes h.sanitized h.may h.room h.sharing h.values;
-  matched = matching_struct_match config types must_share limit structure bytes;
-  shareable = matching_struct_shareable config types must_share limit structure bytes h.sanitized h.may h.orderly;
+  values = matching_struct_valid config context must_share limit structure bytes h.sanitized h.may h.room h.sharing h.values;
+  matched = matching_struct_match config context must_share limit structure bytes;
+  shareable = matching_struct_shareable config context must_share limit structure bytes h.sanitized h.may h.orderly;
 }
 
 -- a matching composite type is of the same kind
-pub matching_kind : (config : Config) (types : List SubType) (must_share : Bool) (limit : ℕ) (inner : CompositeInnerType) (bytes : List ℕ) → kind_of (matching_inner_at config types must_share limit inner bytes).0 ≡ kind_of inner
-matching_kind config types must_share limit (Array array) bytes = refl
-matching_kind config types must_share limit (Func function) bytes = refl
-matching_kind config types must_share limit (Struct structure) bytes = refl
+pub matching_kind : (config : Config) (context : Context) (must_share : Bool) (limit : ℕ) (inner : CompositeInnerType) (bytes : List ℕ) → kind_of (matching_inner_at config context must_share limit inner bytes).0 ≡ kind_of inner
+matching_kind config context must_share limit (Array array) bytes = refl
+matching_kind config context must_share limit (Func function) bytes = refl
+matching_kind config context must_share limit (Struct structure) bytes = refl

@@ -1,8 +1,9 @@
 -- Drawn types that match a type are below it, and drawn supertypes above; both are valid where it is.
-use Rattle.std.proofs.Common.{◌≡◌, ℕ, ◌≤◌, Bool, true, false, cond, List, [], ◌∷◌, length, refl, arith}
-use Rattle.std.specs.Prelude.{All}
+use Rattle.std.proofs.Common.{◌≡◌, ◌⊎◌, inl, inr, ℕ, ◌≤◌, Bool, true, false, cond, List, [], ◌∷◌, length, drop, refl, sym, subst, arith}
+use Rattle.std.specs.Prelude.{All, IsTrue, filter, not, ◌||◌}
 use Rattle.std.specs.List.{AllByRecursion as Each}
-use Rattle.std.proofs.lemmas.List.Elements.{All-from_recursion, recursion_from_All}
+use Rattle.std.proofs.lemmas.List.Elements.{All-filter, All-weaker, filter_passes, All-from_recursion, recursion_from_All}
+use Rattle.smith_types.specs.Expressions.{Context}
 use Rattle.smith_types.specs.declared.value_type.RefType.{RefType}
 use Rattle.smith_types.specs.declared.value_type.ValType.{ValType}
 use Rattle.smith_types.specs.declared.value_type.ValType.TheVariants.{Ref}
@@ -12,15 +13,21 @@ use Rattle.smith_types.specs.declared.composite_type.FieldType.{FieldType}
 use Rattle.smith_types.specs.declared.composite_type.FuncType.{FuncType}
 use Rattle.smith_types.specs.declared.composite_type.SubType.{SubType}
 use Rattle.smith_types.specs.Types.{IsOrderly}
-use Rattle.smith_types.specs.Subtyping.{IsRefBelow, IsValBelow}
+use Rattle.smith_types.specs.Subtyping.{IsBelow, itself, IsRefBelow, IsValBelow}
 use Rattle.smith_types.specs.Matching.{IsStorageMatch, IsFieldMatch, AreFieldsMatched, AreBelow, IsFuncMatch}
-use Rattle.smith_types.specs.ValidTypes.{IsRefTypeValid, IsValTypeValid, IsFuncTypeValid}
+use Rattle.smith_types.specs.ValidTypes.{IsHeapTypeValid, IsRefTypeValid, IsValTypeValid, IsFuncTypeValid}
 use Rattle.smith_types.proofs.GrowthLemmas.{IsFieldMatch-refl}
 use Rattle.smith_config.specs.declared.config.Config.{Config}
 use Rattle.smith_config.specs.Features.{features_of}
 use Rattle.smith_draw.specs.Kept.{IsSharingEnabled, StaysValid, IsStorageValid, IsFieldValid}
-use Rattle.smith_draw.specs.MatchingTypes.{each_at, matching_ref_type_at, matching_val_type_at, matching_storage_type_at, matching_field_type_at, matched_fields_at, super_ref_type_at, super_val_type_at, matching_func_type_at}
-use Rattle.smith_draw.proofs.HeapTypeLemmas.{matching_heap_below, matching_heap_valid, super_heap_above, super_heap_valid}
+use Rattle.smith_draw.specs.Grounding.{is_grounded}
+use Rattle.smith_draw.specs.Offered.{gc_subtypes, subtypes_offered}
+use Rattle.smith_draw.specs.MatchingTypes.{first_and_passing, references_offered, each_at, matching_ref_type_at, matching_val_type_at, matching_storage_type_at, matching_field_type_at, matched_fields_at, super_ref_type_at, super_val_type_at, matching_func_type_at}
+use Rattle.smith_bytes.proofs.GrownLemmas.{cond_both}
+use Rattle.smith_types.specs.declared.value_type.HeapType.{HeapType}
+use Rattle.smith_draw.proofs.ChosenLemmas.{gc_first}
+use Rattle.smith_draw.proofs.EnabledLemmas.{chosen_is}
+use Rattle.smith_draw.proofs.HeapTypeLemmas.{offered_each, gc_subtypes_below, gc_subtypes_valid, super_heap_above, super_heap_valid}
 
 -- lists of drawn items
 each_above : (types : List SubType) (draw : ValType → List ℕ → ValType × List ℕ) → ((x : ValType) (bytes : List ℕ) → IsValBelow types x (draw x bytes).0) → (xs : List ValType) (bytes : List ℕ) → AreBelow types xs (each_at draw xs bytes).0
@@ -51,19 +58,64 @@ unfolding each_at
 length-each_at draw [] bytes = refl
 length-each_at draw (x ∷ xs) bytes = let more = length-each_at draw xs (draw x bytes).1 in omega arith
 
--- reference types
-pub matching_ref_below : (config : Config) (types : List SubType) (ty : RefType) (bytes : List ℕ) → IsRefBelow types (matching_ref_type_at config types ty bytes).0 ty
-unfolding matching_ref_type_at
-matching_ref_below config types ty bytes = record { heap = matching_heap_below config types ty.heap_type bytes; nullable = λ is. is }
+-- reference types: what holds of each subtype that is offered of a heap type holds of the drawn one
+first_each : {A : Type 0} (P : A → Type 0) (test : A → Bool) (xs : List A) → Each P xs → Each P (first_and_passing test xs)
+first_each P test [] h = tt
+first_each P test (x ∷ xs) h = (h.0, recursion_from_All P (filter test xs) (All-filter test P xs (All-from_recursion P xs h.1)))
 
-pub matching_ref_valid : (config : Config) (types : List SubType) (ty : RefType) (bytes : List ℕ) → StaysValid (IsRefTypeValid (features_of config)) (features_of config) types ty (matching_ref_type_at config types ty bytes).0
+pub reference_is : (P : HeapType → Type 0) (config : Config) (context : Context) (ty : RefType) (bytes : List ℕ) → P ty.heap_type → (IsTrue config.gc_enabled → Each P (gc_subtypes config context.types ty.heap_type)) → P (matching_ref_type_at config context ty bytes).0.heap_type
+unfolding matching_ref_type_at references_offered subtypes_offered
+reference_is P config context ty bytes own each =
+    let offered = subtypes_offered config context.types ty.heap_type in
+    let all = offered_each P config.gc_enabled ty.heap_type (gc_subtypes config context.types ty.heap_type) own each in
+    let chosen = references_offered config context ty in
+    chosen_is P ty.heap_type chosen bytes
+    (All-from_recursion P chosen
+    (cond_both (λ (xs : List HeapType). Each P xs) (ty.nullable || not config.non_nullable_enabled) offered (first_and_passing (is_grounded context) offered) all (first_each P (is_grounded context) offered all)))
+    own
+
+pub matching_ref_below : (config : Config) (context : Context) (ty : RefType) (bytes : List ℕ) → IsRefBelow context.types (matching_ref_type_at config context ty bytes).0 ty
 unfolding matching_ref_type_at
-matching_ref_valid config types ty bytes = record {
+matching_ref_below config context ty bytes = record {
+  heap = reference_is (λ (h : HeapType). IsBelow context.types h ty.heap_type) config context ty bytes itself (λ on. gc_subtypes_below config context.types ty.heap_type);
+  nullable = λ is. is;
+}
+
+pub matching_ref_valid : (config : Config) (context : Context) (ty : RefType) (bytes : List ℕ) → StaysValid (IsRefTypeValid (features_of config)) (features_of config) context.types ty (matching_ref_type_at config context ty bytes).0
+unfolding matching_ref_type_at
+matching_ref_valid config context ty bytes = record {
   against = λ end le sharing valid. record {
-    heap_type = (matching_heap_valid config types ty.heap_type bytes).against end le sharing valid.heap_type;
+    heap_type = reference_is (IsHeapTypeValid (features_of config) end) config context ty bytes valid.heap_type (λ gc. gc_subtypes_valid config context.types ty.heap_type end gc le sharing valid.heap_type);
     nullable = valid.nullable;
   };
 }
+
+-- with the field on, the heap type of a reference that is not nullable is that of the argument, or a grounded one
+first_granted : (test : HeapType → Bool) (ty : HeapType) (xs rest : List HeapType) → xs ≡ ty ∷ rest → Each (λ (h : HeapType). (h ≡ ty) ⊎ IsTrue (test h)) (first_and_passing test xs)
+first_granted test ty xs rest e =
+    let P = λ (h : HeapType). (h ≡ ty) ⊎ IsTrue (test h) in
+    let passes = All-weaker (λ (h : HeapType). test h ≡ true) P (λ h on. inr on) (filter test rest) (filter_passes test rest) in
+    subst (λ (ys : List HeapType). Each P (first_and_passing test ys)) (sym e) (inl refl, recursion_from_All P (filter test rest) passes)
+
+offered_first : (gc : Bool) (ty : HeapType) (offered : List HeapType) → offered ≡ ty ∷ drop 1 offered → cond gc offered (ty ∷ []) ≡ ty ∷ drop 1 (cond gc offered (ty ∷ []))
+offered_first true ty offered e = e
+offered_first false ty offered e = refl
+
+granted_each : (P : HeapType → Type 0) (nullable on : Bool) (offered kept : List HeapType) → nullable ≡ false → IsTrue on → Each P kept → Each P (cond (nullable || not on) offered kept)
+granted_each P true on offered kept not_null is_on h = cc
+granted_each P false true offered kept not_null is_on h = h
+granted_each P false false offered kept not_null is_on h = cc
+
+pub matching_ref_granted : (config : Config) (context : Context) (ty : RefType) (bytes : List ℕ) → IsTrue config.non_nullable_enabled → ty.nullable ≡ false
+    → let drawn = (matching_ref_type_at config context ty bytes).0.heap_type in (drawn ≡ ty.heap_type) ⊎ IsTrue (is_grounded context drawn)
+unfolding matching_ref_type_at references_offered subtypes_offered
+matching_ref_granted config context ty bytes on not_null =
+    let P = λ (h : HeapType). (h ≡ ty.heap_type) ⊎ IsTrue (is_grounded context h) in
+    let offered = subtypes_offered config context.types ty.heap_type in
+    let first = offered_first config.gc_enabled ty.heap_type (gc_subtypes config context.types ty.heap_type) (gc_first config context.types ty.heap_type) in
+    let kept = first_granted (is_grounded context) ty.heap_type offered (drop 1 offered) first in
+    chosen_is P ty.heap_type (references_offered config context ty) bytes
+    (All-from_recursion P (references_offered config context ty) (granted_each P ty.nullable config.non_nullable_enabled offered (first_and_passing (is_grounded context) offered) not_null on kept)) (inl refl)
 
 pub super_ref_above : (config : Config) (types : List SubType) (ty : RefType) (bytes : List ℕ) → IsRefBelow types ty (super_ref_type_at config types ty bytes).0
 unfolding super_ref_type_at
@@ -78,25 +130,25 @@ super_ref_valid config types orderly ty bytes = record {
   };
 }
 
-pub matching_ref_nullable : (config : Config) (types : List SubType) (ty : RefType) (bytes : List ℕ) → (matching_ref_type_at config types ty bytes).0.nullable ≡ ty.nullable
+pub matching_ref_nullable : (config : Config) (context : Context) (ty : RefType) (bytes : List ℕ) → (matching_ref_type_at config context ty bytes).0.nullable ≡ ty.nullable
 unfolding matching_ref_type_at
-matching_ref_nullable config types ty bytes = refl
+matching_ref_nullable config context ty bytes = refl
 
 pub super_ref_nullable : (config : Config) (types : List SubType) (ty : RefType) (bytes : List ℕ) → (super_ref_type_at config types ty bytes).0.nullable ≡ true
 unfolding super_ref_type_at
 super_ref_nullable config types ty bytes = refl
 
 -- value types
-pub matching_val_below : (config : Config) (types : List SubType) (ty : ValType) (bytes : List ℕ) → IsValBelow types (matching_val_type_at config types ty bytes).0 ty
-matching_val_below config types (Ref reference) bytes = matching_ref_below config types reference bytes
-matching_val_below config types _ bytes = tt
+pub matching_val_below : (config : Config) (context : Context) (ty : ValType) (bytes : List ℕ) → IsValBelow context.types (matching_val_type_at config context ty bytes).0 ty
+matching_val_below config context (Ref reference) bytes = matching_ref_below config context reference bytes
+matching_val_below config context _ bytes = tt
 
-val_kept : (config : Config) (types : List SubType) (ty : ValType) (bytes : List ℕ) (end : ℕ) → length types ≤ end → All (IsSharingEnabled (features_of config)) types → IsValTypeValid (features_of config) end ty → IsValTypeValid (features_of config) end (matching_val_type_at config types ty bytes).0
-val_kept config types (Ref reference) bytes end le sharing valid = (valid.0, (matching_ref_valid config types reference bytes).against end le sharing valid.1)
-val_kept config types _ bytes end le sharing valid = valid
+val_kept : (config : Config) (context : Context) (ty : ValType) (bytes : List ℕ) (end : ℕ) → length context.types ≤ end → All (IsSharingEnabled (features_of config)) context.types → IsValTypeValid (features_of config) end ty → IsValTypeValid (features_of config) end (matching_val_type_at config context ty bytes).0
+val_kept config context (Ref reference) bytes end le sharing valid = (valid.0, (matching_ref_valid config context reference bytes).against end le sharing valid.1)
+val_kept config context _ bytes end le sharing valid = valid
 
-pub matching_val_valid : (config : Config) (types : List SubType) (ty : ValType) (bytes : List ℕ) → StaysValid (IsValTypeValid (features_of config)) (features_of config) types ty (matching_val_type_at config types ty bytes).0
-matching_val_valid config types ty bytes = record { against = val_kept config types ty bytes }
+pub matching_val_valid : (config : Config) (context : Context) (ty : ValType) (bytes : List ℕ) → StaysValid (IsValTypeValid (features_of config)) (features_of config) context.types ty (matching_val_type_at config context ty bytes).0
+matching_val_valid config context ty bytes = record { against = val_kept config context ty bytes }
 
 pub super_val_above : (config : Config) (types : List SubType) (ty : ValType) (bytes : List ℕ) → IsValBelow types ty (super_val_type_at config types ty bytes).0
 super_val_above config types (Ref reference) bytes = super_ref_above config types reference bytes
@@ -110,20 +162,20 @@ pub super_val_valid : (config : Config) (types : List SubType) → IsOrderly typ
 super_val_valid config types orderly ty bytes = record { against = super_val_kept config types orderly ty bytes }
 
 -- storage types
-pub matching_storage_match : (config : Config) (types : List SubType) (ty : StorageType) (bytes : List ℕ) → IsStorageMatch types (matching_storage_type_at config types ty bytes).0 ty
-matching_storage_match config types (Val ty) bytes = matching_val_below config types ty bytes
-matching_storage_match config types _ bytes = tt
+pub matching_storage_match : (config : Config) (context : Context) (ty : StorageType) (bytes : List ℕ) → IsStorageMatch context.types (matching_storage_type_at config context ty bytes).0 ty
+matching_storage_match config context (Val ty) bytes = matching_val_below config context ty bytes
+matching_storage_match config context _ bytes = tt
 
-storage_kept : (config : Config) (types : List SubType) (ty : StorageType) (bytes : List ℕ) (end : ℕ) → length types ≤ end → All (IsSharingEnabled (features_of config)) types → IsStorageValid (features_of config) end ty → IsStorageValid (features_of config) end (matching_storage_type_at config types ty bytes).0
-storage_kept config types (Val ty) bytes end le sharing valid =
+storage_kept : (config : Config) (context : Context) (ty : StorageType) (bytes : List ℕ) (end : ℕ) → length context.types ≤ end → All (IsSharingEnabled (features_of config)) context.types → IsStorageValid (features_of config) end ty → IsStorageValid (features_of config) end (matching_storage_type_at config context ty bytes).0
+storage_kept config context (Val ty) bytes end le sharing valid =
     let P = IsValTypeValid (features_of config) end in
-    let drawn = (matching_val_type_at config types ty bytes).0 in
-    All-from_recursion P (drawn ∷ []) (val_kept config types ty bytes end le sharing (recursion_from_All P (ty ∷ []) valid).0, tt)
-storage_kept config types I8 bytes end le sharing valid = valid
-storage_kept config types I16 bytes end le sharing valid = valid
+    let drawn = (matching_val_type_at config context ty bytes).0 in
+    All-from_recursion P (drawn ∷ []) (val_kept config context ty bytes end le sharing (recursion_from_All P (ty ∷ []) valid).0, tt)
+storage_kept config context I8 bytes end le sharing valid = valid
+storage_kept config context I16 bytes end le sharing valid = valid
 
-pub matching_storage_valid : (config : Config) (types : List SubType) (ty : StorageType) (bytes : List ℕ) → StaysValid (IsStorageValid (features_of config)) (features_of config) types ty (matching_storage_type_at config types ty bytes).0
-matching_storage_valid config types ty bytes = record { against = storage_kept config types ty bytes }
+pub matching_storage_valid : (config : Config) (context : Context) (ty : StorageType) (bytes : List ℕ) → StaysValid (IsStorageValid (features_of config)) (features_of config) context.types ty (matching_storage_type_at config context ty bytes).0
+matching_storage_valid config context ty bytes = record { against = storage_kept config context ty bytes }
 
 -- fields
 abbrev turn : Bool → StorageType → List ℕ → StorageType × List ℕ → FieldType × List ℕ
@@ -133,54 +185,54 @@ field_turn : (types : List SubType) (mutable : Bool) (element : StorageType) (by
 field_turn types true element bytes drawn matched = IsFieldMatch-refl types (record { element_type = element; mutable = true })
 field_turn types false element bytes drawn matched = record { same = refl; below = matched; above = λ is. cc }
 
-pub matching_field_match : (config : Config) (types : List SubType) (field : FieldType) (bytes : List ℕ) → IsFieldMatch types (matching_field_type_at config types field bytes).0 field
+pub matching_field_match : (config : Config) (context : Context) (field : FieldType) (bytes : List ℕ) → IsFieldMatch context.types (matching_field_type_at config context field bytes).0 field
 unfolding matching_field_type_at
-matching_field_match config types field bytes =
-    field_turn types field.mutable field.element_type bytes (matching_storage_type_at config types field.element_type bytes) (matching_storage_match config types field.element_type bytes)
+matching_field_match config context field bytes =
+    field_turn context.types field.mutable field.element_type bytes (matching_storage_type_at config context field.element_type bytes) (matching_storage_match config context field.element_type bytes)
 
 turn_kept : (P : StorageType → Type 0) (mutable : Bool) (element : StorageType) (bytes : List ℕ) (drawn : StorageType × List ℕ) → P element → P drawn.0 → P (turn mutable element bytes drawn).0.element_type
 turn_kept P true element bytes drawn own more = own
 turn_kept P false element bytes drawn own more = more
 
-field_kept : (config : Config) (types : List SubType) (field : FieldType) (bytes : List ℕ) (end : ℕ) → length types ≤ end → All (IsSharingEnabled (features_of config)) types → IsFieldValid (features_of config) end field → IsFieldValid (features_of config) end (matching_field_type_at config types field bytes).0
+field_kept : (config : Config) (context : Context) (field : FieldType) (bytes : List ℕ) (end : ℕ) → length context.types ≤ end → All (IsSharingEnabled (features_of config)) context.types → IsFieldValid (features_of config) end field → IsFieldValid (features_of config) end (matching_field_type_at config context field bytes).0
 unfolding matching_field_type_at
-field_kept config types field bytes end le sharing valid =
-    turn_kept (IsStorageValid (features_of config) end) field.mutable field.element_type bytes (matching_storage_type_at config types field.element_type bytes) valid (storage_kept config types field.element_type bytes end le sharing valid)
+field_kept config context field bytes end le sharing valid =
+    turn_kept (IsStorageValid (features_of config) end) field.mutable field.element_type bytes (matching_storage_type_at config context field.element_type bytes) valid (storage_kept config context field.element_type bytes end le sharing valid)
 
-pub matching_field_valid : (config : Config) (types : List SubType) (field : FieldType) (bytes : List ℕ) → StaysValid (IsFieldValid (features_of config)) (features_of config) types field (matching_field_type_at config types field bytes).0
-matching_field_valid config types field bytes = record { against = field_kept config types field bytes }
+pub matching_field_valid : (config : Config) (context : Context) (field : FieldType) (bytes : List ℕ) → StaysValid (IsFieldValid (features_of config)) (features_of config) context.types field (matching_field_type_at config context field bytes).0
+matching_field_valid config context field bytes = record { against = field_kept config context field bytes }
 
-pub matched_fields_match : (config : Config) (types : List SubType) (fields : List FieldType) (bytes : List ℕ) → AreFieldsMatched types (matched_fields_at config types fields bytes).0 fields
+pub matched_fields_match : (config : Config) (context : Context) (fields : List FieldType) (bytes : List ℕ) → AreFieldsMatched context.types (matched_fields_at config context fields bytes).0 fields
 unfolding matched_fields_at
-matched_fields_match config types fields bytes = each_matched types (matching_field_type_at config types) (matching_field_match config types) fields bytes
+matched_fields_match config context fields bytes = each_matched context.types (matching_field_type_at config context) (matching_field_match config context) fields bytes
 
-pub matched_fields_valid : (config : Config) (types : List SubType) (fields : List FieldType) (bytes : List ℕ) → StaysValid (λ end. All (IsFieldValid (features_of config) end)) (features_of config) types fields (matched_fields_at config types fields bytes).0
+pub matched_fields_valid : (config : Config) (context : Context) (fields : List FieldType) (bytes : List ℕ) → StaysValid (λ end. All (IsFieldValid (features_of config) end)) (features_of config) context.types fields (matched_fields_at config context fields bytes).0
 unfolding matched_fields_at
-matched_fields_valid config types fields bytes = record {
-  against = λ end le sharing valid. all_stay (IsFieldValid (features_of config) end) (matching_field_type_at config types) (λ x rest h. field_kept config types x rest end le sharing h) fields bytes valid;
+matched_fields_valid config context fields bytes = record {
+  against = λ end le sharing valid. all_stay (IsFieldValid (features_of config) end) (matching_field_type_at config context) (λ x rest h. field_kept config context x rest end le sharing h) fields bytes valid;
 }
 
 -- function types
-pub matching_func_match : (config : Config) (types : List SubType) (function : FuncType) (bytes : List ℕ) → IsFuncMatch types (matching_func_type_at config types function bytes).0 function
+pub matching_func_match : (config : Config) (context : Context) (function : FuncType) (bytes : List ℕ) → IsFuncMatch context.types (matching_func_type_at config context function bytes).0 function
 unfolding matching_func_type_at
-matching_func_match config types function bytes =
-    let params = each_at (super_val_type_at config types) function.params bytes in
+matching_func_match config context function bytes =
+    let params = each_at (super_val_type_at config context.types) function.params bytes in
     record {
-      params = each_above types (super_val_type_at config types) (super_val_above config types) function.params bytes;
-      results = each_below types (matching_val_type_at config types) (matching_val_below config types) function.results params.1;
+      params = each_above context.types (super_val_type_at config context.types) (super_val_above config context.types) function.params bytes;
+      results = each_below context.types (matching_val_type_at config context) (matching_val_below config context) function.results params.1;
     }
 
-pub matching_func_valid : (config : Config) (types : List SubType) → IsOrderly types → (function : FuncType) (bytes : List ℕ) → StaysValid (IsFuncTypeValid (features_of config)) (features_of config) types function (matching_func_type_at config types function bytes).0
+pub matching_func_valid : (config : Config) (context : Context) → IsOrderly context.types → (function : FuncType) (bytes : List ℕ) → StaysValid (IsFuncTypeValid (features_of config)) (features_of config) context.types function (matching_func_type_at config context function bytes).0
 unfolding matching_func_type_at
-matching_func_valid config types orderly function bytes =
-    let params = each_at (super_val_type_at config types) function.params bytes in
-    let same = length-each_at (matching_val_type_at config types) function.results params.1 in
+matching_func_valid config context orderly function bytes =
+    let params = each_at (super_val_type_at config context.types) function.params bytes in
+    let same = length-each_at (matching_val_type_at config context) function.results params.1 in
     record {
       against = λ end le sharing valid.
           let P = IsValTypeValid (features_of config) end in
           record {
             results = λ several. valid.results (omega arith);
-            params_valid = all_stay P (super_val_type_at config types) (λ x rest h. super_val_kept config types orderly x rest end le sharing h) function.params bytes valid.params_valid;
-            results_valid = all_stay P (matching_val_type_at config types) (λ x rest h. val_kept config types x rest end le sharing h) function.results params.1 valid.results_valid;
+            params_valid = all_stay P (super_val_type_at config context.types) (λ x rest h. super_val_kept config context.types orderly x rest end le sharing h) function.params bytes valid.params_valid;
+            results_valid = all_stay P (matching_val_type_at config context) (λ x rest h. val_kept config context x rest end le sharing h) function.results params.1 valid.results_valid;
           };
     }

@@ -10,6 +10,7 @@ use Rattle.std.proofs.lemmas.Option.{slice_get-get_or, slice_get_within}
 use Rattle.smith_bytes.specs.Draws.{bool_at, range_at}
 use Rattle.smith_bytes.specs.Growth.{goes_at, grow_at}
 use Rattle.smith_bytes.proofs.GrownLemmas.{cond_both}
+use Rattle.smith_types.specs.Expressions.{Context}
 use Rattle.smith_types.specs.Features.{Features}
 use Rattle.smith_types.specs.Space.{Space, IsSound}
 use Rattle.smith_types.specs.OpenTypes.{AreTypesOpen}
@@ -20,6 +21,7 @@ use Rattle.smith_types.proofs.GroupGrowthLemmas.{AreTypesOpen-at, AreTypesOpen-s
 use Rattle.smith_config.specs.declared.config.Config.{Config}
 use Rattle.smith_config.specs.Features.{features_of}
 use Rattle.smith_config.specs.Sanitized.{IsSanitized}
+use Rattle.smith_draw.specs.Grounding.{over}
 use Rattle.smith_draw.specs.Choices.{chosen_at}
 use Rattle.smith_draw.specs.SubTypes.{sub_type_at}
 use Rattle.smith_draw.specs.RecGroups.{types_left, types_until_at, group_size_at, new_group_at, members, may_be_cloned, with_clone, clone_rec_group_at, clone_wanted_at, cloned_or_new_at, rec_group_at, least_types_at, more_types_at, types_at}
@@ -29,42 +31,42 @@ use Rattle.smith_draw.proofs.CopiesLoop.{IsWithin}
 use Rattle.smith_draw.proofs.GroupSizeLemmas.{AreWithin, types_until_length, members_length, clone_wanted, chosen_within, rec_group_more}
 
 -- types that are drawn one behind another are valid in the group that is being made
-grown_open : (config : Config) (space : Space) (limit least most : ℕ) (types : List SubType) (bytes : List ℕ) → IsSanitized config → length types + most ≤ limit → AreTypesOpen (features_of config) limit (record { types = types; groups = space.groups })
-    → AreTypesOpen (features_of config) limit (record { types = (grow_at (λ made. sub_type_at config made limit) least most types bytes).0; groups = space.groups })
+grown_open : (config : Config) (context : Context) (space : Space) (limit least most : ℕ) (types : List SubType) (bytes : List ℕ) → IsSanitized config → length types + most ≤ limit → AreTypesOpen (features_of config) limit (record { types = types; groups = space.groups })
+    → AreTypesOpen (features_of config) limit (record { types = (grow_at (λ made. sub_type_at config (over context made) limit) least most types bytes).0; groups = space.groups })
 unfolding grow_at
-grown_open config space limit least zero types bytes sanitized le now = now
-grown_open config space limit least (suc most) types bytes sanitized le now =
-    let draw = λ (made : List SubType). sub_type_at config made limit in
+grown_open config context space limit least zero types bytes sanitized le now = now
+grown_open config context space limit least (suc most) types bytes sanitized le now =
+    let draw = λ (made : List SubType). sub_type_at config (over context made) limit in
     let go = goes_at (nat_lt (length types) least) bytes in
     let x = draw types go.1 in
     let open_types : Space = record { types = types; groups = space.groups } in
-    let pushed = AreTypesOpen-push (features_of config) limit types space.groups x.0 now (omega arith) (sub_type_follows config types limit go.1).below (sub_type_valid config open_types limit go.1 sanitized now) in
+    let pushed = AreTypesOpen-push (features_of config) limit types space.groups x.0 now (omega arith) (sub_type_follows config (over context types) limit go.1).below (sub_type_valid config context open_types limit go.1 sanitized now) in
     cond_both (λ (r : List SubType × List ℕ). AreTypesOpen (features_of config) limit (record { types = r.0; groups = space.groups })) go.0 (grow_at draw least most (types ++ x.0 ∷ []) x.1) (types, go.1)
-    (grown_open config space limit least most (types ++ x.0 ∷ []) x.1 sanitized (omega (arith, length-append types (x.0 ∷ []))) pushed) now
+    (grown_open config context space limit least most (types ++ x.0 ∷ []) x.1 sanitized (omega (arith, length-append types (x.0 ∷ []))) pushed) now
 
 size_alone : (gc : Bool) (drawn : ℕ × List ℕ) (bytes : List ℕ) → gc ≡ false → (cond gc drawn (1, bytes)).0 ≡ 1
 size_alone true drawn bytes e = cc
 size_alone false drawn bytes e = refl
 
-new_group_valid : (config : Config) (allow_empty : Bool) (space : Space) (bytes : List ℕ) → IsSanitized config → AreTypesValid (features_of config) space → AreTypesValid (features_of config) (new_group_at config allow_empty space bytes).0
+new_group_valid : (config : Config) (context : Context) (allow_empty : Bool) (space : Space) (bytes : List ℕ) → IsSanitized config → AreTypesValid (features_of config) space → AreTypesValid (features_of config) (new_group_at config context allow_empty space bytes).0
 unfolding new_group_at types_until_at
-new_group_valid config allow_empty space bytes sanitized valid =
+new_group_valid config context allow_empty space bytes sanitized valid =
     let size = group_size_at config allow_empty (types_left config space) bytes in
     let limit = length space.types + size.0 in
-    let types = types_until_at config limit space.types size.1 in
-    let len = types_until_length config limit space.types size.1 (omega arith) in
+    let types = types_until_at config context limit space.types size.1 in
+    let len = types_until_length config context limit space.types size.1 (omega arith) in
     let whole = valid.covered.whole in
     let start = AreTypesOpen-start (features_of config) limit space (omega arith) valid in
-    let made = grown_open config space limit limit (limit - length space.types) space.types size.1 sanitized (omega arith) start in
+    let made = grown_open config context space limit limit (limit - length space.types) space.types size.1 sanitized (omega arith) start in
     AreTypesOpen-close (features_of config) types.0 space.groups (subst (λ (n : ℕ). AreTypesOpen (features_of config) n (record { types = types.0; groups = space.groups })) (sym len) made)
     (λ off. let one = size_alone config.gc_enabled (range_at (cond allow_empty 0 1) (types_left config space) bytes) bytes off in omega (arith, len, one, whole))
 
 -- a type stands among types
-record IsStanding (types : List SubType) (t : SubType) : Type 0 where
-  place : ℕ
-  at : slice_get types place ≡ Some t
+pub record IsStanding (types : List SubType) (t : SubType) : Type 0 where
+  pub place : ℕ
+  pub at : slice_get types place ≡ Some t
 
-each_grown : (types : List SubType) (t : SubType) (more : List SubType) → Each (IsStanding types) more → Each (IsStanding (types ++ t ∷ [])) more
+pub each_grown : (types : List SubType) (t : SubType) (more : List SubType) → Each (IsStanding types) more → Each (IsStanding (types ++ t ∷ [])) more
 each_grown types t [] h = tt
 each_grown types t (u ∷ more) h = (record { place = h.0.place; at = slice_get-grown types (t ∷ []) h.0.place u h.0.at }, each_grown types t more h.1)
 
@@ -89,7 +91,7 @@ copies_open features end space types (t ∷ more) now le h =
     subst (λ (ts : List SubType). AreTypesOpen features end (record { types = ts; groups = space.groups })) (append_assoc types (t ∷ []) more)
     (copies_open features end space (types ++ t ∷ []) more pushed (omega (arith, length-append types (t ∷ []))) (each_grown types t more h.1))
 
-members_stand : (types : List SubType) (group : Range ℕ) → Each (IsStanding types) (members types group)
+pub members_stand : (types : List SubType) (group : Range ℕ) → Each (IsStanding types) (members types group)
 members_stand types group =
     recursion_from_All (IsStanding types) (members types group) (All-take (IsStanding types) (group.end - group.start) _ (All-drop (IsStanding types) group.start types (λ k d inside. record { place = k; at = slice_get-get_or types k d inside })))
 
@@ -123,94 +125,94 @@ clone_rec_group_valid config allow_empty space bytes valid some =
     let group = chosen_at (record { start = 0; end = 0 }) space.groups bytes in
     cond_both (AreTypesValid (features_of config)) (may_be_cloned config allow_empty space group.0) (with_clone space group.0) space (chosen_clone_valid config space bytes valid some) valid
 
-cloned_or_new_valid : (config : Config) (allow_empty : Bool) (space : Space) (bytes : List ℕ) → IsSanitized config → AreTypesValid (features_of config) space → 0 < length space.groups → AreTypesValid (features_of config) (cloned_or_new_at config allow_empty space bytes).0
-cloned_or_new_valid config allow_empty space bytes sanitized valid some =
+cloned_or_new_valid : (config : Config) (context : Context) (allow_empty : Bool) (space : Space) (bytes : List ℕ) → IsSanitized config → AreTypesValid (features_of config) space → 0 < length space.groups → AreTypesValid (features_of config) (cloned_or_new_at config context allow_empty space bytes).0
+cloned_or_new_valid config context allow_empty space bytes sanitized valid some =
     let clone = clone_rec_group_at config allow_empty space bytes in
     let cloned = clone_rec_group_valid config allow_empty space bytes valid some in
-    cond_both (λ (r : Space × List ℕ). AreTypesValid (features_of config) r.0) (clone.0 || allow_empty) clone.1 (new_group_at config allow_empty clone.1.0 clone.1.1) cloned
-    (new_group_valid config allow_empty clone.1.0 clone.1.1 sanitized cloned)
+    cond_both (λ (r : Space × List ℕ). AreTypesValid (features_of config) r.0) (clone.0 || allow_empty) clone.1 (new_group_at config context allow_empty clone.1.0 clone.1.1) cloned
+    (new_group_valid config context allow_empty clone.1.0 clone.1.1 sanitized cloned)
 
-pub rec_group_valid : (config : Config) (allow_empty : Bool) (space : Space) (bytes : List ℕ) → IsSanitized config → AreTypesValid (features_of config) space → AreTypesValid (features_of config) (rec_group_at config allow_empty space bytes).0
+pub rec_group_valid : (config : Config) (context : Context) (allow_empty : Bool) (space : Space) (bytes : List ℕ) → IsSanitized config → AreTypesValid (features_of config) space → AreTypesValid (features_of config) (rec_group_at config context allow_empty space bytes).0
 unfolding rec_group_at
-rec_group_valid config allow_empty space bytes sanitized valid =
+rec_group_valid config context allow_empty space bytes sanitized valid =
     let wanted = clone_wanted_at config space bytes in
-    cond_where (λ (r : Space × List ℕ). AreTypesValid (features_of config) r.0) wanted.0 (cloned_or_new_at config allow_empty space wanted.1) (new_group_at config allow_empty space wanted.1)
-    (λ on. cloned_or_new_valid config allow_empty space wanted.1 sanitized valid (clone_wanted config space bytes on).1) (new_group_valid config allow_empty space wanted.1 sanitized valid)
+    cond_where (λ (r : Space × List ℕ). AreTypesValid (features_of config) r.0) wanted.0 (cloned_or_new_at config context allow_empty space wanted.1) (new_group_at config context allow_empty space wanted.1)
+    (λ on. cloned_or_new_valid config context allow_empty space wanted.1 sanitized valid (clone_wanted config space bytes on).1) (new_group_valid config context allow_empty space wanted.1 sanitized valid)
 
 -- what each group that is added keeps, the loops keep
-pub least_keeps : (config : Config) (P : Space → Type 0) → ((space : Space) (bytes : List ℕ) → length space.types < config.min_types → P space → P (rec_group_at config false space bytes).0) → (turns : ℕ) (space : Space) (bytes : List ℕ) → P space → P (least_types_at config turns space bytes).0
+pub least_keeps : (config : Config) (context : Context) (P : Space → Type 0) → ((space : Space) (bytes : List ℕ) → length space.types < config.min_types → P space → P (rec_group_at config context false space bytes).0) → (turns : ℕ) (space : Space) (bytes : List ℕ) → P space → P (least_types_at config context turns space bytes).0
 unfolding least_types_at
-least_keeps config P step zero space bytes h = h
-least_keeps config P step (suc turns) space bytes h =
-    let grown = rec_group_at config false space bytes in
-    cond_where (λ (r : Space × List ℕ). P r.0) (nat_lt (length space.types) config.min_types) (least_types_at config turns grown.0 grown.1) (space, bytes)
-    (λ few. least_keeps config P step turns grown.0 grown.1 (step space bytes (ltb-true (length space.types) config.min_types few) h)) h
+least_keeps config context P step zero space bytes h = h
+least_keeps config context P step (suc turns) space bytes h =
+    let grown = rec_group_at config context false space bytes in
+    cond_where (λ (r : Space × List ℕ). P r.0) (nat_lt (length space.types) config.min_types) (least_types_at config context turns grown.0 grown.1) (space, bytes)
+    (λ few. least_keeps config context P step turns grown.0 grown.1 (step space bytes (ltb-true (length space.types) config.min_types few) h)) h
 
-pub more_keeps : (config : Config) (P : Space → Type 0) → ((space : Space) (bytes : List ℕ) → length space.types < config.max_types → P space → P (rec_group_at config true space bytes).0) → (turns : ℕ) (space : Space) (bytes : List ℕ) → P space → P (more_types_at config turns space bytes).0
+pub more_keeps : (config : Config) (context : Context) (P : Space → Type 0) → ((space : Space) (bytes : List ℕ) → length space.types < config.max_types → P space → P (rec_group_at config context true space bytes).0) → (turns : ℕ) (space : Space) (bytes : List ℕ) → P space → P (more_types_at config context turns space bytes).0
 unfolding more_types_at
-more_keeps config P step zero space bytes h = h
-more_keeps config P step (suc turns) space bytes h =
+more_keeps config context P step zero space bytes h = h
+more_keeps config context P step (suc turns) space bytes h =
     let go = bool_at bytes in
-    let grown = rec_group_at config true space go.1 in
-    cond_where (λ (r : Space × List ℕ). P r.0) (nat_lt (length space.types) config.max_types) (cond go.0 (more_types_at config turns grown.0 grown.1) (space, go.1)) (space, bytes)
+    let grown = rec_group_at config context true space go.1 in
+    cond_where (λ (r : Space × List ℕ). P r.0) (nat_lt (length space.types) config.max_types) (cond go.0 (more_types_at config context turns grown.0 grown.1) (space, go.1)) (space, bytes)
     (λ few.
-    cond_both (λ (r : Space × List ℕ). P r.0) go.0 (more_types_at config turns grown.0 grown.1) (space, go.1)
-    (more_keeps config P step turns grown.0 grown.1 (step space go.1 (ltb-true (length space.types) config.max_types few) h)) h) h
+    cond_both (λ (r : Space × List ℕ). P r.0) go.0 (more_types_at config context turns grown.0 grown.1) (space, go.1)
+    (more_keeps config context P step turns grown.0 grown.1 (step space go.1 (ltb-true (length space.types) config.max_types few) h)) h) h
 
-pub types_valid : (config : Config) (space : Space) (bytes : List ℕ) → IsSanitized config → AreTypesValid (features_of config) space → AreTypesValid (features_of config) (types_at config space bytes).0
+pub types_valid : (config : Config) (context : Context) (space : Space) (bytes : List ℕ) → IsSanitized config → AreTypesValid (features_of config) space → AreTypesValid (features_of config) (types_at config context space bytes).0
 unfolding types_at
-types_valid config space bytes sanitized valid =
+types_valid config context space bytes sanitized valid =
     let P = λ (s : Space). AreTypesValid (features_of config) s in
-    let least = least_types_at config config.min_types space bytes in
-    more_keeps config P (λ s after room h. rec_group_valid config true s after sanitized h) (length least.1 + 1) least.0 least.1
-    (least_keeps config P (λ s after few h. rec_group_valid config false s after sanitized h) config.min_types space bytes valid)
+    let least = least_types_at config context config.min_types space bytes in
+    more_keeps config context P (λ s after room h. rec_group_valid config context true s after sanitized h) (length least.1 + 1) least.0 least.1
+    (least_keeps config context P (λ s after few h. rec_group_valid config context false s after sanitized h) config.min_types space bytes valid)
 
 -- valid types, at most as many as may be
 record IsBounded (config : Config) (space : Space) : Type 0 where
   valid : AreTypesValid (features_of config) space
   most : length space.types ≤ config.max_types
 
-bounded_step : (config : Config) (allow_empty : Bool) (space : Space) (bytes : List ℕ) → IsSanitized config → length space.types < config.max_types → AreTypesValid (features_of config) space → IsBounded config (rec_group_at config allow_empty space bytes).0
-bounded_step config allow_empty space bytes sanitized room valid = record {
-  valid = rec_group_valid config allow_empty space bytes sanitized valid;
-  most = (rec_group_more config allow_empty space bytes (within_of (features_of config) space valid) room).most;
+bounded_step : (config : Config) (context : Context) (allow_empty : Bool) (space : Space) (bytes : List ℕ) → IsSanitized config → length space.types < config.max_types → AreTypesValid (features_of config) space → IsBounded config (rec_group_at config context allow_empty space bytes).0
+bounded_step config context allow_empty space bytes sanitized room valid = record {
+  valid = rec_group_valid config context allow_empty space bytes sanitized valid;
+  most = (rec_group_more config context allow_empty space bytes (within_of (features_of config) space valid) room).most;
 }
 
-pub types_most : (config : Config) (space : Space) (bytes : List ℕ) → IsSanitized config → config.min_types ≤ config.max_types → AreTypesValid (features_of config) space → length space.types ≤ config.max_types → length (types_at config space bytes).0.types ≤ config.max_types
+pub types_most : (config : Config) (context : Context) (space : Space) (bytes : List ℕ) → IsSanitized config → config.min_types ≤ config.max_types → AreTypesValid (features_of config) space → length space.types ≤ config.max_types → length (types_at config context space bytes).0.types ≤ config.max_types
 unfolding types_at
-types_most config space bytes sanitized ordered valid le =
-    let least = least_types_at config config.min_types space bytes in
-    (more_keeps config (IsBounded config) (λ s after room h. bounded_step config true s after sanitized room h.valid) (length least.1 + 1) least.0 least.1
-    (least_keeps config (IsBounded config) (λ s after few h. bounded_step config false s after sanitized (omega arith) h.valid) config.min_types space bytes (record { valid = valid; most = le }))).most
+types_most config context space bytes sanitized ordered valid le =
+    let least = least_types_at config context config.min_types space bytes in
+    (more_keeps config context (IsBounded config) (λ s after room h. bounded_step config context true s after sanitized room h.valid) (length least.1 + 1) least.0 least.1
+    (least_keeps config context (IsBounded config) (λ s after few h. bounded_step config context false s after sanitized (omega arith) h.valid) config.min_types space bytes (record { valid = valid; most = le }))).most
 
 -- valid types, at least as many as are asked for
 record IsEnough (config : Config) (space : Space) : Type 0 where
   valid : AreTypesValid (features_of config) space
   least : config.min_types ≤ length space.types
 
-least_by : (config : Config) (turns : ℕ) (space : Space) (bytes : List ℕ) (grown : Space × List ℕ) (b : Bool) → nat_lt (length space.types) config.min_types ≡ b → AreTypesValid (features_of config) space → (length space.types < config.min_types → IsEnough config (least_types_at config turns grown.0 grown.1).0)
-    → IsEnough config (cond b (least_types_at config turns grown.0 grown.1) (space, bytes)).0
-least_by config turns space bytes grown true e valid more = more (ltb-true (length space.types) config.min_types e)
-least_by config turns space bytes grown false e valid more = record { valid = valid; least = ltb-false (length space.types) config.min_types e }
+least_by : (config : Config) (context : Context) (turns : ℕ) (space : Space) (bytes : List ℕ) (grown : Space × List ℕ) (b : Bool) → nat_lt (length space.types) config.min_types ≡ b → AreTypesValid (features_of config) space → (length space.types < config.min_types → IsEnough config (least_types_at config context turns grown.0 grown.1).0)
+    → IsEnough config (cond b (least_types_at config context turns grown.0 grown.1) (space, bytes)).0
+least_by config context turns space bytes grown true e valid more = more (ltb-true (length space.types) config.min_types e)
+least_by config context turns space bytes grown false e valid more = record { valid = valid; least = ltb-false (length space.types) config.min_types e }
 
-least_reached : (config : Config) (turns : ℕ) (space : Space) (bytes : List ℕ) → IsSanitized config → config.min_types ≤ config.max_types → AreTypesValid (features_of config) space → config.min_types ≤ length space.types + turns → IsEnough config (least_types_at config turns space bytes).0
+least_reached : (config : Config) (context : Context) (turns : ℕ) (space : Space) (bytes : List ℕ) → IsSanitized config → config.min_types ≤ config.max_types → AreTypesValid (features_of config) space → config.min_types ≤ length space.types + turns → IsEnough config (least_types_at config context turns space bytes).0
 unfolding least_types_at
-least_reached config zero space bytes sanitized ordered valid le = record { valid = valid; least = omega arith }
-least_reached config (suc turns) space bytes sanitized ordered valid le =
-    let grown = rec_group_at config false space bytes in
-    least_by config turns space bytes grown (nat_lt (length space.types) config.min_types) refl valid
+least_reached config context zero space bytes sanitized ordered valid le = record { valid = valid; least = omega arith }
+least_reached config context (suc turns) space bytes sanitized ordered valid le =
+    let grown = rec_group_at config context false space bytes in
+    least_by config context turns space bytes grown (nat_lt (length space.types) config.min_types) refl valid
     (λ few.
-    let more = rec_group_more config false space bytes (within_of (features_of config) space valid) (omega arith) in
+    let more = rec_group_more config context false space bytes (within_of (features_of config) space valid) (omega arith) in
     let longer = more.some refl in
-    least_reached config turns grown.0 grown.1 sanitized ordered (rec_group_valid config false space bytes sanitized valid) (omega (arith, longer)))
+    least_reached config context turns grown.0 grown.1 sanitized ordered (rec_group_valid config context false space bytes sanitized valid) (omega (arith, longer)))
 
-pub types_least : (config : Config) (space : Space) (bytes : List ℕ) → IsSanitized config → config.min_types ≤ config.max_types → AreTypesValid (features_of config) space → config.min_types ≤ length (types_at config space bytes).0.types
+pub types_least : (config : Config) (context : Context) (space : Space) (bytes : List ℕ) → IsSanitized config → config.min_types ≤ config.max_types → AreTypesValid (features_of config) space → config.min_types ≤ length (types_at config context space bytes).0.types
 unfolding types_at
-types_least config space bytes sanitized ordered valid =
-    let least = least_types_at config config.min_types space bytes in
-    (more_keeps config (IsEnough config)
+types_least config context space bytes sanitized ordered valid =
+    let least = least_types_at config context config.min_types space bytes in
+    (more_keeps config context (IsEnough config)
     (λ s after room h.
-    let more = rec_group_more config true s after (within_of (features_of config) s h.valid) room in
+    let more = rec_group_more config context true s after (within_of (features_of config) s h.valid) room in
     let enough = h.least in
     let kept = more.kept in
-    record { valid = rec_group_valid config true s after sanitized h.valid; least = omega (arith, enough, kept) }) (length least.1 + 1) least.0 least.1 (least_reached config config.min_types space bytes sanitized ordered valid (omega arith))).least
+    record { valid = rec_group_valid config context true s after sanitized h.valid; least = omega (arith, enough, kept) }) (length least.1 + 1) least.0 least.1 (least_reached config context config.min_types space bytes sanitized ordered valid (omega arith))).least

@@ -47,9 +47,9 @@ pub mutable_not_read : MutableGlobalsAreNotRead
 mutable_not_read context wanted mutable = mutable_each context wanted 0 context.visible context.globals (recursion_from_All (λ (global : GlobalType). global.mutable ≡ true) context.globals mutable)
 
 -- a constant, and where it is enabled an extended one
-i32_offers : (context : Context) (fuel : ℕ) → readable_globals context I32 ≡ [] → offers context I32 fuel ≡ choice.Constant ∷ offered_if context.features.extended_const choice.Extended
+i32_offers : (config : Config) (context : Context) (fuel : ℕ) → readable_globals context I32 ≡ [] → offers config context I32 fuel ≡ choice.Constant ∷ offered_if context.features.extended_const choice.Extended
 unfolding offers
-i32_offers context fuel unread =
+i32_offers config context fuel unread =
     rw (no_globals context I32 0 (take context.visible context.globals) unread) (plain context.features.extended_const)
   where
     plain : (b : Bool) → choice.Constant ∷ (offered_if b choice.Extended ++ []) ≡ choice.Constant ∷ offered_if b choice.Extended
@@ -78,20 +78,20 @@ unfolding whole_at
 word_read word after four = rw (← four, take-append_seam word after, drop_seam word after) refl
 
 -- a spelled constant is read
-pub constant_read : (context : Context) (limited : Bool) (fuel : ℕ) (config : Config) (expression : List ConstInstr) (piece after : List ℕ) → readable_globals context I32 ≡ [] → context.features.extended_const ≡ config.extended_const_enabled → SpellsConstExpr config expression piece
-    → expression_alone_at context limited fuel I32 (piece ++ after) ≡ Some (expression, after)
+pub constant_read : (context : Context) (fuel : ℕ) (config : Config) (expression : List ConstInstr) (piece after : List ℕ) → readable_globals context I32 ≡ [] → context.features.extended_const ≡ config.extended_const_enabled → SpellsConstExpr config expression piece
+    → expression_alone_at context config fuel I32 (piece ++ after) ≡ Some (expression, after)
 unfolding expression_alone_at expression_at node_at constant_at
-constant_read context limited fuel config expression piece after unread same h =
+constant_read context fuel config expression piece after unread same h =
     let word = h.spelled.second in
     let read = word_read word after h.spelled.is_second.four in
     let chosen = constant_chosen config.extended_const_enabled h.spelled.first (word ++ after) h.spelled.is_first in
-    rw (joined_parts h.spelled after, i32_offers context fuel unread, same, chosen, read, h.alone, h.spelled.is_second.read) refl
+    rw (joined_parts h.spelled after, i32_offers config context fuel unread, same, chosen, read, h.alone, h.spelled.is_second.read) refl
 
-pub constant_taken : (context : Context) (limited : Bool) (fuel : ℕ) (config : Config) (old : List ℕ) (drawn : List ConstInstr) (new : List ℕ) → readable_globals context I32 ≡ [] → context.features.extended_const ≡ config.extended_const_enabled → expression_alone_at context limited fuel I32 old ≡ Some (drawn, new)
+pub constant_taken : (context : Context) (fuel : ℕ) (config : Config) (old : List ℕ) (drawn : List ConstInstr) (new : List ℕ) → readable_globals context I32 ≡ [] → context.features.extended_const ≡ config.extended_const_enabled → expression_alone_at context config fuel I32 old ≡ Some (drawn, new)
     → Takes (SpellsConstExpr config) old drawn new
-constant_taken context limited fuel config old drawn new unread enabled reads =
+constant_taken context fuel config old drawn new unread enabled reads =
     let same = λ (value : List ConstInstr) (piece after : List ℕ) (h : SpellsConstExpr config value piece) (starts : old ≡ piece ++ after).
-    same_Some _ _ (sym reads ∙ ap (expression_alone_at context limited fuel I32) starts ∙ constant_read context limited fuel config value piece after unread enabled h) in
+    same_Some _ _ (sym reads ∙ ap (expression_alone_at context config fuel I32) starts ∙ constant_read context fuel config value piece after unread enabled h) in
     record {
       made = λ value piece after h starts. ap (λ (s : List ConstInstr × List ℕ). s.0) (same value piece after h starts);
       left = λ value piece after h starts. ap (λ (s : List ConstInstr × List ℕ). s.1) (same value piece after h starts);

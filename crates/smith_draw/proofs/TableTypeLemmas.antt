@@ -1,10 +1,10 @@
 -- Drawn table types are valid and within bounds.
 use Rattle.std.proofs.Common.{◌≡◌, ◌⊎◌, ℕ, zero, suc, ◌≤◌, min, max, Bool, true, false, cond, Option, Some, None, List, refl, arith, inl, inr}
 use Rattle.std.specs.Prelude.{IsTrue, IsSome, IfSome}
+use Rattle.smith_types.specs.Expressions.{Context}
 use Rattle.smith_types.specs.Entities.{most_elements}
 use Rattle.smith_types.specs.Flags.{IsElementEnabled, funcref}
 use Rattle.smith_types.specs.declared.value_type.RefType.{RefType}
-use Rattle.smith_types.specs.declared.composite_type.SubType.{SubType}
 use Rattle.smith_types.specs.declared.entity_type.TableType.{TableType}
 use Rattle.smith_config.specs.declared.config.Config.{Config}
 use Rattle.smith_config.specs.Features.{features_of}
@@ -45,6 +45,6 @@ element_by true drawn bytes other = refl
 element_by false drawn bytes other = absurd (other refl)
 
 -- an element type other than that of every table needs reference types
-pub element_enabled : (config : Config) (types : List SubType) (must_share : Bool) (limit : ℕ) (bytes : List ℕ) → IsElementEnabled (features_of config) (ref_type_at config types must_share limit bytes).0
+pub element_enabled : (config : Config) (context : Context) (must_share : Bool) (limit : ℕ) (bytes : List ℕ) → IsElementEnabled (features_of config) (ref_type_at config context must_share limit bytes).0
 unfolding ref_type_at
-element_enabled config types must_share limit bytes other = element_by config.reference_types_enabled _ bytes other
+element_enabled config context must_share limit bytes other = element_by config.reference_types_enabled _ bytes other

@@ -5,6 +5,7 @@ use Rattle.std.specs.List.{All, AllByRecursion as ByRecursion}
 use Rattle.std.proofs.lemmas.List.Elements.{All-from_recursion, All-weaker}
 use Rattle.std.proofs.lemmas.Option.{slice_get_within}
 use Rattle.std.proofs.lemmas.Bool.{ltb-true}
+use Rattle.smith_types.specs.Expressions.{Context}
 use Rattle.smith_types.specs.Flags.{IsAbstractEnabled}
 use Rattle.smith_types.specs.Subtyping.{IsInRange, IsValInRange}
 use Rattle.smith_types.specs.ValidTypes.{IsHeapTypeValid, IsRefTypeValid, IsValTypeValid, IsHeapTypeShared, IsShareable}
@@ -23,7 +24,8 @@ use Rattle.smith_draw.specs.declared.value_type.ValueClass.TheVariants.{I32, I64
 use Rattle.smith_bytes.specs.Draws.{bool_at, range_at, ratio_at}
 use Rattle.smith_bytes.proofs.DrawnLemmas.{range_within}
 use Rattle.smith_draw.specs.Choices.{enabled, chosen_at}
-use Rattle.smith_draw.specs.ValueTypes.{value_classes, abstract_heap_types, sharedness_at, abstract_heap_type_at, index_wanted_at, kept_index, type_index_at, heap_type_of_at, heap_type_at, ref_type_at, value_of_class_at, val_type_at}
+use Rattle.smith_draw.specs.Grounding.{is_grounded}
+use Rattle.smith_draw.specs.ValueTypes.{value_classes, abstract_heap_types, sharedness_at, abstract_heap_type_at, index_wanted_at, kept_index, type_index_at, heap_type_of_at, heap_type_at, granted_at, ref_type_at, value_of_class_at, val_type_at}
 use Rattle.smith_draw.proofs.EnabledLemmas.{enabled_all, chosen_is}
 
 -- what holds of whatever is drawn holds of this
@@ -131,9 +133,21 @@ pub record IsRefTypeDrawn (config : Config) (types : List SubType) (must_share :
   pub stands : IsInRange types ty.heap_type
   pub shared : IsTrue must_share → IsHeapTypeShared types ty.heap_type
 
-of_heap_type : (config : Config) (types : List SubType) (must_share : Bool) (limit : ℕ) (ty : HeapType) → IsHeapTypeDrawn config types must_share limit ty → IsRefTypeDrawn config types must_share limit (record { nullable = true; heap_type = ty })
-of_heap_type config types must_share limit ty h = record {
-  valid = record { heap_type = h.valid; nullable = λ e. cc };
+granted_where : (on wanted grounded : Bool) (after bytes : List ℕ) → not (cond {A = Bool × List ℕ} on (wanted && grounded, after) (false, bytes)).0 ≡ false → IsTrue on × IsTrue grounded
+granted_where true true true after bytes e = (refl, refl)
+granted_where true true false after bytes e = cc
+granted_where true false grounded after bytes e = cc
+granted_where false wanted grounded after bytes e = cc
+
+-- a reference is not nullable only where the field is on and its heap type is grounded
+granted_only : (config : Config) (context : Context) (ty : HeapType) (bytes : List ℕ) → not (granted_at config context ty bytes).0 ≡ false → IsTrue config.non_nullable_enabled × IsTrue (is_grounded context ty)
+unfolding granted_at
+granted_only config context ty bytes e = granted_where config.non_nullable_enabled (bool_at bytes).0 (is_grounded context ty) (bool_at bytes).1 bytes e
+
+of_heap_type : (config : Config) (types : List SubType) (must_share : Bool) (limit : ℕ) (nullable : Bool) (ty : HeapType) → (nullable ≡ false → IsTrue config.gc_enabled) → IsHeapTypeDrawn config types must_share limit ty
+    → IsRefTypeDrawn config types must_share limit (record { nullable = nullable; heap_type = ty })
+of_heap_type config types must_share limit nullable ty gc h = record {
+  valid = record { heap_type = h.valid; nullable = gc };
   stands = h.stands;
   shared = h.shared;
 }
@@ -144,19 +158,39 @@ unshared config must_share sanitized may off must =
     let on : config.reference_types_enabled ≡ true = sanitized.gc (sanitized.shared_gc (may must)) in
     cc
 
-ref_by : (config : Config) (types : List SubType) (must_share : Bool) (limit : ℕ) (bytes : List ℕ) (on : Bool) → config.reference_types_enabled ≡ on → IsSanitized config → MayShare config must_share
-    → IsRefTypeDrawn config types must_share limit
-    (cond {A = RefType × List ℕ} on (let ty = heap_type_at config types must_share limit bytes in (record { nullable = true; heap_type = ty.0 }, ty.1)) (record { nullable = true; heap_type = Abstract false Func }, bytes)).0
-ref_by config types must_share limit bytes true e sanitized may = of_heap_type config types must_share limit (heap_type_at config types must_share limit bytes).0 (heap_type_drawn config types must_share limit bytes may)
-ref_by config types must_share limit bytes false e sanitized may = record {
+-- a reference to a drawn heap type, and whether it is nullable
+granted_to : Config → Context → HeapType × List ℕ → RefType × List ℕ
+granted_to config context ty = let granted = granted_at config context ty.0 ty.1 in (record { nullable = not granted.0; heap_type = ty.0 }, granted.1)
+
+ref_by : (config : Config) (context : Context) (must_share : Bool) (limit : ℕ) (bytes : List ℕ) (on : Bool) → config.reference_types_enabled ≡ on → IsSanitized config → MayShare config must_share
+    → IsRefTypeDrawn config context.types must_share limit
+    (cond {A = RefType × List ℕ} on (granted_to config context (heap_type_at config context.types must_share limit bytes)) (record { nullable = true; heap_type = Abstract false Func }, bytes)).0
+unfolding granted_to
+ref_by config context must_share limit bytes true e sanitized may =
+    let ty = heap_type_at config context.types must_share limit bytes in
+    of_heap_type config context.types must_share limit (not (granted_at config context ty.0 ty.1).0) ty.0
+    (λ not_null. sanitized.non_nullable (granted_only config context ty.0 ty.1 not_null).0) (heap_type_drawn config context.types must_share limit bytes may)
+ref_by config context must_share limit bytes false e sanitized may = record {
   valid = record { heap_type = (tt, λ no. cc); nullable = λ e. cc };
   stands = tt;
   shared = λ must. absurd (unshared config must_share sanitized may e must);
 }
 
-pub ref_type_drawn : (config : Config) (types : List SubType) (must_share : Bool) (limit : ℕ) (bytes : List ℕ) → IsSanitized config → MayShare config must_share → IsRefTypeDrawn config types must_share limit (ref_type_at config types must_share limit bytes).0
-unfolding ref_type_at
-ref_type_drawn config types must_share limit bytes sanitized may = ref_by config types must_share limit bytes config.reference_types_enabled refl sanitized may
+pub ref_type_drawn : (config : Config) (context : Context) (must_share : Bool) (limit : ℕ) (bytes : List ℕ) → IsSanitized config → MayShare config must_share → IsRefTypeDrawn config context.types must_share limit (ref_type_at config context must_share limit bytes).0
+unfolding ref_type_at granted_to
+ref_type_drawn config context must_share limit bytes sanitized may = ref_by config context must_share limit bytes config.reference_types_enabled refl sanitized may
+
+granted_by : (config : Config) (context : Context) (ty : HeapType × List ℕ) (bytes : List ℕ) (on : Bool) → let drawn = (cond {A = RefType × List ℕ} on (granted_to config context ty) (record { nullable = true; heap_type = Abstract false Func }, bytes)).0 in
+    drawn.nullable ≡ false → IsTrue config.non_nullable_enabled × IsTrue (is_grounded context drawn.heap_type)
+unfolding granted_to
+granted_by config context ty bytes true e = granted_only config context ty.0 ty.1 e
+granted_by config context ty bytes false e = cc
+
+-- a drawn reference is not nullable only where the field is on and its heap type is grounded
+pub ref_type_granted : (config : Config) (context : Context) (must_share : Bool) (limit : ℕ) (bytes : List ℕ) → let drawn = (ref_type_at config context must_share limit bytes).0 in
+    drawn.nullable ≡ false → IsTrue config.non_nullable_enabled × IsTrue (is_grounded context drawn.heap_type)
+unfolding ref_type_at granted_to
+ref_type_granted config context must_share limit bytes e = granted_by config context (heap_type_at config context.types must_share limit bytes) bytes config.reference_types_enabled e
 
 -- a drawn value type is like this
 pub record IsValTypeDrawn (config : Config) (types : List SubType) (must_share : Bool) (limit : ℕ) (ty : ValType) : Type 0 where
@@ -170,16 +204,16 @@ IsClassEnabled config V128 = IsTrue config.simd_enabled
 IsClassEnabled config Reference = IsTrue config.reference_types_enabled
 IsClassEnabled config _ = Unit {0}
 
-of_class_drawn : (config : Config) (types : List SubType) (must_share : Bool) (limit : ℕ) (class : ValueClass) (bytes : List ℕ) → IsSanitized config → MayShare config must_share → IsClassEnabled config class
-    → IsValTypeDrawn config types must_share limit (value_of_class_at config types must_share limit class bytes).0
+of_class_drawn : (config : Config) (context : Context) (must_share : Bool) (limit : ℕ) (class : ValueClass) (bytes : List ℕ) → IsSanitized config → MayShare config must_share → IsClassEnabled config class
+    → IsValTypeDrawn config context.types must_share limit (value_of_class_at config context must_share limit class bytes).0
 unfolding IsClassEnabled
-of_class_drawn config types must_share limit I32 bytes sanitized may h = record { valid = tt; stands = tt; shared = λ _. tt }
-of_class_drawn config types must_share limit I64 bytes sanitized may h = record { valid = tt; stands = tt; shared = λ _. tt }
-of_class_drawn config types must_share limit F32 bytes sanitized may h = record { valid = tt; stands = tt; shared = λ _. tt }
-of_class_drawn config types must_share limit F64 bytes sanitized may h = record { valid = tt; stands = tt; shared = λ _. tt }
-of_class_drawn config types must_share limit V128 bytes sanitized may h = record { valid = h; stands = tt; shared = λ _. tt }
-of_class_drawn config types must_share limit Reference bytes sanitized may h =
-    let drawn = ref_type_drawn config types must_share limit bytes sanitized may in
+of_class_drawn config context must_share limit I32 bytes sanitized may h = record { valid = tt; stands = tt; shared = λ _. tt }
+of_class_drawn config context must_share limit I64 bytes sanitized may h = record { valid = tt; stands = tt; shared = λ _. tt }
+of_class_drawn config context must_share limit F32 bytes sanitized may h = record { valid = tt; stands = tt; shared = λ _. tt }
+of_class_drawn config context must_share limit F64 bytes sanitized may h = record { valid = tt; stands = tt; shared = λ _. tt }
+of_class_drawn config context must_share limit V128 bytes sanitized may h = record { valid = h; stands = tt; shared = λ _. tt }
+of_class_drawn config context must_share limit Reference bytes sanitized may h =
+    let drawn = ref_type_drawn config context must_share limit bytes sanitized may in
     record { valid = (h, drawn.valid); stands = drawn.stands; shared = drawn.shared }
 
 class_enabled : (config : Config) (bytes : List ℕ) → IsClassEnabled config (chosen_at I32 (enabled (value_classes config)) bytes).0
@@ -189,11 +223,11 @@ class_enabled config bytes =
     let rows : ByRecursion (λ (row : ValueClass × Bool). IsTrue row.1 → P row.0) (value_classes config) = ((λ _. tt), ((λ _. tt), ((λ _. tt), ((λ _. tt), ((λ on. on), ((λ on. on), tt)))))) in
     chosen_is P I32 (enabled (value_classes config)) bytes (enabled_all P (value_classes config) (All-from_recursion (λ (row : ValueClass × Bool). IsTrue row.1 → P row.0) (value_classes config) rows)) tt
 
-pub val_type_drawn : (config : Config) (types : List SubType) (must_share : Bool) (limit : ℕ) (bytes : List ℕ) → IsSanitized config → MayShare config must_share → IsValTypeDrawn config types must_share limit (val_type_at config types must_share limit bytes).0
+pub val_type_drawn : (config : Config) (context : Context) (must_share : Bool) (limit : ℕ) (bytes : List ℕ) → IsSanitized config → MayShare config must_share → IsValTypeDrawn config context.types must_share limit (val_type_at config context must_share limit bytes).0
 unfolding val_type_at
-val_type_drawn config types must_share limit bytes sanitized may =
+val_type_drawn config context must_share limit bytes sanitized may =
     let class = chosen_at I32 (enabled (value_classes config)) bytes in
-    of_class_drawn config types must_share limit class.0 class.1 sanitized may (class_enabled config bytes)
+    of_class_drawn config context must_share limit class.0 class.1 sanitized may (class_enabled config bytes)
 
 -- drawn value types are valid
 pub values_valid : (config : Config) (types : List SubType) (must_share : Bool) (limit : ℕ) (values : List ValType) → All (IsValTypeDrawn config types must_share limit) values → All (IsValTypeValid (features_of config) limit) values

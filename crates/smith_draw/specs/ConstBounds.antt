@@ -1,7 +1,8 @@
 -- How long drawn constant expressions are, and when none is drawn. Rules of this project.
-use Rattle.std.specs.Prelude.{◌≡◌, ◌⊎◌, ℕ, ◌+◌, ◌*◌, max, false, List, [], ◌∷◌, length}
+use Rattle.std.specs.Prelude.{◌≡◌, ◌⊎◌, ℕ, ◌+◌, ◌*◌, max, false, IsTrue, List, [], ◌∷◌, length}
 use Rattle.std.specs.List.{Any}
-use Rattle.smith_types.specs.Expressions.{field_values}
+use Rattle.smith_types.specs.Expressions.{Context, field_values}
+use Rattle.smith_types.specs.Grounded.{IsGrounded}
 use Rattle.smith_types.specs.declared.value_type.ValType.{ValType}
 use Rattle.smith_types.specs.declared.value_type.ValType.TheVariants.{Ref}
 use Rattle.smith_types.specs.declared.composite_type.CompositeInnerType.{CompositeInnerType}
@@ -35,10 +36,19 @@ IsNonNullable _ = ⊥
 abbrev pub HoldsNonNullableField : List SubType → Type 0
 HoldsNonNullableField types = Any (λ (t : SubType). Any IsNonNullable (field_values (fields_of t.composite_type.inner))) types
 
+-- a reference that may not be null, and, where the field is on, is not grounded
+abbrev pub IsUngrounded : Config → Context → ValType → Type 0
+IsUngrounded config context (Ref reference) = (reference.nullable ≡ false) × (IsTrue config.non_nullable_enabled → ¬ IsGrounded context reference.heap_type)
+IsUngrounded config context _ = ⊥
+
+-- a field of a struct, or the element of an array, is such a reference
+abbrev pub HoldsUngroundedField : Config → Context → Type 0
+HoldsUngroundedField config context = Any (λ (t : SubType). Any (IsUngrounded config context) (field_values (fields_of t.composite_type.inner))) context.types
+
 -- where there may be nothing to choose from
-abbrev pub MayLack : List SubType → ValType → Type 0
-MayLack types wanted = IsNonNullable wanted ⊎ HoldsNonNullableField types
+abbrev pub MayLack : Config → Context → ValType → Type 0
+MayLack config context wanted = IsUngrounded config context wanted ⊎ HoldsUngroundedField config context
 
 -- when an expression may be refused
-abbrev pub MayRefuseConstExpr : List SubType → ValType → Error → Type 0
-MayRefuseConstExpr types wanted e = (e ≡ Memory) ⊎ ((e ≡ EmptyChoose) × MayLack types wanted)
+abbrev pub MayRefuseConstExpr : Config → Context → ValType → Error → Type 0
+MayRefuseConstExpr config context wanted e = (e ≡ Memory) ⊎ ((e ≡ EmptyChoose) × MayLack config context wanted)

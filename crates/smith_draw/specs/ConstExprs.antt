@@ -1,5 +1,5 @@
 -- Drawn constant expressions: which expression the bytes give.
-use Rattle.std.specs.Prelude.{ℕ, zero, suc, ◌-◌, Bool, false, not, List, [], ◌∷◌, ◌++◌, Option, Some, None, option_and_then, if◌then◌else◌}
+use Rattle.std.specs.Prelude.{ℕ, zero, suc, ◌-◌, false, not, List, [], ◌∷◌, ◌++◌, Option, Some, None, option_and_then, if◌then◌else◌}
 use Rattle.std.specs.Option.{option_map}
 use Rattle.std.specs.Int.{cast_signed, w32}
 use Rattle.smith_bytes.specs.Draws.{bool_at, range_at, choose_at}
@@ -36,9 +36,9 @@ abbrev pub length_at : State → State
 length_at s = let n = range_at 0 s.fuel s.bytes in state_of (s.made ++ instr.I32Const (cast_signed w32 n.0) ∷ []) (s.fuel - n.0) n.1
 
 -- an operand, by the draw of a value: a length is drawn as an i32, save where lengths are limited
-abbrev pub operand_at : Bool → (ValType → State → Option State) → Operand → State → Option State
-operand_at limited draw (Value value) s = draw value s
-operand_at limited draw Length s = if limited then Some (length_at s) else draw I32 s
+abbrev pub operand_at : Config → (ValType → State → Option State) → Operand → State → Option State
+operand_at config draw (Value value) s = draw value s
+operand_at config draw Length s = if config.limit_arrays_in_const_exprs then Some (length_at s) else draw I32 s
 
 -- operands in order, one behind another
 abbrev pub operands_at : (Operand → State → Option State) → List Operand → State → Option State
@@ -46,34 +46,34 @@ operands_at draw [] s = Some s
 operands_at draw (operand ∷ operands) s = option_and_then (operands_at draw operands) (draw operand s)
 
 -- what is drawn after a choice: an extended constant, or operands and the instruction behind them
-abbrev pub made_at : Context → Bool → (ValType → State → Option State) → ValType → State → Choice → Option State
-made_at context limited draw wanted s choice =
+abbrev pub made_at : Context → Config → (ValType → State → Option State) → ValType → State → Choice → Option State
+made_at context config draw wanted s choice =
     let extended = extended_at wanted s.bytes in
     let node = node_at context.types wanted choice s.bytes in
     if is_extended choice then Some (state_of (s.made ++ extended.0) (s.fuel - 1) extended.1)
-    else option_map (behind node.0.instruction) (operands_at (operand_at limited draw) node.0.operands (state_of s.made (s.fuel - 1) node.1))
+    else option_map (behind node.0.instruction) (operands_at (operand_at config draw) node.0.operands (state_of s.made (s.fuel - 1) node.1))
 
 -- what is drawn after the choice, if there is a choice
-abbrev pub chosen_at : Context → Bool → (ValType → State → Option State) → ValType → State → Option Choice → Option State
-chosen_at context limited draw wanted s None = None
-chosen_at context limited draw wanted s (Some choice) = made_at context limited draw wanted s choice
+abbrev pub chosen_at : Context → Config → (ValType → State → Option State) → ValType → State → Option Choice → Option State
+chosen_at context config draw wanted s None = None
+chosen_at context config draw wanted s (Some choice) = made_at context config draw wanted s choice
 
 -- a value of a type, by recursion on a depth that is above the fuel: none where there is nothing to choose from
-unfoldable pub expression_at : Context → Bool → ℕ → ValType → State → Option State
-expression_at context limited zero wanted s = None
-expression_at context limited (suc depth) wanted s =
-    let chosen = choose_at (offers context wanted s.fuel) s.bytes in
-    chosen_at context limited (expression_at context limited depth) wanted (state_of s.made s.fuel chosen.1) chosen.0
+unfoldable pub expression_at : Context → Config → ℕ → ValType → State → Option State
+expression_at context config zero wanted s = None
+expression_at context config (suc depth) wanted s =
+    let chosen = choose_at (offers config context wanted s.fuel) s.bytes in
+    chosen_at context config (expression_at context config depth) wanted (state_of s.made s.fuel chosen.1) chosen.0
 
 -- an expression of its own, and the bytes behind it
-unfoldable pub expression_alone_at : Context → Bool → ℕ → ValType → List ℕ → Option (List ConstInstr × List ℕ)
-expression_alone_at context limited fuel wanted bytes =
-    option_map (λ (s : State). (s.made, s.bytes)) (expression_at context limited (suc fuel) wanted (state_of [] fuel bytes))
+unfoldable pub expression_alone_at : Context → Config → ℕ → ValType → List ℕ → Option (List ConstInstr × List ℕ)
+expression_alone_at context config fuel wanted bytes =
+    option_map (λ (s : State). (s.made, s.bytes)) (expression_at context config (suc fuel) wanted (state_of [] fuel bytes))
 
 -- the expression of a type that bytes give in a context, with the configured fuel
 abbrev pub const_expr_at : Config → Context → ValType → List ℕ → Option (List ConstInstr × List ℕ)
 const_expr_at config context wanted bytes =
-    expression_alone_at context config.limit_arrays_in_const_exprs config.const_expr_fuel wanted bytes
+    expression_alone_at context config config.const_expr_fuel wanted bytes
 
 -- the initialiser of a table: none without garbage collection, and where elements may be null a bool says so
 unfoldable pub table_init_at : Config → Context → RefType → List ℕ → Option (Option (List ConstInstr) × List ℕ)

@@ -1,6 +1,5 @@
 -- What is offered where a constant expression of a type is drawn, in order. Rules of this project.
 use Rattle.std.specs.Prelude.{ℕ, zero, suc, Result, Ok, Err, ◌+◌, Bool, true, false, not, ◌&&◌, ◌||◌, ◌==◌, nat_lt, List, [], ◌∷◌, ◌++◌, length, take, if◌then◌else◌}
-use Rattle.std.specs.List.{list_all}
 use Rattle.smith_types.specs.declared.value_type.AbstractHeapType.TheVariants as heap
 use Rattle.smith_types.specs.declared.value_type.HeapType.{HeapType}
 use Rattle.smith_types.specs.declared.value_type.HeapType.TheVariants.{Abstract}
@@ -13,6 +12,8 @@ use Rattle.smith_types.specs.declared.composite_type.FieldType.{FieldType}
 use Rattle.smith_types.specs.declared.composite_type.SubType.{SubType}
 use Rattle.smith_types.specs.declared.entity_type.GlobalType.{GlobalType}
 use Rattle.smith_types.specs.Expressions.{Context, reference_to, created, function_reference, unpacked}
+use Rattle.smith_types.specs.Grounded.{is_defaultable, are_defaultable}
+use Rattle.smith_config.specs.declared.config.Config.{Config}
 use Rattle.smith_draw.specs.Below.{is_val_below}
 use Rattle.smith_draw.specs.declared.const_expr.node_choice.Choice.{Choice}
 use Rattle.smith_draw.specs.declared.const_expr.node_choice.Choice.TheVariants as choice
@@ -25,15 +26,6 @@ each_from offer start (x ∷ xs) = offer start x ++ each_from offer (start + 1) 
 -- an item, if it is offered
 abbrev pub offered_if : {B : Type 0} → Bool → B → List B
 offered_if offered x = if offered then x ∷ [] else []
-
--- a value type that has a default (Validation, Value Types, Defaultable)
-abbrev pub is_defaultable : ValType → Bool
-is_defaultable (Ref reference) = reference.nullable
-is_defaultable _ = true
-
--- the fields have defaults
-abbrev pub are_defaultable : List FieldType → Bool
-are_defaultable fields = list_all (λ (field : FieldType). is_defaultable (unpacked field.element_type)) fields
 
 -- an integer of 32 or 64 bits
 abbrev pub is_integer : ValType → Bool
@@ -68,30 +60,34 @@ abbrev pub types_offers : Context → ValType → ℕ → Bool → List Choice
 types_offers context wanted fuel arrays = each_from (λ index (t : SubType). type_offers context wanted fuel arrays index t.composite_type.inner) 0 context.types
 
 -- conversions to a heap type
-abbrev pub conversions : HeapType → List Choice
-conversions (Abstract shared heap.Any) = choice.FromExtern ∷ []
-conversions (Abstract shared heap.Extern) = choice.FromAny ∷ []
-conversions _ = []
+abbrev pub conversions_to : HeapType → List Choice
+conversions_to (Abstract shared heap.Any) = choice.FromExtern ∷ []
+conversions_to (Abstract shared heap.Extern) = choice.FromAny ∷ []
+conversions_to _ = []
+
+-- conversions to a reference type: with the field on of a nullable one alone
+abbrev pub conversions : Config → RefType → List Choice
+conversions config wanted = if wanted.nullable || not config.non_nullable_enabled then conversions_to wanted.heap_type else []
 
 -- with fuel: i31 references and conversions
-abbrev pub other_offers : Context → RefType → ℕ → List Choice
-other_offers context wanted fuel =
+abbrev pub other_offers : Config → Context → RefType → ℕ → List Choice
+other_offers config context wanted fuel =
     if nat_lt 0 fuel then
     offered_if (is_val_below context.types (reference_to (Abstract false heap.I31)) (Ref wanted)) choice.I31
     ++ (offered_if (context.features.shared_everything_threads && is_val_below context.types (reference_to (Abstract true heap.I31)) (Ref wanted)) choice.SharedI31
-    ++ conversions wanted.heap_type)
+    ++ conversions config wanted)
     else []
 
 -- with garbage collection: structs, arrays and the others
-abbrev pub created_offers : Context → RefType → ℕ → List Choice
-created_offers context wanted fuel =
-    types_offers context (Ref wanted) fuel false ++ (types_offers context (Ref wanted) fuel true ++ other_offers context wanted fuel)
+abbrev pub created_offers : Config → Context → RefType → ℕ → List Choice
+created_offers config context wanted fuel =
+    types_offers context (Ref wanted) fuel false ++ (types_offers context (Ref wanted) fuel true ++ other_offers config context wanted fuel)
 
 -- of a reference: functions, and what can be created
-abbrev pub reference_offers : Context → ValType → ℕ → List Choice
-reference_offers context (Ref wanted) fuel =
-    each_from (function_offers context (Ref wanted)) 0 context.funcs ++ (if context.features.gc then created_offers context wanted fuel else [])
-reference_offers context _ fuel = []
+abbrev pub reference_offers : Config → Context → ValType → ℕ → List Choice
+reference_offers config context (Ref wanted) fuel =
+    each_from (function_offers context (Ref wanted)) 0 context.funcs ++ (if context.features.gc then created_offers config context wanted fuel else [])
+reference_offers config context _ fuel = []
 
 -- a constant, or null where it may be, and an extended constant where they are enabled
 abbrev pub constant_offers : Context → ValType → List Choice
@@ -99,9 +95,9 @@ constant_offers context wanted =
     offered_if (is_defaultable wanted) choice.Constant ++ offered_if (is_integer wanted && context.features.extended_const) choice.Extended
 
 -- all that is offered
-unfoldable pub offers : Context → ValType → ℕ → List Choice
-offers context wanted fuel =
-    each_from (global_offers context wanted) 0 (take context.visible context.globals) ++ (constant_offers context wanted ++ reference_offers context wanted fuel)
+unfoldable pub offers : Config → Context → ValType → ℕ → List Choice
+offers config context wanted fuel =
+    each_from (global_offers context wanted) 0 (take context.visible context.globals) ++ (constant_offers context wanted ++ reference_offers config context wanted fuel)
 
 -- the visible immutable globals whose type is below the wanted type, by index
 abbrev pub readable_globals : Context → ValType → List ℕ

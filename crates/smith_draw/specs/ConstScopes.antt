@@ -1,5 +1,5 @@
 -- What constant expressions are drawn over.
-use Rattle.std.specs.Prelude.{◌≡◌, ℕ, ◌<◌, ◌≤◌, ◌^◌, Bool, false, ◌&&◌, if◌then◌else◌, List, [], ◌∷◌, Some, length, slice_get, All}
+use Rattle.std.specs.Prelude.{◌≡◌, ℕ, ◌<◌, ◌≤◌, ◌^◌, Bool, false, IsTrue, ◌&&◌, if◌then◌else◌, List, [], ◌∷◌, Some, length, slice_get, All}
 use Rattle.smith_types.specs.Expressions.{Context, IsVisible}
 use Rattle.smith_types.specs.Subtyping.{IsValBelow}
 use Rattle.smith_types.specs.declared.value_type.ValType.{ValType}
@@ -13,7 +13,7 @@ use Rattle.smith_types.specs.declared.composite_type.CompositeInnerType.TheVaria
 use Rattle.smith_types.specs.declared.composite_type.FieldType.{FieldType}
 use Rattle.smith_types.specs.declared.composite_type.SubType.{SubType}
 use Rattle.smith_types.specs.declared.entity_type.GlobalType.{GlobalType}
-use Rattle.smith_types.specs.Expressions.{field_values}
+use Rattle.smith_types.specs.Expressions.{IsStructAt, field_values}
 use Rattle.smith_config.specs.Features.{features_of}
 use Rattle.smith_draw.specs.declared.const_expr.scope.Scope.{Scope}
 
@@ -45,6 +45,7 @@ pub record IsScope (context : Context) : Type 0 where
   pub imported_seen : context.features.gc ≡ false → context.visible ≤ context.imported_globals
   pub funcs : All (λ index. index < length context.types) context.funcs
   pub globals : All (λ (global : GlobalType). IsValTypeValid context.features (length context.types) global.val_type) context.globals
+  pub structs : (index : ℕ) (fields : List FieldType) → IsStructAt context.types index fields → IsTrue context.features.gc
   pub fields : (index : ℕ) (t : SubType) → slice_get context.types index ≡ Some t → All (IsValTypeValid context.features (length context.types)) (field_values (fields_of t.composite_type.inner))
 
 -- where the globals end that may be read: the imported globals, or, with garbage collection where it is allowed, all

@@ -1,5 +1,5 @@
 -- What each step of drawing a constant expression adds to the instructions that stand.
-use Rattle.std.specs.Prelude.{◌≡◌, ◌⊎◌, ℕ, ◌+◌, ◌*◌, ◌≤◌, ◌<◌, Bool, true, IsTrue, Option, List, Some, None, Result, Ok, Err, length, map, slice_get, All}
+use Rattle.std.specs.Prelude.{◌≡◌, ◌⊎◌, ℕ, ◌+◌, ◌*◌, ◌≤◌, ◌<◌, true, IsTrue, Option, List, Some, None, Result, Ok, Err, length, map, slice_get, All}
 use Rattle.smith_types.specs.Expressions.{Context, HasType}
 use Rattle.smith_types.specs.Flags.{IsInstrEnabled}
 use Rattle.smith_types.specs.Subtyping.{IsValBelow}
@@ -9,6 +9,7 @@ use Rattle.smith_types.specs.declared.value_type.ValType.TheVariants.{I32, I64}
 use Rattle.smith_types.specs.declared.const_instr.ConstInstr.{ConstInstr}
 use Rattle.smith_bytes.specs.declared.error.Error.{Error}
 use Rattle.smith_bytes.specs.declared.error.Error.TheVariants as errors
+use Rattle.smith_config.specs.declared.config.Config.{Config}
 use Rattle.smith_draw.specs.Putting.{Puts}
 use Rattle.smith_draw.specs.ConstBounds.{widest, MayLack}
 use Rattle.smith_draw.specs.ConstNodes.{is_extended, node_at}
@@ -30,7 +31,7 @@ pub record IsDrawn (context : Context) (values : List ValType) (old : List Const
   pub short : length new + 23 * widest context.types * left ≤ length old + 23 * length values + 23 * widest context.types * fuel
 
 -- a node gives a value of the wanted type from its operands, which are few, valid and paid for
-pub record IsNode (context : Context) (wanted : ValType) (fuel : ℕ) (node : Node) : Type 0 where
+pub record IsNode (config : Config) (context : Context) (wanted : ValType) (fuel : ℕ) (node : Node) : Type 0 where
   pub result : ValType
   pub typed : HasType context node.instruction (map operand_type node.operands) result
   pub below : IsValBelow context.types result wanted
@@ -38,11 +39,11 @@ pub record IsNode (context : Context) (wanted : ValType) (fuel : ℕ) (node : No
   pub paid : 0 < length node.operands → 0 < fuel
   pub few : length node.operands ≤ widest context.types
   pub valid : All (λ operand. IsValTypeValid context.features (length context.types) (operand_type operand)) node.operands
-  pub lacks : (operand : Operand) (place : ℕ) → slice_get node.operands place ≡ Some operand → MayLack context.types (operand_type operand) → MayLack context.types wanted
+  pub lacks : (operand : Operand) (place : ℕ) → slice_get node.operands place ≡ Some operand → MayLack config context (operand_type operand) → MayLack config context wanted
 
 -- each node that a choice makes gives the wanted type, and an extended constant is of an integer type, and enabled
-pub record IsFit (context : Context) (wanted : ValType) (fuel : ℕ) (choice : Choice) : Type 0 where
-  pub node : (bytes : List ℕ) → IsNode context wanted fuel (node_at context.types wanted choice bytes).0
+pub record IsFit (config : Config) (context : Context) (wanted : ValType) (fuel : ℕ) (choice : Choice) : Type 0 where
+  pub node : (bytes : List ℕ) → IsNode config context wanted fuel (node_at context.types wanted choice bytes).0
   pub extended : is_extended choice ≡ true → ((wanted ≡ I32) ⊎ (wanted ≡ I64)) × IsTrue context.features.extended_const
 
 -- a step that succeeds leaves what its definition gives; of a step that had nothing to choose from, the definition gives none
@@ -53,5 +54,5 @@ Reads (Err errors.EmptyChoose) new read = read ≡ None
 Reads (Err _) new read = ⊥
 
 -- a value, by its definition at whatever depth above the fuel
-pub record ReadsValue (context : Context) (limited : Bool) (wanted : ValType) (old new : State) (result : Result (Unit {0}) Error) : Type 0 where
-  pub exact : (depth : ℕ) → old.fuel < depth → Reads result new (expression_at context limited depth wanted old)
+pub record ReadsValue (context : Context) (config : Config) (wanted : ValType) (old new : State) (result : Result (Unit {0}) Error) : Type 0 where
+  pub exact : (depth : ℕ) → old.fuel < depth → Reads result new (expression_at context config depth wanted old)

@@ -1,10 +1,11 @@
 -- What one task of drawing a constant expression does, and leaves to do. Lists of tasks begin with the next one.
-use Rattle.std.specs.Prelude.{◌≡◌, ◌⊎◌, ℕ, ◌+◌, ◌-◌, ◌<◌, ◌≤◌, Bool, List, [], ◌∷◌, ◌++◌, Some, None, map, length}
+use Rattle.std.specs.Prelude.{◌≡◌, ◌⊎◌, ℕ, ◌+◌, ◌-◌, ◌<◌, ◌≤◌, List, [], ◌∷◌, ◌++◌, Some, None, map, length}
 use Rattle.std.specs.Option.{option_map}
 use Rattle.smith_types.specs.Expressions.{Context}
 use Rattle.smith_types.specs.ValidTypes.{IsValTypeValid}
 use Rattle.smith_bytes.specs.declared.error.Error.{Error}
 use Rattle.smith_bytes.specs.declared.error.Error.TheVariants as errors
+use Rattle.smith_config.specs.declared.config.Config.{Config}
 use Rattle.smith_draw.specs.ConstBounds.{widest, MayLack}
 use Rattle.smith_draw.specs.ConstExprs.{State, state_of, behind, operand_at, operands_at, expression_at}
 use Rattle.smith_draw.specs.ConstSteps.{operand_type, IsDrawn, IsNode}
@@ -19,25 +20,25 @@ IsTaskValid context (Draw operand) = IsValTypeValid context.features (length con
 IsTaskValid context (Write instruction) = Unit {0}
 
 -- an operand was drawn, by its definition at whatever depth above the fuel
-pub record IsOperandDrawn (context : Context) (limited : Bool) (operand : Operand) (old new : State) : Type 0 where
-  pub read : (depth : ℕ) → old.fuel < depth → operand_at limited (expression_at context limited depth) operand old ≡ Some new
+pub record IsOperandDrawn (context : Context) (config : Config) (operand : Operand) (old new : State) : Type 0 where
+  pub read : (depth : ℕ) → old.fuel < depth → operand_at config (expression_at context config depth) operand old ≡ Some new
   pub drawn : IsDrawn context (operand_type operand ∷ []) old.made old.fuel new.made new.fuel
 
 -- a node was chosen for an operand: its operands are to be drawn, and its instruction is to be written after them
-pub record IsOperandBegun (context : Context) (limited : Bool) (operand : Operand) (todo : List Task) (old : State) (todo' : List Task) (new : State) : Type 0 where
+pub record IsOperandBegun (context : Context) (config : Config) (operand : Operand) (todo : List Task) (old : State) (todo' : List Task) (new : State) : Type 0 where
   pub node : Node
   pub bytes : List ℕ
   pub state : new ≡ state_of old.made (old.fuel - 1) bytes
   pub tasks : todo' ≡ map Draw node.operands ++ Write node.instruction ∷ todo
-  pub fits : IsNode context (operand_type operand) old.fuel node
+  pub fits : IsNode config context (operand_type operand) old.fuel node
   pub some : 0 < length node.operands
   pub read : (depth : ℕ) → old.fuel < depth
-      → operand_at limited (expression_at context limited depth) operand old ≡ option_map (behind node.instruction) (operands_at (operand_at limited (expression_at context limited (depth - 1))) node.operands (state_of old.made (old.fuel - 1) bytes))
+      → operand_at config (expression_at context config depth) operand old ≡ option_map (behind node.instruction) (operands_at (operand_at config (expression_at context config (depth - 1))) node.operands (state_of old.made (old.fuel - 1) bytes))
 
 -- a task was carried out, and the tasks after it became these
-abbrev pub IsStep : Context → Bool → Task → List Task → State → List Task → State → Type 0
-IsStep context limited (Draw operand) todo old todo' new = ((todo' ≡ todo) × IsOperandDrawn context limited operand old new) ⊎ IsOperandBegun context limited operand todo old todo' new
-IsStep context limited (Write instruction) todo old todo' new = (todo' ≡ todo) × (new ≡ behind instruction old)
+abbrev pub IsStep : Context → Config → Task → List Task → State → List Task → State → Type 0
+IsStep context config (Draw operand) todo old todo' new = ((todo' ≡ todo) × IsOperandDrawn context config operand old new) ⊎ IsOperandBegun context config operand todo old todo' new
+IsStep context config (Write instruction) todo old todo' new = (todo' ≡ todo) × (new ≡ behind instruction old)
 
 -- a step leaves at most the operands of one node and its instruction more to do, and more than before only where it spends fuel
 pub record IsGrowthPaid (context : Context) (todo : List Task) (fuel : ℕ) (todo' : List Task) (left : ℕ) : Type 0 where
@@ -45,11 +46,11 @@ pub record IsGrowthPaid (context : Context) (todo : List Task) (fuel : ℕ) (tod
   pub paid : length todo < length todo' → left < fuel
 
 -- nothing is offered for an operand, which its definition says too
-pub record IsOperandLacking (context : Context) (limited : Bool) (operand : Operand) (old : State) : Type 0 where
-  pub lacks : MayLack context.types (operand_type operand)
-  pub none : (depth : ℕ) → old.fuel < depth → operand_at limited (expression_at context limited depth) operand old ≡ None
+pub record IsOperandLacking (context : Context) (config : Config) (operand : Operand) (old : State) : Type 0 where
+  pub lacks : MayLack config context (operand_type operand)
+  pub none : (depth : ℕ) → old.fuel < depth → operand_at config (expression_at context config depth) operand old ≡ None
 
 -- when a task is refused
-abbrev pub MayRefuseTask : Context → Bool → Task → State → Error → Type 0
-MayRefuseTask context limited (Draw operand) old e = (e ≡ errors.Memory) ⊎ ((e ≡ errors.EmptyChoose) × IsOperandLacking context limited operand old)
-MayRefuseTask context limited (Write instruction) old e = e ≡ errors.Memory
+abbrev pub MayRefuseTask : Context → Config → Task → State → Error → Type 0
+MayRefuseTask context config (Draw operand) old e = (e ≡ errors.Memory) ⊎ ((e ≡ errors.EmptyChoose) × IsOperandLacking context config operand old)
+MayRefuseTask context config (Write instruction) old e = e ≡ errors.Memory

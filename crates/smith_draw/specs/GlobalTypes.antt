@@ -3,6 +3,7 @@ use Rattle.std.specs.Prelude.{ℕ, Bool, false, List, length}
 use Rattle.smith_types.specs.declared.value_type.ValType.{ValType}
 use Rattle.smith_types.specs.declared.value_type.ValType.TheVariants.{Ref}
 use Rattle.smith_types.specs.declared.composite_type.SubType.{SubType}
+use Rattle.smith_types.specs.Expressions.{Context}
 use Rattle.smith_types.specs.declared.entity_type.GlobalType.{GlobalType}
 use Rattle.smith_config.specs.declared.config.Config.{Config}
 use Rattle.smith_bytes.specs.Draws.{bool_at}
@@ -15,9 +16,9 @@ global_sharedness_at config types (Ref reference) bytes = (is_heap_type_shared t
 global_sharedness_at config types _ bytes = sharedness_at config false bytes
 
 -- a value type over the types that stand, whether the global is shared, and whether it is mutable (own rule)
-unfoldable pub global_type_at : Config → List SubType → List ℕ → GlobalType × List ℕ
-global_type_at config types bytes =
-    let value = val_type_at config types false (length types) bytes in
-    let shared = global_sharedness_at config types value.0 value.1 in
+unfoldable pub global_type_at : Config → Context → List ℕ → GlobalType × List ℕ
+global_type_at config context bytes =
+    let value = val_type_at config context false (length context.types) bytes in
+    let shared = global_sharedness_at config context.types value.0 value.1 in
     let mutable = bool_at shared.1 in
     (record { val_type = value.0; mutable = mutable.0; shared = shared.0 }, mutable.1)

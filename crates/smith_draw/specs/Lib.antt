@@ -1,6 +1,8 @@
 pub mod Drawing
 pub mod Callers
 pub mod Choices
+pub mod Grounding
+pub mod KeptGrounds
 pub mod ValueTypes
 pub mod FieldTypes
 pub mod CompositeTypes

@@ -2,12 +2,14 @@
 use Rattle.std.specs.Prelude.{ℕ, zero, suc, ◌-◌, ◌+◌, Bool, true, false, ◌&&◌, ◌||◌, nat_lt, nat_le, List, [], ◌∷◌, ◌++◌, length, take, drop, if◌then◌else◌}
 use Rattle.std.specs.declared.ops.Range.{Range}
 use Rattle.smith_types.specs.declared.composite_type.SubType.{SubType}
+use Rattle.smith_types.specs.Expressions.{Context}
 use Rattle.smith_types.specs.Space.{Space}
 use Rattle.smith_types.specs.Types.{next_group}
 use Rattle.smith_config.specs.declared.config.Config.{Config}
 use Rattle.smith_bytes.specs.Draws.{bool_at, range_at, ratio_at}
 use Rattle.smith_bytes.specs.Growth.{grow_at}
 use Rattle.smith_draw.specs.Choices.{chosen_at}
+use Rattle.smith_draw.specs.Grounding.{over}
 use Rattle.smith_draw.specs.SubTypes.{sub_type_at}
 
 -- how many more types there may be (own rule)
@@ -19,9 +21,9 @@ abbrev pub with_group : List SubType → List (Range ℕ) → Space
 with_group types groups = record { types = types; groups = groups ++ next_group types groups ∷ [] }
 
 -- types with more behind them until their number is `limit`, each drawn over those before it (own rule)
-unfoldable pub types_until_at : Config → ℕ → List SubType → List ℕ → List SubType × List ℕ
-types_until_at config limit types bytes =
-    grow_at (λ made. sub_type_at config made limit) limit (limit - length types) types bytes
+unfoldable pub types_until_at : Config → Context → ℕ → List SubType → List ℕ → List SubType × List ℕ
+types_until_at config context limit types bytes =
+    grow_at (λ made. sub_type_at config (over context made) limit) limit (limit - length types) types bytes
 
 -- the size of a new group: one type without garbage collection (own rule)
 abbrev pub group_size_at : Config → Bool → ℕ → List ℕ → ℕ × List ℕ
@@ -29,10 +31,10 @@ group_size_at config allow_empty most bytes =
     if config.gc_enabled then range_at (if allow_empty then 0 else 1) most bytes else (1, bytes)
 
 -- its size, then its types (own rule)
-unfoldable pub new_group_at : Config → Bool → Space → List ℕ → Space × List ℕ
-new_group_at config allow_empty space bytes =
+unfoldable pub new_group_at : Config → Context → Bool → Space → List ℕ → Space × List ℕ
+new_group_at config context allow_empty space bytes =
     let size = group_size_at config allow_empty (types_left config space) bytes in
-    let types = types_until_at config (length space.types + size.0) space.types size.1 in
+    let types = types_until_at config context (length space.types + size.0) space.types size.1 in
     (with_group types.0 space.groups, types.1)
 
 -- the types of a group (own rule)
@@ -61,36 +63,36 @@ clone_wanted_at config space bytes =
     if config.gc_enabled && nat_lt 0 (length space.groups) then ratio_at 1 255 bytes else (false, bytes)
 
 -- a clone; and where none is added and a group must not be empty, a new group (own rule)
-abbrev pub cloned_or_new_at : Config → Bool → Space → List ℕ → Space × List ℕ
-cloned_or_new_at config allow_empty space bytes =
+abbrev pub cloned_or_new_at : Config → Context → Bool → Space → List ℕ → Space × List ℕ
+cloned_or_new_at config context allow_empty space bytes =
     let clone = clone_rec_group_at config allow_empty space bytes in
-    if clone.0 || allow_empty then clone.1 else new_group_at config allow_empty clone.1.0 clone.1.1
+    if clone.0 || allow_empty then clone.1 else new_group_at config context allow_empty clone.1.0 clone.1.1
 
 -- a clone where it is asked for, else a new group (own rule)
-unfoldable pub rec_group_at : Config → Bool → Space → List ℕ → Space × List ℕ
-rec_group_at config allow_empty space bytes =
+unfoldable pub rec_group_at : Config → Context → Bool → Space → List ℕ → Space × List ℕ
+rec_group_at config context allow_empty space bytes =
     let wanted = clone_wanted_at config space bytes in
-    if wanted.0 then cloned_or_new_at config allow_empty space wanted.1 else new_group_at config allow_empty space wanted.1
+    if wanted.0 then cloned_or_new_at config context allow_empty space wanted.1 else new_group_at config context allow_empty space wanted.1
 
 -- at most `most` groups that are not empty, while there are too few types (own rule)
-unfoldable pub least_types_at : Config → ℕ → Space → List ℕ → Space × List ℕ
-least_types_at config zero space bytes = (space, bytes)
-least_types_at config (suc most) space bytes =
-    let grown = rec_group_at config false space bytes in
-    if nat_lt (length space.types) config.min_types then least_types_at config most grown.0 grown.1 else (space, bytes)
+unfoldable pub least_types_at : Config → Context → ℕ → Space → List ℕ → Space × List ℕ
+least_types_at config context zero space bytes = (space, bytes)
+least_types_at config context (suc most) space bytes =
+    let grown = rec_group_at config context false space bytes in
+    if nat_lt (length space.types) config.min_types then least_types_at config context most grown.0 grown.1 else (space, bytes)
 
 -- at most `most` groups, while there may be more types and a bool asks for a group (own rule)
-unfoldable pub more_types_at : Config → ℕ → Space → List ℕ → Space × List ℕ
-more_types_at config zero space bytes = (space, bytes)
-more_types_at config (suc most) space bytes =
+unfoldable pub more_types_at : Config → Context → ℕ → Space → List ℕ → Space × List ℕ
+more_types_at config context zero space bytes = (space, bytes)
+more_types_at config context (suc most) space bytes =
     let go = bool_at bytes in
-    let grown = rec_group_at config true space go.1 in
+    let grown = rec_group_at config context true space go.1 in
     if nat_lt (length space.types) config.max_types
-    then (if go.0 then more_types_at config most grown.0 grown.1 else (space, go.1))
+    then (if go.0 then more_types_at config context most grown.0 grown.1 else (space, go.1))
     else (space, bytes)
 
 -- groups until the least number of types stands, then more: each group but the last takes a byte (own rule)
-unfoldable pub types_at : Config → Space → List ℕ → Space × List ℕ
-types_at config space bytes =
-    let least = least_types_at config config.min_types space bytes in
-    more_types_at config (length least.1 + 1) least.0 least.1
+unfoldable pub types_at : Config → Context → Space → List ℕ → Space × List ℕ
+types_at config context space bytes =
+    let least = least_types_at config context config.min_types space bytes in
+    more_types_at config context (length least.1 + 1) least.0 least.1

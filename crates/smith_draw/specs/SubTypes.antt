@@ -1,6 +1,7 @@
 -- Drawn subtypes, and the types that may have subtypes.
 use Rattle.std.specs.Prelude.{◌≡◌, ℕ, suc, ◌<◌, ◌+◌, Bool, true, false, not, ◌&&◌, nat_lt, Option, Some, None, List, [], ◌∷◌, length, slice_get, if◌then◌else◌}
 use Rattle.smith_types.specs.declared.composite_type.SubType.{SubType}
+use Rattle.smith_types.specs.Expressions.{Context}
 use Rattle.smith_types.specs.Types.{IsAlike}
 use Rattle.smith_types.specs.Space.{HasDepth}
 use Rattle.smith_config.specs.declared.config.Config.{Config}
@@ -49,25 +50,25 @@ abbrev pub is_final_at : Config → List ℕ → Bool × List ℕ
 is_final_at config bytes = if config.gc_enabled then bool_at bytes else (true, bytes)
 
 -- without a supertype: whether it is final, then the composite type (own rule)
-unfoldable pub root_type_at : Config → List SubType → ℕ → List ℕ → SubType × List ℕ
-root_type_at config types limit bytes =
+unfoldable pub root_type_at : Config → Context → ℕ → List ℕ → SubType × List ℕ
+root_type_at config context limit bytes =
     let is_final = is_final_at config bytes in
-    let composite = composite_type_at config types limit is_final.1 in
+    let composite = composite_type_at config context limit is_final.1 in
     (record { is_final = is_final.0; supertype = None; composite_type = composite.0 }, composite.1)
 
 -- below the type of an index, where it stands: a matching composite type, then whether it is final (own rule)
-abbrev pub sub_type_below_at : Config → List SubType → ℕ → ℕ → Option SubType → List ℕ → SubType × List ℕ
-sub_type_below_at config types limit index None bytes = root_type_at config types limit bytes
-sub_type_below_at config types limit index (Some supertype) bytes =
-    let composite = matching_composite_type_at config types limit supertype.composite_type bytes in
+abbrev pub sub_type_below_at : Config → Context → ℕ → ℕ → Option SubType → List ℕ → SubType × List ℕ
+sub_type_below_at config context limit index None bytes = root_type_at config context limit bytes
+sub_type_below_at config context limit index (Some supertype) bytes =
+    let composite = matching_composite_type_at config context limit supertype.composite_type bytes in
     let is_final = bool_at composite.1 in
     (record { is_final = is_final.0; supertype = Some index; composite_type = composite.0 }, is_final.1)
 
 -- below the type of an index that is chosen among these (own rule)
-unfoldable pub sub_type_of_at : Config → List SubType → ℕ → List ℕ → List ℕ → SubType × List ℕ
-sub_type_of_at config types limit indices bytes =
+unfoldable pub sub_type_of_at : Config → Context → ℕ → List ℕ → List ℕ → SubType × List ℕ
+sub_type_of_at config context limit indices bytes =
     let index = chosen_at 0 indices bytes in
-    sub_type_below_at config types limit index.0 (slice_get types index.0) index.1
+    sub_type_below_at config context limit index.0 (slice_get context.types index.0) index.1
 
 -- whether a supertype is asked for, by the number of types that may have subtypes: with garbage collection, where some type may,
 -- one time of 32 (own rule)
@@ -76,8 +77,8 @@ supertype_wanted_at config count bytes =
     if config.gc_enabled && nat_lt 0 count then ratio_at 1 32 bytes else (false, bytes)
 
 -- below a type that may have subtypes, or without a supertype (own rule)
-unfoldable pub sub_type_at : Config → List SubType → ℕ → List ℕ → SubType × List ℕ
-sub_type_at config types limit bytes =
-    let wanted = supertype_wanted_at config (length (supertypes types)) bytes in
-    if wanted.0 then sub_type_of_at config types limit (supertypes types) wanted.1
-    else root_type_at config types limit wanted.1
+unfoldable pub sub_type_at : Config → Context → ℕ → List ℕ → SubType × List ℕ
+sub_type_at config context limit bytes =
+    let wanted = supertype_wanted_at config (length (supertypes context.types)) bytes in
+    if wanted.0 then sub_type_of_at config context limit (supertypes context.types) wanted.1
+    else root_type_at config context limit wanted.1

@@ -1,7 +1,7 @@
 -- Drawn table types.
 use Rattle.std.specs.Prelude.{ℕ, min, max, Bool, false, List, length, if◌then◌else◌}
 use Rattle.smith_types.specs.Entities.{most_elements}
-use Rattle.smith_types.specs.declared.composite_type.SubType.{SubType}
+use Rattle.smith_types.specs.Expressions.{Context}
 use Rattle.smith_types.specs.declared.entity_type.TableType.{TableType}
 use Rattle.smith_config.specs.declared.config.Config.{Config}
 use Rattle.smith_draw.specs.Limits.{limits64_at}
@@ -9,7 +9,7 @@ use Rattle.smith_draw.specs.Memories.{memory64_at}
 use Rattle.smith_draw.specs.SharedHeapTypes.{is_heap_type_shared}
 use Rattle.smith_draw.specs.ValueTypes.{ref_type_at}
 
--- a table has at least an element where nothing may trap (own rule)
+-- a table has at least an element with `disallow_traps` (own rule)
 abbrev pub least_elements : Config → ℕ
 least_elements config = if config.disallow_traps then 1 else 0
 
@@ -23,17 +23,17 @@ abbrev pub likely_elements : Config → Bool → ℕ
 likely_elements config table64 = min 10000 (drawn_elements config table64)
 
 -- the width of its addresses as of a memory, its limits, and what it holds, as which it is shared (own rule)
-unfoldable pub table_type_at : Config → List SubType → List ℕ → TableType × List ℕ
-table_type_at config types bytes =
+unfoldable pub table_type_at : Config → Context → List ℕ → TableType × List ℕ
+table_type_at config context bytes =
     let table64 = memory64_at config bytes in
     let limits = limits64_at (least_elements config) (drawn_elements config table64.0) config.table_max_size_required (likely_elements config table64.0) table64.1 in
-    let element = ref_type_at config types false (length types) limits.1 in (
+    let element = ref_type_at config context false (length context.types) limits.1 in (
       record {
         element_type = element.0;
         minimum = limits.0.0;
         maximum = limits.0.1;
         table64 = table64.0;
-        shared = is_heap_type_shared types element.0.heap_type;
+        shared = is_heap_type_shared context.types element.0.heap_type;
       },
       element.1,
     )

@@ -8,12 +8,14 @@ use Rattle.smith_types.specs.declared.value_type.HeapType.TheVariants.{Abstract,
 use Rattle.smith_types.specs.declared.value_type.AbstractHeapType.{AbstractHeapType}
 use Rattle.smith_types.specs.declared.value_type.AbstractHeapType.TheVariants as heap
 use Rattle.smith_types.specs.declared.composite_type.SubType.{SubType}
+use Rattle.smith_types.specs.Expressions.{Context}
 use Rattle.smith_types.specs.Kinds.{shared}
 use Rattle.smith_config.specs.declared.config.Config.{Config}
 use Rattle.smith_draw.specs.declared.value_type.ValueClass.{ValueClass}
 use Rattle.smith_draw.specs.declared.value_type.ValueClass.TheVariants.{I32, I64, F32, F64, V128, Reference}
 use Rattle.smith_bytes.specs.Draws.{bool_at, range_at, ratio_at}
 use Rattle.smith_draw.specs.Choices.{enabled, chosen_at}
+use Rattle.smith_draw.specs.Grounding.{is_grounded}
 
 -- the classes of value types, each with whether it is enabled (own rule)
 abbrev pub value_classes : Config → List (ValueClass × Bool)
@@ -72,25 +74,33 @@ heap_type_at config types must_share limit bytes =
     let index = type_index_at config types must_share limit bytes in
     heap_type_of_at config must_share index.0 index.1
 
--- nullable, and of unshared functions without a draw where reference types are off (own rule)
-unfoldable pub ref_type_at : Config → List SubType → Bool → ℕ → List ℕ → RefType × List ℕ
-ref_type_at config types must_share limit bytes =
-    if config.reference_types_enabled
-    then (let ty = heap_type_at config types must_share limit bytes in (record { nullable = true; heap_type = ty.0 }, ty.1))
+-- whether a reference is not nullable: where the field is on, if a bool asks for it and the heap type is grounded (own rule)
+unfoldable pub granted_at : Config → Context → HeapType → List ℕ → Bool × List ℕ
+granted_at config context ty bytes =
+    let wanted = bool_at bytes in
+    if config.non_nullable_enabled then (wanted.0 && is_grounded context ty, wanted.1) else (false, bytes)
+
+-- a heap type, then whether the reference is nullable; without a draw, nullable and of unshared functions, where reference types
+-- are off (own rule)
+unfoldable pub ref_type_at : Config → Context → Bool → ℕ → List ℕ → RefType × List ℕ
+ref_type_at config context must_share limit bytes =
+    let ty = heap_type_at config context.types must_share limit bytes in
+    let granted = granted_at config context ty.0 ty.1 in
+    if config.reference_types_enabled then (record { nullable = not granted.0; heap_type = ty.0 }, granted.1)
     else (record { nullable = true; heap_type = Abstract false heap.Func }, bytes)
 
 -- a value type of a class (own rule)
-abbrev pub value_of_class_at : Config → List SubType → Bool → ℕ → ValueClass → List ℕ → ValType × List ℕ
-value_of_class_at config types must_share limit I32 bytes = (vals.I32, bytes)
-value_of_class_at config types must_share limit I64 bytes = (vals.I64, bytes)
-value_of_class_at config types must_share limit F32 bytes = (vals.F32, bytes)
-value_of_class_at config types must_share limit F64 bytes = (vals.F64, bytes)
-value_of_class_at config types must_share limit V128 bytes = (vals.V128, bytes)
-value_of_class_at config types must_share limit Reference bytes =
-    let reference = ref_type_at config types must_share limit bytes in (vals.Ref reference.0, reference.1)
+abbrev pub value_of_class_at : Config → Context → Bool → ℕ → ValueClass → List ℕ → ValType × List ℕ
+value_of_class_at config context must_share limit I32 bytes = (vals.I32, bytes)
+value_of_class_at config context must_share limit I64 bytes = (vals.I64, bytes)
+value_of_class_at config context must_share limit F32 bytes = (vals.F32, bytes)
+value_of_class_at config context must_share limit F64 bytes = (vals.F64, bytes)
+value_of_class_at config context must_share limit V128 bytes = (vals.V128, bytes)
+value_of_class_at config context must_share limit Reference bytes =
+    let reference = ref_type_at config context must_share limit bytes in (vals.Ref reference.0, reference.1)
 
 -- a value type: its class, then a value type of that class (own rule)
-unfoldable pub val_type_at : Config → List SubType → Bool → ℕ → List ℕ → ValType × List ℕ
-val_type_at config types must_share limit bytes =
+unfoldable pub val_type_at : Config → Context → Bool → ℕ → List ℕ → ValType × List ℕ
+val_type_at config context must_share limit bytes =
     let class = chosen_at I32 (enabled (value_classes config)) bytes in
-    value_of_class_at config types must_share limit class.0 class.1
+    value_of_class_at config context must_share limit class.0 class.1

@@ -7,6 +7,7 @@ ghost use Rattle.smith_types.specs.ValidTypes.{values_of, IsFuncTypeValid, IsVal
 ghost use Rattle.smith_config.specs.Features.{features_of};
 ghost use Rattle.smith_config.specs.Sanitized.{IsSanitized};
 ghost use Rattle.smith_draw.specs.Drawing.{AlwaysDraws, Draws};
+ghost use Rattle.smith_draw.specs.Grounding.{standing_in};
 ghost use Rattle.smith_draw.specs.FieldTypes.{fields_until_at};
 ghost use Rattle.smith_draw.specs.CompositeTypes.{
   most_results,
@@ -17,16 +18,16 @@ ghost use Rattle.smith_draw.specs.CompositeTypes.{
   inner_of_number_at,
   composite_type_at,
 };
-ghost use Rattle.smith_draw.specs.Spelling.{SpellsFuncType, SpellsStructType, SpellsCompositeType};
+ghost use Rattle.smith_draw.specs.Spelling.{RefersTo, SpellsFuncType, SpellsStructType, SpellsCompositeType};
 
 use crate::field_type::draw_field_type;
-use crate::spaces::Spaces;
+use crate::spaces::{Spaces, orderly};
+use crate::standing::Standing;
 use crate::value_type::{draw_sharedness, draw_val_type};
 use smith_bytes::{Error, Unstructured, goes_on};
 use smith_config::Config;
 use smith_types::{
-    ArrayType, CompositeInnerType, CompositeType, FieldType, FuncType, Items, StructType, SubType,
-    ValType,
+    ArrayType, CompositeInnerType, CompositeType, FieldType, FuncType, Items, StructType, ValType,
 };
 use std::alloc::Global;
 
@@ -35,20 +36,20 @@ use std::alloc::Global;
 pub(crate) fn draw_val_types(
     alloc: Global,
     config: &Config,
-    types: &[SubType],
+    standing: &Standing<'_>,
     must_share: bool,
     limit: u32,
     most: usize,
     u: &mut Unstructured<'_>,
 ) -> Result<Items<ValType>, Error>
-    ensures { Draws (val_types_at config.now types.now must_share limit most u.old) result u.old u.new }
+    ensures { Draws (val_types_at config.now standing.now must_share limit most u.old) result u.old u.new }
 {
     let mut drawn = Items::new(alloc);
     for made in 0..most {
         if !goes_on(u, made, 0) {
             return Ok(drawn);
         }
-        drawn.push(draw_val_type(config, types, must_share, limit, u))?;
+        drawn.push(draw_val_type(config, standing, must_share, limit, u))?;
     }
     Ok(drawn)
 }
@@ -57,16 +58,16 @@ pub(crate) fn draw_val_types(
 fn draw_func_type(
     alloc: Global,
     config: &Config,
-    types: &[SubType],
+    standing: &Standing<'_>,
     must_share: bool,
     limit: u32,
     u: &mut Unstructured<'_>,
 ) -> Result<FuncType, Error>
-    ensures { Draws (func_type_at config.now types.now must_share limit u.old) result u.old u.new }
+    ensures { Draws (func_type_at config.now standing.now must_share limit u.old) result u.old u.new }
 {
     let most_results = if config.multi_value_enabled { 20 } else { 1 };
-    let params = draw_val_types(alloc, config, types, must_share, limit, 20, u)?;
-    let results = draw_val_types(alloc, config, types, must_share, limit, most_results, u)?;
+    let params = draw_val_types(alloc, config, standing, must_share, limit, 20, u)?;
+    let results = draw_val_types(alloc, config, standing, must_share, limit, most_results, u)?;
     Ok(FuncType { params, results })
 }
 
@@ -74,17 +75,17 @@ fn draw_func_type(
 #[tactic(auto, unfolding(crate::specs::FieldTypes::fields_until_at))]
 pub(crate) fn draw_fields(
     config: &Config,
-    types: &[SubType],
+    standing: &Standing<'_>,
     must_share: bool,
     limit: u32,
     end: usize,
     mut fields: Items<FieldType>,
     u: &mut Unstructured<'_>,
 ) -> Result<Items<FieldType>, Error>
-    ensures { Draws (fields_until_at config.now types.now must_share limit end fields u.old) result u.old u.new }
+    ensures { Draws (fields_until_at config.now standing.now must_share limit end fields u.old) result u.old u.new }
 {
     for made in fields.len()..end {
-        fields.push(draw_field_type(config, types, must_share, limit, u))?;
+        fields.push(draw_field_type(config, standing, must_share, limit, u))?;
     }
     Ok(fields)
 }
@@ -93,16 +94,16 @@ pub(crate) fn draw_fields(
 fn draw_struct_type(
     alloc: Global,
     config: &Config,
-    types: &[SubType],
+    standing: &Standing<'_>,
     must_share: bool,
     limit: u32,
     u: &mut Unstructured<'_>,
 ) -> Result<StructType, Error>
-    ensures { Draws (struct_type_at config.now types.now must_share limit u.old) result u.old u.new }
+    ensures { Draws (struct_type_at config.now standing.now must_share limit u.old) result u.old u.new }
 {
     let count = u.int_in_range(0..=20usize);
     let none = Items::with_capacity(alloc, count)?;
-    let fields = draw_fields(config, types, must_share, limit, count, none, u)?;
+    let fields = draw_fields(config, standing, must_share, limit, count, none, u)?;
     Ok(StructType { fields })
 }
 
@@ -119,25 +120,25 @@ fn draw_inner_number(config: &Config, u: &mut Unstructured<'_>) -> u8
 fn draw_inner_of_number(
     alloc: Global,
     config: &Config,
-    types: &[SubType],
+    standing: &Standing<'_>,
     must_share: bool,
     limit: u32,
     number: u8,
     u: &mut Unstructured<'_>,
 ) -> Result<CompositeInnerType, Error>
-    ensures { Draws (inner_of_number_at config.now types.now must_share limit number u.old) result u.old u.new }
+    ensures { Draws (inner_of_number_at config.now standing.now must_share limit number u.old) result u.old u.new }
 {
     match number {
         0 => {
-            let field = draw_field_type(config, types, must_share, limit, u);
+            let field = draw_field_type(config, standing, must_share, limit, u);
             Ok(CompositeInnerType::Array(ArrayType(field)))
         }
         1 => {
-            let function = draw_func_type(alloc, config, types, must_share, limit, u)?;
+            let function = draw_func_type(alloc, config, standing, must_share, limit, u)?;
             Ok(CompositeInnerType::Func(function))
         }
         _ => {
-            let structure = draw_struct_type(alloc, config, types, must_share, limit, u)?;
+            let structure = draw_struct_type(alloc, config, standing, must_share, limit, u)?;
             Ok(CompositeInnerType::Struct(structure))
         }
     }
@@ -147,15 +148,15 @@ fn draw_inner_of_number(
 pub(crate) fn draw_composite_type(
     alloc: Global,
     config: &Config,
-    types: &[SubType],
+    standing: &Standing<'_>,
     limit: u32,
     u: &mut Unstructured<'_>,
 ) -> Result<CompositeType, Error>
-    ensures { Draws (composite_type_at config.now types.now limit u.old) result u.old u.new }
+    ensures { Draws (composite_type_at config.now standing.now limit u.old) result u.old u.new }
 {
     let shared = draw_sharedness(config, false, u);
     let number = draw_inner_number(config, u);
-    let inner = draw_inner_of_number(alloc, config, types, shared, limit, number, u)?;
+    let inner = draw_inner_of_number(alloc, config, standing, shared, limit, number, u)?;
     Ok(CompositeType { inner, shared })
 }
 
@@ -174,13 +175,15 @@ pub fn arbitrary_func_type(
 ) -> Result<FuncType, Error>
     requires sanitized { IsSanitized config.now }
     requires may_share { IsTrue must_share → IsTrue config.now.shared_everything_threads_enabled }
-    ensures draws { Draws (func_type_at config.now spaces.now.types.now.types must_share limit u.old) result u.old u.new }
+    ensures draws { Draws (func_type_at config.now (standing_in config.now spaces.now) must_share limit u.old) result u.old u.new }
     ensures valid { IfOk result (IsFuncTypeValid (features_of config.now) limit) }
     ensures stands { IfOk result (IsFuncInRange spaces.now.types.now.types) }
     ensures shared { IsTrue must_share → IfOk result (λ drawn. All (IsShareable spaces.now.types.now.types) (values_of (Func drawn))) }
-    ensures reach { must_share ≡ false → IfOk result (λ drawn. Takes (SpellsSuch (IsFuncInRange spaces.now.types.now.types) (SpellsFuncType config.now limit)) u.old drawn u.new) }
+    ensures reach { must_share ≡ false → IfOk result (λ drawn. Takes (SpellsSuch (λ function. All (RefersTo config.now spaces.now.types.now.types) (values_of (Func function))) (SpellsFuncType config.now limit)) u.old drawn u.new) }
 {
-    draw_func_type(alloc, config, spaces.types.types(), must_share, limit, u)
+    orderly(spaces);
+    let standing = Standing::over(config, spaces);
+    draw_func_type(alloc, config, &standing, must_share, limit, u)
 }
 
 /// Draws a struct type of at most 20 fields. The standard's section Structure, Composite Types.
@@ -197,14 +200,16 @@ pub fn arbitrary_struct_type(
 ) -> Result<StructType, Error>
     requires sanitized { IsSanitized config.now }
     requires may_share { IsTrue must_share → IsTrue config.now.shared_everything_threads_enabled }
-    ensures draws { Draws (struct_type_at config.now spaces.now.types.now.types must_share limit u.old) result u.old u.new }
+    ensures draws { Draws (struct_type_at config.now (standing_in config.now spaces.now) must_share limit u.old) result u.old u.new }
     ensures few { IfOk result (λ drawn. length drawn.fields ≤ 20) }
     ensures valid { IfOk result (λ drawn. All (IsValTypeValid (features_of config.now) limit) (values_of (Struct drawn))) }
     ensures stands { IfOk result (λ drawn. All (IsFieldInRange spaces.now.types.now.types) drawn.fields) }
     ensures shared { IsTrue must_share → IfOk result (λ drawn. All (IsShareable spaces.now.types.now.types) (values_of (Struct drawn))) }
-    ensures reach { must_share ≡ false → IfOk result (λ drawn. Takes (SpellsSuch (λ structure. All (IsFieldInRange spaces.now.types.now.types) structure.fields) (SpellsStructType config.now limit)) u.old drawn u.new) }
+    ensures reach { must_share ≡ false → IfOk result (λ drawn. Takes (SpellsSuch (λ structure. All (RefersTo config.now spaces.now.types.now.types) (values_of (Struct structure))) (SpellsStructType config.now limit)) u.old drawn u.new) }
 {
-    draw_struct_type(alloc, config, spaces.types.types(), must_share, limit, u)
+    orderly(spaces);
+    let standing = Standing::over(config, spaces);
+    draw_struct_type(alloc, config, &standing, must_share, limit, u)
 }
 
 /// Draws a composite type, which may be shared where `config` allows it: with garbage collection an array, a function or a struct
@@ -220,13 +225,15 @@ pub fn arbitrary_composite_type(
     u: &mut Unstructured<'_>,
 ) -> Result<CompositeType, Error>
     requires sanitized { IsSanitized config.now }
-    ensures draws { Draws (composite_type_at config.now spaces.now.types.now.types limit u.old) result u.old u.new }
+    ensures draws { Draws (composite_type_at config.now (standing_in config.now spaces.now) limit u.old) result u.old u.new }
     ensures enabled { IfOk result (λ drawn. IsInnerEnabled (features_of config.now) drawn.inner) }
     ensures may_be_shared { IfOk result (λ drawn. IsTrue drawn.shared → IsTrue config.now.shared_everything_threads_enabled) }
     ensures valid { IfOk result (λ drawn. All (IsValTypeValid (features_of config.now) limit) (values_of drawn.inner)) }
     ensures stands { IfOk result (λ drawn. IsInnerInRange spaces.now.types.now.types drawn.inner) }
     ensures shared { IfOk result (λ drawn. IsTrue drawn.shared → All (IsShareable spaces.now.types.now.types) (values_of drawn.inner)) }
-    ensures reach { IfOk result (λ drawn. Takes (SpellsSuch (λ composite. IsInnerInRange spaces.now.types.now.types composite.inner) (SpellsCompositeType config.now limit)) u.old drawn u.new) }
+    ensures reach { IfOk result (λ drawn. Takes (SpellsSuch (λ composite. All (RefersTo config.now spaces.now.types.now.types) (values_of composite.inner)) (SpellsCompositeType config.now limit)) u.old drawn u.new) }
 {
-    draw_composite_type(alloc, config, spaces.types.types(), limit, u)
+    orderly(spaces);
+    let standing = Standing::over(config, spaces);
+    draw_composite_type(alloc, config, &standing, limit, u)
 }

@@ -5,44 +5,46 @@ ghost use Rattle.smith_types.specs.ValidTypes.{values_of_storage, IsValTypeValid
 ghost use Rattle.smith_config.specs.Features.{features_of};
 ghost use Rattle.smith_config.specs.Sanitized.{IsSanitized};
 ghost use Rattle.smith_draw.specs.Drawing.{AlwaysDraws, Draws};
+ghost use Rattle.smith_draw.specs.Grounding.{standing_in};
 ghost use Rattle.smith_draw.specs.FieldTypes.{storage_of_number_at, storage_type_at, field_type_at};
-ghost use Rattle.smith_draw.specs.Spelling.{SpellsStorage, SpellsField};
+ghost use Rattle.smith_draw.specs.Spelling.{RefersTo, SpellsStorage, SpellsField};
 
-use crate::spaces::Spaces;
+use crate::spaces::{Spaces, orderly};
+use crate::standing::Standing;
 use crate::value_type::draw_val_type;
 use smith_bytes::{Error, Unstructured};
 use smith_config::Config;
-use smith_types::{FieldType, StorageType, SubType};
+use smith_types::{FieldType, StorageType};
 use std::alloc::Global;
 
 #[tactic(auto, unfolding(crate::specs::FieldTypes::storage_type_at))]
 fn draw_storage_type(
     config: &Config,
-    types: &[SubType],
+    standing: &Standing<'_>,
     must_share: bool,
     limit: u32,
     u: &mut Unstructured<'_>,
 ) -> StorageType
-    ensures { AlwaysDraws (storage_type_at config.now types.now must_share limit u.old) result u.old u.new }
+    ensures { AlwaysDraws (storage_type_at config.now standing.now must_share limit u.old) result u.old u.new }
 {
     match u.int_in_range(0..=2u8) {
         0 => StorageType::I8,
         1 => StorageType::I16,
-        _ => StorageType::Val(draw_val_type(config, types, must_share, limit, u)),
+        _ => StorageType::Val(draw_val_type(config, standing, must_share, limit, u)),
     }
 }
 
 #[tactic(auto, unfolding(crate::specs::FieldTypes::field_type_at))]
 pub(crate) fn draw_field_type(
     config: &Config,
-    types: &[SubType],
+    standing: &Standing<'_>,
     must_share: bool,
     limit: u32,
     u: &mut Unstructured<'_>,
 ) -> FieldType
-    ensures { AlwaysDraws (field_type_at config.now types.now must_share limit u.old) result u.old u.new }
+    ensures { AlwaysDraws (field_type_at config.now standing.now must_share limit u.old) result u.old u.new }
 {
-    let element_type = draw_storage_type(config, types, must_share, limit, u);
+    let element_type = draw_storage_type(config, standing, must_share, limit, u);
     let mutable = u.arbitrary();
     FieldType {
         element_type,
@@ -67,13 +69,15 @@ pub fn arbitrary_storage_type(
     requires sanitized { IsSanitized config.now }
     requires may_share { IsTrue must_share → IsTrue config.now.shared_everything_threads_enabled }
     ensures ok { IsOk result }
-    ensures draws { Draws (storage_type_at config.now spaces.now.types.now.types must_share limit u.old) result u.old u.new }
+    ensures draws { Draws (storage_type_at config.now (standing_in config.now spaces.now) must_share limit u.old) result u.old u.new }
     ensures valid { IfOk result (λ drawn. All (IsValTypeValid (features_of config.now) limit) (values_of_storage drawn)) }
     ensures stands { IfOk result (IsStorageInRange spaces.now.types.now.types) }
     ensures shared { IsTrue must_share → IfOk result (λ drawn. All (IsShareable spaces.now.types.now.types) (values_of_storage drawn)) }
-    ensures reach { must_share ≡ false → IfOk result (λ drawn. Takes (SpellsSuch (IsStorageInRange spaces.now.types.now.types) (SpellsStorage config.now limit)) u.old drawn u.new) }
+    ensures reach { must_share ≡ false → IfOk result (λ drawn. Takes (SpellsSuch (λ storage. All (RefersTo config.now spaces.now.types.now.types) (values_of_storage storage)) (SpellsStorage config.now limit)) u.old drawn u.new) }
 {
-    Ok(draw_storage_type(config, spaces.types.types(), must_share, limit, u))
+    orderly(spaces);
+    let standing = Standing::over(config, spaces);
+    Ok(draw_storage_type(config, &standing, must_share, limit, u))
 }
 
 /// Draws a field type: a storage type, and whether the field is mutable. The standard's section Structure, Composite Types.
@@ -93,11 +97,13 @@ pub fn arbitrary_field_type(
     requires sanitized { IsSanitized config.now }
     requires may_share { IsTrue must_share → IsTrue config.now.shared_everything_threads_enabled }
     ensures ok { IsOk result }
-    ensures draws { Draws (field_type_at config.now spaces.now.types.now.types must_share limit u.old) result u.old u.new }
+    ensures draws { Draws (field_type_at config.now (standing_in config.now spaces.now) must_share limit u.old) result u.old u.new }
     ensures valid { IfOk result (λ drawn. All (IsValTypeValid (features_of config.now) limit) (values_of_storage drawn.element_type)) }
     ensures stands { IfOk result (IsFieldInRange spaces.now.types.now.types) }
     ensures shared { IsTrue must_share → IfOk result (λ drawn. All (IsShareable spaces.now.types.now.types) (values_of_storage drawn.element_type)) }
-    ensures reach { must_share ≡ false → IfOk result (λ drawn. Takes (SpellsSuch (IsFieldInRange spaces.now.types.now.types) (SpellsField config.now limit)) u.old drawn u.new) }
+    ensures reach { must_share ≡ false → IfOk result (λ drawn. Takes (SpellsSuch (λ field. All (RefersTo config.now spaces.now.types.now.types) (values_of_storage field.element_type)) (SpellsField config.now limit)) u.old drawn u.new) }
 {
-    Ok(draw_field_type(config, spaces.types.types(), must_share, limit, u))
+    orderly(spaces);
+    let standing = Standing::over(config, spaces);
+    Ok(draw_field_type(config, &standing, must_share, limit, u))
 }

@@ -2,16 +2,19 @@ ghost use Rattle.std.specs.Prelude.{◌≡◌, ◌<◌, ◌^◌, false, length, 
 ghost use Rattle.smith_bytes.specs.Takes.{Takes, SpellsSuch};
 ghost use Rattle.smith_types.specs.Entities.{IsGlobalValid};
 ghost use Rattle.smith_types.specs.Floats.{IsNoFloat};
+ghost use Rattle.smith_types.specs.Space.{Space};
 ghost use Rattle.smith_types.specs.ValidTypes.{AreTypesValid};
 ghost use Rattle.smith_config.specs.Features.{features_of};
 ghost use Rattle.smith_config.specs.Sanitized.{IsSanitized};
-ghost use Rattle.smith_draw.specs.ConstBounds.{IsNonNullable};
+ghost use Rattle.smith_draw.specs.ConstBounds.{IsNonNullable, IsUngrounded};
 ghost use Rattle.smith_draw.specs.Drawing.{AlwaysDraws, Draws};
+ghost use Rattle.smith_draw.specs.Grounding.{standing_in};
 ghost use Rattle.smith_draw.specs.GlobalTypes.{global_sharedness_at, global_type_at};
 ghost use Rattle.smith_draw.specs.SpelledGlobals.{mutable_i32, SpellsMutableI32};
 
 use crate::shared_reference::is_reference_shared;
 use crate::spaces::Spaces;
+use crate::standing::Standing;
 use crate::value_type::{draw_sharedness, draw_val_type};
 use smith_bytes::{Error, Unstructured};
 use smith_config::Config;
@@ -34,11 +37,11 @@ fn is_global_shared(
 }
 
 #[tactic(auto, unfolding(crate::specs::GlobalTypes::global_type_at))]
-fn draw_global_type(config: &Config, types: &[SubType], u: &mut Unstructured<'_>) -> GlobalType
-    requires { length types.now < 2 ^ 32 }
-    ensures { AlwaysDraws (global_type_at config.now types.now u.old) result u.old u.new }
+fn draw_global(config: &Config, standing: &Standing<'_>, u: &mut Unstructured<'_>) -> GlobalType
+    ensures { AlwaysDraws (global_type_at config.now standing.now u.old) result u.old u.new }
 {
-    let val_type = draw_val_type(config, types, false, types.len() as u32, u);
+    let types = standing.types().types();
+    let val_type = draw_val_type(config, standing, false, types.len() as u32, u);
     let shared = is_global_shared(config, types, val_type, u);
     let mutable = u.arbitrary();
     GlobalType {
@@ -48,9 +51,27 @@ fn draw_global_type(config: &Config, types: &[SubType], u: &mut Unstructured<'_>
     }
 }
 
+/// Draws a global type, as [`arbitrary_global_type`] does, over `standing`.
+pub fn draw_global_type(
+    config: &Config,
+    standing: &Standing<'_>,
+    u: &mut Unstructured<'_>,
+) -> GlobalType
+    requires { IsSanitized config.now }
+    ensures draws { AlwaysDraws (global_type_at config.now standing.now u.old) result u.old u.new }
+    ensures valid { (space : Space) → space.types ≡ standing.now.types → AreTypesValid (features_of config.now) space → IsGlobalValid (features_of config.now) space.types result }
+    ensures floats { config.now.allow_floats ≡ false → IsNoFloat result.val_type }
+    ensures nullable { config.now.non_nullable_enabled ≡ false → ¬ IsNonNullable result.val_type }
+    ensures grounded { ¬ IsUngrounded config.now standing.now result.val_type }
+    ensures reach { Takes (SpellsSuch (λ global. global ≡ mutable_i32) (λ _. SpellsMutableI32 config.now)) u.old result u.new }
+{
+    standing.orderly();
+    draw_global(config, standing, u)
+}
+
 /// Draws a global type: a value type over the types of `spaces`, whether the global is shared, and whether it is mutable. A
-/// global of a reference, which may be null, is shared exactly where the heap type of the reference is. The standard's section
-/// Structure, Global Types.
+/// global of a reference is shared exactly where the heap type of the reference is. The standard's section Structure, Global
+/// Types.
 ///
 /// `config` is sanitised. The global type is valid where the types of `spaces` are.
 ///
@@ -63,11 +84,12 @@ pub fn arbitrary_global_type(
 ) -> Result<GlobalType, Error>
     requires { IsSanitized config.now }
     ensures ok { IsOk result }
-    ensures draws { Draws (global_type_at config.now spaces.now.types.now.types u.old) result u.old u.new }
+    ensures draws { Draws (global_type_at config.now (standing_in config.now spaces.now) u.old) result u.old u.new }
     ensures valid { AreTypesValid (features_of config.now) spaces.now.types.now → IfOk result (IsGlobalValid (features_of config.now) spaces.now.types.now.types) }
     ensures floats { config.now.allow_floats ≡ false → IfOk result (λ drawn. IsNoFloat drawn.val_type) }
-    ensures nullable { IfOk result (λ drawn. ¬ IsNonNullable drawn.val_type) }
+    ensures nullable { config.now.non_nullable_enabled ≡ false → IfOk result (λ drawn. ¬ IsNonNullable drawn.val_type) }
+    ensures grounded { IfOk result (λ drawn. ¬ IsUngrounded config.now (standing_in config.now spaces.now) drawn.val_type) }
     ensures reach { IfOk result (λ drawn. Takes (SpellsSuch (λ global. global ≡ mutable_i32) (λ _. SpellsMutableI32 config.now)) u.old drawn u.new) }
 {
-    Ok(draw_global_type(config, spaces.types.types(), u))
+    Ok(draw_global_type(config, &Standing::over(config, spaces), u))
 }

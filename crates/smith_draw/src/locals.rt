@@ -5,20 +5,35 @@ ghost use Rattle.smith_config.specs.Features.{features_of};
 ghost use Rattle.smith_config.specs.Sanitized.{IsSanitized};
 ghost use Rattle.smith_draw.specs.ConstBounds.{IsNonNullable};
 ghost use Rattle.smith_draw.specs.Drawing.{Draws};
+ghost use Rattle.smith_draw.specs.Grounding.{standing_in};
 ghost use Rattle.smith_draw.specs.Locals.{locals_at};
 
 use crate::composite_type::draw_val_types;
 use crate::spaces::Spaces;
+use crate::standing::Standing;
 use smith_bytes::{Error, Unstructured};
 use smith_config::Config;
 use smith_types::{Items, ValType};
 use std::alloc::Global;
 
+/// Draws the types of the locals of a function, as [`arbitrary_locals`] does, over `standing`.
+#[tactic(auto, unfolding(crate::specs::Locals::locals_at))]
+pub fn draw_locals(
+    alloc: Global,
+    config: &Config,
+    standing: &Standing<'_>,
+    u: &mut Unstructured<'_>,
+) -> Result<Items<ValType>, Error>
+    ensures { Draws (locals_at config.now standing.now u.old) result u.old u.new }
+{
+    let limit = standing.types().types().len() as u32;
+    draw_val_types(alloc, config, standing, false, limit, 100, u)
+}
+
 /// Draws the types of the locals of a function, behind its parameters: at most 100 value types over the types of `spaces`. The
 /// standard's section Structure, Functions.
 ///
 /// `config` is sanitised.
-#[tactic(auto, unfolding(crate::specs::Locals::locals_at))]
 pub fn arbitrary_locals(
     alloc: Global,
     config: &Config,
@@ -26,12 +41,11 @@ pub fn arbitrary_locals(
     u: &mut Unstructured<'_>,
 ) -> Result<Items<ValType>, Error>
     requires { IsSanitized config.now }
-    ensures draws { Draws (locals_at config.now spaces.now.types.now.types u.old) result u.old u.new }
+    ensures draws { Draws (locals_at config.now (standing_in config.now spaces.now) u.old) result u.old u.new }
     ensures most { IfOk result (λ locals. length locals ≤ 100) }
     ensures valid { IfOk result (All (IsValTypeValid (features_of config.now) (length spaces.now.types.now.types))) }
     ensures floats { config.now.allow_floats ≡ false → IfOk result (All IsNoFloat) }
-    ensures nullable { IfOk result (All (λ ty. ¬ IsNonNullable ty)) }
+    ensures nullable { config.now.non_nullable_enabled ≡ false → IfOk result (All (λ ty. ¬ IsNonNullable ty)) }
 {
-    let types = spaces.types.types();
-    draw_val_types(alloc, config, types, false, types.len() as u32, 100, u)
+    draw_locals(alloc, config, &Standing::over(config, spaces), u)
 }

@@ -1,4 +1,4 @@
-ghost use Rattle.std.specs.Prelude.{◌≡◌, ◌↔◌, Some, IfOk};
+ghost use Rattle.std.specs.Prelude.{◌≡◌, ◌<◌, ◌↔◌, ◌⊎◌, false, IsTrue, Some, IfOk, drop, filter, length, slice_get, ◌||◌, not};
 ghost use Rattle.smith_bytes.specs.Draws.{choose_at};
 ghost use Rattle.smith_types.specs.Subtyping.{IsBelow, IsRefBelow, IsValBelow, IsInRange, IsValInRange};
 ghost use Rattle.smith_types.specs.Matching.{IsStorageMatch, IsFieldMatch, IsFuncMatch, IsStorageInRange, IsFieldInRange, IsFuncInRange};
@@ -10,8 +10,11 @@ ghost use Rattle.smith_types.specs.ValidTypes.{
   IsHeapTypeShared,
   IsShareable,
 };
+ghost use Rattle.smith_types.specs.Grounded.{IsGrounded};
 ghost use Rattle.smith_config.specs.Features.{features_of};
-ghost use Rattle.smith_draw.specs.Drawing.{Draws};
+ghost use Rattle.smith_draw.specs.Choices.{chosen_at};
+ghost use Rattle.smith_draw.specs.Drawing.{AlwaysDraws, Draws};
+ghost use Rattle.smith_draw.specs.Grounding.{is_grounded, standing_in};
 ghost use Rattle.smith_draw.specs.Kept.{
   StaysValid,
   IsStorageValid,
@@ -19,8 +22,10 @@ ghost use Rattle.smith_draw.specs.Kept.{
   IsStorageShareable,
   IsFuncShareable,
 };
-ghost use Rattle.smith_draw.specs.Offered.{subtypes_offered};
+ghost use Rattle.smith_draw.specs.Offered.{gc_subtypes, subtypes_offered};
 ghost use Rattle.smith_draw.specs.MatchingTypes.{
+  first_and_passing,
+  references_offered,
   matching_heap_type_at,
   matching_ref_type_at,
   matching_val_type_at,
@@ -32,6 +37,7 @@ ghost use Rattle.smith_draw.specs.MatchingTypes.{
 use crate::each::{Replacement, draw_each};
 use crate::offered::{count_subtypes, offered_subtype};
 use crate::spaces::{Spaces, orderly};
+use crate::standing::Standing;
 use crate::super_type::Above;
 use smith_bytes::{Error, Unstructured};
 use smith_config::Config;
@@ -54,17 +60,101 @@ fn draw_matching_heap_type(
     Ok(offered_subtype(config, space, ty, place))
 }
 
+/// Draws `ty`, or a grounded one of the other subtypes that are offered of it.
+fn draw_grounded_heap_type(
+    config: &Config,
+    standing: &Standing<'_>,
+    ty: HeapType,
+    u: &mut Unstructured<'_>,
+) -> HeapType
+    ensures { AlwaysDraws (chosen_at ty (first_and_passing (is_grounded standing.now) (subtypes_offered config.now standing.now.types ty)) u.old) result u.old u.new }
+{
+    if !config.gc_enabled {
+        return ty;
+    }
+    let count = count_grounded(config, standing, ty);
+    let place = u.int_in_range(0..=count);
+    if place == 0 {
+        return ty;
+    }
+    offered_grounded(config, standing, ty, place - 1)
+}
+
+/// Counts the grounded ones among the subtypes of `ty` that are offered with garbage collection, `ty` itself aside.
+fn count_grounded(config: &Config, standing: &Standing<'_>, ty: HeapType) -> usize
+    ensures { result ≡ length (filter (is_grounded standing.now) (drop 1 (gc_subtypes config.now standing.now.types ty))) }
+{
+    let space = standing.types();
+    let mut grounded = 0;
+    for place in 1..count_subtypes(config, space, ty) {
+        let other = offered_subtype(config, space, ty, place);
+        let found = standing.is_grounded(other);
+        if found {
+            grounded += 1;
+        }
+    }
+    grounded
+}
+
+/// Returns the one of these at the place `place`.
+fn offered_grounded(
+    config: &Config,
+    standing: &Standing<'_>,
+    ty: HeapType,
+    place: usize,
+) -> HeapType
+    requires { place < length (filter (is_grounded standing.now) (drop 1 (gc_subtypes config.now standing.now.types ty))) }
+    ensures { slice_get (filter (is_grounded standing.now) (drop 1 (gc_subtypes config.now standing.now.types ty))) place ≡ Some result }
+{
+    let space = standing.types();
+    let mut left = place;
+    for at in 1..count_subtypes(config, space, ty) {
+        let other = offered_subtype(config, space, ty, at);
+        let found = standing.is_grounded(other);
+        if found {
+            if left == 0 {
+                return other;
+            }
+            left -= 1;
+        }
+    }
+    ty
+}
+
+/// Whether all subtypes of the heap type of `ty` are offered, grounded or not.
+fn are_all_offered(config: &Config, ty: RefType) -> bool
+    ensures { result ≡ (ty.nullable || not config.now.non_nullable_enabled) }
+{
+    ty.nullable || !config.non_nullable_enabled
+}
+
+/// Draws the heap type of a reference below `ty`.
+fn draw_referent(
+    config: &Config,
+    standing: &Standing<'_>,
+    ty: RefType,
+    u: &mut Unstructured<'_>,
+) -> Result<HeapType, Error>
+    ensures { Draws (chosen_at ty.heap_type (references_offered config.now standing.now ty) u.old) result u.old u.new }
+{
+    if are_all_offered(config, ty) {
+        return draw_matching_heap_type(config, standing.types(), ty.heap_type, u);
+    }
+    Ok(draw_grounded_heap_type(config, standing, ty.heap_type, u))
+}
+
+/// Draws a reference type below `ty`, as [`arbitrary_matching_ref_type`] does, over `standing`.
 #[tactic(auto, unfolding(crate::specs::MatchingTypes::matching_ref_type_at))]
-fn draw_matching_ref_type(
+pub fn draw_matching_ref_type(
     alloc: Global,
     config: &Config,
-    space: &TypeSpace,
+    standing: &Standing<'_>,
     ty: RefType,
     u: &mut Unstructured<'_>,
 ) -> Result<RefType, Error>
-    ensures { Draws (matching_ref_type_at config.now space.now.types ty u.old) result u.old u.new }
+    ensures { Draws (matching_ref_type_at config.now standing.now ty u.old) result u.old u.new }
 {
-    let heap_type = draw_matching_heap_type(config, space, ty.heap_type, u)?;
+    let heap_type = draw_referent(config, standing, ty, u)?;
     Ok(RefType {
         nullable: ty.nullable,
         heap_type,
@@ -74,14 +164,14 @@ fn draw_matching_ref_type(
 fn draw_matching_val_type(
     alloc: Global,
     config: &Config,
-    space: &TypeSpace,
+    standing: &Standing<'_>,
     ty: ValType,
     u: &mut Unstructured<'_>,
 ) -> Result<ValType, Error>
-    ensures { Draws (matching_val_type_at config.now space.now.types ty u.old) result u.old u.new }
+    ensures { Draws (matching_val_type_at config.now standing.now ty u.old) result u.old u.new }
 {
     if let ValType::Ref(reference) = ty {
-        let drawn = draw_matching_ref_type(alloc, config, space, reference, u)?;
+        let drawn = draw_matching_ref_type(alloc, config, standing, reference, u)?;
         return Ok(ValType::Ref(drawn));
     }
     Ok(ty)
@@ -90,14 +180,14 @@ fn draw_matching_val_type(
 fn draw_matching_storage_type(
     alloc: Global,
     config: &Config,
-    space: &TypeSpace,
+    standing: &Standing<'_>,
     ty: StorageType,
     u: &mut Unstructured<'_>,
 ) -> Result<StorageType, Error>
-    ensures { Draws (matching_storage_type_at config.now space.now.types ty u.old) result u.old u.new }
+    ensures { Draws (matching_storage_type_at config.now standing.now ty u.old) result u.old u.new }
 {
     if let StorageType::Val(value) = ty {
-        let drawn = draw_matching_val_type(alloc, config, space, value, u)?;
+        let drawn = draw_matching_val_type(alloc, config, standing, value, u)?;
         return Ok(StorageType::Val(drawn));
     }
     Ok(ty)
@@ -107,16 +197,16 @@ fn draw_matching_storage_type(
 pub(crate) fn draw_matching_field_type(
     alloc: Global,
     config: &Config,
-    space: &TypeSpace,
+    standing: &Standing<'_>,
     field: FieldType,
     u: &mut Unstructured<'_>,
 ) -> Result<FieldType, Error>
-    ensures { Draws (matching_field_type_at config.now space.now.types field u.old) result u.old u.new }
+    ensures { Draws (matching_field_type_at config.now standing.now field u.old) result u.old u.new }
 {
     if field.mutable {
         return Ok(field);
     }
-    let element_type = draw_matching_storage_type(alloc, config, space, field.element_type, u)?;
+    let element_type = draw_matching_storage_type(alloc, config, standing, field.element_type, u)?;
     Ok(FieldType {
         element_type,
         mutable: false,
@@ -127,11 +217,11 @@ pub(crate) fn draw_matching_field_type(
 #[derive(Clone, Copy)]
 pub(crate) struct Matching<'a> {
     pub(crate) config: &'a Config,
-    pub(crate) space: &'a TypeSpace,
+    pub(crate) standing: &'a Standing<'a>,
 }
 
 impl<'a> Replacement<ValType> for Matching<'a> {
-    ghost draw_at = { λ matching. matching_val_type_at matching.config.now matching.space.now.types };
+    ghost draw_at = { λ matching. matching_val_type_at matching.config.now matching.standing.now };
 
     fn draw(
         &self,
@@ -139,12 +229,12 @@ impl<'a> Replacement<ValType> for Matching<'a> {
         item: ValType,
         u: &mut Unstructured<'_>,
     ) -> Result<ValType, Error> {
-        draw_matching_val_type(alloc, self.config, self.space, item, u)
+        draw_matching_val_type(alloc, self.config, self.standing, item, u)
     }
 }
 
 impl<'a> Replacement<FieldType> for Matching<'a> {
-    ghost draw_at = { λ matching. matching_field_type_at matching.config.now matching.space.now.types };
+    ghost draw_at = { λ matching. matching_field_type_at matching.config.now matching.standing.now };
 
     fn draw(
         &self,
@@ -152,7 +242,7 @@ impl<'a> Replacement<FieldType> for Matching<'a> {
         item: FieldType,
         u: &mut Unstructured<'_>,
     ) -> Result<FieldType, Error> {
-        draw_matching_field_type(alloc, self.config, self.space, item, u)
+        draw_matching_field_type(alloc, self.config, self.standing, item, u)
     }
 }
 
@@ -160,15 +250,18 @@ impl<'a> Replacement<FieldType> for Matching<'a> {
 pub(crate) fn draw_matching_func_type(
     alloc: Global,
     config: &Config,
-    space: &TypeSpace,
+    standing: &Standing<'_>,
     function: &FuncType,
     u: &mut Unstructured<'_>,
 ) -> Result<FuncType, Error>
-    ensures { Draws (matching_func_type_at config.now space.now.types function.now u.old) result u.old u.new }
+    ensures { Draws (matching_func_type_at config.now standing.now function.now u.old) result u.old u.new }
 {
-    let above = Above { config, space };
+    let above = Above {
+        config,
+        space: standing.types(),
+    };
     let params = draw_each(alloc, &above, function.params.as_slice(), u)?;
-    let matching = Matching { config, space };
+    let matching = Matching { config, standing };
     let results = draw_each(alloc, &matching, function.results.as_slice(), u)?;
     Ok(FuncType { params, results })
 }
@@ -193,8 +286,9 @@ pub fn arbitrary_matching_heap_type(
     draw_matching_heap_type(config, spaces.types, ty, u)
 }
 
-/// Draws a reference type below `ty`, over the types of `spaces`, nullable exactly where `ty` is. The standard's section
-/// Validation, Matching, Reference Types, over heap types as in [`TypeSpace::heap_type_is_sub_type`].
+/// Draws a reference type below `ty`, over the types of `spaces`, nullable exactly where `ty` is. Where `config` has references that
+/// aren't nullable and `ty` isn't, the heap type is that of `ty` or one that a struct type or a function of `spaces` grounds. The
+/// standard's section Validation, Matching, Reference Types, over heap types as in [`TypeSpace::heap_type_is_sub_type`].
 pub fn arbitrary_matching_ref_type(
     alloc: Global,
     config: &Config,
@@ -202,15 +296,17 @@ pub fn arbitrary_matching_ref_type(
     ty: RefType,
     u: &mut Unstructured<'_>,
 ) -> Result<RefType, Error>
-    ensures draws { Draws (matching_ref_type_at config.now spaces.now.types.now.types ty u.old) result u.old u.new }
+    ensures draws { Draws (matching_ref_type_at config.now (standing_in config.now spaces.now) ty u.old) result u.old u.new }
     ensures below { IfOk result (λ drawn. IsRefBelow spaces.now.types.now.types drawn ty) }
     ensures nullable { IfOk result (λ drawn. drawn.nullable ≡ ty.nullable) }
+    ensures granted { IsTrue config.now.non_nullable_enabled → ty.nullable ≡ false → IfOk result (λ drawn. (drawn.heap_type ≡ ty.heap_type) ⊎ IsGrounded (standing_in config.now spaces.now) drawn.heap_type) }
     ensures shared { IfOk result (λ drawn. IsHeapTypeShared spaces.now.types.now.types drawn.heap_type ↔ IsHeapTypeShared spaces.now.types.now.types ty.heap_type) }
     ensures valid { IfOk result (StaysValid (IsRefTypeValid (features_of config.now)) (features_of config.now) spaces.now.types.now.types ty) }
     ensures stands { IfOk result (λ drawn. IsInRange spaces.now.types.now.types ty.heap_type → IsInRange spaces.now.types.now.types drawn.heap_type) }
 {
     orderly(spaces);
-    draw_matching_ref_type(alloc, config, spaces.types, ty, u)
+    let standing = Standing::over(config, spaces);
+    draw_matching_ref_type(alloc, config, &standing, ty, u)
 }
 
 /// Draws a value type below `ty`, over the types of `spaces`; a number or a vector is `ty` itself. The standard's section
@@ -222,14 +318,15 @@ pub fn arbitrary_matching_val_type(
     ty: ValType,
     u: &mut Unstructured<'_>,
 ) -> Result<ValType, Error>
-    ensures draws { Draws (matching_val_type_at config.now spaces.now.types.now.types ty u.old) result u.old u.new }
+    ensures draws { Draws (matching_val_type_at config.now (standing_in config.now spaces.now) ty u.old) result u.old u.new }
     ensures below { IfOk result (λ drawn. IsValBelow spaces.now.types.now.types drawn ty) }
     ensures shared { IfOk result (λ drawn. IsShareable spaces.now.types.now.types drawn ↔ IsShareable spaces.now.types.now.types ty) }
     ensures valid { IfOk result (StaysValid (IsValTypeValid (features_of config.now)) (features_of config.now) spaces.now.types.now.types ty) }
     ensures stands { IfOk result (λ drawn. IsValInRange spaces.now.types.now.types ty → IsValInRange spaces.now.types.now.types drawn) }
 {
     orderly(spaces);
-    draw_matching_val_type(alloc, config, spaces.types, ty, u)
+    let standing = Standing::over(config, spaces);
+    draw_matching_val_type(alloc, config, &standing, ty, u)
 }
 
 /// Draws a storage type that matches `ty`, over the types of `spaces`; a packed type is `ty` itself. The standard's section
@@ -241,14 +338,15 @@ pub fn arbitrary_matching_storage_type(
     ty: StorageType,
     u: &mut Unstructured<'_>,
 ) -> Result<StorageType, Error>
-    ensures draws { Draws (matching_storage_type_at config.now spaces.now.types.now.types ty u.old) result u.old u.new }
+    ensures draws { Draws (matching_storage_type_at config.now (standing_in config.now spaces.now) ty u.old) result u.old u.new }
     ensures below { IfOk result (λ drawn. IsStorageMatch spaces.now.types.now.types drawn ty) }
     ensures shared { IfOk result (λ drawn. IsStorageShareable spaces.now.types.now.types drawn ↔ IsStorageShareable spaces.now.types.now.types ty) }
     ensures valid { IfOk result (StaysValid (IsStorageValid (features_of config.now)) (features_of config.now) spaces.now.types.now.types ty) }
     ensures stands { IfOk result (λ drawn. IsStorageInRange spaces.now.types.now.types ty → IsStorageInRange spaces.now.types.now.types drawn) }
 {
     orderly(spaces);
-    draw_matching_storage_type(alloc, config, spaces.types, ty, u)
+    let standing = Standing::over(config, spaces);
+    draw_matching_storage_type(alloc, config, &standing, ty, u)
 }
 
 /// Draws a field type that matches `field`, over the types of `spaces`; a mutable field is `field` itself. The standard's section
@@ -260,14 +358,15 @@ pub fn arbitrary_matching_field_type(
     field: FieldType,
     u: &mut Unstructured<'_>,
 ) -> Result<FieldType, Error>
-    ensures draws { Draws (matching_field_type_at config.now spaces.now.types.now.types field u.old) result u.old u.new }
+    ensures draws { Draws (matching_field_type_at config.now (standing_in config.now spaces.now) field u.old) result u.old u.new }
     ensures below { IfOk result (λ drawn. IsFieldMatch spaces.now.types.now.types drawn field) }
     ensures shared { IfOk result (λ drawn. IsStorageShareable spaces.now.types.now.types drawn.element_type ↔ IsStorageShareable spaces.now.types.now.types field.element_type) }
     ensures valid { IfOk result (StaysValid (IsFieldValid (features_of config.now)) (features_of config.now) spaces.now.types.now.types field) }
     ensures stands { IfOk result (λ drawn. IsFieldInRange spaces.now.types.now.types field → IsFieldInRange spaces.now.types.now.types drawn) }
 {
     orderly(spaces);
-    draw_matching_field_type(alloc, config, spaces.types, field, u)
+    let standing = Standing::over(config, spaces);
+    draw_matching_field_type(alloc, config, &standing, field, u)
 }
 
 /// Draws a function type that matches `function`, over the types of `spaces`: supertypes of its parameters, and subtypes of its
@@ -280,12 +379,13 @@ pub fn arbitrary_matching_func_type(
     function: &FuncType,
     u: &mut Unstructured<'_>,
 ) -> Result<FuncType, Error>
-    ensures draws { Draws (matching_func_type_at config.now spaces.now.types.now.types function.now u.old) result u.old u.new }
+    ensures draws { Draws (matching_func_type_at config.now (standing_in config.now spaces.now) function.now u.old) result u.old u.new }
     ensures below { IfOk result (λ drawn. IsFuncMatch spaces.now.types.now.types drawn function.now) }
     ensures shared { IfOk result (λ drawn. IsFuncShareable spaces.now.types.now.types drawn ↔ IsFuncShareable spaces.now.types.now.types function.now) }
     ensures valid { IfOk result (StaysValid (IsFuncTypeValid (features_of config.now)) (features_of config.now) spaces.now.types.now.types function.now) }
     ensures stands { IfOk result (λ drawn. IsFuncInRange spaces.now.types.now.types function.now → IsFuncInRange spaces.now.types.now.types drawn) }
 {
     orderly(spaces);
-    draw_matching_func_type(alloc, config, spaces.types, function, u)
+    let standing = Standing::over(config, spaces);
+    draw_matching_func_type(alloc, config, &standing, function, u)
 }

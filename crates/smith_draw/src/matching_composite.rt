@@ -5,6 +5,7 @@ ghost use Rattle.smith_types.specs.ValidTypes.{values_of, IsValTypeValid, IsShar
 ghost use Rattle.smith_config.specs.Features.{features_of};
 ghost use Rattle.smith_config.specs.Sanitized.{IsSanitized};
 ghost use Rattle.smith_draw.specs.Drawing.{Draws};
+ghost use Rattle.smith_draw.specs.Grounding.{standing_in};
 ghost use Rattle.smith_draw.specs.Kept.{IsSharingEnabled};
 ghost use Rattle.smith_draw.specs.MatchingComposites.{
   matching_struct_type_at,
@@ -16,28 +17,29 @@ use crate::composite_type::draw_fields;
 use crate::each::draw_each;
 use crate::matching::{Matching, draw_matching_field_type, draw_matching_func_type};
 use crate::spaces::{Spaces, orderly};
+use crate::standing::Standing;
 use smith_bytes::{Error, Unstructured};
 use smith_config::Config;
-use smith_types::{ArrayType, CompositeInnerType, CompositeType, StructType, TypeSpace};
+use smith_types::{ArrayType, CompositeInnerType, CompositeType, StructType};
 use std::alloc::Global;
 
 #[tactic(auto, unfolding(crate::specs::MatchingComposites::matching_struct_type_at, crate::specs::MatchingTypes::matched_fields_at))]
 fn draw_matching_struct_type(
     alloc: Global,
     config: &Config,
-    space: &TypeSpace,
+    standing: &Standing<'_>,
     structure: &StructType,
     must_share: bool,
     limit: u32,
     u: &mut Unstructured<'_>,
 ) -> Result<StructType, Error>
-    ensures { Draws (matching_struct_type_at config.now space.now.types must_share limit structure.now u.old) result u.old u.new }
+    ensures { Draws (matching_struct_type_at config.now standing.now must_share limit structure.now u.old) result u.old u.new }
 {
     let extra = u.int_in_range(0..=5usize);
-    let matching = Matching { config, space };
+    let matching = Matching { config, standing };
     let matched = draw_each(alloc, &matching, structure.fields.as_slice(), u)?;
     let end = matched.as_slice().len() + extra;
-    let fields = draw_fields(config, space.types(), must_share, limit, end, matched, u)?;
+    let fields = draw_fields(config, standing, must_share, limit, end, matched, u)?;
     Ok(StructType { fields })
 }
 
@@ -45,26 +47,26 @@ fn draw_matching_struct_type(
 fn draw_matching_inner(
     alloc: Global,
     config: &Config,
-    space: &TypeSpace,
+    standing: &Standing<'_>,
     must_share: bool,
     limit: u32,
     inner: &CompositeInnerType,
     u: &mut Unstructured<'_>,
 ) -> Result<CompositeInnerType, Error>
-    ensures { Draws (matching_inner_at config.now space.now.types must_share limit inner.now u.old) result u.old u.new }
+    ensures { Draws (matching_inner_at config.now standing.now must_share limit inner.now u.old) result u.old u.new }
 {
     match inner {
         CompositeInnerType::Array(array) => {
-            let field = draw_matching_field_type(alloc, config, space, array.0, u)?;
+            let field = draw_matching_field_type(alloc, config, standing, array.0, u)?;
             Ok(CompositeInnerType::Array(ArrayType(field)))
         }
         CompositeInnerType::Func(function) => {
-            let drawn = draw_matching_func_type(alloc, config, space, function, u)?;
+            let drawn = draw_matching_func_type(alloc, config, standing, function, u)?;
             Ok(CompositeInnerType::Func(drawn))
         }
         CompositeInnerType::Struct(structure) => {
             let drawn = draw_matching_struct_type(
-                alloc, config, space, structure, must_share, limit, u,
+                alloc, config, standing, structure, must_share, limit, u,
             )?;
             Ok(CompositeInnerType::Struct(drawn))
         }
@@ -76,15 +78,15 @@ fn draw_matching_inner(
 pub(crate) fn draw_matching_composite_type(
     alloc: Global,
     config: &Config,
-    space: &TypeSpace,
+    standing: &Standing<'_>,
     limit: u32,
     composite: &CompositeType,
     u: &mut Unstructured<'_>,
 ) -> Result<CompositeType, Error>
-    ensures { Draws (matching_composite_type_at config.now space.now.types limit composite.now u.old) result u.old u.new }
+    ensures { Draws (matching_composite_type_at config.now standing.now limit composite.now u.old) result u.old u.new }
 {
     let shared = composite.shared;
-    let inner = draw_matching_inner(alloc, config, space, shared, limit, &composite.inner, u)?;
+    let inner = draw_matching_inner(alloc, config, standing, shared, limit, &composite.inner, u)?;
     Ok(CompositeType { inner, shared })
 }
 
@@ -107,7 +109,7 @@ pub fn arbitrary_matching_struct_type(
 ) -> Result<StructType, Error>
     requires sanitized { IsSanitized config.now }
     requires may_share { IsTrue must_share → IsTrue config.now.shared_everything_threads_enabled }
-    ensures draws { Draws (matching_struct_type_at config.now spaces.now.types.now.types must_share limit structure.now u.old) result u.old u.new }
+    ensures draws { Draws (matching_struct_type_at config.now (standing_in config.now spaces.now) must_share limit structure.now u.old) result u.old u.new }
     ensures below { IfOk result (λ drawn. AreFieldsMatched spaces.now.types.now.types drawn.fields structure.now.fields) }
     ensures valid { length spaces.now.types.now.types ≤ limit → All (IsSharingEnabled (features_of config.now)) spaces.now.types.now.types
         → All (IsValTypeValid (features_of config.now) limit) (values_of (Struct structure.now))
@@ -116,5 +118,6 @@ pub fn arbitrary_matching_struct_type(
         → IfOk result (λ drawn. All (IsShareable spaces.now.types.now.types) (values_of (Struct drawn))) }
 {
     orderly(spaces);
-    draw_matching_struct_type(alloc, config, spaces.types, structure, must_share, limit, u)
+    let standing = Standing::over(config, spaces);
+    draw_matching_struct_type(alloc, config, &standing, structure, must_share, limit, u)
 }

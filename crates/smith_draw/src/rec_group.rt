@@ -8,9 +8,11 @@ ghost use Rattle.smith_config.specs.Features.{features_of};
 ghost use Rattle.smith_config.specs.Sanitized.{IsSanitized};
 ghost use Rattle.smith_config.specs.Shapes.{space_of};
 ghost use Rattle.smith_draw.specs.Callers.{PassesButImports};
-ghost use Rattle.smith_draw.specs.ConstBounds.{HoldsNonNullableField};
-ghost use Rattle.smith_draw.specs.Drawing.{AlwaysDraws, DrawsInto};
+ghost use Rattle.smith_draw.specs.ConstBounds.{HoldsNonNullableField, HoldsUngroundedField};
+ghost use Rattle.smith_draw.specs.Drawing.{AlwaysDraws, Draws, DrawsInto};
 ghost use Rattle.smith_draw.specs.FuncSizes.{HasFewValues};
+ghost use Rattle.smith_draw.specs.Grounding.{functions_in, over};
+ghost use Rattle.smith_draw.specs.SubTypes.{sub_type_at};
 ghost use Rattle.smith_draw.specs.RecGroups.{
   types_left,
   types_until_at,
@@ -26,7 +28,8 @@ ghost use Rattle.smith_draw.specs.RecGroups.{
 };
 ghost use Rattle.smith_draw.specs.Spelling.{IsRoot, SpellsAdded, SpellsSpace};
 
-use crate::spaces::Entities;
+use crate::spaces::{Entities, Spaces};
+use crate::standing::Standing;
 use crate::sub_type::draw_sub_type;
 use smith_bytes::{Error, Unstructured};
 use smith_config::Config;
@@ -49,21 +52,38 @@ pub fn add_type(types: &mut TypeSpace, added: SubType) -> Result<u32, Error>
     types.push_type(added)
 }
 
+/// Draws a type over `types` and the functions of `entities`.
+fn draw_over(
+    alloc: Global,
+    config: &Config,
+    types: &TypeSpace,
+    entities: &Entities<'_>,
+    limit: u32,
+    u: &mut Unstructured<'_>,
+) -> Result<SubType, Error>
+    ensures { Draws (sub_type_at config.now (over (functions_in config.now entities.now) types.now.types) limit u.old) result u.old u.new }
+{
+    let entities = *entities;
+    let standing = Standing::over(config, &Spaces { types, entities });
+    draw_sub_type(alloc, config, &standing, limit, u)
+}
+
 /// Adds types to `types`, until there are `limit` types.
 #[tactic(auto, unfolding(crate::specs::RecGroups::types_until_at))]
 fn add_types(
     alloc: Global,
     config: &Config,
     types: &mut TypeSpace,
+    entities: &Entities<'_>,
     limit: u32,
     u: &mut Unstructured<'_>,
 ) -> Result<(), Error>
     requires few { limit + 1 < 2 ^ 32 }
-    ensures draws { DrawsInto (types_until_at config.now limit types.old.types u.old) types.new.types result u.old u.new }
+    ensures draws { DrawsInto (types_until_at config.now (functions_in config.now entities.now) limit types.old.types u.old) types.new.types result u.old u.new }
     ensures groups { OnOk result (types.new.groups ≡ types.old.groups) }
 {
     for made in types.types().len()..limit as usize {
-        let added = draw_sub_type(alloc, config, types, limit, u)?;
+        let added = draw_over(alloc, config, types, entities, limit, u)?;
         add_type(types, added)?;
     }
     Ok(())
@@ -92,17 +112,18 @@ fn add_new_group(
     alloc: Global,
     config: &Config,
     types: &mut TypeSpace,
+    entities: &Entities<'_>,
     allow_empty: bool,
     u: &mut Unstructured<'_>,
 ) -> Result<(), Error>
     requires room { length types.old.types < config.now.max_types }
     requires few { config.now.max_types ≤ 2 ^ 31 }
-    ensures { DrawsInto (new_group_at config.now allow_empty types.old u.old) types.new result u.old u.new }
+    ensures { DrawsInto (new_group_at config.now (functions_in config.now entities.now) allow_empty types.old u.old) types.new result u.old u.new }
 {
     let start = types.types().len();
     let size = draw_group_size(config, allow_empty, config.max_types - start, u);
     types.reserve(size)?;
-    add_types(alloc, config, types, (start + size) as u32, u)?;
+    add_types(alloc, config, types, entities, (start + size) as u32, u)?;
     types.push_group()?;
     Ok(())
 }
@@ -193,21 +214,22 @@ fn add_rec_group(
     alloc: Global,
     config: &Config,
     types: &mut TypeSpace,
+    entities: &Entities<'_>,
     allow_empty: bool,
     u: &mut Unstructured<'_>,
 ) -> Result<(), Error>
     requires room { length types.old.types < config.now.max_types }
     requires few { config.now.max_types ≤ 2 ^ 31 }
-    ensures { DrawsInto (rec_group_at config.now allow_empty types.old u.old) types.new result u.old u.new }
+    ensures { DrawsInto (rec_group_at config.now (functions_in config.now entities.now) allow_empty types.old u.old) types.new result u.old u.new }
 {
     if !is_clone_wanted(config, types, u) {
-        return add_new_group(alloc, config, types, allow_empty, u);
+        return add_new_group(alloc, config, types, entities, allow_empty, u);
     }
     let added = clone_group(alloc, config, types, allow_empty, u)?;
     if added || allow_empty {
         return Ok(());
     }
-    add_new_group(alloc, config, types, allow_empty, u)
+    add_new_group(alloc, config, types, entities, allow_empty, u)
 }
 
 /// Adds groups while `types` has too few types.
@@ -215,14 +237,15 @@ fn add_least_types(
     alloc: Global,
     config: &Config,
     types: &mut TypeSpace,
+    entities: &Entities<'_>,
     u: &mut Unstructured<'_>,
 ) -> Result<(), Error>
     requires ordered { config.now.min_types ≤ config.now.max_types }
     requires few { config.now.max_types ≤ 2 ^ 31 }
-    ensures { DrawsInto (least_types_at config.now config.now.min_types types.old u.old) types.new result u.old u.new }
+    ensures { DrawsInto (least_types_at config.now (functions_in config.now entities.now) config.now.min_types types.old u.old) types.new result u.old u.new }
 {
     while types.types().len() < config.min_types {
-        add_rec_group(alloc, config, types, false, u)?;
+        add_rec_group(alloc, config, types, entities, false, u)?;
     }
     Ok(())
 }
@@ -232,16 +255,17 @@ fn add_more_types(
     alloc: Global,
     config: &Config,
     types: &mut TypeSpace,
+    entities: &Entities<'_>,
     u: &mut Unstructured<'_>,
 ) -> Result<(), Error>
     requires few { config.now.max_types ≤ 2 ^ 31 }
-    ensures { DrawsInto (more_types_at config.now (length u.old + 1) types.old u.old) types.new result u.old u.new }
+    ensures { DrawsInto (more_types_at config.now (functions_in config.now entities.now) (length u.old + 1) types.old u.old) types.new result u.old u.new }
 {
     while types.types().len() < config.max_types {
         if !u.arbitrary::<bool>() {
             return Ok(());
         }
-        add_rec_group(alloc, config, types, true, u)?;
+        add_rec_group(alloc, config, types, entities, true, u)?;
     }
     Ok(())
 }
@@ -251,14 +275,15 @@ fn add_all_types(
     alloc: Global,
     config: &Config,
     types: &mut TypeSpace,
+    entities: &Entities<'_>,
     u: &mut Unstructured<'_>,
 ) -> Result<(), Error>
     requires ordered { config.now.min_types ≤ config.now.max_types }
     requires few { config.now.max_types ≤ 2 ^ 31 }
-    ensures { DrawsInto (types_at config.now types.old u.old) types.new result u.old u.new }
+    ensures { DrawsInto (types_at config.now (functions_in config.now entities.now) types.old u.old) types.new result u.old u.new }
 {
-    add_least_types(alloc, config, types, u)?;
-    add_more_types(alloc, config, types, u)
+    add_least_types(alloc, config, types, entities, u)?;
+    add_more_types(alloc, config, types, entities, u)
 }
 
 /// Adds a chosen group of `types` again, and gives whether it was added. A group is not added if it is empty and `allow_empty` is
@@ -298,21 +323,21 @@ pub fn arbitrary_rec_group(
     alloc: Global,
     config: &Config,
     types: &mut TypeSpace,
-    _entities: &Entities<'_>,
+    entities: &Entities<'_>,
     allow_empty: bool,
     u: &mut Unstructured<'_>,
 ) -> Result<(), Error>
     requires passes { PassesButImports config.now }
     requires sanitized { IsSanitized config.now }
     requires room { length types.old.types < config.now.max_types }
-    ensures draws { DrawsInto (rec_group_at config.now allow_empty types.old u.old) types.new result u.old u.new }
+    ensures draws { DrawsInto (rec_group_at config.now (functions_in config.now entities.now) allow_empty types.old u.old) types.new result u.old u.new }
     ensures valid { AreTypesValid (features_of config.now) types.old → OnOk result (AreTypesValid (features_of config.now) types.new) }
     ensures most { OnOk result (length types.new.types ≤ config.now.max_types) }
     ensures some { OnOk result (allow_empty ≡ false → length types.old.types < length types.new.types) }
     ensures reach { allow_empty ≡ true → All IsRoot types.old.types → OnOk result (Takes (SpellsAdded config.now types.old) u.old types.new u.new) }
 {
     let _groups = types.types();
-    add_rec_group(alloc, config, types, allow_empty, u)
+    add_rec_group(alloc, config, types, entities, allow_empty, u)
 }
 
 /// Adds groups to `types` until there are at least `config.min_types` types, then more groups while bools ask for them, up to
@@ -323,19 +348,21 @@ pub fn arbitrary_types(
     alloc: Global,
     config: &Config,
     types: &mut TypeSpace,
-    _entities: &Entities<'_>,
+    entities: &Entities<'_>,
     u: &mut Unstructured<'_>,
 ) -> Result<(), Error>
     requires passes { PassesButImports config.now }
     requires sanitized { IsSanitized config.now }
-    ensures draws { DrawsInto (types_at config.now types.old u.old) types.new result u.old u.new }
+    ensures draws { DrawsInto (types_at config.now (functions_in config.now entities.now) types.old u.old) types.new result u.old u.new }
     ensures valid { AreTypesValid (features_of config.now) types.old → OnOk result (AreTypesValid (features_of config.now) types.new) }
     ensures most { AreTypesValid (features_of config.now) types.old → length types.old.types ≤ config.now.max_types → OnOk result (length types.new.types ≤ config.now.max_types) }
     ensures least { AreTypesValid (features_of config.now) types.old → OnOk result (config.now.min_types ≤ length types.new.types) }
     ensures floats { config.now.allow_floats ≡ false → All HasNoFloat types.old.types → OnOk result (All HasNoFloat types.new.types) }
     ensures few_values { (most : ℕ) → 20 ≤ most → All (HasFewValues most) types.old.types → OnOk result (All (HasFewValues most) types.new.types) }
-    ensures nullable { ¬ HoldsNonNullableField types.old.types → OnOk result (¬ HoldsNonNullableField types.new.types) }
+    ensures nullable { config.now.non_nullable_enabled ≡ false → ¬ HoldsNonNullableField types.old.types → OnOk result (¬ HoldsNonNullableField types.new.types) }
+    ensures grounded { ¬ HoldsUngroundedField config.now (over (functions_in config.now entities.now) types.old.types) → OnOk result (¬ HoldsUngroundedField config.now (over (functions_in config.now entities.now) types.new.types)) }
     ensures reach { config.now.min_types ≡ 0 → types.old ≡ space_of [] → OnOk result (Takes (SpellsSpace config.now) u.old types.new u.new) }
 {
-    add_all_types(alloc, config, types, u)
+    let _types = types.types();
+    add_all_types(alloc, config, types, entities, u)
 }

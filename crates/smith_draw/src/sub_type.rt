@@ -1,12 +1,12 @@
-ghost use Rattle.std.specs.Prelude.{◌≡◌, ◌<◌, ◌+◌, ◌^◌, None, Some, length, slice_get, IsTrue, IsSome, IfOk, All};
+ghost use Rattle.std.specs.Prelude.{◌≡◌, ◌<◌, ◌+◌, ◌^◌, None, Some, length, slice_get, IsTrue, IsSome, IfOk, All, false};
 ghost use Rattle.smith_bytes.specs.Takes.{Takes, SpellsSuch};
-ghost use Rattle.smith_types.specs.Matching.{IsInnerInRange};
 ghost use Rattle.smith_types.specs.Space.{MayFollow};
 ghost use Rattle.smith_types.specs.OpenTypes.{AreTypesOpen};
-ghost use Rattle.smith_types.specs.ValidTypes.{IsTypeValid};
+ghost use Rattle.smith_types.specs.ValidTypes.{values_of, IsTypeValid};
 ghost use Rattle.smith_config.specs.Features.{features_of};
 ghost use Rattle.smith_config.specs.Sanitized.{IsSanitized};
 ghost use Rattle.smith_draw.specs.Drawing.{AlwaysDraws, Draws};
+ghost use Rattle.smith_draw.specs.Grounding.{standing_in};
 ghost use Rattle.smith_draw.specs.SubTypes.{
   supertypes,
   is_final_at,
@@ -18,12 +18,13 @@ ghost use Rattle.smith_draw.specs.SubTypes.{
   HasSuperType,
   SomeMayHaveSubtypes,
 };
-ghost use Rattle.smith_draw.specs.Spelling.{IsRoot, SpellsSubType};
+ghost use Rattle.smith_draw.specs.Spelling.{IsRoot, RefersTo, SpellsSubType};
 
 use crate::choice::choose;
 use crate::composite_type::draw_composite_type;
 use crate::matching_composite::draw_matching_composite_type;
 use crate::spaces::{Spaces, orderly};
+use crate::standing::Standing;
 use smith_bytes::{Error, Unstructured};
 use smith_config::Config;
 use smith_types::{SubType, TypeSpace};
@@ -51,14 +52,14 @@ fn is_final(config: &Config, u: &mut Unstructured<'_>) -> bool
 fn draw_root_type(
     alloc: Global,
     config: &Config,
-    types: &[SubType],
+    standing: &Standing<'_>,
     limit: u32,
     u: &mut Unstructured<'_>,
 ) -> Result<SubType, Error>
-    ensures { Draws (root_type_at config.now types.now limit u.old) result u.old u.new }
+    ensures { Draws (root_type_at config.now standing.now limit u.old) result u.old u.new }
 {
     let is_final = is_final(config, u);
-    let composite_type = draw_composite_type(alloc, config, types, limit, u)?;
+    let composite_type = draw_composite_type(alloc, config, standing, limit, u)?;
     Ok(SubType {
         is_final,
         supertype: None,
@@ -70,18 +71,18 @@ fn draw_root_type(
 fn draw_sub_type_below(
     alloc: Global,
     config: &Config,
-    space: &TypeSpace,
+    standing: &Standing<'_>,
     limit: u32,
     index: u32,
     u: &mut Unstructured<'_>,
 ) -> Result<SubType, Error>
-    ensures { Draws (sub_type_below_at config.now space.now.types limit index (slice_get space.now.types index) u.old) result u.old u.new }
+    ensures { Draws (sub_type_below_at config.now standing.now limit index (slice_get standing.now.types index) u.old) result u.old u.new }
 {
-    match space.types().get(index as usize) {
+    match standing.types().types().get(index as usize) {
         Some(supertype) => {
             let upper = &supertype.composite_type;
             let composite_type = draw_matching_composite_type(
-                alloc, config, space, limit, upper, u,
+                alloc, config, standing, limit, upper, u,
             )?;
             let is_final = u.arbitrary();
             Ok(SubType {
@@ -90,7 +91,7 @@ fn draw_sub_type_below(
                 composite_type,
             })
         }
-        None => draw_root_type(alloc, config, space.types(), limit, u),
+        None => draw_root_type(alloc, config, standing, limit, u),
     }
 }
 
@@ -99,16 +100,16 @@ fn draw_sub_type_below(
 fn draw_sub_type_of(
     alloc: Global,
     config: &Config,
-    space: &TypeSpace,
+    standing: &Standing<'_>,
     limit: u32,
     indices: &[u32],
     u: &mut Unstructured<'_>,
 ) -> Result<SubType, Error>
     requires { 0 < length indices.now }
-    ensures { Draws (sub_type_of_at config.now space.now.types limit indices.now u.old) result u.old u.new }
+    ensures { Draws (sub_type_of_at config.now standing.now limit indices.now u.old) result u.old u.new }
 {
     let index = choose(indices, u);
-    draw_sub_type_below(alloc, config, space, limit, index, u)
+    draw_sub_type_below(alloc, config, standing, limit, index, u)
 }
 
 /// Whether a supertype is asked for, where `count` types may have subtypes.
@@ -127,17 +128,17 @@ fn is_supertype_wanted(config: &Config, count: usize, u: &mut Unstructured<'_>) 
 pub(crate) fn draw_sub_type(
     alloc: Global,
     config: &Config,
-    space: &TypeSpace,
+    standing: &Standing<'_>,
     limit: u32,
     u: &mut Unstructured<'_>,
 ) -> Result<SubType, Error>
-    ensures { Draws (sub_type_at config.now space.now.types limit u.old) result u.old u.new }
+    ensures { Draws (sub_type_at config.now standing.now limit u.old) result u.old u.new }
 {
-    let indices = supertypes(space);
+    let indices = supertypes(standing.types());
     if is_supertype_wanted(config, indices.len(), u) {
-        return draw_sub_type_of(alloc, config, space, limit, indices, u);
+        return draw_sub_type_of(alloc, config, standing, limit, indices, u);
     }
-    draw_root_type(alloc, config, space.types(), limit, u)
+    draw_root_type(alloc, config, standing, limit, u)
 }
 
 /// Draws a subtype: below a type of `spaces` that may have subtypes, or without a supertype. Without garbage collection the
@@ -152,12 +153,13 @@ pub fn arbitrary_sub_type(
     u: &mut Unstructured<'_>,
 ) -> Result<SubType, Error>
     requires sanitized { IsSanitized config.now }
-    ensures draws { Draws (sub_type_at config.now spaces.now.types.now.types limit u.old) result u.old u.new }
+    ensures draws { Draws (sub_type_at config.now (standing_in config.now spaces.now) limit u.old) result u.old u.new }
     ensures valid { AreTypesOpen (features_of config.now) limit spaces.now.types.now → IfOk result (IsTypeValid (features_of config.now) spaces.now.types.now.types limit) }
     ensures follows { IfOk result (HasSuperType spaces.now.types.now.types) }
-    ensures reach { All IsRoot spaces.now.types.now.types → IfOk result (λ drawn. Takes (SpellsSuch (λ t. IsInnerInRange spaces.now.types.now.types t.composite_type.inner) (SpellsSubType config.now spaces.now.types.now.types limit)) u.old drawn u.new) }
+    ensures reach { All IsRoot spaces.now.types.now.types → IfOk result (λ drawn. Takes (SpellsSuch (λ t. All (RefersTo config.now spaces.now.types.now.types) (values_of t.composite_type.inner)) (SpellsSubType config.now spaces.now.types.now.types limit)) u.old drawn u.new) }
 {
-    draw_sub_type(alloc, config, spaces.types, limit, u)
+    let standing = Standing::over(config, spaces);
+    draw_sub_type(alloc, config, &standing, limit, u)
 }
 
 /// Draws a subtype below a type of `spaces` that may have subtypes. The standard's section Structure, Recursive Types.
@@ -175,12 +177,13 @@ pub fn arbitrary_sub_type_of_super_type(
     requires sanitized { IsSanitized config.now }
     requires gc { IsTrue config.now.gc_enabled }
     requires some { SomeMayHaveSubtypes spaces.now.types.now.types }
-    ensures draws { Draws (sub_type_of_at config.now spaces.now.types.now.types limit (supertypes spaces.now.types.now.types) u.old) result u.old u.new }
+    ensures draws { Draws (sub_type_of_at config.now (standing_in config.now spaces.now) limit (supertypes spaces.now.types.now.types) u.old) result u.old u.new }
     ensures below { IfOk result (λ drawn. IsSome drawn.supertype) }
     ensures valid { AreTypesOpen (features_of config.now) limit spaces.now.types.now → IfOk result (IsTypeValid (features_of config.now) spaces.now.types.now.types limit) }
     ensures follows { IfOk result (HasSuperType spaces.now.types.now.types) }
 {
     orderly(spaces);
     let indices = supertypes(spaces.types);
-    draw_sub_type_of(alloc, config, spaces.types, limit, indices, u)
+    let standing = Standing::over(config, spaces);
+    draw_sub_type_of(alloc, config, &standing, limit, indices, u)
 }

@@ -1,23 +1,28 @@
-ghost use Rattle.std.specs.Prelude.{◌≡◌, ◌≤◌, true, IsOk, IfOk};
+ghost use Rattle.std.specs.Prelude.{◌≡◌, ◌≤◌, false, true, IsOk, IfOk};
 ghost use Rattle.smith_types.specs.Entities.{IsTableValid, most_elements};
+ghost use Rattle.smith_types.specs.Space.{Space};
 ghost use Rattle.smith_types.specs.ValidTypes.{AreTypesValid};
 ghost use Rattle.smith_config.specs.Features.{features_of};
 ghost use Rattle.smith_config.specs.Sanitized.{IsSanitized};
 ghost use Rattle.smith_draw.specs.Bounds.{IsTableWithin};
+ghost use Rattle.smith_types.specs.declared.value_type.ValType.TheVariants.{Ref};
+ghost use Rattle.smith_draw.specs.ConstBounds.{IsUngrounded};
 ghost use Rattle.smith_draw.specs.Drawing.{AlwaysDraws, Draws};
+ghost use Rattle.smith_draw.specs.Grounding.{standing_in};
 ghost use Rattle.smith_draw.specs.TableTypes.{least_elements, drawn_elements, table_type_at};
 
 use crate::entity_type::draw_memory64;
 use crate::limits::arbitrary_limits64;
 use crate::shared_reference::is_reference_shared;
 use crate::spaces::Spaces;
+use crate::standing::Standing;
 use crate::value_type::draw_ref_type;
 use smith_bytes::{Error, Unstructured};
 use smith_config::Config;
-use smith_types::{TableType, TypeSpace, most_elements_of};
+use smith_types::{TableType, most_elements_of};
 use std::alloc::Global;
 
-/// The greatest number of elements of a drawn table: at most what `config` allows, but at least 1 where nothing may trap.
+/// The greatest number of elements of a drawn table: at most what `config` allows, but at least 1 with `disallow_traps`.
 #[tactic(auto, unfolding(crate::specs::TableTypes::drawn_elements))]
 fn drawn_elements(config: &Config, table64: bool) -> u64
     ensures exact { result ≡ drawn_elements config.now table64 }
@@ -30,22 +35,28 @@ fn drawn_elements(config: &Config, table64: bool) -> u64
         .min(most_elements_of(table64))
 }
 
+/// Draws a table type, as [`arbitrary_table_type`] does, over `standing`.
 #[tactic(auto, unfolding(crate::specs::TableTypes::table_type_at))]
-fn draw_table_type(config: &Config, types: &TypeSpace, u: &mut Unstructured<'_>) -> TableType
+pub fn draw_table_type(
+    config: &Config,
+    standing: &Standing<'_>,
+    u: &mut Unstructured<'_>,
+) -> TableType
     requires { IsSanitized config.now }
-    ensures draws { AlwaysDraws (table_type_at config.now types.now.types u.old) result u.old u.new }
-    ensures valid { AreTypesValid (features_of config.now) types.now → IsTableValid (features_of config.now) types.now.types result }
+    ensures draws { AlwaysDraws (table_type_at config.now standing.now u.old) result u.old u.new }
+    ensures valid { (space : Space) → space.types ≡ standing.now.types → AreTypesValid (features_of config.now) space → IsTableValid (features_of config.now) space.types result }
     ensures within { IsTableWithin config.now result }
-    ensures nullable { result.element_type.nullable ≡ true }
+    ensures nullable { config.now.non_nullable_enabled ≡ false → result.element_type.nullable ≡ true }
+    ensures grounded { ¬ IsUngrounded config.now standing.now (Ref result.element_type) }
 {
-    let standing = types.types();
+    let types = standing.types().types();
     let table64 = draw_memory64(config, u);
     let most = drawn_elements(config, table64);
     let least = u64::from(config.disallow_traps);
     let required = config.table_max_size_required;
     let (minimum, maximum) = arbitrary_limits64(least, most, required, most.min(10_000), u);
-    let element_type = draw_ref_type(config, standing, false, standing.len() as u32, u);
-    let shared = is_reference_shared(standing, element_type);
+    let element_type = draw_ref_type(config, standing, false, types.len() as u32, u);
+    let shared = is_reference_shared(types, element_type);
     TableType {
         element_type,
         minimum,
@@ -55,9 +66,9 @@ fn draw_table_type(config: &Config, types: &TypeSpace, u: &mut Unstructured<'_>)
     }
 }
 
-/// Draws a table type of nullable references over the types of `spaces`. Its limits, in elements, stay within the number that
-/// `config` allows, but for a single element where nothing may trap. The table is shared where its references are. The standard's
-/// section Structure, Table Types.
+/// Draws a table type over the types of `spaces`, of nullable references or such as [`arbitrary_ref_type`] draws. Its limits, in
+/// elements, stay within the number that `config` allows, but for a single element with `disallow_traps`. The table is shared
+/// where its references are. The standard's section Structure, Table Types.
 ///
 /// `config` is sanitised. The table type is valid where the types of `spaces` are.
 ///
@@ -70,10 +81,11 @@ pub fn arbitrary_table_type(
 ) -> Result<TableType, Error>
     requires { IsSanitized config.now }
     ensures ok { IsOk result }
-    ensures draws { Draws (table_type_at config.now spaces.now.types.now.types u.old) result u.old u.new }
+    ensures draws { Draws (table_type_at config.now (standing_in config.now spaces.now) u.old) result u.old u.new }
     ensures valid { AreTypesValid (features_of config.now) spaces.now.types.now → IfOk result (IsTableValid (features_of config.now) spaces.now.types.now.types) }
     ensures within { IfOk result (IsTableWithin config.now) }
-    ensures nullable { IfOk result (λ drawn. drawn.element_type.nullable ≡ true) }
+    ensures nullable { config.now.non_nullable_enabled ≡ false → IfOk result (λ drawn. drawn.element_type.nullable ≡ true) }
+    ensures grounded { IfOk result (λ drawn. ¬ IsUngrounded config.now (standing_in config.now spaces.now) (Ref drawn.element_type)) }
 {
-    Ok(draw_table_type(config, spaces.types, u))
+    Ok(draw_table_type(config, &Standing::over(config, spaces), u))
 }

@@ -1,6 +1,7 @@
 ghost use Rattle.std.specs.Prelude.{◌≡◌, false, ◌<◌, IsTrue, IsOk, IfOk, slice_get};
 ghost use Rattle.smith_bytes.specs.Takes.{Takes, SpellsSuch};
 ghost use Rattle.smith_types.specs.Subtyping.{IsInRange, IsValInRange};
+ghost use Rattle.smith_types.specs.declared.value_type.ValType.TheVariants.{Ref};
 ghost use Rattle.smith_types.specs.ValidTypes.{
   IsHeapTypeValid,
   IsRefTypeValid,
@@ -8,9 +9,11 @@ ghost use Rattle.smith_types.specs.ValidTypes.{
   IsHeapTypeShared,
   IsShareable,
 };
+ghost use Rattle.smith_types.specs.Grounded.{IsGrounded};
 ghost use Rattle.smith_config.specs.Features.{features_of};
 ghost use Rattle.smith_config.specs.Sanitized.{IsSanitized};
 ghost use Rattle.smith_draw.specs.Drawing.{AlwaysDraws, Draws};
+ghost use Rattle.smith_draw.specs.Grounding.{standing_in};
 ghost use Rattle.smith_draw.specs.ValueTypes.{
   abstract_heap_types,
   value_classes,
@@ -20,15 +23,17 @@ ghost use Rattle.smith_draw.specs.ValueTypes.{
   kept_index,
   type_index_at,
   heap_type_at,
+  granted_at,
   ref_type_at,
   value_of_class_at,
   val_type_at,
 };
 ghost use Rattle.smith_draw.specs.Choices.{enabled};
-ghost use Rattle.smith_draw.specs.Spelling.{SpellsHeapType, SpellsRefType, SpellsValType};
+ghost use Rattle.smith_draw.specs.Spelling.{RefersTo, SpellsHeapType, SpellsRefType, SpellsValType};
 
 use crate::choice::choose;
-use crate::spaces::Spaces;
+use crate::spaces::{Spaces, orderly};
+use crate::standing::Standing;
 use smith_bytes::{Error, Unstructured};
 use smith_config::Config;
 use smith_types::{AbstractHeapType, HeapType, RefType, SubType, ValType};
@@ -151,26 +156,47 @@ fn draw_heap_type(
     }
 }
 
-#[tactic(auto, unfolding(crate::specs::ValueTypes::ref_type_at))]
-pub(crate) fn draw_ref_type(
+/// Whether a reference to `heap_type` is not nullable: where `config` has such references, if a bool asks for it and the heap type is
+/// grounded.
+#[tactic(auto, unfolding(crate::specs::ValueTypes::granted_at))]
+fn is_granted(
     config: &Config,
-    types: &[SubType],
+    standing: &Standing<'_>,
+    heap_type: HeapType,
+    u: &mut Unstructured<'_>,
+) -> bool
+    ensures { AlwaysDraws (granted_at config.now standing.now heap_type u.old) result u.old u.new }
+{
+    if !config.non_nullable_enabled {
+        return false;
+    }
+    u.arbitrary() && standing.is_grounded(heap_type)
+}
+
+/// Draws a reference type, as [`arbitrary_ref_type`] does, over `standing`.
+#[tactic(auto, unfolding(crate::specs::ValueTypes::ref_type_at))]
+pub fn draw_ref_type(
+    config: &Config,
+    standing: &Standing<'_>,
     must_share: bool,
     limit: u32,
     u: &mut Unstructured<'_>,
 ) -> RefType
-    ensures { AlwaysDraws (ref_type_at config.now types.now must_share limit u.old) result u.old u.new }
+    ensures { AlwaysDraws (ref_type_at config.now standing.now must_share limit u.old) result u.old u.new }
 {
-    let heap_type = if config.reference_types_enabled {
-        draw_heap_type(config, types, must_share, limit, u)
-    } else {
-        HeapType::Abstract {
-            shared: false,
-            ty: AbstractHeapType::Func,
-        }
-    };
+    if !config.reference_types_enabled {
+        return RefType {
+            nullable: true,
+            heap_type: HeapType::Abstract {
+                shared: false,
+                ty: AbstractHeapType::Func,
+            },
+        };
+    }
+    let heap_type = draw_heap_type(config, standing.types().types(), must_share, limit, u);
+    let granted = is_granted(config, standing, heap_type, u);
     RefType {
-        nullable: true,
+        nullable: !granted,
         heap_type,
     }
 }
@@ -195,13 +221,13 @@ fn value_classes(config: &Config) -> &'static [ValueClass]
 
 fn draw_value_of_class(
     config: &Config,
-    types: &[SubType],
+    standing: &Standing<'_>,
     must_share: bool,
     limit: u32,
     class: ValueClass,
     u: &mut Unstructured<'_>,
 ) -> ValType
-    ensures { AlwaysDraws (value_of_class_at config.now types.now must_share limit class u.old) result u.old u.new }
+    ensures { AlwaysDraws (value_of_class_at config.now standing.now must_share limit class u.old) result u.old u.new }
 {
     match class {
         ValueClass::I32 => ValType::I32,
@@ -209,22 +235,24 @@ fn draw_value_of_class(
         ValueClass::F32 => ValType::F32,
         ValueClass::F64 => ValType::F64,
         ValueClass::V128 => ValType::V128,
-        ValueClass::Reference => ValType::Ref(draw_ref_type(config, types, must_share, limit, u)),
+        ValueClass::Reference => ValType::Ref(draw_ref_type(
+            config, standing, must_share, limit, u,
+        )),
     }
 }
 
 #[tactic(auto, unfolding(crate::specs::ValueTypes::val_type_at))]
 pub(crate) fn draw_val_type(
     config: &Config,
-    types: &[SubType],
+    standing: &Standing<'_>,
     must_share: bool,
     limit: u32,
     u: &mut Unstructured<'_>,
 ) -> ValType
-    ensures { AlwaysDraws (val_type_at config.now types.now must_share limit u.old) result u.old u.new }
+    ensures { AlwaysDraws (val_type_at config.now standing.now must_share limit u.old) result u.old u.new }
 {
     let class = choose(value_classes(config), u);
-    draw_value_of_class(config, types, must_share, limit, class, u)
+    draw_value_of_class(config, standing, must_share, limit, class, u)
 }
 
 /// Draws a heap type: a type of `spaces` below `limit`, or an abstract heap type that `config` enables. The heap type is shared
@@ -253,8 +281,9 @@ pub fn arbitrary_heap_type(
     Ok(draw_heap_type(config, spaces.types.types(), must_share, limit, u))
 }
 
-/// Draws a nullable reference type, which is `funcref` where `config` has reference types off. The standard's section Structure,
-/// Reference Types.
+/// Draws a reference type, which is `funcref` where `config` has reference types off. The reference type is nullable, but where
+/// `config` has references that aren't nullable, a bool asks for one, and a struct type or a function of `spaces` grounds the heap
+/// type: it gives a reference without operands. The standard's section Structure, Reference Types.
 ///
 /// `config` is sanitised, and `must_share` is set only where `config` allows shared types. The reference type refers only to
 /// types of `spaces` below `limit`, and only to shared types where `must_share` is set.
@@ -271,13 +300,16 @@ pub fn arbitrary_ref_type(
     requires sanitized { IsSanitized config.now }
     requires may_share { IsTrue must_share → IsTrue config.now.shared_everything_threads_enabled }
     ensures ok { IsOk result }
-    ensures draws { Draws (ref_type_at config.now spaces.now.types.now.types must_share limit u.old) result u.old u.new }
+    ensures draws { Draws (ref_type_at config.now (standing_in config.now spaces.now) must_share limit u.old) result u.old u.new }
+    ensures granted { IfOk result (λ drawn. drawn.nullable ≡ false → IsGrounded (standing_in config.now spaces.now) drawn.heap_type) }
     ensures valid { IfOk result (IsRefTypeValid (features_of config.now) limit) }
     ensures stands { IfOk result (λ drawn. IsInRange spaces.now.types.now.types drawn.heap_type) }
     ensures shared { IsTrue must_share → IfOk result (λ drawn. IsHeapTypeShared spaces.now.types.now.types drawn.heap_type) }
-    ensures reach { must_share ≡ false → IfOk result (λ drawn. Takes (SpellsSuch (λ reference. IsInRange spaces.now.types.now.types reference.heap_type) (SpellsRefType config.now limit)) u.old drawn u.new) }
+    ensures reach { must_share ≡ false → IfOk result (λ drawn. Takes (SpellsSuch (λ reference. RefersTo config.now spaces.now.types.now.types (Ref reference)) (SpellsRefType config.now limit)) u.old drawn u.new) }
 {
-    Ok(draw_ref_type(config, spaces.types.types(), must_share, limit, u))
+    orderly(spaces);
+    let standing = Standing::over(config, spaces);
+    Ok(draw_ref_type(config, &standing, must_share, limit, u))
 }
 
 /// Draws a value type that `config` enables. The standard's section Structure, Value Types.
@@ -297,11 +329,13 @@ pub fn arbitrary_valtype(
     requires sanitized { IsSanitized config.now }
     requires may_share { IsTrue must_share → IsTrue config.now.shared_everything_threads_enabled }
     ensures ok { IsOk result }
-    ensures draws { Draws (val_type_at config.now spaces.now.types.now.types must_share limit u.old) result u.old u.new }
+    ensures draws { Draws (val_type_at config.now (standing_in config.now spaces.now) must_share limit u.old) result u.old u.new }
     ensures valid { IfOk result (IsValTypeValid (features_of config.now) limit) }
     ensures stands { IfOk result (IsValInRange spaces.now.types.now.types) }
     ensures shared { IsTrue must_share → IfOk result (IsShareable spaces.now.types.now.types) }
-    ensures reach { must_share ≡ false → IfOk result (λ drawn. Takes (SpellsSuch (IsValInRange spaces.now.types.now.types) (SpellsValType config.now limit)) u.old drawn u.new) }
+    ensures reach { must_share ≡ false → IfOk result (λ drawn. Takes (SpellsSuch (RefersTo config.now spaces.now.types.now.types) (SpellsValType config.now limit)) u.old drawn u.new) }
 {
-    Ok(draw_val_type(config, spaces.types.types(), must_share, limit, u))
+    orderly(spaces);
+    let standing = Standing::over(config, spaces);
+    Ok(draw_val_type(config, &standing, must_share, limit, u))
 }

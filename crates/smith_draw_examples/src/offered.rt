@@ -5,6 +5,7 @@ ghost use Rattle.smith_types.specs.declared.value_type.AbstractHeapType.TheVaria
 ghost use Rattle.smith_types.specs.declared.value_type.HeapType.TheVariants.{Abstract, Concrete, Exact};
 ghost use Rattle.smith_types.specs.declared.composite_type.StorageType.TheVariants.{Val};
 ghost use Rattle.smith_types.specs.ExampleTypes.{open_type, plain_func, struct_and_below, plain, nullable, not_null, anyref, eqref, constant, variable};
+ghost use Rattle.smith_draw.specs.ExampleConstExprs.{context_of_types};
 ghost use Rattle.smith_config.specs.Config.{default_config};
 ghost use Rattle.smith_draw.specs.Offered.{subtypes_offered, supertypes_offered, AncestorsAreAll};
 ghost use Rattle.smith_draw.specs.MatchingTypes.{matching_heap_type_at, matching_ref_type_at, matching_field_type_at, super_heap_type_at, super_ref_type_at};
@@ -37,13 +38,13 @@ fn ancestors_are_all()
     ensures { AncestorsAreAll }
 {}
 
-#[tactic(auto, unfolding(smith_draw::specs::MatchingTypes::matching_heap_type_at, smith_draw::specs::MatchingTypes::matching_ref_type_at, smith_draw::specs::MatchingTypes::matching_field_type_at, smith_draw::specs::Offered::subtypes_offered, smith_draw::specs::Choices::chosen_at, smith_bytes::specs::Draws::range_at, smith_bytes::specs::Draws::digit_count,))]
+#[tactic(auto, unfolding(smith_draw::specs::MatchingTypes::matching_heap_type_at, smith_draw::specs::MatchingTypes::references_offered, smith_draw::specs::MatchingTypes::matching_ref_type_at, smith_draw::specs::MatchingTypes::matching_field_type_at, smith_draw::specs::Offered::subtypes_offered, smith_draw::specs::Choices::chosen_at, smith_bytes::specs::Draws::range_at, smith_bytes::specs::Draws::digit_count,))]
 fn matching_types()
     ensures last { matching_heap_type_at default_config struct_and_below (plain heap.Any) (7 ∷ []) ≡ (Concrete 1, []) }
     ensures none { matching_heap_type_at default_config struct_and_below (plain heap.Any) (5 ∷ []) ≡ (plain heap.None, []) }
-    ensures not_null { matching_ref_type_at default_config struct_and_below (not_null (Concrete 0)) (1 ∷ []) ≡ (not_null (Concrete 1), []) }
-    ensures constant { matching_field_type_at default_config struct_and_below (constant (Val anyref)) (1 ∷ []) ≡ (constant (Val eqref), []) }
-    ensures variable { matching_field_type_at default_config struct_and_below (variable (Val anyref)) (1 ∷ []) ≡ (variable (Val anyref), 1 ∷ []) }
+    ensures not_null { matching_ref_type_at default_config (context_of_types struct_and_below) (not_null (Concrete 0)) (1 ∷ []) ≡ (not_null (Concrete 1), []) }
+    ensures constant { matching_field_type_at default_config (context_of_types struct_and_below) (constant (Val anyref)) (1 ∷ []) ≡ (constant (Val eqref), []) }
+    ensures variable { matching_field_type_at default_config (context_of_types struct_and_below) (variable (Val anyref)) (1 ∷ []) ≡ (variable (Val anyref), 1 ∷ []) }
 {}
 
 #[tactic(auto, unfolding(smith_draw::specs::MatchingTypes::super_heap_type_at, smith_draw::specs::MatchingTypes::super_ref_type_at, smith_draw::specs::Offered::supertypes_offered, smith_draw::specs::Offered::ancestors, smith_draw::specs::Choices::chosen_at, smith_bytes::specs::Draws::range_at, smith_bytes::specs::Draws::digit_count,))]

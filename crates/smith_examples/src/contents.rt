@@ -7,6 +7,7 @@ ghost use Rattle.smith_types.specs.ExampleTypes.{not_null, plain};
 ghost use Rattle.smith_types.specs.Flags.{funcref};
 ghost use Rattle.smith_types.specs.declared.value_type.AbstractHeapType.TheVariants as heap;
 ghost use Rattle.smith_types.specs.declared.segments.Offset.TheVariants.{Const32, Const64};
+ghost use Rattle.smith_draw.specs.ExampleConstExprs.{context_of_types};
 ghost use Rattle.smith_config.specs.Config.{default_config};
 ghost use Rattle.smith_config.specs.Shapes.{space_of};
 ghost use Rattle.wasm_smith.specs.Contents.{MayHoldContents, MayRefuseContents};
@@ -38,10 +39,10 @@ fn exports()
 {}
 
 fn refused()
-    ensures no_choice { MayRefuseContents default_config [] (record no_imports { tables = table (not_null (plain heap.Extern)) 1 None ∷ [] }) EmptyChoose }
-    ensures no_table { ¬ MayRefuseContents default_config [] no_imports EmptyChoose }
-    ensures as_a_module { MayRefuseContents default_config [] no_imports Memory }
-    ensures too_few_bytes { ¬ MayRefuseContents default_config [] no_imports NotEnoughData }
+    ensures no_choice { MayRefuseContents default_config (context_of_types []) (table (not_null (plain heap.Extern)) 1 None ∷ []) EmptyChoose }
+    ensures no_table { ¬ MayRefuseContents default_config (context_of_types []) [] EmptyChoose }
+    ensures as_a_module { MayRefuseContents default_config (context_of_types []) [] Memory }
+    ensures too_few_bytes { ¬ MayRefuseContents default_config (context_of_types []) [] NotEnoughData }
 {}
 
 fn contents()

@@ -10,6 +10,7 @@ ghost use Rattle.smith_types.specs.declared.segments.Offset.TheVariants.{Const32
 ghost use Rattle.smith_types.specs.declared.segments.ElementKind.TheVariants as element;
 ghost use Rattle.smith_types.specs.declared.segments.Elements.TheVariants.{Functions, Expressions};
 ghost use Rattle.smith_types.specs.declared.value_type.AbstractHeapType.TheVariants as heap;
+ghost use Rattle.smith_draw.specs.ExampleConstExprs.{context_of_types};
 ghost use Rattle.smith_config.specs.Config.{default_config};
 ghost use Rattle.smith_spell.specs.ExampleMembers.{final, plain_function};
 ghost use Rattle.smith_definitions.specs.Definitions.{table_scope};
@@ -39,7 +40,7 @@ fn items()
 {}
 
 // Of no type, function, table and global.
-#[tactic(auto, unfolding(smith_contents::specs::ElementSegments::elements_at, smith_contents::specs::ElementSegments::element_segments_at, smith_contents::specs::ElementSegments::element_segment_at, smith_contents::specs::ElementSegments::kind_at, smith_contents::specs::ElementSegments::item_type_at, smith_contents::specs::ElementSegments::items_at, smith_contents::specs::ElementSegments::functions_at, smith_contents::specs::ElementSegments::expressions_at, smith_contents::specs::ElementSegments::drawn_expressions_at, smith_contents::specs::ElementSegments::kinds_at, smith_contents::specs::ElementSegments::table_kinds_at, smith_contents::specs::ElementSegments::are_functions_at, smith_draw::specs::ValueTypes::ref_type_at, smith_draw::specs::ValueTypes::heap_type_at, smith_draw::specs::ValueTypes::type_index_at, smith_draw::specs::ValueTypes::abstract_heap_type_at, smith_draw::specs::ValueTypes::sharedness_at, smith_draw::specs::Choices::chosen_at, smith_bytes::specs::Growth::grow_at, smith_bytes::specs::Draws::bool_at, smith_bytes::specs::Draws::range_at, smith_bytes::specs::Draws::digit_count))]
+#[tactic(auto, unfolding(smith_contents::specs::ElementSegments::elements_at, smith_contents::specs::ElementSegments::element_segments_at, smith_contents::specs::ElementSegments::element_segment_at, smith_contents::specs::ElementSegments::kind_at, smith_contents::specs::ElementSegments::item_type_at, smith_contents::specs::ElementSegments::items_at, smith_contents::specs::ElementSegments::functions_at, smith_contents::specs::ElementSegments::expressions_at, smith_contents::specs::ElementSegments::drawn_expressions_at, smith_contents::specs::ElementSegments::kinds_at, smith_contents::specs::ElementSegments::table_kinds_at, smith_contents::specs::ElementSegments::are_functions_at, smith_draw::specs::ValueTypes::ref_type_at, smith_draw::specs::ValueTypes::granted_at, smith_draw::specs::ValueTypes::heap_type_at, smith_draw::specs::ValueTypes::type_index_at, smith_draw::specs::ValueTypes::abstract_heap_type_at, smith_draw::specs::ValueTypes::sharedness_at, smith_draw::specs::Choices::chosen_at, smith_bytes::specs::Growth::grow_at, smith_bytes::specs::Draws::bool_at, smith_bytes::specs::Draws::range_at, smith_bytes::specs::Draws::digit_count))]
 fn segments()
     ensures none { elements_at default_config (table_scope default_config (beside_globals [])) [] (0 ∷ 9 ∷ []) ≡ Ok ([], 9 ∷ []) }
     ensures one { elements_at default_config (table_scope default_config (beside_globals [])) [] (1 ∷ 0 ∷ 0 ∷ 0 ∷ 0 ∷ 0 ∷ 9 ∷ []) ≡ Ok (passive_elements (Expressions []) ∷ [], 9 ∷ []) }
@@ -50,7 +51,7 @@ fn segments()
 {}
 
 // The kind, the offset, no byte for items of a table's only type, and no function that may be one.
-#[tactic(auto, unfolding(smith_contents::specs::ElementSegments::elements_at, smith_contents::specs::ElementSegments::element_segments_at, smith_contents::specs::ElementSegments::element_segment_at, smith_contents::specs::ElementSegments::kind_at, smith_contents::specs::ElementSegments::table_offset_at, smith_contents::specs::ElementSegments::is_global_wanted_at, smith_contents::specs::ElementSegments::constant_offset_at, smith_contents::specs::ElementSegments::hint_at, smith_contents::specs::ElementSegments::item_type_at, smith_contents::specs::ElementSegments::items_at, smith_contents::specs::ElementSegments::functions_at, smith_contents::specs::ElementSegments::kinds_at, smith_contents::specs::ElementSegments::table_kinds_at, smith_contents::specs::ElementSegments::is_offered_at, smith_contents::specs::ElementSegments::are_functions_at, smith_draw::specs::Offsets::offset_at, smith_draw::specs::Limits::gradually_at, smith_draw::specs::Limits::gradual, smith_draw::specs::Limits::sixth_power, smith_draw::specs::Limits::scaled, smith_draw::specs::MatchingTypes::matching_ref_type_at, smith_draw::specs::MatchingTypes::matching_heap_type_at, smith_draw::specs::Offered::subtypes_offered, smith_draw::specs::Choices::chosen_at, smith_bytes::specs::Draws::whole_at, smith_bytes::specs::Draws::bool_at, smith_bytes::specs::Draws::range_at, smith_bytes::specs::Draws::digit_count))]
+#[tactic(auto, unfolding(smith_contents::specs::ElementSegments::elements_at, smith_contents::specs::ElementSegments::element_segments_at, smith_contents::specs::ElementSegments::element_segment_at, smith_contents::specs::ElementSegments::kind_at, smith_contents::specs::ElementSegments::table_offset_at, smith_contents::specs::ElementSegments::is_global_wanted_at, smith_contents::specs::ElementSegments::constant_offset_at, smith_contents::specs::ElementSegments::hint_at, smith_contents::specs::ElementSegments::item_type_at, smith_contents::specs::ElementSegments::items_at, smith_contents::specs::ElementSegments::functions_at, smith_contents::specs::ElementSegments::kinds_at, smith_contents::specs::ElementSegments::table_kinds_at, smith_contents::specs::ElementSegments::is_offered_at, smith_contents::specs::ElementSegments::are_functions_at, smith_draw::specs::Offsets::offset_at, smith_draw::specs::Limits::gradually_at, smith_draw::specs::Limits::gradual, smith_draw::specs::Limits::sixth_power, smith_draw::specs::Limits::scaled, smith_draw::specs::MatchingTypes::references_offered, smith_draw::specs::MatchingTypes::matching_ref_type_at, smith_draw::specs::MatchingTypes::matching_heap_type_at, smith_draw::specs::Offered::subtypes_offered, smith_draw::specs::Choices::chosen_at, smith_bytes::specs::Draws::whole_at, smith_bytes::specs::Draws::bool_at, smith_bytes::specs::Draws::range_at, smith_bytes::specs::Draws::digit_count))]
 fn copied()
     ensures without_traps { elements_at (record default_config { reference_types_enabled = false; gc_enabled = false; disallow_traps = true; max_element_segments = 1 }) (table_scope default_config (beside_globals [])) (table funcref 5 None ∷ []) (1 ∷ 2 ∷ 255 ∷ 255 ∷ 255 ∷ 255 ∷ 9 ∷ [])
         ≡ Ok (record { kind = element.Active None (Const32 (pos 5)); ty = funcref; items = Functions [] } ∷ [], 9 ∷ []) }
@@ -64,11 +65,11 @@ fn enough()
 {}
 
 fn refused()
-    ensures want_of_memory { MayRefuseElements default_config [] [] errors.Memory }
-    ensures elements_that_may_not_be_null { MayRefuseElements default_config [] (table (not_null (plain heap.Extern)) 1 None ∷ []) errors.EmptyChoose }
-    ensures no_table { ¬ MayRefuseElements default_config [] [] errors.EmptyChoose }
-    ensures no_item_where_one_is_asked_for { MayRefuseElements (record default_config { min_elements = 1 }) [] [] (errors.IncorrectFormat (Unmet counts.Elements)) }
-    ensures none_asked_for { ¬ MayRefuseElements default_config [] [] (errors.IncorrectFormat (Unmet counts.Elements)) }
-    ensures no_kind { MayRefuseElements (record default_config { min_element_segments = 1; bulk_memory_enabled = false }) [] [] (errors.IncorrectFormat (Unmet counts.ElementSegments)) }
-    ensures passive_ones { ¬ MayRefuseElements (record default_config { min_element_segments = 1 }) [] [] (errors.IncorrectFormat (Unmet counts.ElementSegments)) }
+    ensures want_of_memory { MayRefuseElements default_config (context_of_types []) [] errors.Memory }
+    ensures elements_that_may_not_be_null { MayRefuseElements default_config (context_of_types []) (table (not_null (plain heap.Extern)) 1 None ∷ []) errors.EmptyChoose }
+    ensures no_table { ¬ MayRefuseElements default_config (context_of_types []) [] errors.EmptyChoose }
+    ensures no_item_where_one_is_asked_for { MayRefuseElements (record default_config { min_elements = 1 }) (context_of_types []) [] (errors.IncorrectFormat (Unmet counts.Elements)) }
+    ensures none_asked_for { ¬ MayRefuseElements default_config (context_of_types []) [] (errors.IncorrectFormat (Unmet counts.Elements)) }
+    ensures no_kind { MayRefuseElements (record default_config { min_element_segments = 1; bulk_memory_enabled = false }) (context_of_types []) [] (errors.IncorrectFormat (Unmet counts.ElementSegments)) }
+    ensures passive_ones { ¬ MayRefuseElements (record default_config { min_element_segments = 1 }) (context_of_types []) [] (errors.IncorrectFormat (Unmet counts.ElementSegments)) }
 {}

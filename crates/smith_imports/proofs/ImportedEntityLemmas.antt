@@ -8,12 +8,13 @@ use Rattle.std.proofs.lemmas.List.{length-map}
 use Rattle.std.proofs.lemmas.List.Sums.{length-filter}
 use Rattle.std.proofs.lemmas.List.Elements.{All-nil, All-cons, All-from_recursion}
 use Rattle.smith_types.specs.Entities.{IsTagValid, IsFuncValid, IsTableValid, IsMemoryValid, IsGlobalValid}
-use Rattle.smith_types.specs.Imports.{IndexSpaces}
+use Rattle.smith_types.specs.Imports.{IndexSpaces, table_of}
 use Rattle.smith_types.specs.Sizes.{value_count, size_in}
 use Rattle.smith_types.specs.Space.{Space}
 use Rattle.smith_types.specs.declared.composite_type.CompositeInnerType.{CompositeInnerType}
 use Rattle.smith_types.specs.declared.composite_type.CompositeInnerType.TheVariants as inners
 use Rattle.smith_types.specs.declared.composite_type.SubType.{SubType}
+use Rattle.smith_types.specs.declared.entity_type.EntityType.{EntityType}
 use Rattle.smith_types.specs.declared.entity_type.EntityType.TheVariants as entity
 use Rattle.smith_types.specs.declared.entity_type.ExportKind.{ExportKind}
 use Rattle.smith_types.specs.declared.entity_type.ExportKind.TheVariants as kind
@@ -30,8 +31,8 @@ use Rattle.smith_draw.specs.declared.type_use.TypeUse.{TypeUse}
 use Rattle.smith_draw.proofs.EnabledLemmas.{enabled_all}
 use Rattle.smith_draw.proofs.SupertypeLemmas.{chosen_of}
 use Rattle.smith_draw.proofs.TypeUseLemmas.{types_usable}
-use Rattle.smith_imports.specs.Imported.{MayImport, HasNoFloatValue, HasNullableElements, IsEntityFit, IsOffered}
-use Rattle.smith_imports.specs.ImportedEntities.{kind_rows}
+use Rattle.smith_imports.specs.Imported.{MayImport, HasNoFloatValue, HasGroundedElements, IsEntityFit, IsFitBeside, IsOffered}
+use Rattle.smith_imports.specs.ImportedEntities.{import_scope, kind_rows}
 
 pub length_enabled : {A : Type 0} (table : List (A × Bool)) → length (enabled table) ≡ count_by (λ row. row.1) table
 length_enabled table = length-map (filter (λ row. row.1) table) (λ row. row.0) ∙ length-filter (λ row. row.1) table
@@ -85,6 +86,12 @@ small_at types all index t at =
     let small : IsSmall t = rw (get_or_from_slice_get types index t t at) at (all index t (slice_get_within types index t at)) in
     rw at (omega (arith, few_values t.composite_type.inner small))
 
+-- an entity that is no table has no elements to be grounded
+pub fit_without_table : (config : Config) (types : List SubType) (spaces : IndexSpaces) (added : EntityType) → IsEntityFit config types added → table_of added ≡ [] → IsFitBeside config types spaces added
+fit_without_table config types spaces added fit none =
+    let Grounded = HasGroundedElements config (import_scope config types spaces) in
+    record { entity = fit; grounded = subst (All Grounded) (sym none) (All-nil Grounded) }
+
 module _ (config : Config) (space : Space) (may : MayImport config space) where
   pub tag_fit : (index : ℕ) → IsTrue config.exceptions_enabled → IsTagValid space.types index → IsEntityFit config space.types (entity.Tag index)
   tag_fit index on valid = record {
@@ -98,7 +105,6 @@ module _ (config : Config) (space : Space) (may : MayImport config space) where
     tag = λ _. on;
     tables = All-nil (IsTableWithin config);
     memories = All-nil (IsMemoryWithin config);
-    nullable_tables = All-nil HasNullableElements;
     floats = λ off. All-nil HasNoFloatValue;
     small = omega arith;
     typed = tt;
@@ -116,7 +122,6 @@ module _ (config : Config) (space : Space) (may : MayImport config space) where
     tag = λ some. absurd (omega arith);
     tables = All-nil (IsTableWithin config);
     memories = All-nil (IsMemoryWithin config);
-    nullable_tables = All-nil HasNullableElements;
     floats = λ off. All-nil HasNoFloatValue;
     small = small_at space.types may.small index t at;
     typed = slice_get_within space.types index t at;
@@ -134,7 +139,6 @@ module _ (config : Config) (space : Space) (may : MayImport config space) where
     tag = λ some. absurd (omega arith);
     tables = All-nil (IsTableWithin config);
     memories = All-nil (IsMemoryWithin config);
-    nullable_tables = All-nil HasNullableElements;
     floats = λ off. All-cons HasNoFloatValue global [] (floats off) (All-nil HasNoFloatValue);
     small = omega arith;
     typed = tt;
@@ -152,14 +156,13 @@ module _ (config : Config) (space : Space) (may : MayImport config space) where
     tag = λ some. absurd (omega arith);
     tables = All-nil (IsTableWithin config);
     memories = All-cons (IsMemoryWithin config) memory [] within (All-nil (IsMemoryWithin config));
-    nullable_tables = All-nil HasNullableElements;
     floats = λ off. All-nil HasNoFloatValue;
     small = omega arith;
     typed = tt;
   }
 
-  pub table_fit : (table : TableType) → IsTableValid (features_of config) space.types table → IsTableWithin config table → HasNullableElements table → IsEntityFit config space.types (entity.Table table)
-  table_fit table valid within nullable = record {
+  pub table_fit : (table : TableType) → IsTableValid (features_of config) space.types table → IsTableWithin config table → IsEntityFit config space.types (entity.Table table)
+  table_fit table valid within = record {
     valid = record {
       tags = All-nil (IsTagValid space.types);
       funcs = All-nil (IsFuncValid space.types);
@@ -170,7 +173,6 @@ module _ (config : Config) (space : Space) (may : MayImport config space) where
     tag = λ some. absurd (omega arith);
     tables = All-cons (IsTableWithin config) table [] within (All-nil (IsTableWithin config));
     memories = All-nil (IsMemoryWithin config);
-    nullable_tables = All-cons HasNullableElements table [] nullable (All-nil HasNullableElements);
     floats = λ off. All-nil HasNoFloatValue;
     small = omega arith;
     typed = tt;

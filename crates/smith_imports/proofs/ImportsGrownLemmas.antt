@@ -1,10 +1,10 @@
 -- Imports, and one more.
-use Rattle.std.proofs.Common.{◌≡◌, ◌⊎◌, ℕ, zero, suc, ◌+◌, ◌*◌, ◌<◌, ◌≤◌, Bool, true, false, List, [], ◌∷◌, ◌++◌, length, refl, sym, ap, arith, length-append, inl, inr, ◌∙◌, ltb, String, Global, BuildHasherDefault, FoldHasher}
-use Rattle.std.specs.Prelude.{slice_get, IsTrue, Some, map}
+use Rattle.std.proofs.Common.{◌≡◌, ◌⊎◌, ℕ, zero, suc, ◌+◌, ◌*◌, ◌<◌, ◌≤◌, Bool, true, false, List, [], ◌∷◌, ◌++◌, length, refl, sym, ap, subst, arith, length-append, inl, inr, ◌∙◌, ltb, String, Global, BuildHasherDefault, FoldHasher}
+use Rattle.std.specs.Prelude.{slice_get, IsTrue, Some, map, All}
 use Rattle.std.specs.Str.{bytes_eq}
 use Rattle.std.specs.HashSet.{HashSet}
 use Rattle.std.proofs.lemmas.List.{append-nil, map-append}
-use Rattle.std.proofs.lemmas.List.Elements.{All-nil, All-cons, All-append}
+use Rattle.std.proofs.lemmas.List.Elements.{All-nil, All-cons, All-append, All-weaker}
 use Rattle.std.proofs.lemmas.List.Sums.{sum_by-append}
 use Rattle.std.proofs.lemmas.Grind.{flat_map-append}
 use Rattle.std.proofs.lemmas.Bool.{ltb-true, ltb-false}
@@ -13,6 +13,9 @@ use Rattle.std.proofs.lemmas.Slice.Eq.{bytes_eq-Decides}
 use Rattle.smith_types.specs.Entities.{AreEntitiesValid, IsTagValid, IsFuncValid, IsTableValid, IsMemoryValid, IsGlobalValid}
 use Rattle.smith_types.specs.Exports.{AreDistinct}
 use Rattle.smith_types.specs.Features.{Features}
+use Rattle.smith_types.specs.Grown.{AreImportsGrown}
+use Rattle.smith_types.specs.declared.entity_type.TableType.{TableType}
+use Rattle.smith_types.proofs.GroundGrowthLemmas.{imports_grounded}
 use Rattle.smith_types.specs.Imports.{IsImportsValid, flattened, IndexSpaces, import_of, imports_of, imported, imported_spaces, tag_of, func_of, table_of, memory_of, global_of}
 use Rattle.smith_types.specs.IndexSpaces.{with_entity}
 use Rattle.smith_types.specs.Sizes.{size_in}
@@ -30,9 +33,9 @@ use Rattle.smith_config.specs.declared.config.Config.{Config}
 use Rattle.smith_config.specs.Features.{features_of}
 use Rattle.smith_draw.specs.Bounds.{IsTableWithin, IsMemoryWithin}
 use Rattle.smith_imports.specs.ImportNames.{has_names, is_taken, KnowsPairs}
-use Rattle.smith_imports.specs.ImportedEntities.{has_room, kind_of, sizes}
+use Rattle.smith_imports.specs.ImportedEntities.{has_room, kind_of, import_scope, sizes}
 use Rattle.smith_imports.specs.Importing.{module_name, with_import}
-use Rattle.smith_imports.specs.Imported.{Counts, IsCounted, AreNumbersWithin, AreSpacesWithin, HasNoFloatValue, HasNullableElements, AreImportsFit, IsEntityFit, IsNext, IsOpen, IsOfGroup, IsCompact, IsImported, MayEnd, MayEndAt, spaces_of, entity_spaces}
+use Rattle.smith_imports.specs.Imported.{Counts, IsCounted, AreNumbersWithin, AreSpacesWithin, HasNoFloatValue, HasGroundedElements, AreImportsFit, IsEntityFit, IsFitBeside, IsNext, IsOpen, IsOfGroup, IsCompact, IsImported, MayEnd, MayEndAt, spaces_of, entity_spaces}
 use Rattle.smith_imports.specs.declared.imported.Imported.{Imported}
 
 -- what is imported of a kind, with one import more
@@ -119,6 +122,32 @@ both_places xs x i j item old apart (inr (is_i, same)) (inr (is_j, other)) = is_
 pub distinct_push : {A : Type 0} (xs : List A) (x : A) → AreDistinct xs → ((i : ℕ) → slice_get xs i ≡ Some x → ⊥) → AreDistinct (xs ++ x ∷ [])
 distinct_push xs x old apart = record { once = λ i j item at_i at_j. both_places xs x i j item old apart (slice_get-push xs x i item at_i) (slice_get-push xs x j item at_j) }
 
+-- elements that are grounded stay so as functions are imported
+grounded_later : (config : Config) (types : List SubType) (old new : IndexSpaces) (more : List ℕ) → new.funcs ≡ old.funcs ++ more → (tables : List TableType) → All (HasGroundedElements config (import_scope config types old)) tables
+    → All (HasGroundedElements config (import_scope config types new)) tables
+grounded_later config types old new more grown tables h =
+    let before = import_scope config types old in
+    let after = import_scope config types new in
+    let growth : AreImportsGrown before after = record {
+      features = refl;
+      types = record { more = []; parts = sym (append-nil types) };
+      funcs = record { more = more; parts = grown };
+      imported = refl;
+      still_imported = refl;
+    } in
+    All-weaker (HasGroundedElements config before) (HasGroundedElements config after)
+    (λ table grounded (not_null, none). grounded (not_null, λ on earlier. none on (imports_grounded before after table.element_type.heap_type growth earlier))) tables h
+
+tables_more : (config : Config) (types : List SubType) (imports : List Import) (one : Import) → let scope = import_scope config types (imported_spaces imports) in
+    All (HasGroundedElements config scope) (imported table_of imports) → All (HasGroundedElements config scope) (table_of one.entity_type)
+    → All (HasGroundedElements config (import_scope config types (imported_spaces (imports ++ one ∷ [])))) (imported table_of (imports ++ one ∷ []))
+tables_more config types imports one before next =
+    let new = imported_spaces (imports ++ one ∷ []) in
+    let Grounded = HasGroundedElements config (import_scope config types new) in
+    let later = grounded_later config types (imported_spaces imports) new (func_of one.entity_type) (imported_more func_of imports one) in
+    subst (All Grounded) (sym (imported_more table_of imports one))
+    (All-append Grounded (imported table_of imports) (table_of one.entity_type) (later (imported table_of imports) before) (later (table_of one.entity_type) next))
+
 pub fit_more : (config : Config) (types : List SubType) (distinct : Bool) (imports : List Import) (one : Import) → AreImportsFit config types distinct imports → IsNext config types (imported_spaces imports) (sizes types imports) one.entity_type → length imports < config.max_imports
     → (IsTrue distinct → is_taken imports one.«module» one.name ≡ false) → AreImportsFit config types distinct (imports ++ one ∷ [])
 fit_more config types distinct imports one fit next room fresh =
@@ -126,14 +155,14 @@ fit_more config types distinct imports one fit next room fresh =
     let longer = length-append imports (one ∷ []) in
     let spaces = spaces_more imports one in
     record {
-      entities = rw spaces (entities_more (features_of config) types (imported_spaces imports) (entity_spaces one.entity_type) fit.entities next.fit.valid);
-      tags = rw (imported_more tag_of imports one) (tags_on config (imported tag_of imports) (tag_of one.entity_type) fit.tags next.fit.tag);
-      within = rw spaces (within_more config types (imported_spaces imports) one.entity_type fit.within next.fit next.room);
+      entities = rw spaces (entities_more (features_of config) types (imported_spaces imports) (entity_spaces one.entity_type) fit.entities next.fit.entity.valid);
+      tags = rw (imported_more tag_of imports one) (tags_on config (imported tag_of imports) (tag_of one.entity_type) fit.tags next.fit.entity.tag);
+      within = rw spaces (within_more config types (imported_spaces imports) one.entity_type fit.within next.fit.entity next.room);
       most = omega (arith, longer);
       type_size = omega (arith, more, next.fits);
-      small = omega (arith, more, longer, next.fit.small, fit.small);
-      nullable_tables = rw (imported_more table_of imports one) (All-append HasNullableElements (imported table_of imports) (table_of one.entity_type) fit.nullable_tables next.fit.nullable_tables);
-      floats = λ off. rw (imported_more global_of imports one) (All-append HasNoFloatValue (imported global_of imports) (global_of one.entity_type) (fit.floats off) (next.fit.floats off));
+      small = omega (arith, more, longer, next.fit.entity.small, fit.small);
+      grounded_tables = tables_more config types imports one fit.grounded_tables next.fit.grounded;
+      floats = λ off. rw (imported_more global_of imports one) (All-append HasNoFloatValue (imported global_of imports) (global_of one.entity_type) (fit.floats off) (next.fit.entity.floats off));
       apart = λ on. rw map-append (distinct_push (map pair_of imports) (pair_of one) (fit.apart on) (not_there imports one (fresh on)));
     }
 
@@ -160,10 +189,19 @@ import_added (Single imported) name one compact of_group = absurd compact
 import_added (Compact1 from items) name one compact of_group = map-append (λ (item : ImportItem). import_of from item.name item.entity_type) items (record { name = name; entity_type = one } ∷ [])
 import_added (Compact2 from entity_type names) name one compact of_group = rw of_group (map-append (λ (n : List ℕ). import_of from n entity_type) names (name ∷ []))
 
-pub ready_more : (config : Config) (types : List SubType) (group : Imports) (name : List ℕ) (one : EntityType) → IsOpen config types group → IsOpen config types (with_import group name one)
-ready_more config types (Single imported) name one ready = absurd ready.compact
-ready_more config types (Compact1 from items) name one ready = record { fit = tt; enabled = ready.enabled; compact = tt }
-ready_more config types (Compact2 from entity_type names) name one ready = record { fit = ready.fit; enabled = ready.enabled; compact = tt }
+funcs_grown : (spaces : IndexSpaces) (added : EntityType) → (with_entity spaces added).funcs ≡ spaces.funcs ++ func_of added
+funcs_grown spaces added = ap (λ (all : IndexSpaces). all.funcs) (entity_behind spaces added)
+
+fit_later : (config : Config) (types : List SubType) (spaces : IndexSpaces) (one added : EntityType) → IsFitBeside config types spaces one → IsFitBeside config types (with_entity spaces added) one
+fit_later config types spaces one added h = record {
+  entity = h.entity;
+  grounded = grounded_later config types spaces (with_entity spaces added) (func_of added) (funcs_grown spaces added) (table_of one) h.grounded;
+}
+
+pub ready_more : (config : Config) (types : List SubType) (spaces : IndexSpaces) (group : Imports) (name : List ℕ) (one : EntityType) → IsOpen config types spaces group → IsOpen config types (with_entity spaces one) (with_import group name one)
+ready_more config types spaces (Single imported) name one ready = absurd ready.compact
+ready_more config types spaces (Compact1 from items) name one ready = record { fit = tt; enabled = ready.enabled; compact = tt }
+ready_more config types spaces (Compact2 from entity_type names) name one ready = record { fit = fit_later config types spaces entity_type one ready.fit; enabled = ready.enabled; compact = tt }
 
 -- no kind has more than all together
 few_of_kind : {A : Type 0} (of_kind : EntityType → List A) → ((one : EntityType) → length (of_kind one) ≤ 1) → (imports : List Import) → length (imported of_kind imports) ≤ length imports

@@ -7,6 +7,7 @@ use Rattle.smith_bytes.specs.declared.error.Why.TheVariants.{Unmet}
 use Rattle.smith_bytes.specs.declared.error.Count.TheVariants as counts
 use Rattle.smith_types.specs.Entities.{AreEntitiesValid}
 use Rattle.smith_types.specs.Exports.{AreDistinct}
+use Rattle.smith_types.specs.Expressions.{Context}
 use Rattle.smith_types.specs.Flags.{IsImportsEnabled}
 use Rattle.smith_types.specs.Floats.{IsNoFloat}
 use Rattle.smith_types.specs.Imports.{IndexSpaces, IsImportsValid, flattened, imported_spaces, tag_of, func_of, table_of, memory_of, global_of}
@@ -19,6 +20,7 @@ use Rattle.smith_types.specs.declared.entity_type.EntityType.{EntityType}
 use Rattle.smith_types.specs.declared.entity_type.ExportKind.{ExportKind}
 use Rattle.smith_types.specs.declared.entity_type.GlobalType.{GlobalType}
 use Rattle.smith_types.specs.declared.entity_type.TableType.{TableType}
+use Rattle.smith_types.specs.declared.value_type.ValType.TheVariants.{Ref}
 use Rattle.smith_types.specs.declared.imports.Import.{Import}
 use Rattle.smith_types.specs.declared.imports.Imports.{Imports}
 use Rattle.smith_types.specs.declared.imports.Imports.TheVariants.{Single, Compact2}
@@ -27,10 +29,11 @@ use Rattle.smith_config.specs.Faults.{Passes}
 use Rattle.smith_config.specs.Features.{features_of}
 use Rattle.smith_config.specs.InUse.{FixesImports}
 use Rattle.smith_config.specs.Sanitized.{IsSanitized}
+use Rattle.smith_draw.specs.ConstBounds.{IsUngrounded}
 use Rattle.smith_draw.specs.Bounds.{IsTableWithin, IsMemoryWithin}
 use Rattle.smith_draw.specs.FuncSizes.{IsSmall}
 use Rattle.smith_imports.specs.ImportNames.{KnowsPairs}
-use Rattle.smith_imports.specs.ImportedEntities.{kind_of, has_room, may_import, sizes}
+use Rattle.smith_imports.specs.ImportedEntities.{kind_of, has_room, may_import, import_scope, sizes}
 use Rattle.smith_bytes.specs.Spelling.{SpellsNone}
 use Rattle.smith_imports.specs.declared.imported.Imported.{Imported}
 
@@ -96,9 +99,9 @@ pub record AreSpacesWithin (config : Config) (spaces : IndexSpaces) : Type 0 whe
 abbrev pub HasNoFloatValue : GlobalType → Type 0
 HasNoFloatValue global = IsNoFloat global.val_type
 
--- the elements of a table may be null
-abbrev pub HasNullableElements : TableType → Type 0
-HasNullableElements table = table.element_type.nullable ≡ true
+-- the elements of a table may be null, or, where `non_nullable_enabled` is set, are grounded
+abbrev pub HasGroundedElements : Config → Context → TableType → Type 0
+HasGroundedElements config context table = ¬ IsUngrounded config context (Ref table.element_type)
 
 -- imports are valid and within the bounds; each adds at most 42 to the type size; their pairs of names are distinct where
 -- they must be
@@ -109,7 +112,7 @@ pub record AreImportsFit (config : Config) (types : List SubType) (distinct : Bo
   pub most : length imports ≤ config.max_imports
   pub type_size : sizes types imports ≤ config.max_type_size
   pub small : sizes types imports ≤ 42 * length imports
-  pub nullable_tables : All HasNullableElements (imported_spaces imports).tables
+  pub grounded_tables : All (HasGroundedElements config (import_scope config types (imported_spaces imports))) (imported_spaces imports).tables
   pub floats : config.allow_floats ≡ false → All HasNoFloatValue (imported_spaces imports).globals
   pub apart : IsTrue distinct → AreDistinct {A = List ℕ × List ℕ} (map (λ (one : Import). (one.«module», one.name)) imports)
 
@@ -119,14 +122,18 @@ pub record IsEntityFit (config : Config) (types : List SubType) (added : EntityT
   pub tag : 0 < length (tag_of added) → IsTrue config.exceptions_enabled
   pub tables : All (IsTableWithin config) (table_of added)
   pub memories : All (IsMemoryWithin config) (memory_of added)
-  pub nullable_tables : All HasNullableElements (table_of added)
   pub floats : config.allow_floats ≡ false → All HasNoFloatValue (global_of added)
   pub small : size_in types added ≤ 41
   pub typed : IsTyped types added
 
+-- an entity may be imported beside index spaces
+pub record IsFitBeside (config : Config) (types : List SubType) (spaces : IndexSpaces) (added : EntityType) : Type 0 where
+  pub entity : IsEntityFit config types added
+  pub grounded : All (HasGroundedElements config (import_scope config types spaces)) (table_of added)
+
 -- an entity may be imported beside index spaces and a type size
 pub record IsNext (config : Config) (types : List SubType) (spaces : IndexSpaces) (size : ℕ) (added : EntityType) : Type 0 where
-  pub fit : IsEntityFit config types added
+  pub fit : IsFitBeside config types spaces added
   pub room : has_room config spaces (kind_of added) ≡ true
   pub fits : size + (size_in types added + 1) ≤ config.max_type_size
   pub sum : size + (size_in types added + 1) < 2 ^ 32
@@ -150,19 +157,19 @@ abbrev pub IsCompact : Imports → Type 0
 IsCompact (Single imported) = ⊥
 IsCompact _ = Unit {0}
 
--- the type that all imports of a group have, where it has one, is that of an entity that may be imported
-abbrev pub HasFitEntity : Config → List SubType → Imports → Type 0
-HasFitEntity config types (Compact2 from entity_type names) = IsEntityFit config types entity_type
-HasFitEntity config types _ = Unit {0}
+-- the type that all imports of a group have, where it has one, is that of an entity that may be imported beside index spaces
+abbrev pub HasFitEntity : Config → List SubType → IndexSpaces → Imports → Type 0
+HasFitEntity config types spaces (Compact2 from entity_type names) = IsFitBeside config types spaces entity_type
+HasFitEntity config types spaces _ = Unit {0}
 
 -- an import of a group may have this type
 abbrev pub IsOfGroup : Imports → EntityType → Type 0
 IsOfGroup (Compact2 from entity_type names) added = added ≡ entity_type
 IsOfGroup _ added = Unit {0}
 
--- imports may be added to a group
-pub record IsOpen (config : Config) (types : List SubType) (group : Imports) : Type 0 where
-  pub fit : HasFitEntity config types group
+-- imports may be added to a group beside index spaces
+pub record IsOpen (config : Config) (types : List SubType) (spaces : IndexSpaces) (group : Imports) : Type 0 where
+  pub fit : HasFitEntity config types spaces group
   pub enabled : IsImportsEnabled (features_of config) group
   pub compact : IsCompact group
 

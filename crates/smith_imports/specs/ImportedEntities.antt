@@ -1,6 +1,7 @@
 -- Which entity is imported next, beside those that are imported so far. Rules of this project.
 use Rattle.std.specs.Prelude.{ℕ, ◌+◌, Bool, true, ◌&&◌, nat_lt, nat_le, Option, Some, None, List, [], ◌∷◌, length, sum_by, if◌then◌else◌}
 use Rattle.std.specs.Option.{option_map_or}
+use Rattle.smith_types.specs.Expressions.{Context}
 use Rattle.smith_types.specs.Imports.{IndexSpaces}
 use Rattle.smith_types.specs.Sizes.{size_in}
 use Rattle.smith_types.specs.declared.composite_type.SubType.{SubType}
@@ -10,6 +11,7 @@ use Rattle.smith_types.specs.declared.entity_type.ExportKind.{ExportKind}
 use Rattle.smith_types.specs.declared.entity_type.ExportKind.TheVariants as kind
 use Rattle.smith_types.specs.declared.imports.Import.{Import}
 use Rattle.smith_config.specs.declared.config.Config.{Config}
+use Rattle.smith_config.specs.Features.{features_of}
 use Rattle.smith_draw.specs.Choices.{enabled, chosen_at}
 use Rattle.smith_draw.specs.Memories.{memtype_at}
 use Rattle.smith_draw.specs.GlobalTypes.{global_type_at}
@@ -56,13 +58,25 @@ kind_at config types spaces bytes =
     let chosen = chosen_at kind.Memory offered bytes in
     if nat_lt 0 (length offered) then (Some chosen.0, chosen.1) else (None, bytes)
 
+-- what an imported entity is drawn over: types, and the functions that are imported so far
+abbrev pub import_scope : Config → List SubType → IndexSpaces → Context
+import_scope config types spaces = record {
+  features = features_of config;
+  types = types;
+  funcs = spaces.funcs;
+  globals = [];
+  imported_funcs = length spaces.funcs;
+  imported_globals = 0;
+  visible = 0;
+}
+
 -- an entity of a kind
-unfoldable pub entity_of_kind_at : Config → List SubType → ExportKind → List ℕ → EntityType × List ℕ
-entity_of_kind_at config types kind.Tag bytes = let index = chosen_at 0 (types_for uses.Tag types) bytes in (entity.Tag index.0, index.1)
-entity_of_kind_at config types kind.Func bytes = let index = chosen_at 0 (types_for uses.ImportedFunc types) bytes in (entity.Func index.0, index.1)
-entity_of_kind_at config types kind.Global bytes = let global = global_type_at config types bytes in (entity.Global global.0, global.1)
-entity_of_kind_at config types kind.Memory bytes = let memory = memtype_at config bytes in (entity.Memory memory.0, memory.1)
-entity_of_kind_at config types kind.Table bytes = let table = table_type_at config types bytes in (entity.Table table.0, table.1)
+unfoldable pub entity_of_kind_at : Config → Context → ExportKind → List ℕ → EntityType × List ℕ
+entity_of_kind_at config context kind.Tag bytes = let index = chosen_at 0 (types_for uses.Tag context.types) bytes in (entity.Tag index.0, index.1)
+entity_of_kind_at config context kind.Func bytes = let index = chosen_at 0 (types_for uses.ImportedFunc context.types) bytes in (entity.Func index.0, index.1)
+entity_of_kind_at config context kind.Global bytes = let global = global_type_at config context bytes in (entity.Global global.0, global.1)
+entity_of_kind_at config context kind.Memory bytes = let memory = memtype_at config bytes in (entity.Memory memory.0, memory.1)
+entity_of_kind_at config context kind.Table bytes = let table = table_type_at config context bytes in (entity.Table table.0, table.1)
 
 -- what imports add to the type size: their sizes, and one more each
 abbrev pub sizes : List SubType → List Import → ℕ
@@ -77,7 +91,7 @@ unfoldable pub entity_at : Config → List SubType → IndexSpaces → ℕ → L
 entity_at config types spaces size bytes =
     let chosen = kind_at config types spaces bytes in
     option_map_or
-    (λ of_kind. let drawn = entity_of_kind_at config types of_kind chosen.1 in ((if fits config types size drawn.0 then Some drawn.0 else None), drawn.1))
+    (λ of_kind. let drawn = entity_of_kind_at config (import_scope config types spaces) of_kind chosen.1 in ((if fits config types size drawn.0 then Some drawn.0 else None), drawn.1))
     chosen.0 (None, chosen.1)
 
 -- the same entity once more, if its kind has room and it fits

@@ -1,8 +1,9 @@
 ghost use Rattle.std.specs.Prelude.{◌≡◌, ◌<◌, ◌+◌, ◌^◌, true, None, Some, IsTrue, IfOk, IfSome, if◌then◌else◌};
 ghost use Rattle.smith_types.specs.Sizes.{size_in};
 ghost use Rattle.smith_draw.specs.Drawing.{Draws};
-ghost use Rattle.smith_imports.specs.Imported.{MayImport, IsEntityFit, IsNext, MayEndAt, spaces_of};
-ghost use Rattle.smith_imports.specs.ImportedEntities.{kind_of, has_room, may_import, entity_of_kind_at, fits, entity_at, again};
+ghost use Rattle.smith_imports.specs.Imported.{MayImport, IsEntityFit, IsFitBeside, IsNext, MayEndAt, spaces_of};
+ghost use Rattle.smith_draw.specs.KeptGrounds.{AreKeptGrounds};
+ghost use Rattle.smith_imports.specs.ImportedEntities.{kind_of, has_room, may_import, import_scope, entity_of_kind_at, fits, entity_at, again};
 
 use crate::import_kinds::{draw_kind, has_room};
 use crate::import_types::ImportTypes;
@@ -10,10 +11,10 @@ use crate::imported::Imported;
 use smith_bytes::{Error, Unstructured};
 use smith_config::Config;
 use smith_draw::{
-    Entities, Spaces, arbitrary_global_type, arbitrary_memtype, arbitrary_table_type, choose,
+    Entities, KeptGrounds, Spaces, Standing, arbitrary_memtype, choose, draw_global_type,
+    draw_table_type,
 };
 use smith_types::{EntityType, ExportKind, TypeSpace};
-use std::alloc::Global;
 
 /// The kind of the entity `added`.
 pub(crate) fn kind_of(added: &EntityType) -> ExportKind
@@ -28,35 +29,50 @@ pub(crate) fn kind_of(added: &EntityType) -> ExportKind
     }
 }
 
-/// Draws an entity of the kind `kind`, which may be imported over `types`.
+/// What an entity is drawn over behind `imported`: `types`, and the functions that are imported so far, of which `grounds` keeps what
+/// they ground.
+fn standing_behind<'a>(
+    config: &'a Config,
+    types: &'a TypeSpace,
+    imported: &'a Imported,
+    grounds: &'a KeptGrounds,
+) -> Standing<'a>
+    requires { AreKeptGrounds (import_scope config.now types.now.types (spaces_of imported.now)) grounds.now }
+    ensures { result ≡ import_scope config.now types.now.types (spaces_of imported.now) }
+{
+    let funcs = imported.spaces.funcs.as_slice();
+    let entities = Entities {
+        funcs,
+        imported_funcs: funcs.len(),
+        ..Entities::none()
+    };
+    grounds.standing(config, &Spaces { types, entities })
+}
+
+/// Draws an entity of the kind `kind`, which may be imported over `types`, beside `imported`.
 #[tactic(auto, unfolding(crate::specs::ImportedEntities::entity_of_kind_at))]
 fn draw_entity_of_kind(
-    alloc: Global,
     config: &Config,
     types: &ImportTypes<'_>,
+    imported: &Imported,
+    grounds: &KeptGrounds,
     kind: ExportKind,
     u: &mut Unstructured<'_>,
 ) -> Result<EntityType, Error>
     requires may { MayImport config.now types.now }
+    requires kept { AreKeptGrounds (import_scope config.now types.now.types (spaces_of imported.now)) grounds.now }
     requires kind { may_import config.now types.now.types kind ≡ true }
-    ensures draws { Draws (entity_of_kind_at config.now types.now.types kind u.old) result u.old u.new }
+    ensures draws { Draws (entity_of_kind_at config.now (import_scope config.now types.now.types (spaces_of imported.now)) kind u.old) result u.old u.new }
     ensures kind { IfOk result (λ added. kind_of added ≡ kind) }
-    ensures fit { IfOk result (IsEntityFit config.now types.now.types) }
+    ensures fit { IfOk result (IsFitBeside config.now types.now.types (spaces_of imported.now)) }
 {
-    let spaces = Spaces {
-        types: types.space(),
-        entities: Entities::none(),
-    };
+    let standing = standing_behind(config, types.space(), imported, grounds);
     match kind {
         ExportKind::Tag => Ok(EntityType::Tag(choose(types.for_tags(), u))),
         ExportKind::Func => Ok(EntityType::Func(choose(types.for_funcs(), u))),
-        ExportKind::Global => Ok(EntityType::Global(arbitrary_global_type(
-            alloc, config, &spaces, u,
-        )?)),
+        ExportKind::Global => Ok(EntityType::Global(draw_global_type(config, &standing, u))),
         ExportKind::Memory => Ok(EntityType::Memory(arbitrary_memtype(config, u)?)),
-        ExportKind::Table => Ok(EntityType::Table(arbitrary_table_type(
-            alloc, config, &spaces, u,
-        )?)),
+        ExportKind::Table => Ok(EntityType::Table(draw_table_type(config, &standing, u))),
     }
 }
 
@@ -77,7 +93,7 @@ fn if_fits(
     imported: &Imported,
     added: EntityType,
 ) -> Option<EntityType>
-    requires fit { IsEntityFit config.now types.now.types added }
+    requires fit { IsFitBeside config.now types.now.types (spaces_of imported.now) added }
     requires room { has_room config.now (spaces_of imported.now) (kind_of added) ≡ true }
     ensures exact { result ≡ (if fits config.now types.now.types imported.now.type_size added then Some added else None) }
     ensures next { IfSome result (IsNext config.now types.now.types (spaces_of imported.now) imported.now.type_size) }
@@ -93,13 +109,14 @@ fn if_fits(
 /// Draws the entity to import behind `imported`, of a kind with room: none where no kind has room, or the entity is too large.
 #[tactic(auto, unfolding(crate::specs::ImportedEntities::entity_at))]
 pub(crate) fn draw_entity(
-    alloc: Global,
     config: &Config,
     types: &ImportTypes<'_>,
     imported: &Imported,
+    grounds: &KeptGrounds,
     u: &mut Unstructured<'_>,
 ) -> Result<Option<EntityType>, Error>
     requires may { MayImport config.now types.now }
+    requires kept { AreKeptGrounds (import_scope config.now types.now.types (spaces_of imported.now)) grounds.now }
     ensures draws { Draws (entity_at config.now types.now.types (spaces_of imported.now) imported.now.type_size u.old) result u.old u.new }
     ensures next { IfOk result (λ drawn. IfSome drawn (IsNext config.now types.now.types (spaces_of imported.now) imported.now.type_size)) }
     ensures ended { IfOk result (λ drawn. drawn ≡ None → MayEndAt config.now (spaces_of imported.now) imported.now.type_size) }
@@ -107,7 +124,7 @@ pub(crate) fn draw_entity(
     let Some(kind) = draw_kind(config, types, imported, u) else {
         return Ok(None);
     };
-    let added = draw_entity_of_kind(alloc, config, types, kind, u)?;
+    let added = draw_entity_of_kind(config, types, imported, grounds, kind, u)?;
     Ok(if_fits(config, types.space(), imported, added))
 }
 
@@ -118,7 +135,7 @@ pub(crate) fn again(
     imported: &Imported,
     added: EntityType,
 ) -> Option<EntityType>
-    requires fit { IsEntityFit config.now types.now.types added }
+    requires fit { IsFitBeside config.now types.now.types (spaces_of imported.now) added }
     ensures exact { result ≡ again config.now types.now.types (spaces_of imported.now) imported.now.type_size added }
     ensures next { IfSome result (IsNext config.now types.now.types (spaces_of imported.now) imported.now.type_size) }
     ensures ended { result ≡ None → MayEndAt config.now (spaces_of imported.now) imported.now.type_size }

@@ -1,8 +1,11 @@
 ghost use Rattle.std.specs.Prelude.{◌≡◌, ◌<◌, ◌≤◌, ◌+◌, ◌-◌, ◌++◌, true, false, None, [], length, IsTrue, IfOk, IfErr, IfSome, OnOk};
 ghost use Rattle.smith_bytes.specs.Source.{KeepsPieces};
 ghost use Rattle.smith_bytes.specs.Takes.{Takes};
-ghost use Rattle.smith_types.specs.Imports.{imports_of, flattened};
+ghost use Rattle.smith_types.specs.Imports.{IndexSpaces, imports_of, flattened};
+ghost use Rattle.smith_types.specs.IndexSpaces.{with_entity};
+ghost use Rattle.smith_config.specs.declared.config.Config.{Config as Configuration};
 ghost use Rattle.smith_draw.specs.Drawing.{Draws};
+ghost use Rattle.smith_imports.specs.ImportedEntities.{import_scope};
 ghost use Rattle.smith_imports.specs.Steps.{Gives};
 ghost use Rattle.smith_imports.specs.Imported.{
   MayImport,
@@ -19,6 +22,7 @@ ghost use Rattle.smith_imports.specs.Imported.{
   SpellsNoImport,
   spaces_of,
 };
+ghost use Rattle.smith_draw.specs.KeptGrounds.{AreKeptGrounds};
 ghost use Rattle.smith_imports.specs.Importing.{next_entity_at, fill_at, filled_at, group_of_kind_at, group_at, groups_at, imports_at};
 
 use crate::import_entities::{again, draw_entity};
@@ -28,20 +32,32 @@ use crate::import_types::ImportTypes;
 use crate::imported::Imported;
 use smith_bytes::{Count, Error, Unstructured, Why, goes_on, limited_string};
 use smith_config::Config;
+use smith_draw::KeptGrounds;
 use smith_types::{EntityType, Import, Imports, Items, Name, TypeSpace};
 use std::alloc::Global;
 
+/// Notes the import of the entity `added` among `grounds`, over `types`.
+fn note_import(types: &TypeSpace, grounds: &mut KeptGrounds, added: EntityType)
+    ensures { (config : Configuration) (spaces : IndexSpaces) → AreKeptGrounds (import_scope config types.now.types spaces) grounds.old → AreKeptGrounds (import_scope config types.now.types (with_entity spaces added)) grounds.new }
+{
+    let EntityType::Func(index) = added else {
+        return;
+    };
+    grounds.note(types, index, false);
+}
+
 /// Draws the entity that the compact group `group` imports next, or none where no entity fits beside `imported`.
 fn draw_next_entity(
-    alloc: Global,
     config: &Config,
     types: &ImportTypes<'_>,
     imported: &Imported,
+    grounds: &KeptGrounds,
     group: &Imports,
     u: &mut Unstructured<'_>,
 ) -> Result<Option<EntityType>, Error>
     requires may { MayImport config.now types.now }
-    requires ready { IsOpen config.now types.now.types group.now }
+    requires kept { AreKeptGrounds (import_scope config.now types.now.types (spaces_of imported.now)) grounds.now }
+    requires ready { IsOpen config.now types.now.types (spaces_of imported.now) group.now }
     ensures draws { Draws (next_entity_at config.now types.now.types (spaces_of imported.now) imported.now.type_size group.now u.old) result u.old u.new }
     ensures next { IfOk result (λ drawn. IfSome drawn (IsNext config.now types.now.types (spaces_of imported.now) imported.now.type_size)) }
     ensures of_group { IfOk result (λ drawn. IfSome drawn (IsOfGroup group.now)) }
@@ -54,7 +70,7 @@ fn draw_next_entity(
             imported,
             *entity_type,
         )),
-        _ => draw_entity(alloc, config, types, imported, u),
+        _ => draw_entity(config, types, imported, grounds, u),
     }
 }
 
@@ -65,16 +81,19 @@ fn fill(
     distinct: bool,
     types: &ImportTypes<'_>,
     imported: &mut Imported,
+    grounds: &mut KeptGrounds,
     group: &mut Imports,
     u: &mut Unstructured<'_>,
 ) -> Result<bool, Error>
     requires may { MayImport config.now types.now }
-    requires ready { IsOpen config.now types.now.types group.old }
+    requires kept { AreKeptGrounds (import_scope config.now types.now.types (spaces_of imported.old)) grounds.old }
+    requires ready { IsOpen config.now types.now.types (spaces_of imported.old) group.old }
     requires counts { Counts types.now.types distinct imported.old (flattened imported.old.groups ++ imports_of group.old) }
     requires fit { AreImportsFit config.now types.now.types distinct (flattened imported.old.groups ++ imports_of group.old) }
     ensures exact { IfOk result (λ goes_on. fill_at config.now types.now.types distinct (flattened imported.old.groups) (config.now.max_imports - imported.old.count) group.old u.old ≡ (goes_on, (group.new, u.new))) }
     ensures groups { OnOk result (imported.new.groups ≡ imported.old.groups) }
-    ensures ready { OnOk result (IsOpen config.now types.now.types group.new) }
+    ensures kept { OnOk result (AreKeptGrounds (import_scope config.now types.now.types (spaces_of imported.new)) grounds.new) }
+    ensures ready { OnOk result (IsOpen config.now types.now.types (spaces_of imported.new) group.new) }
     ensures counts { OnOk result (Counts types.now.types distinct imported.new (flattened imported.old.groups ++ imports_of group.new)) }
     ensures fit { OnOk result (AreImportsFit config.now types.now.types distinct (flattened imported.old.groups ++ imports_of group.new)) }
     ensures ended { IfOk result (λ goes_on. goes_on ≡ false → MayEndAt config.now (spaces_of imported.new) imported.new.type_size) }
@@ -86,11 +105,12 @@ fn fill(
         if !u.arbitrary::<bool>() {
             return Ok(true);
         }
-        let Some(added) = draw_next_entity(alloc, config, types, imported, group, u)? else {
+        let Some(added) = draw_next_entity(config, types, imported, grounds, group, u)? else {
             return Ok(false);
         };
         let name = draw_import_name(alloc, distinct, module_name(group), &mut imported.pairs, u)?;
         imported.count_entity(types.space(), added)?;
+        note_import(types.space(), grounds, added);
         push_import(group, name, added)?;
     }
     Ok(true)
@@ -104,21 +124,26 @@ fn add_filled(
     distinct: bool,
     types: &ImportTypes<'_>,
     imported: &mut Imported,
+    grounds: &mut KeptGrounds,
     mut group: Imports,
     u: &mut Unstructured<'_>,
 ) -> Result<bool, Error>
     requires may { MayImport config.now types.now }
+    requires kept { AreKeptGrounds (import_scope config.now types.now.types (spaces_of imported.old)) grounds.old }
     requires so_far { IsImported config.now types.now.types distinct imported.old }
-    requires ready { IsOpen config.now types.now.types group }
+    requires ready { IsOpen config.now types.now.types (spaces_of imported.old) group }
     requires empty { imports_of group ≡ [] }
     ensures exact { IfOk result (λ goes_on. filled_at config.now types.now.types distinct imported.old.groups group u.old ≡ (goes_on, (imported.new.groups, u.new))) }
     ensures so_far { OnOk result (IsImported config.now types.now.types distinct imported.new) }
+    ensures kept { OnOk result (AreKeptGrounds (import_scope config.now types.now.types (spaces_of imported.new)) grounds.new) }
     ensures ended { IfOk result (λ goes_on. goes_on ≡ false → MayEnd config.now imported.new.count) }
     ensures more { IfOk result (λ _. imported.old.count ≤ imported.new.count) }
     ensures memory { IfErr result (λ e. e ≡ Error.Memory) }
     ensures left { KeepsPieces u.old u.new }
 {
-    let goes_on = fill(alloc, config, distinct, types, imported, &mut group, u)?;
+    let goes_on = fill(
+        alloc, config, distinct, types, imported, grounds, &mut group, u,
+    )?;
     if has_imports(&group) {
         imported.groups.push(group)?;
     }
@@ -133,24 +158,28 @@ fn add_single(
     distinct: bool,
     types: &ImportTypes<'_>,
     imported: &mut Imported,
+    grounds: &mut KeptGrounds,
     module: Name,
     u: &mut Unstructured<'_>,
 ) -> Result<bool, Error>
     requires may { MayImport config.now types.now }
+    requires kept { AreKeptGrounds (import_scope config.now types.now.types (spaces_of imported.old)) grounds.old }
     requires so_far { IsImported config.now types.now.types distinct imported.old }
     requires room { imported.old.count < config.now.max_imports }
     ensures exact { IfOk result (λ goes_on. group_of_kind_at config.now types.now.types distinct imported.old.groups «module» GroupKind.Single u.old ≡ (goes_on, (imported.new.groups, u.new))) }
     ensures so_far { OnOk result (IsImported config.now types.now.types distinct imported.new) }
+    ensures kept { OnOk result (AreKeptGrounds (import_scope config.now types.now.types (spaces_of imported.new)) grounds.new) }
     ensures ended { IfOk result (λ goes_on. goes_on ≡ false → MayEnd config.now imported.new.count) }
     ensures advances { IfOk result (λ goes_on. goes_on ≡ true → imported.old.count + length u.new < imported.new.count + length u.old) }
     ensures memory { IfErr result (λ e. e ≡ Error.Memory) }
     ensures left { KeepsPieces u.old u.new }
 {
-    let Some(entity_type) = draw_entity(alloc, config, types, imported, u)? else {
+    let Some(entity_type) = draw_entity(config, types, imported, grounds, u)? else {
         return Ok(false);
     };
     let name = draw_import_name(alloc, distinct, &module, &mut imported.pairs, u)?;
     imported.count_entity(types.space(), entity_type)?;
+    note_import(types.space(), grounds, entity_type);
     imported.groups.push(Imports::Single(Import {
         module,
         name,
@@ -167,20 +196,23 @@ fn add_of_one_type(
     distinct: bool,
     types: &ImportTypes<'_>,
     imported: &mut Imported,
+    grounds: &mut KeptGrounds,
     module: Name,
     u: &mut Unstructured<'_>,
 ) -> Result<bool, Error>
     requires may { MayImport config.now types.now }
+    requires kept { AreKeptGrounds (import_scope config.now types.now.types (spaces_of imported.old)) grounds.old }
     requires so_far { IsImported config.now types.now.types distinct imported.old }
     requires enabled { IsTrue config.now.compact_imports_enabled }
     ensures exact { IfOk result (λ goes_on. group_of_kind_at config.now types.now.types distinct imported.old.groups «module» GroupKind.OfOneType u.old ≡ (goes_on, (imported.new.groups, u.new))) }
     ensures so_far { OnOk result (IsImported config.now types.now.types distinct imported.new) }
+    ensures kept { OnOk result (AreKeptGrounds (import_scope config.now types.now.types (spaces_of imported.new)) grounds.new) }
     ensures ended { IfOk result (λ goes_on. goes_on ≡ false → MayEnd config.now imported.new.count) }
     ensures more { IfOk result (λ _. imported.old.count ≤ imported.new.count) }
     ensures memory { IfErr result (λ e. e ≡ Error.Memory) }
     ensures left { KeepsPieces u.old u.new }
 {
-    let Some(entity_type) = draw_entity(alloc, config, types, imported, u)? else {
+    let Some(entity_type) = draw_entity(config, types, imported, grounds, u)? else {
         return Ok(false);
     };
     let group = Imports::Compact2 {
@@ -188,7 +220,7 @@ fn add_of_one_type(
         entity_type,
         names: Items::new(alloc),
     };
-    add_filled(alloc, config, distinct, types, imported, group, u)
+    add_filled(alloc, config, distinct, types, imported, grounds, group, u)
 }
 
 /// Adds a group of imports to `imported`, and gives whether imports go on.
@@ -199,13 +231,16 @@ fn add_group(
     distinct: bool,
     types: &ImportTypes<'_>,
     imported: &mut Imported,
+    grounds: &mut KeptGrounds,
     u: &mut Unstructured<'_>,
 ) -> Result<bool, Error>
     requires may { MayImport config.now types.now }
+    requires kept { AreKeptGrounds (import_scope config.now types.now.types (spaces_of imported.old)) grounds.old }
     requires so_far { IsImported config.now types.now.types distinct imported.old }
     requires room { imported.old.count < config.now.max_imports }
     ensures exact { IfOk result (λ goes_on. group_at config.now types.now.types distinct imported.old.groups u.old ≡ (goes_on, (imported.new.groups, u.new))) }
     ensures so_far { OnOk result (IsImported config.now types.now.types distinct imported.new) }
+    ensures kept { OnOk result (AreKeptGrounds (import_scope config.now types.now.types (spaces_of imported.new)) grounds.new) }
     ensures ended { IfOk result (λ goes_on. goes_on ≡ false → MayEnd config.now imported.new.count) }
     ensures advances { IfOk result (λ goes_on. goes_on ≡ true → imported.old.count + length u.new < imported.new.count + length u.old) }
     ensures memory { IfErr result (λ e. e ≡ Error.Memory) }
@@ -214,14 +249,16 @@ fn add_group(
     let kind = draw_group_kind(config, u);
     let module = Name::from_string(limited_string(alloc, 1000, u)?);
     match kind {
-        GroupKind::Single => add_single(alloc, config, distinct, types, imported, module, u),
+        GroupKind::Single => add_single(
+            alloc, config, distinct, types, imported, grounds, module, u,
+        ),
         GroupKind::OfOneModule => {
             let items = Items::new(alloc);
             let group = Imports::Compact1 { module, items };
-            add_filled(alloc, config, distinct, types, imported, group, u)
+            add_filled(alloc, config, distinct, types, imported, grounds, group, u)
         }
         GroupKind::OfOneType => add_of_one_type(
-            alloc, config, distinct, types, imported, module, u,
+            alloc, config, distinct, types, imported, grounds, module, u,
         ),
     }
 }
@@ -233,12 +270,15 @@ fn add_groups(
     distinct: bool,
     types: &ImportTypes<'_>,
     imported: &mut Imported,
+    grounds: &mut KeptGrounds,
     u: &mut Unstructured<'_>,
 ) -> Result<(), Error>
     requires may { MayImport config.now types.now }
+    requires kept { AreKeptGrounds (import_scope config.now types.now.types (spaces_of imported.old)) grounds.old }
     requires so_far { IsImported config.now types.now.types distinct imported.old }
     ensures exact { OnOk result (groups_at config.now types.now.types distinct (config.now.max_imports + length u.old + 1) imported.old.groups u.old ≡ (imported.new.groups, u.new)) }
     ensures so_far { OnOk result (IsImported config.now types.now.types distinct imported.new) }
+    ensures kept { OnOk result (AreKeptGrounds (import_scope config.now types.now.types (spaces_of imported.new)) grounds.new) }
     ensures least { OnOk result (imported.new.count < config.now.min_imports → MayEnd config.now imported.new.count) }
     ensures memory { IfErr result (λ e. e ≡ Error.Memory) }
     ensures left { KeepsPieces u.old u.new }
@@ -247,7 +287,7 @@ fn add_groups(
         if !goes_on(u, imported.count, config.min_imports) {
             return Ok(());
         }
-        if !add_group(alloc, config, distinct, types, imported, u)? {
+        if !add_group(alloc, config, distinct, types, imported, grounds, u)? {
             return Ok(());
         }
     }
@@ -264,6 +304,7 @@ fn add_all_groups(
     u: &mut Unstructured<'_>,
 ) -> Result<(), Error>
     requires may { MayImport config.now types.now }
+    requires none { HasNoImports imported.old }
     requires so_far { IsImported config.now types.now.types distinct imported.old }
     ensures exact { OnOk result (groups_at config.now types.now.types distinct (config.now.max_imports + length u.old + 1) imported.old.groups u.old ≡ (imported.new.groups, u.new)) }
     ensures so_far { OnOk result (IsImported config.now types.now.types distinct imported.new) }
@@ -274,8 +315,10 @@ fn add_all_groups(
     if config.max_imports == 0 {
         return Ok(());
     }
+    let mut grounds = KeptGrounds::new();
+    grounds.begin(alloc, config, types)?;
     let types = ImportTypes::new(alloc, types)?;
-    add_groups(alloc, config, distinct, &types, imported, u)
+    add_groups(alloc, config, distinct, &types, imported, &mut grounds, u)
 }
 
 /// Draws imports into `imported`, which has none, and refuses fewer than `config` asks for.

@@ -107,6 +107,7 @@ proposals =
     ∷ (codes "wide-arithmetic-enabled", λ config b. record config { wide_arithmetic_enabled = b })
     ∷ (codes "acquire-release-atomics-enabled", λ config b. record config { acquire_release_atomics_enabled = b })
     ∷ (codes "multibyte-array-access-enabled", λ config b. record config { multibyte_array_access_enabled = b })
+    ∷ (codes "non-nullable-enabled", λ config b. record config { non_nullable_enabled = b })
     ∷ []
 
 -- flags of further rules

@@ -125,6 +125,7 @@ pub(crate) fn proposal<'a>(config: &'a mut Config, name: &str) -> Option<&'a mut
         "wide-arithmetic-enabled" => Some(&mut config.wide_arithmetic_enabled),
         "acquire-release-atomics-enabled" => Some(&mut config.acquire_release_atomics_enabled),
         "multibyte-array-access-enabled" => Some(&mut config.multibyte_array_access_enabled),
+        "non-nullable-enabled" => Some(&mut config.non_nullable_enabled),
         _ => None,
     }
 }

@@ -49,7 +49,7 @@ impl Field {
 }
 
 /// Every field, in the order of `Config`.
-pub static FIELDS: [Field; 70] = [
+pub static FIELDS: [Field; 71] = [
     Field {
         name: "min-types",
         kind: FieldKind::Whole(64),
@@ -218,7 +218,7 @@ pub static FIELDS: [Field; 70] = [
     Field {
         name: "disallow-traps",
         kind: FieldKind::Flag,
-        about: "Whether active segments stay inside their tables and memories, so that none of them traps. A start function may trap.",
+        about: "Whether active segments stay inside their tables and memories, so that none of them traps. A start function still may.",
     },
     Field {
         name: "allow-invalid-funcs",
@@ -324,6 +324,11 @@ pub static FIELDS: [Field; 70] = [
         name: "multibyte-array-access-enabled",
         kind: FieldKind::Flag,
         about: "Accesses to several bytes of an array.",
+    },
+    Field {
+        name: "non-nullable-enabled",
+        kind: FieldKind::Flag,
+        about: "References that aren't nullable, to what a struct or a function that exists gives without operands.",
     },
     Field {
         name: "allowed-instructions",

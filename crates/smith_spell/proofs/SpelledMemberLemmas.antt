@@ -1,8 +1,9 @@
 -- What a spelling of types and functions says of its bytes: the groups that are drawn from them, and what is left behind these.
-use Rattle.std.proofs.Common.{◌≡◌, ℕ, ◌+◌, ◌*◌, ◌^◌, Bool, true, false, List, [], length, ap, sym, subst, ◌∙◌}
+use Rattle.std.proofs.Common.{◌≡◌, ℕ, ◌+◌, ◌*◌, ◌^◌, Bool, true, false, List, [], length, refl, ap, sym, subst, ◌∙◌}
 use Rattle.std.specs.Prelude.{fold, if◌then◌else◌}
 use Rattle.std.proofs.Math.Dec.{T, eqb, eqb_refl}
 use Rattle.smith_bytes.specs.Spelling.{Joined, SpellsAnyByte, SpellsNone}
+use Rattle.smith_types.specs.Expressions.{Context}
 use Rattle.smith_types.specs.Space.{Space}
 use Rattle.smith_types.specs.declared.value_type.HeapType.{HeapType}
 use Rattle.smith_types.specs.declared.value_type.HeapType.TheVariants.{Abstract, Concrete, Exact}
@@ -15,6 +16,7 @@ use Rattle.smith_types.specs.declared.composite_type.CompositeInnerType.{Composi
 use Rattle.smith_types.specs.declared.composite_type.CompositeInnerType.TheVariants.{Array, Func, Struct}
 use Rattle.smith_types.specs.declared.composite_type.SubType.{SubType}
 use Rattle.smith_config.specs.declared.config.Config.{Config}
+use Rattle.smith_config.specs.Features.{features_of}
 use Rattle.smith_config.specs.Sanitized.{IsSanitized}
 use Rattle.smith_config.specs.Shapes.{space_of}
 use Rattle.smith_draw.specs.RecGroups.{types_at}
@@ -26,13 +28,17 @@ use Rattle.smith_spell.specs.Spelling.{SpellsMember, SpellsNoTag, SpellsFuncs}
 abbrev pub SpellsBehindGroups : Config → List SubType → List ℕ → List ℕ → Type 0
 SpellsBehindGroups config types funcs = Joined (SpellsNone config.max_imports) (Joined SpellsAnyByte (Joined (SpellsNoTag config types) (SpellsFuncs config types funcs)))
 
-pub member_read : (config : Config) (groups : List (List SubType)) (funcs bytes left : List ℕ) (space : Space) → IsSanitized config → config.min_types ≡ 0 → GroupsFit config.max_types [] groups
-    → types_at config (space_of []) bytes ≡ (space, left) → SpellsMember config groups funcs bytes
+-- no functions stand
+abbrev pub no_functions : Config → Context
+no_functions config = record { features = features_of config; types = []; funcs = []; globals = []; imported_funcs = 0; imported_globals = 0; visible = 0 }
+
+pub member_read : (config : Config) (groups : List (List SubType)) (funcs bytes left : List ℕ) (space : Space) → IsSanitized config → config.min_types ≡ 0 → GroupsFit config [] groups
+    → types_at config (no_functions config) (space_of []) bytes ≡ (space, left) → SpellsMember config groups funcs bytes
     → (space ≡ space_of groups) × SpellsBehindGroups config (space_of groups).types funcs left
 unfolding SpellsMember
 member_read config groups funcs bytes left space sanitized least fit drawn h =
-    let read = types_read config groups h.first h.second sanitized least fit h.is_first in
-    let same : (space, left) ≡ (space_of groups, h.second) = sym drawn ∙ (ap (λ piece. types_at config (space_of []) piece) h.whole ∙ read) in
+    let read = types_read config (no_functions config) refl groups h.first h.second sanitized least fit h.is_first in
+    let same : (space, left) ≡ (space_of groups, h.second) = sym drawn ∙ (ap (λ piece. types_at config (no_functions config) (space_of []) piece) h.whole ∙ read) in
     let behind : left ≡ h.second = ap (λ pair. pair.1) same in
     (ap (λ pair. pair.0) same, subst (SpellsBehindGroups config (space_of groups).types funcs) (sym behind) h.is_second)
 
@@ -48,7 +54,7 @@ value_number I64 = 1
 value_number F32 = 2
 value_number F64 = 3
 value_number V128 = 4
-value_number (Ref reference) = 5 + heap_number reference.heap_type
+value_number (Ref reference) = 5 + 2 * heap_number reference.heap_type + (if reference.nullable then 1 else 0)
 
 abbrev storage_number : StorageType → ℕ
 storage_number I8 = 0

@@ -1,1 +1,2 @@
 pub mod TypeExamples
+pub mod GroundExamples

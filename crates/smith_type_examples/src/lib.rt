@@ -8,6 +8,7 @@ mod exports;
 mod expressions;
 mod features;
 mod flags;
+mod grounded;
 mod grouped_types;
 mod grown;
 mod imports;

@@ -17,7 +17,7 @@ abbrev pub no_family : Family
 no_family = record { count = 0; last = 0; previous = 0 }
 
 -- what stands in a list after an item was replaced
-slice_get-set : {A : Type 0} (xs : List A) (j : ℕ) (y : A) (i : ℕ) (x : A) → slice_get (set xs j y) i ≡ Some x → ((i ≡ j) × (y ≡ x)) ⊎ ((i ≡ j → ⊥) × (slice_get xs i ≡ Some x))
+pub slice_get-set : {A : Type 0} (xs : List A) (j : ℕ) (y : A) (i : ℕ) (x : A) → slice_get (set xs j y) i ≡ Some x → ((i ≡ j) × (y ≡ x)) ⊎ ((i ≡ j → ⊥) × (slice_get xs i ≡ Some x))
 slice_get-set [] j y i x at = inr (λ same. cc, at)
 slice_get-set (z ∷ xs) zero y zero x at = inl (refl, same_Some y x at)
 slice_get-set (z ∷ xs) zero y (suc i) x at = inr (λ same. omega (arith, same), at)

@@ -9,6 +9,7 @@ pub mod GroupsAddedLemmas
 pub mod StandingEntityLemmas
 pub mod ImportedSpaceLemmas
 pub mod PathLemmas
+pub mod RangeLemmas
 pub mod SpaceLemmas
 pub mod ValidityLemmas
 pub mod GroupGrowthLemmas
@@ -16,6 +17,11 @@ pub mod WalkLemmas
 pub mod KindCountLemmas
 pub mod PlaceLemmas
 pub mod FamilyLemmas
+pub mod MarkLemmas
+pub mod GroundLemmas
+pub mod GroundedLemmas
+pub mod FuncGroundLemmas
+pub mod GroundGrowthLemmas
 pub mod FeatureBitLemmas
 pub mod PartLemmas
 pub mod KindLemmas

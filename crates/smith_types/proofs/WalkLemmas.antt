@@ -60,7 +60,7 @@ bottoms_of_kind : (x y : CompositeInnerType) → kind_of x ≡ kind_of y → bot
 bottoms_of_kind x y same = search rules
 
 -- what is reached from a type stands, and is like it
-alike_along : (types : List SubType) → IsOrderly types → (i j : ℕ) (t : SubType) → Reaches types i j → slice_get types i ≡ Some t → (u : SubType) × (slice_get types j ≡ Some u) × (kind t ≡ kind u) × (shared t ≡ shared u)
+pub alike_along : (types : List SubType) → IsOrderly types → (i j : ℕ) (t : SubType) → Reaches types i j → slice_get types i ≡ Some t → (u : SubType) × (slice_get types j ≡ Some u) × (kind t ≡ kind u) × (shared t ≡ shared u)
 alike_along types orderly i j t here at = (t, at, refl, refl)
 alike_along types orderly i j t (up {s = s} {t = v} at' sup reach) at =
     let (before, alike) = orderly.under i s v at' sup in
@@ -127,11 +127,11 @@ pub by_cases_from_below : (types : List SubType) → IsOrderly types → (a b : 
 by_cases_from_below types o a b itself = by_cases_itself types a
 by_cases_from_below types o a c (by_step {b = b} step below) = by_cases_step types o a b c step (by_cases_from_below types o b c below)
 
-path_along : (types : List SubType) {i j : ℕ} → Reaches types i j → IsBelow types (Concrete i) (Concrete j)
+pub path_along : (types : List SubType) {i j : ℕ} → Reaches types i j → IsBelow types (Concrete i) (Concrete j)
 path_along types here = itself
 path_along types (up {i = i} {s = s} {t = t} at sup reach) = IsBelow-trans types (below_declared types i s t at sup) (path_along types reach)
 
-path_under : (types : List SubType) (i : ℕ) (r : Bool) (b : AbstractHeapType) → IsUnder types i r b → IsBelow types (Concrete i) (Abstract r b)
+pub path_under : (types : List SubType) (i : ℕ) (r : Bool) (b : AbstractHeapType) → IsUnder types i r b → IsBelow types (Concrete i) (Abstract r b)
 path_under types i r b (t, at, shares, below) = subst (λ q. IsBelow types (Concrete i) (Abstract q b)) shares (IsBelow-trans types (below_kind types i t at) (below_abstract types (shared t) (kind t) b below))
 
 -- the cases, as a path

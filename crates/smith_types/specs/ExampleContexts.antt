@@ -29,3 +29,15 @@ context_with features visible = record {
   imported_globals = 2;
   visible = visible;
 }
+
+-- a context of these types and functions, of which those below `imported` are imported, without globals
+abbrev pub context_of : Features → List SubType → List ℕ → ℕ → Context
+context_of features types funcs imported = record {
+  features = features;
+  types = types;
+  funcs = funcs;
+  globals = [];
+  imported_funcs = imported;
+  imported_globals = 0;
+  visible = 0;
+}

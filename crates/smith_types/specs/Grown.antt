@@ -23,6 +23,14 @@ pub record IsContextGrown (old new : Context) : Type 0 where
   pub imported_globals : new.imported_globals ≡ old.imported_globals
   pub visible : old.visible ≤ new.visible
 
+-- a context in which all functions are imported, with more types and imported functions at their ends, and the same features
+pub record AreImportsGrown (old new : Context) : Type 0 where
+  pub features : new.features ≡ old.features
+  pub types : Extends old.types new.types
+  pub funcs : Extends old.funcs new.funcs
+  pub imported : old.imported_funcs ≡ length old.funcs
+  pub still_imported : new.imported_funcs ≡ length new.funcs
+
 -- index spaces with more of each kind at their ends
 pub record AreSpacesGrown (old new : IndexSpaces) : Type 0 where
   pub tags : Extends old.tags new.tags

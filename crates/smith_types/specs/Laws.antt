@@ -16,7 +16,8 @@ use Rattle.smith_types.specs.Entities.{IsTableValid, IsGlobalValid, IsTagValid, 
 use Rattle.smith_types.specs.Expressions.{Context, HasType, IsStackStep, AreStackSteps, IsConstExpr}
 use Rattle.smith_types.specs.Segments.{IsElementValid, IsDataValid}
 use Rattle.smith_types.specs.Exports.{IsEntityAt, AreExportsValid, IsStartValid}
-use Rattle.smith_types.specs.Grown.{IsContextGrown, AreSpacesGrown, AreGroupsAdded}
+use Rattle.smith_types.specs.Grounded.{IsGrounded}
+use Rattle.smith_types.specs.Grown.{IsContextGrown, AreImportsGrown, AreSpacesGrown, AreGroupsAdded}
 use Rattle.smith_types.specs.declared.entity_type.EntityType.{EntityType}
 use Rattle.smith_types.specs.declared.entity_type.ExportKind.{ExportKind}
 use Rattle.smith_types.specs.declared.entity_type.GlobalType.{GlobalType}
@@ -75,6 +76,11 @@ pub record ValidExpressionsSurviveGrowth : Type 0 where
   pub step : (old new : Context) (instruction : ConstInstr) (before after : List ValType) → IsContextGrown old new → IsStackStep old instruction before after → IsStackStep new instruction before after
   pub steps : (old new : Context) (instructions : List ConstInstr) (before after : List ValType) → IsContextGrown old new → AreStackSteps old instructions before after → AreStackSteps new instructions before after
   pub expression : (old new : Context) (wanted : ValType) (instructions : List ConstInstr) → IsContextGrown old new → IsConstExpr old wanted instructions → IsConstExpr new wanted instructions
+
+-- what is grounded in a context is so in a grown one, and where more functions are imported
+pub record GroundedSurvivesGrowth : Type 0 where
+  pub context : (old new : Context) (heap_type : HeapType) → IsContextGrown old new → IsGrounded old heap_type → IsGrounded new heap_type
+  pub imports : (old new : Context) (heap_type : HeapType) → AreImportsGrown old new → IsGrounded old heap_type → IsGrounded new heap_type
 
 -- a valid segment is valid in a grown context, with more tables or memories
 pub record ValidSegmentsSurviveGrowth : Type 0 where

@@ -19,6 +19,9 @@ pub mod OpenTypes
 pub mod Entities
 pub mod Sizes
 pub mod Expressions
+pub mod Grounded
+pub mod Grounds
+pub mod FuncGrounds
 pub mod Segments
 pub mod Exports
 pub mod Decided

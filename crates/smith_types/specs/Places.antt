@@ -1,7 +1,9 @@
 -- What a type space keeps of each type beside it: its depth, the counts up to it, and its row, a part of one table of rows. A row
 -- has the types on the way up by their depth, the type itself left out.
-use Rattle.std.specs.Prelude.{◌≡◌, ℕ, suc, ◌+◌, ◌<◌, ◌≤◌, List, [], ◌∷◌, ◌++◌, Some, length, map, take, slice_get, slice_index}
+use Rattle.std.specs.Prelude.{◌≡◌, ℕ, suc, ◌+◌, ◌<◌, ◌≤◌, List, [], ◌∷◌, ◌++◌, Some, length, map, take, slice_get, slice_index, Vec, vec_len, vec_capacity}
 use Rattle.smith_types.specs.declared.composite_type.SubType.{SubType}
+use Rattle.std.specs.declared.alloc.Global.{Global}
+use Rattle.smith_types.specs.declared.ground.Ground.{Ground}
 use Rattle.smith_types.specs.declared.place.Place.{Place}
 use Rattle.smith_types.specs.declared.value_type.HeapType.TheVariants.{Concrete}
 use Rattle.smith_types.specs.Space.{HasDepth}
@@ -48,3 +50,10 @@ pub record IsLonger (table longer : List ℕ) : Type 0 where
 pub record IsRowAtEnd (table : List ℕ) (above : Place) (ended : List ℕ) (start : ℕ) : Type 0 where
   pub ends : start + above.depth ≡ length ended + 1
   pub same : (k : ℕ) → suc k < above.depth → slice_index ended (start + k) ≡ slice_index table (above.start + k)
+
+-- lists with an entry for each type: as long as the list of types, and with room for as many
+pub record AreBeside (types : Vec SubType Global) (places : Vec Place Global) (grounds : Vec Ground Global) : Type 0 where
+  pub places_long : vec_len places ≡ vec_len types
+  pub grounds_long : vec_len grounds ≡ vec_len types
+  pub places_room : vec_capacity types ≤ vec_capacity places
+  pub grounds_room : vec_capacity types ≤ vec_capacity grounds

@@ -8,6 +8,7 @@ ghost use Rattle.smith_types.specs.Laws.{
   ValidTypesSurviveGrowth,
   ValidEntitiesSurviveGrowth,
   ValidExpressionsSurviveGrowth,
+  GroundedSurvivesGrowth,
   ValidSegmentsSurviveGrowth,
   ValidExportsSurviveGrowth,
 };
@@ -56,6 +57,12 @@ pub fn valid_entities_survive_growth()
 /// visible.
 pub fn valid_expressions_survive_growth()
     ensures { ValidExpressionsSurviveGrowth }
+{}
+
+/// States that a grounded heap type stays grounded when types and functions are added: defined functions, or imported ones as long
+/// as none is defined.
+pub fn grounded_survives_growth()
+    ensures { GroundedSurvivesGrowth }
 {}
 
 /// States that a valid segment stays valid when types, functions, globals, tables and memories are added.

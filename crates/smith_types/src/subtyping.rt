@@ -87,7 +87,7 @@ fn is_bottom_of(ty: &SubType, is_shared: bool, lower: AbstractHeapType) -> bool
 }
 
 // Whether the abstract type `a` is below `b`, where both are shared or neither.
-fn abstract_type_is_below(a: AbstractHeapType, b: AbstractHeapType) -> bool
+pub(crate) fn abstract_type_is_below(a: AbstractHeapType, b: AbstractHeapType) -> bool
     ensures { result ≡ is_abstract_below a b }
 {
     use AbstractHeapType::{

@@ -17,6 +17,8 @@ ghost use Rattle.std.specs.Prelude.{
   OnOk,
   OnErr,
   slice_get,
+  vec_len,
+  vec_capacity,
   not,
   ◌&&◌,
   nat_lt,
@@ -25,8 +27,9 @@ ghost use Rattle.std.specs.Prelude.{
 ghost use Rattle.std.specs.declared.ops.Range.{Range};
 ghost use Rattle.smith_types.specs.Types.{IsAlike, IsOrderly, next_start, next_group};
 ghost use Rattle.smith_types.specs.Space.{AreExtensible, HasDepth, MayFollow, extensible_from};
-ghost use Rattle.smith_types.specs.Places.{ArePlaces, IsLonger, depths_in};
+ghost use Rattle.smith_types.specs.Places.{IsPlace, ArePlaces, AreBeside, IsLonger, depths_in};
 ghost use Rattle.smith_types.specs.Families.{direct_subtypes, AreFamilies};
+ghost use Rattle.smith_types.specs.Grounded.{IsGroundedBy, IsGroundedByStructs};
 ghost use Rattle.smith_types.specs.KindCounts.{indices_of_kind};
 ghost use Rattle.smith_types.specs.Sizes.{value_count};
 ghost use Rattle.smith_types.specs.Matching.{IsCompositeMatch, IsInnerInRange};
@@ -36,9 +39,12 @@ ghost use Rattle.smith_types.specs.Subtyping.{IsBelow, IsRefBelow, IsValBelow, I
 use crate::composite_type::{CompositeInnerType, CompositeType, SubType};
 use crate::entity_type::EntityType;
 use crate::family::{Family, extend_families, join_family};
+use crate::ground::{Ground, GroundKinds, is_ground, is_kept_ground, join_grounds, no_grounds};
 use crate::matching::composite_type_is_match;
 use crate::place::{Place, last_counts, push_row};
-use crate::subtyping::{heap_type_is_below, ref_type_is_below, val_type_is_below};
+use crate::subtyping::{
+    abstract_type_is_below, heap_type_is_below, ref_type_is_below, val_type_is_below,
+};
 use crate::value_type::{AbstractHeapType, HeapType, RefType, ValType};
 use smith_bytes::Error;
 use std::alloc::Global;
@@ -48,6 +54,9 @@ use std::ops::Range;
 
 // The depth from which on a type is left out of those that may have subtypes.
 const DEPTH_LIMIT: u32 = 60;
+
+// The number of types that the lists first have room for.
+const LEAST_ROOM: usize = 4;
 
 /// The types of a module in the order of their indices, and the recursive groups that they were added in.
 /// Types are only added: the type of an index stays the same.
@@ -60,14 +69,20 @@ pub struct TypeSpace {
     // The families of the first types: at least up to the last type that has a supertype.
     families: Vec<Family>,
     extensible: Vec<u32>,
+    // Whether what the types ground is kept.
+    keeps_grounds: bool,
+    // What the types ground, where it is kept.
+    grounds: Vec<Ground>,
+    ground_kinds: GroundKinds,
     groups: Vec<Range<usize>>,
 }
 
 impl Model for TypeSpace {
-    ghost use Rattle.std.specs.Prelude.{◌≡◌};
+    ghost use Rattle.std.specs.Prelude.{◌≡◌, true};
     ghost use Rattle.smith_types.specs.Space.{Space, IsSound, extensible_from};
-    ghost use Rattle.smith_types.specs.Places.{ArePlaces, depths_in};
+    ghost use Rattle.smith_types.specs.Places.{ArePlaces, AreBeside, depths_in};
     ghost use Rattle.smith_types.specs.Families.{AreFamilies};
+    ghost use Rattle.smith_types.specs.Grounds.{AreGrounds, AreGroundKinds};
 
     ghost Value = { Space };
 
@@ -76,7 +91,10 @@ impl Model for TypeSpace {
     ghost invariant = { λ a. IsSound (record { types = a.types.items; groups = a.groups.items })
         × ArePlaces a.types.items a.rows.items a.places.items
         × (a.extensible.items ≡ extensible_from 0 a.types.items (depths_in a.places.items))
-        × AreFamilies a.types.items a.families.items };
+        × AreFamilies a.types.items a.families.items
+        × (a.keeps_grounds ≡ true → AreGrounds a.types.items a.grounds.items)
+        × (a.keeps_grounds ≡ true → AreGroundKinds a.types.items a.ground_kinds)
+        × AreBeside a.types a.places a.grounds };
 }
 
 /// Prints the types and the groups.
@@ -105,6 +123,9 @@ impl TypeSpace {
             rows: Vec::new(alloc),
             families: Vec::new(alloc),
             extensible: Vec::new(alloc),
+            keeps_grounds: true,
+            grounds: Vec::new(alloc),
+            ground_kinds: no_grounds(),
             groups: Vec::new(alloc),
         }
     }
@@ -121,8 +142,20 @@ impl TypeSpace {
             rows: Vec::new(alloc),
             families: Vec::new(alloc),
             extensible: Vec::new(alloc),
+            keeps_grounds: true,
+            grounds: Vec::with_capacity(alloc, types)?,
+            ground_kinds: no_grounds(),
             groups: Vec::with_capacity(alloc, types)?,
         })
+    }
+
+    /// Stops keeping what the types ground, which takes a look at the fields of each struct type that is added.
+    ///
+    /// [`TypeSpace::is_grounded_by_structs`] then looks for a type that grounds among all of them.
+    pub fn keep_no_grounds(&mut self)
+        ensures { self.new ≡ self.old }
+    {
+        self.keeps_grounds = false;
     }
 
     /// The types, in the order of their indices.
@@ -222,6 +255,55 @@ impl TypeSpace {
         found
     }
 
+    /// Whether creation of a struct whose fields all have defaults pushes a reference below the heap type `ty`, where with
+    /// `descriptors` creation pushes exact references. The type that `ty` names exists.
+    pub fn is_grounded_by_structs(&self, ty: HeapType, descriptors: bool) -> bool
+        requires { IsInRange self.now.types ty }
+        ensures { IsTrue result ↔ IsGroundedByStructs self.now.types descriptors ty }
+    {
+        if !self.keeps_grounds {
+            return self.finds_ground(ty, descriptors);
+        }
+        match ty {
+            HeapType::Abstract { shared, ty } => {
+                self.ground_kinds.has(shared)
+                    && abstract_type_is_below(AbstractHeapType::Struct, ty)
+            }
+            HeapType::Concrete(index) => self.grounds[index as usize].below,
+            HeapType::Exact(index) => descriptors && self.grounds[index as usize].own,
+        }
+    }
+
+    // Looks for a type that grounds the heap type `ty`.
+    fn finds_ground(&self, ty: HeapType, descriptors: bool) -> bool
+        requires { IsInRange self.now.types ty }
+        ensures { IsTrue result ↔ IsGroundedByStructs self.now.types descriptors ty }
+    {
+        for index in 0..self.types.len() {
+            let grounds = self.is_grounded_by(index, ty, descriptors);
+            if grounds {
+                return true;
+            }
+        }
+        false
+    }
+
+    // Whether the type of the index `index`, which exists, grounds the heap type `ty`.
+    fn is_grounded_by(&self, index: usize, ty: HeapType, descriptors: bool) -> bool
+        requires stands { index < length self.now.types }
+        requires range { IsInRange self.now.types ty }
+        ensures { IsTrue result ↔ IsGroundedBy self.now.types descriptors ty index }
+    {
+        if !is_ground(&self.types[index]) {
+            return false;
+        }
+        let index = index as u32;
+        if descriptors {
+            return self.heap_type_is_sub_type(HeapType::Exact(index), ty);
+        }
+        self.heap_type_is_sub_type(HeapType::Concrete(index), ty)
+    }
+
     // Whether the type `from` is the type `to`, or `to` is on the way up from `from`: then `to` is in the row of `from` at its depth.
     pub(crate) fn reaches(&self, from: u32, to: u32) -> bool
         requires lower { from < length self.now.types }
@@ -265,22 +347,25 @@ impl TypeSpace {
         ensures err { OnErr result (self.new ≡ self.old) }
         ensures memory { IfErr result (λ e. e ≡ Error.Memory) }
     {
-        let count = self.types.len();
-        self.types.push(added)?;
-        if push_place(
-            &self.types[..count],
-            &self.types[count],
-            &mut self.places,
+        make_room(1, &mut self.types, &mut self.places, &mut self.grounds)?;
+        let types = self.types.as_slice();
+        let index = types.len() as u32;
+        let place = make_place(
+            types,
+            &added,
+            self.places.as_slice(),
+            self.types.capacity(),
             &mut self.rows,
-            &mut self.extensible,
             &mut self.families,
-        )
-        .is_err()
-        {
-            self.types.pop();
-            return Err(Error::Memory);
-        }
-        Ok(count as u32)
+            &mut self.extensible,
+        )?;
+        self.places.push_reserved(place);
+        join_family(types, &added, &mut self.families);
+        let own = is_kept_ground(self.keeps_grounds, &added);
+        join_grounds(types, &added, own, &mut self.grounds);
+        self.ground_kinds = self.ground_kinds.with(own, added.composite_type.shared);
+        self.types.push_reserved(added);
+        Ok(index)
     }
 
     /// Makes room for `additional` more types, so that adding that number moves no type. No type is added.
@@ -289,8 +374,12 @@ impl TypeSpace {
         ensures memory { IfErr result (λ e. e ≡ Error.Memory) }
     {
         self.extensible.reserve(additional)?;
-        self.places.reserve(additional)?;
-        Ok(self.types.reserve(additional)?)
+        make_room(
+            additional,
+            &mut self.types,
+            &mut self.places,
+            &mut self.grounds,
+        )
     }
 
     /// Adds a group, maybe empty, of the types behind the last group.
@@ -363,44 +452,66 @@ impl TypeSpace {
     }
 }
 
-// Adds the place of the type `added`, the next one after `types`, with its row, and its index where it may have subtypes. After
-// want of memory `places` and `extensible` are unchanged, and `rows` and `families` may be longer.
-fn push_place(
+// Makes room for `additional` more types in each of `types`, `places` and `grounds`, which grow together.
+fn make_room(
+    additional: usize,
+    types: &mut Vec<SubType>,
+    places: &mut Vec<Place>,
+    grounds: &mut Vec<Ground>,
+) -> Result<(), Error>
+    requires { AreBeside types.old places.old grounds.old }
+    ensures beside { AreBeside types.new places.new grounds.new }
+    ensures types { types.new.items ≡ types.old.items }
+    ensures places { places.new.items ≡ places.old.items }
+    ensures grounds { grounds.new.items ≡ grounds.old.items }
+    ensures room { OnOk result (vec_len types.new + additional ≤ vec_capacity types.new) }
+    ensures memory { IfErr result (λ e. e ≡ Error.Memory) }
+{
+    if additional <= types.capacity() - types.len() {
+        return Ok(());
+    }
+    let more = additional.max(types.len()).max(LEAST_ROOM);
+    places.reserve_exact(more)?;
+    grounds.reserve_exact(more)?;
+    Ok(types.reserve_exact(more)?)
+}
+
+// Makes the place of the type `added`, the next one after `types`, with its row in `rows` and room in `families`, which are first made for
+// `room` types, and adds its index to `extensible` where it may have subtypes. After want of memory `extensible` is unchanged, and
+// `rows` and `families` may be longer.
+fn make_place(
     types: &[SubType],
     added: &SubType,
-    places: &mut Vec<Place>,
+    places: &[Place],
+    room: usize,
     rows: &mut Vec<u32>,
-    extensible: &mut Vec<u32>,
     families: &mut Vec<Family>,
-) -> Result<(), Error>
+    extensible: &mut Vec<u32>,
+) -> Result<Place, Error>
     requires orderly { IsOrderly types.now }
     requires follows { MayFollow types.now added.now }
-    requires places { ArePlaces types.now rows.old.items places.old.items }
-    requires extensible { extensible.old.items ≡ extensible_from 0 types.now (depths_in places.old.items) }
+    requires places { ArePlaces types.now rows.old.items places.now }
+    requires extensible { extensible.old.items ≡ extensible_from 0 types.now (depths_in places.now) }
     requires families { AreFamilies types.now families.old.items }
-    ensures places { OnOk result (ArePlaces (types.now ++ added.now ∷ []) rows.new.items places.new.items) }
-    ensures extensible { OnOk result (extensible.new.items ≡ extensible_from 0 (types.now ++ added.now ∷ []) (depths_in places.new.items)) }
-    ensures families { OnOk result (AreFamilies (types.now ++ added.now ∷ []) families.new.items) }
+    ensures place { IfOk result (λ place. IsPlace (types.now ++ added.now ∷ []) rows.new.items (length types.now) place) }
+    ensures extensible { IfOk result (λ place. extensible.new.items ≡ extensible_from 0 (types.now ++ added.now ∷ []) (depths_in (places.now ++ place ∷ []))) }
+    ensures families { AreFamilies types.now families.new.items }
+    ensures family_room { OnOk result ((supertype : ℕ) → added.now.supertype ≡ Some supertype → length types.now < length families.new.items) }
     ensures rows { IsLonger rows.old.items rows.new.items }
-    ensures err { OnErr result ((places.new.items ≡ places.old.items) × (extensible.new.items ≡ extensible.old.items)) }
-    ensures known { OnErr result (AreFamilies types.now families.new.items) }
+    ensures err { OnErr result (extensible.new.items ≡ extensible.old.items) }
+    ensures memory { IfErr result (λ e. e ≡ Error.Memory) }
 {
-    make_room(added, places.capacity(), rows, families)?;
+    reserve_rows(added, room, rows, families)?;
     extend_families(types, added, families)?;
-    let place = push_row(types, places.as_slice(), rows, added)?;
+    let place = push_row(types, places, rows, added)?;
     let is_extensible = may_have_subtypes(added, place.depth);
-    places.push(place)?;
-    if push_where(is_extensible, extensible, types.len() as u32).is_err() {
-        places.pop();
-        return Err(Error::Memory);
-    }
-    join_family(types, added, families);
-    Ok(())
+    push_where(is_extensible, extensible, types.len() as u32)?;
+    Ok(place)
 }
 
 // Makes room for `count` entries in each of `rows` and `families` that has none yet, where the type `added` has a supertype: a space
 // without supertypes takes no memory for them.
-fn make_room(
+fn reserve_rows(
     added: &SubType,
     count: usize,
     rows: &mut Vec<u32>,
@@ -433,6 +544,7 @@ fn may_have_subtypes(ty: &SubType, depth: u32) -> bool
 fn push_where(wanted: bool, indices: &mut Vec<u32>, index: u32) -> Result<(), Error>
     ensures ok { OnOk result (indices.new.items ≡ indices.old.items ++ (if wanted then index ∷ [] else [])) }
     ensures err { OnErr result (indices.new.items ≡ indices.old.items) }
+    ensures memory { IfErr result (λ e. e ≡ Error.Memory) }
 {
     if wanted {
         indices.push(index)?;

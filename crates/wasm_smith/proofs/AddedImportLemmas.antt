@@ -1,8 +1,9 @@
 -- What stands once imports are added that no shape fixes.
-use Rattle.std.proofs.Common.{◌≡◌, Bool, false, List, [], inl, inr, refl, sym, ap, subst, arith}
+use Rattle.std.proofs.Common.{◌≡◌, Bool, false, List, [], length, inl, inr, refl, sym, ap, subst, arith}
 use Rattle.std.specs.Prelude.{All, IsSome, Option, Some, None, is_some}
 use Rattle.smith_bytes.specs.declared.error.Count.TheVariants as counts
-use Rattle.smith_types.specs.Grown.{Extends, AreSpacesGrown}
+use Rattle.smith_types.specs.Grown.{Extends, AreImportsGrown, AreSpacesGrown}
+use Rattle.smith_types.specs.Expressions.{Context}
 use Rattle.smith_types.specs.Imports.{IndexSpaces, imported_spaces}
 use Rattle.smith_types.specs.IndexSpaces.{spaces_in}
 use Rattle.smith_types.proofs.ExportGrowthLemmas.{AreExportsValid-grown}
@@ -11,11 +12,14 @@ use Rattle.smith_config.specs.declared.shape.Shape.{Shape}
 use Rattle.smith_config.specs.Faults.{Passes}
 use Rattle.smith_config.specs.InUse.{FixesImports}
 use Rattle.smith_config.specs.Sanitized.{IsSanitized}
-use Rattle.smith_imports.specs.Imported.{HasNoFloatValue, HasNullableElements, IsImported, MayImport}
+use Rattle.smith_imports.specs.Imported.{HasNoFloatValue, HasGroundedElements, IsImported, MayImport}
+use Rattle.smith_imports.specs.ImportedEntities.{import_scope}
+use Rattle.smith_draw.specs.ConstBounds.{HoldsUngroundedField}
+use Rattle.smith_draw.proofs.FilledLemmas.{fields_imported}
 use Rattle.smith_imports.specs.declared.imported.Imported.{Imported}
 use Rattle.wasm_smith.specs.Begun.{begun_of}
 use Rattle.smith_definitions.specs.Bounds.{brought}
-use Rattle.wasm_smith.specs.DrawnSteps.{AreImportsDrawn, AreTypesDrawn, IsBeyond}
+use Rattle.wasm_smith.specs.DrawnSteps.{AreImportsDrawn, AreTypesDrawn, HoldsGrounded, IsBeyond, drawn_next}
 use Rattle.wasm_smith.specs.declared.build.drawn.Drawn.{Drawn}
 use Rattle.smith_definitions.proofs.ExtensionLemmas.{all_kept}
 use Rattle.smith_definitions.proofs.DefinedMoreLemmas.{none_float}
@@ -60,6 +64,30 @@ module _ (config : Config) (drawn : Drawn) (passes : Passes config) (sanitized :
     grown : AreSpacesGrown (spaces_in drawn.imported.spaces) (spaces_in made.spaces)
     grown = grown_from_none (spaces_in drawn.imported.spaces) (spaces_in made.spaces) (old.free (free_of config free none)).imports.spaces
 
+    -- what is grounded stays so with the imports, of which all functions are
+    grounded_later : HoldsGrounded config (drawn_next config drawn) drawn.imported.spaces.tables → HoldsGrounded config (drawn_next config (record drawn { imported = made })) made.spaces.tables
+    grounded_later held =
+        let alone = old.free (free_of config free none) in
+        let later = drawn_next config (record drawn { imported = made }) in
+        let none_yet : drawn.imported.spaces.funcs ≡ [] = ap (λ (spaces : IndexSpaces). spaces.funcs) alone.imports.spaces in
+        let earlier : Context = record later { funcs = []; imported_funcs = 0 } in
+        let all_imported : later.imported_funcs ≡ length made.spaces.funcs = rw alone.nothing (omega arith) in
+        let growth : AreImportsGrown earlier later = record {
+          features = refl;
+          types = all_kept drawn.types.types;
+          funcs = record { more = made.spaces.funcs; parts = refl };
+          imported = refl;
+          still_imported = all_imported;
+        } in
+        let same : drawn_next config drawn ≡ earlier = rw (none_yet, alone.nothing) refl in
+        let scope = import_scope config drawn.types.types (spaces_in made.spaces) in
+        let in_scope : scope ≡ later = λ i. record later { imported_funcs = sym all_imported i } in
+        record {
+          fields = λ lacks. held.fields (subst (HoldsUngroundedField config) (sym same) (fields_imported config earlier later growth refl lacks));
+          elements = subst (λ (context : Context). All (HasGroundedElements config context) made.spaces.tables) in_scope
+              (subst (λ (each : IndexSpaces). All (HasGroundedElements config (import_scope config drawn.types.types each)) each.tables) (sym so_far.counts.spaces) so_far.fit.grounded_tables);
+        }
+
     -- what stands may be drawn over with the imports
     pub imports_drawn : AreImportsDrawn config (record drawn { imported = made })
     imports_drawn =
@@ -70,10 +98,7 @@ module _ (config : Config) (drawn : Drawn) (passes : Passes config) (sanitized :
           may = record {
             so_far = freely_stands config distinct drawn made none free sanitized old.may.so_far alone.nothing so_far;
             few_values = old.may.few_values;
-            nullable = λ nullable. record {
-              fields = (old.may.nullable nullable).fields;
-              elements = subst (λ (each : IndexSpaces). All HasNullableElements each.tables) (sym spaces) fit.nullable_tables;
-            };
+            grounded = λ never. grounded_later (old.may.grounded never);
             exports = AreExportsValid-grown (spaces_in drawn.imported.spaces) (spaces_in made.spaces) grown drawn.contents.exports old.may.exports;
             least_types = old.may.least_types;
           };

@@ -6,8 +6,9 @@ use Rattle.std.proofs.lemmas.List.Elements.{All-contains, All-nil, All-weaker}
 use Rattle.smith_bytes.specs.declared.error.Error.{Error}
 use Rattle.smith_bytes.specs.declared.error.Which.TheVariants as which
 use Rattle.smith_types.specs.Exports.{AreExportsValid, IsEntityAt}
+use Rattle.smith_types.specs.Expressions.{Context}
 use Rattle.smith_types.specs.Floats.{HasNoFloat}
-use Rattle.smith_types.specs.Grown.{Extends}
+use Rattle.smith_types.specs.Grown.{Extends, IsContextGrown}
 use Rattle.smith_types.specs.Imports.{IndexSpaces}
 use Rattle.smith_types.specs.IndexSpaces.{spaces_in}
 use Rattle.smith_types.specs.Space.{Space}
@@ -16,28 +17,32 @@ use Rattle.smith_types.specs.declared.composite_type.SubType.{SubType}
 use Rattle.smith_types.specs.declared.entity_type.EntityType.{EntityType}
 use Rattle.smith_types.specs.declared.entity_type.ExportKind.{ExportKind}
 use Rattle.smith_types.specs.declared.entity_type.TableType.{TableType}
+use Rattle.smith_types.specs.declared.value_type.ValType.TheVariants.{Ref}
 use Rattle.smith_config.specs.declared.config.Config.{Config}
 use Rattle.smith_config.specs.declared.shape.Shape.{Shape}
 use Rattle.smith_config.specs.Features.{features_of}
 use Rattle.smith_config.specs.InUse.{FixesImports}
 use Rattle.smith_config.specs.Shapes.{most_listed, shape_spaces, shape_types, space_of}
-use Rattle.smith_draw.specs.ConstBounds.{HoldsNonNullableField}
+use Rattle.smith_draw.specs.ConstBounds.{HoldsUngroundedField}
 use Rattle.smith_draw.specs.FuncSizes.{HasFewValues, IsSmall}
-use Rattle.smith_imports.specs.Imported.{HasNullableElements}
+use Rattle.smith_draw.specs.Grounding.{over}
+use Rattle.smith_draw.proofs.FilledLemmas.{ungrounded_before}
+use Rattle.smith_imports.specs.Imported.{HasGroundedElements}
 use Rattle.smith_contents.proofs.SizedLemmas.{shape_few}
 use Rattle.wasm_smith.specs.Begun.{Begun, HasNothing, IsBegun, IsBegunByModule, IsBegunByImports}
-use Rattle.wasm_smith.specs.DrawnSteps.{AreTypesDrawn, HoldsNullable}
+use Rattle.wasm_smith.specs.DrawnSteps.{AreTypesDrawn, HoldsGrounded, drawn_next}
+use Rattle.smith_definitions.proofs.ExtensionLemmas.{all_kept}
 use Rattle.smith_definitions.specs.Refusals.{AreShapesValid, HoldsNonNullable}
 use Rattle.wasm_smith.specs.declared.build.drawn.Drawn.{Drawn}
 use Rattle.wasm_smith.proofs.BegunLemmas.{module_used, imports_used}
 use Rattle.wasm_smith.proofs.BegunStandsLemmas.{begun_stands}
 use Rattle.wasm_smith.proofs.GrownSizeLemmas.{stands_typed}
-use Rattle.wasm_smith.proofs.LackingLemmas.{shape_nullable}
+use Rattle.wasm_smith.proofs.LackingLemmas.{shape_grounded}
 
 -- what is known of the types, the tables and the exports that a module begins with
 record MayBegin (config : Config) (drawn : Drawn) : Type 0 where
   few_values : All (HasFewValues most_listed) drawn.types.types
-  nullable : (HoldsNonNullable config → ⊥) → HoldsNullable drawn.types.types drawn.imported.spaces.tables
+  grounded : (HoldsNonNullable config → ⊥) → HoldsGrounded config (drawn_next config drawn) drawn.imported.spaces.tables
   exports : AreExportsValid (spaces_in drawn.imported.spaces) drawn.contents.exports
 
 no_exports : (spaces : IndexSpaces) → AreExportsValid spaces []
@@ -47,24 +52,26 @@ no_exports spaces = record {
 }
 
 -- of a shape's types and tables
-of_shape : (config : Config) (shape : Shape) (types : Space) (tables : List TableType) → types ≡ space_of shape.groups → All (Contains (shape_spaces shape).tables) tables → HoldsNullable (shape_types shape) (shape_spaces shape).tables
-    → HoldsNullable types.types tables
-of_shape config shape types tables same taken h = record {
-  fields = rw same h.fields;
-  elements = All-weaker (Contains (shape_spaces shape).tables) HasNullableElements (λ table one. All-contains HasNullableElements (shape_spaces shape).tables table h.elements one) tables taken;
-}
+of_shape : (config : Config) (functions : Context) (shape : Shape) (types : Space) (tables : List TableType) → types ≡ space_of shape.groups → All (Contains (shape_spaces shape).tables) tables
+    → HoldsGrounded config (over functions (shape_types shape)) (shape_spaces shape).tables → HoldsGrounded config (over functions types.types) tables
+of_shape config functions shape types tables same taken h =
+    let Grounded = HasGroundedElements config (over functions (shape_types shape)) in
+    rw same (record {
+      fields = h.fields;
+      elements = All-weaker (Contains (shape_spaces shape).tables) Grounded (λ table one. All-contains Grounded (shape_spaces shape).tables table h.elements one) tables taken;
+    })
 
 by_module : (config : Config) (shape : Shape) (drawn : Drawn) → config.module_shape ≡ Some shape → AreShapesValid config → IsBegunByModule config shape drawn → MayBegin config drawn
 by_module config shape drawn given valid begun = record {
   few_values = rw begun.types (shape_few shape (module_used config shape given valid).short);
-  nullable = λ none. of_shape config shape drawn.types drawn.imported.spaces.tables begun.types begun.tables (shape_nullable config which.ModuleShape shape (rw given refl) none);
+  grounded = λ none. of_shape config (drawn_next config drawn) shape drawn.types drawn.imported.spaces.tables begun.types begun.tables (shape_grounded config (drawn_next config drawn) which.ModuleShape shape (rw given refl) none);
   exports = begun.exports_valid;
 }
 
 by_imports : (config : Config) (shape : Shape) (bytes : List ℕ) (drawn : Drawn) → config.module_shape ≡ None → config.available_imports ≡ Some shape → AreShapesValid config → IsBegunByImports config shape bytes drawn → MayBegin config drawn
 by_imports config shape bytes drawn none given valid begun = record {
   few_values = rw begun.types (shape_few shape (imports_used config shape none given valid).short);
-  nullable = λ never. of_shape config shape drawn.types drawn.imported.spaces.tables begun.types begun.tables (shape_nullable config which.AvailableImports shape (rw (none, given) refl) never);
+  grounded = λ never. of_shape config (drawn_next config drawn) shape drawn.types drawn.imported.spaces.tables begun.types begun.tables (shape_grounded config (drawn_next config drawn) which.AvailableImports shape (rw (none, given) refl) never);
   exports = rw begun.exports (no_exports (spaces_in drawn.imported.spaces));
 }
 
@@ -75,7 +82,7 @@ freely config drawn nothing =
     let exports : drawn.contents.exports ≡ [] = ap (λ (b : Begun). b.exports) nothing.begun in
     record {
       few_values = rw types (All-nil (HasFewValues most_listed));
-      nullable = λ never. record { fields = rw types (λ h. absurd (omega (arith, h.2))); elements = rw tables (All-nil HasNullableElements) };
+      grounded = λ never. record { fields = rw types (λ h. absurd (omega (arith, h.2))); elements = rw tables (All-nil (HasGroundedElements config (drawn_next config drawn))) };
       exports = rw exports (no_exports (spaces_in drawn.imported.spaces));
     }
 
@@ -90,24 +97,40 @@ begun_by config bytes drawn None (Some shape) none given valid begun = by_import
 begun_by config bytes drawn None None none free valid begun = freely config drawn (begun.freely (none_fixes config none free))
 
 -- types behind those that a module begins with: what drawing them keeps
-pub record AreTypesBehind (config : Config) (old new : Space) : Type 0 where
+pub record AreTypesBehind (config : Config) (functions : Context) (old new : Space) : Type 0 where
   valid : AreTypesValid (features_of config) new
   longer : Extends old.types new.types
   most : length new.types ≤ max config.max_types (length old.types)
   least : config.min_types ≤ length new.types
   floats : config.allow_floats ≡ false → All HasNoFloat old.types → All HasNoFloat new.types
   few_values : (most : ℕ) → 20 ≤ most → All (HasFewValues most) old.types → All (HasFewValues most) new.types
-  nullable : ¬ HoldsNonNullableField old.types → ¬ HoldsNonNullableField new.types
+  grounded : ¬ HoldsUngroundedField config (over functions old.types) → ¬ HoldsUngroundedField config (over functions new.types)
+
+-- elements that are grounded stay so as types are added
+tables_later : (config : Config) (functions : Context) (old new : Space) → Extends old.types new.types → (tables : List TableType) → All (HasGroundedElements config (over functions old.types)) tables → All (HasGroundedElements config (over functions new.types)) tables
+tables_later config functions old new longer tables h =
+    let before = over functions old.types in
+    let later = over functions new.types in
+    let growth : IsContextGrown before later = record {
+      features = refl;
+      types = longer;
+      funcs = all_kept functions.funcs;
+      globals = all_kept functions.globals;
+      imported_funcs = refl;
+      imported_globals = refl;
+      visible = omega arith;
+    } in
+    All-weaker (HasGroundedElements config before) (HasGroundedElements config later) (λ table grounded lacks. grounded (ungrounded_before config before later growth (Ref table.element_type) lacks)) tables h
 
 -- what a module has begun with may be drawn over once such types stand behind it
-types_drawn : (config : Config) (bytes : List ℕ) (drawn : Drawn) (types : Space) → AreShapesValid config → IsBegun config bytes drawn → AreTypesBehind config drawn.types types → AreTypesDrawn config (record drawn { types = types })
+types_drawn : (config : Config) (bytes : List ℕ) (drawn : Drawn) (types : Space) → AreShapesValid config → IsBegun config bytes drawn → AreTypesBehind config (drawn_next config drawn) drawn.types types → AreTypesDrawn config (record drawn { types = types })
 types_drawn config bytes drawn types valid begun more =
     let may = begun_by config bytes drawn config.module_shape config.available_imports refl refl valid begun in
     record {
       may = record {
         so_far = stands_typed config drawn types (begun_stands config bytes drawn begun) more.valid more.longer more.most;
         few_values = more.few_values most_listed (omega arith) may.few_values;
-        nullable = λ none. let old = may.nullable none in record { fields = more.nullable old.fields; elements = old.elements };
+        grounded = λ none. let old = may.grounded none in record { fields = more.grounded old.fields; elements = tables_later config (drawn_next config drawn) drawn.types types more.longer drawn.imported.spaces.tables old.elements };
         exports = may.exports;
         least_types = more.least;
       };
@@ -124,18 +147,18 @@ stays_within : (most old new : ℕ) → (old ≤ most → new ≤ most) → (mos
 stays_within most old new few full = grind arith
 
 -- what drawing types says of them, where it ends well
-module _ {X : Type 0} (config : Config) (old new : Space) where
+module _ {X : Type 0} (config : Config) (functions : Context) (old new : Space) where
   pub types_behind : (result : Result X Error) → OnOk result (AreTypesValid (features_of config) new) → OnOk result (Extends old.types new.types)
       → (length old.types ≤ config.max_types → OnOk result (length new.types ≤ config.max_types)) → (config.max_types ≤ length old.types → OnOk result (new ≡ old)) → OnOk result (config.min_types ≤ length new.types)
       → (config.allow_floats ≡ false → All HasNoFloat old.types → OnOk result (All HasNoFloat new.types)) → ((most : ℕ) → 20 ≤ most → All (HasFewValues most) old.types → OnOk result (All (HasFewValues most) new.types))
-      → (¬ HoldsNonNullableField old.types → OnOk result (¬ HoldsNonNullableField new.types)) → OnOk result (AreTypesBehind config old new)
-  types_behind (Ok made) valid longer most full least floats few_values nullable =
+      → (¬ HoldsUngroundedField config (over functions old.types) → OnOk result (¬ HoldsUngroundedField config (over functions new.types))) → OnOk result (AreTypesBehind config functions old new)
+  types_behind (Ok made) valid longer most full least floats few_values grounded =
       let same : config.max_types ≤ length old.types → length new.types ≡ length old.types = λ filled. ap (λ (space : Space). length space.types) (full filled) in
-      record { valid = valid; longer = longer; most = stays_within config.max_types (length old.types) (length new.types) most same; least = least; floats = floats; few_values = few_values; nullable = nullable }
-  types_behind (Err e) valid longer most full least floats few_values nullable = tt
+      record { valid = valid; longer = longer; most = stays_within config.max_types (length old.types) (length new.types) most same; least = least; floats = floats; few_values = few_values; grounded = grounded }
+  types_behind (Err e) valid longer most full least floats few_values grounded = tt
 
 -- then what a module has begun with may be drawn over
-pub drawn_behind : {X : Type 0} (config : Config) (bytes : List ℕ) (drawn : Drawn) (types : Space) (result : Result X Error) → AreShapesValid config → IsBegun config bytes drawn → OnOk result (AreTypesBehind config drawn.types types)
+pub drawn_behind : {X : Type 0} (config : Config) (bytes : List ℕ) (drawn : Drawn) (types : Space) (result : Result X Error) → AreShapesValid config → IsBegun config bytes drawn → OnOk result (AreTypesBehind config (drawn_next config drawn) drawn.types types)
     → OnOk result (AreTypesDrawn config (record drawn { types = types }))
 drawn_behind config bytes drawn types (Ok made) valid begun more = types_drawn config bytes drawn types valid begun more
 drawn_behind config bytes drawn types (Err e) valid begun more = tt

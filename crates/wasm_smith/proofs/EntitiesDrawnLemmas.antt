@@ -1,27 +1,33 @@
 -- What stands once entities are defined behind imports may be drawn over, and is refused only as a module may be.
-use Rattle.std.proofs.Common.{◌≡◌, ◌≤◌, ◌^◌, ℕ, List, inl, inr, subst, sym, arith}
+use Rattle.std.proofs.Common.{◌≡◌, ◌≤◌, ◌^◌, ℕ, [], inl, inr, refl, subst, sym, arith}
+use Rattle.std.proofs.lemmas.List.Elements.{All-weaker}
 use Rattle.std.specs.Prelude.{false, All, Result, Ok, Err, OnOk}
 use Rattle.smith_bytes.specs.declared.error.Count.{Count}
 use Rattle.smith_bytes.specs.declared.error.Count.TheVariants as counts
 use Rattle.smith_bytes.specs.declared.error.Error.{Error}
+use Rattle.smith_types.specs.Expressions.{Context}
 use Rattle.smith_types.specs.Floats.{HasNoFloat}
-use Rattle.smith_types.specs.Imports.{IndexSpaces}
+use Rattle.smith_types.specs.Grown.{IsContextGrown}
+use Rattle.smith_types.specs.Imports.{IndexSpaces, flattened, imported_spaces}
 use Rattle.smith_types.specs.IndexSpaces.{spaces_in}
-use Rattle.smith_types.specs.declared.composite_type.SubType.{SubType}
+use Rattle.smith_types.specs.declared.value_type.ValType.TheVariants.{Ref}
 use Rattle.smith_types.specs.declared.index_spaces.IndexSpaces.{IndexSpaces as Held}
 use Rattle.smith_config.specs.declared.config.Config.{Config}
 use Rattle.smith_config.specs.Faults.{Passes, minimum_of}
 use Rattle.smith_config.specs.Sanitized.{IsSanitized}
-use Rattle.smith_draw.specs.ConstBounds.{HoldsNonNullableField}
-use Rattle.smith_imports.specs.Imported.{HasNullableElements}
+use Rattle.smith_draw.specs.ConstBounds.{HoldsUngroundedField}
+use Rattle.smith_draw.proofs.FilledLemmas.{fields_before, ungrounded_before}
+use Rattle.smith_imports.specs.Imported.{HasGroundedElements}
 use Rattle.smith_imports.specs.ShapeImports.{count_in}
 use Rattle.wasm_smith.specs.Begun.{IsOfEntities, StandsSoFar}
-use Rattle.smith_definitions.specs.Defined.{AreDefinedMore, AreFilled, HasRoom, HaveNoFloats, MayDefine, MayRefuseDefined}
-use Rattle.wasm_smith.specs.DrawnSteps.{AreEntitiesDrawn, AreImportsDrawn, MayGoOn}
+use Rattle.smith_definitions.specs.Defined.{AreDefinedMore, AreFilled, HasRoom, HaveNoFloats, MayDefine, MayRefuseDefined, drawn_beside}
+use Rattle.wasm_smith.specs.DrawnSteps.{AreEntitiesDrawn, AreImportsDrawn, HoldsGrounded, MayGoOn, drawn_next}
 use Rattle.smith_definitions.specs.Refusals.{AreShapesValid, HoldsNonNullable, MayRefuse}
 use Rattle.smith_definitions.specs.declared.definitions.Definitions.{Definitions}
 use Rattle.wasm_smith.specs.declared.build.drawn.Drawn.{Drawn}
 use Rattle.wasm_smith.proofs.BroughtLemmas.{few_brought}
+use Rattle.smith_definitions.proofs.ExtensionLemmas.{all_kept}
+use Rattle.smith_definitions.proofs.StandsBehindLemmas.{defined_end}
 use Rattle.smith_definitions.proofs.DefinedLemmas.{all_behind}
 use Rattle.smith_definitions.proofs.DefinedMoreLemmas.{filled_grown, may_define_behind}
 use Rattle.wasm_smith.proofs.ExportsGrownLemmas.{exports_grown}
@@ -52,6 +58,29 @@ at_least config before spaces filled counts.Memories is = filled.memories.enough
 at_least config before spaces filled counts.Globals is = filled.globals.enough
 at_least config before spaces filled _ is = absurd is
 
+-- what is grounded stays so once entities are defined
+grounded_later : (config : Config) (drawn : Drawn) (spaces : Held) (defined : Definitions) → StandsSoFar config drawn → AreDefinedMore config drawn.types (spaces_in drawn.imported.spaces) drawn.definitions (spaces_in spaces) defined
+    → HoldsGrounded config (drawn_next config drawn) drawn.imported.spaces.tables → HoldsGrounded config (drawn_beside config drawn.types.types (spaces_in spaces) defined) spaces.tables
+grounded_later config drawn spaces defined now made old =
+    let before = drawn_next config drawn in
+    let later = drawn_beside config drawn.types.types (spaces_in spaces) defined in
+    let stands = made.stands (imported_spaces (flattened drawn.imported.groups)) now.stands in
+    let growth : IsContextGrown before later = record {
+      features = refl;
+      types = all_kept drawn.types.types;
+      funcs = made.filled.funcs.extends;
+      globals = all_kept [];
+      imported_funcs = omega (arith, defined_end stands.funcs, defined_end now.stands.funcs);
+      imported_globals = refl;
+      visible = omega arith;
+    } in
+    let Earlier = HasGroundedElements config before in
+    let Later = HasGroundedElements config later in
+    record {
+      fields = λ lacks. old.fields (fields_before config before later growth refl lacks);
+      elements = all_behind Later (All-weaker Earlier Later (λ table grounded lacks. grounded (ungrounded_before config before later growth (Ref table.element_type) lacks)) drawn.imported.spaces.tables old.elements) made.grounded;
+    }
+
 -- what stands once they are defined
 pub entities_drawn : {X : Type 0} (r : Result X Error) (config : Config) (drawn : Drawn) (spaces : Held) (defined : Definitions) → AreImportsDrawn config drawn
     → OnOk r (AreDefinedMore config drawn.types (spaces_in drawn.imported.spaces) drawn.definitions (spaces_in spaces) defined)
@@ -63,7 +92,7 @@ entities_drawn (Ok x) config drawn spaces defined so_far made floats =
       may = record {
         so_far = stands_defined config drawn spaces defined may.so_far made;
         few_values = may.few_values;
-        nullable = λ none. let old = may.nullable none in record { fields = old.fields; elements = all_behind HasNullableElements old.elements made.filled.nullable_tables };
+        grounded = λ none. grounded_later config drawn spaces defined may.so_far made (may.grounded none);
         exports = exports_grown (spaces_in drawn.imported.spaces) (spaces_in spaces) drawn.contents.exports (filled_grown made.filled) may.exports;
         least_types = may.least_types;
       };
@@ -73,8 +102,8 @@ entities_drawn (Ok x) config drawn spaces defined so_far made floats =
     }
 entities_drawn (Err e) config drawn spaces defined so_far made floats = tt
 
--- where no field may be other than null unless a shape holds such a reference, definitions are refused as a module may be
-pub defined_refuse : (config : Config) (types : List SubType) (e : Error) → ((HoldsNonNullable config → ⊥) → HoldsNonNullableField types → ⊥) → MayRefuseDefined config types e → MayRefuse config e
-defined_refuse config types e nullable (inl refused) = refused
-defined_refuse config types e nullable (inr (inl memory)) = subst (MayRefuse config) (sym memory) tt
-defined_refuse config types e nullable (inr (inr (empty, lacking))) = subst (MayRefuse config) (sym empty) (elim (holds_or_not config) [ inl holds ↦ holds | inr none ↦ absurd (nullable none lacking) ])
+-- where no field is ungrounded unless a shape holds a reference that may not be null, definitions are refused as a module may be
+pub defined_refuse : (config : Config) (context : Context) (e : Error) → ((HoldsNonNullable config → ⊥) → HoldsUngroundedField config context → ⊥) → MayRefuseDefined config context e → MayRefuse config e
+defined_refuse config context e grounded (inl refused) = refused
+defined_refuse config context e grounded (inr (inl memory)) = subst (MayRefuse config) (sym memory) tt
+defined_refuse config context e grounded (inr (inr (empty, lacking))) = subst (MayRefuse config) (sym empty) (elim (holds_or_not config) [ inl holds ↦ holds | inr none ↦ absurd (grounded none lacking) ])

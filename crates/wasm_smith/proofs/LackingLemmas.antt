@@ -1,6 +1,6 @@
 -- A reference that may not be null stands in the types or the tables of a shape only where it is among the shape's values, so a
 -- module begins with one, or is refused for one, only where a shape that is used holds one.
-use Rattle.std.proofs.Common.{◌≡◌, ◌⊎◌, ◌<◌, Bool, true, false, List, [], inl, inr, refl, sym, subst, arith}
+use Rattle.std.proofs.Common.{◌≡◌, ◌⊎◌, ◌<◌, List, [], inl, inr, refl, sym, subst, arith}
 use Rattle.std.specs.Prelude.{All, IsSomeAnd, Option, Some, None}
 use Rattle.std.specs.List.{Any}
 use Rattle.std.proofs.lemmas.List.Elements.{All-cons, All-contains, All-map, All-nil, All-weaker, Contains-get_or}
@@ -12,9 +12,9 @@ use Rattle.smith_bytes.specs.declared.error.Which.{Which}
 use Rattle.smith_bytes.specs.declared.error.Which.TheVariants as which
 use Rattle.smith_bytes.specs.declared.error.Why.TheVariants.{SeveralMemories, SeveralTables}
 use Rattle.smith_types.specs.Decided.{IsStored, AreHeld}
-use Rattle.smith_types.specs.Expressions.{field_values, unpacked}
+use Rattle.smith_types.specs.Expressions.{Context, field_values, unpacked}
 use Rattle.smith_types.specs.HeldValues.{values_in}
-use Rattle.smith_types.specs.Imports.{IndexSpaces}
+use Rattle.smith_types.specs.Imports.{IndexSpaces, imported_spaces}
 use Rattle.smith_types.specs.ValidTypes.{values_of}
 use Rattle.smith_types.specs.declared.composite_type.CompositeInnerType.{CompositeInnerType}
 use Rattle.smith_types.specs.declared.composite_type.CompositeInnerType.TheVariants.{Array, Func, Struct}
@@ -28,13 +28,17 @@ use Rattle.smith_types.specs.declared.value_type.ValType.TheVariants.{Ref}
 use Rattle.smith_types.proofs.HeldValueLemmas.{held_from_values, all_values_apart}
 use Rattle.smith_config.specs.declared.config.Config.{Config}
 use Rattle.smith_config.specs.declared.shape.Shape.{Shape}
-use Rattle.smith_config.specs.Shapes.{shape_spaces, shape_types, shape_values}
-use Rattle.smith_draw.specs.ConstBounds.{IsNonNullable}
+use Rattle.smith_config.specs.Shapes.{shape_imports, shape_spaces, shape_types, shape_values}
+use Rattle.smith_draw.specs.ConstBounds.{IsNonNullable, IsUngrounded}
 use Rattle.smith_draw.specs.ConstScopes.{fields_of}
-use Rattle.smith_imports.specs.Imported.{HasNullableElements}
+use Rattle.smith_draw.specs.Grounding.{over}
+use Rattle.smith_draw.proofs.FilledLemmas.{any_weaker}
+use Rattle.smith_draw.proofs.NullableLemmas.{ungrounded_not_null}
+use Rattle.smith_imports.specs.Imported.{HasGroundedElements}
 use Rattle.wasm_smith.specs.Begun.{MayRefuseBegun}
 use Rattle.smith_definitions.specs.Bounds.{brought_by_module}
-use Rattle.wasm_smith.specs.DrawnSteps.{HoldsNullable}
+use Rattle.wasm_smith.specs.DrawnSteps.{HoldsGrounded}
+use Rattle.smith_definitions.specs.Defined.{drawn_beside, nothing_defined}
 use Rattle.smith_definitions.specs.Refusals.{Brings, HoldsNonNullable, MayRefuse, shape_for}
 use Rattle.smith_definitions.specs.Required.{MayLackIn, MayRefuseRequired}
 use Rattle.wasm_smith.proofs.NonNullableLemmas.{holds_or_not}
@@ -63,34 +67,43 @@ no_field inner values (k, value, inside, at, never) =
     (All-map MayBeNull (λ (field : FieldType). unpacked field.element_type) (fields_of inner) (fields_null inner (held_from_values MayBeNull inner values)))
     (k, inside, at) never
 
-may_be_null : (nullable : Bool) → (nullable ≡ false → ⊥) → nullable ≡ true
-may_be_null true never = refl
-may_be_null false never = absurd (never refl)
-
--- where no value of types and index spaces is such a reference, no field of a type and no element of a table is one
-nullable_values : (types : List SubType) (spaces : IndexSpaces) → ¬ Any IsNonNullable (values_in types spaces) → HoldsNullable types spaces.tables
-nullable_values types spaces none =
+-- where no value of types and index spaces is such a reference, no field of a type and no element of a table is one, whatever is grounded
+grounded_values : (config : Config) (functions : Context) (types : List SubType) (spaces : IndexSpaces) → ¬ Any IsNonNullable (values_in types spaces) → HoldsGrounded config (over functions types) spaces.tables
+grounded_values config functions types spaces none =
     let (of_types, of_tables, of_globals) = all_values_apart MayBeNull types spaces (none_has IsNonNullable (values_in types spaces) none) in
+    let context = over functions types in
     record {
-      fields = λ (k, t, inside, at, holds). no_field t.composite_type.inner (All-contains (λ (t : SubType). All MayBeNull (values_of t.composite_type.inner)) types t of_types (k, inside, at)) holds;
-      elements = All-weaker (λ (table : TableType). MayBeNull (Ref table.element_type)) HasNullableElements (λ table. may_be_null table.element_type.nullable) spaces.tables of_tables;
+      fields = λ (k, t, inside, at, holds). no_field t.composite_type.inner (All-contains (λ (t : SubType). All MayBeNull (values_of t.composite_type.inner)) types t of_types (k, inside, at))
+          (any_weaker (IsUngrounded config context) IsNonNullable (ungrounded_not_null config context) (field_values (fields_of t.composite_type.inner)) holds);
+      elements = All-weaker (λ (table : TableType). MayBeNull (Ref table.element_type)) (HasGroundedElements config context) (λ table may lacks. may lacks.0) spaces.tables of_tables;
     }
 
 -- a shape that is used holds no such reference in its types and its tables where no shape that is used holds one
-pub shape_nullable : (config : Config) (for_use : Which) (shape : Shape) → shape_for config for_use ≡ Some shape → (HoldsNonNullable config → ⊥) → HoldsNullable (shape_types shape) (shape_spaces shape).tables
-shape_nullable config for_use shape used none =
-    nullable_values (shape_types shape) (shape_spaces shape)
+pub shape_grounded : (config : Config) (functions : Context) (for_use : Which) (shape : Shape) → shape_for config for_use ≡ Some shape → (HoldsNonNullable config → ⊥) → HoldsGrounded config (over functions (shape_types shape)) (shape_spaces shape).tables
+shape_grounded config functions for_use shape used none =
+    grounded_values config functions (shape_types shape) (shape_spaces shape)
     (λ holds. none (for_use, subst (λ (one : Option Shape). IsSomeAnd one (λ each. Any IsNonNullable (shape_values each))) (sym used) holds))
 
+-- nor in its tables over any types
+pub grounded_tables_of : (config : Config) (context : Context) (for_use : Which) (shape : Shape) → shape_for config for_use ≡ Some shape → (HoldsNonNullable config → ⊥) → All (HasGroundedElements config context) (shape_spaces shape).tables
+grounded_tables_of config context for_use shape used none =
+    let never : ¬ Any IsNonNullable (values_in (shape_types shape) (shape_spaces shape)) = λ holds. none (for_use, subst (λ (one : Option Shape). IsSomeAnd one (λ each. Any IsNonNullable (shape_values each))) (sym used) holds) in
+    let (of_types, of_tables, of_globals) = all_values_apart MayBeNull (shape_types shape) (shape_spaces shape) (none_has IsNonNullable (values_in (shape_types shape) (shape_spaces shape)) never) in
+    All-weaker (λ (table : TableType). MayBeNull (Ref table.element_type)) (HasGroundedElements config context) (λ table may lacks. may lacks.0) (shape_spaces shape).tables of_tables
+
+-- what a module shape is made over
+abbrev beside_shape : Config → Shape → Context
+beside_shape config shape = drawn_beside config (shape_types shape) (imported_spaces (shape_imports shape)) nothing_defined
+
 -- where the exports of a module shape may find nothing to choose from, a shape that is used holds such a reference
-shape_lacks : (config : Config) (shape : Shape) → config.module_shape ≡ Some shape → MayLackIn (shape_types shape) shape → HoldsNonNullable config
+shape_lacks : (config : Config) (shape : Shape) → config.module_shape ≡ Some shape → MayLackIn config (beside_shape config shape) shape → HoldsNonNullable config
 shape_lacks config shape given (inl value) = (which.ModuleShape, rw given value)
 shape_lacks config shape given (inr field) = elim (holds_or_not config) [
   | inl holds ↦ holds
-  | inr none ↦ absurd ((shape_nullable config which.ModuleShape shape (rw given refl) none).fields field)
+  | inr none ↦ absurd ((shape_grounded config (beside_shape config shape) which.ModuleShape shape (rw given refl) none).fields field)
 ]
 
-module_lacks : (config : Config) (shape : Shape) (e : Error) → config.module_shape ≡ Some shape → (e ≡ errors.Memory) ⊎ ((e ≡ errors.EmptyChoose) × MayLackIn (shape_types shape) shape) → MayRefuse config e
+module_lacks : (config : Config) (shape : Shape) (e : Error) → config.module_shape ≡ Some shape → (e ≡ errors.Memory) ⊎ ((e ≡ errors.EmptyChoose) × MayLackIn config (beside_shape config shape) shape) → MayRefuse config e
 module_lacks config shape e given (inl memory) = subst (MayRefuse config) (sym memory) tt
 module_lacks config shape e given (inr (empty, lacks)) = subst (MayRefuse config) (sym empty) (shape_lacks config shape given lacks)
 
@@ -98,12 +111,12 @@ module_lacks config shape e given (inr (empty, lacks)) = subst (MayRefuse config
 module_brings : (config : Config) (shape : Shape) (count : Count) → config.module_shape ≡ Some shape → 0 < brought_by_module count shape → Brings config count
 module_brings config shape count given some = inr (rw given some)
 
-module_refused : (config : Config) (shape : Shape) (e : Error) → config.module_shape ≡ Some shape → MayRefuseRequired config (shape_types shape) shape e → MayRefuse config e
+module_refused : (config : Config) (shape : Shape) (e : Error) → config.module_shape ≡ Some shape → MayRefuseRequired config (beside_shape config shape) shape e → MayRefuse config e
 module_refused config shape (errors.IncorrectFormat SeveralMemories) given (some, one) = (module_brings config shape counts.Memories given (omega (arith, some)), one)
 module_refused config shape (errors.IncorrectFormat SeveralTables) given (some, one) = (module_brings config shape counts.Tables given (omega (arith, some)), one)
 module_refused config shape e given h = module_lacks config shape e given h
 
-refused_by_module : (config : Config) (e : Error) (of_module : Option Shape) → config.module_shape ≡ of_module → IsSomeAnd of_module (λ shape. MayRefuseRequired config (shape_types shape) shape e) → MayRefuse config e
+refused_by_module : (config : Config) (e : Error) (of_module : Option Shape) → config.module_shape ≡ of_module → IsSomeAnd of_module (λ shape. MayRefuseRequired config (beside_shape config shape) shape e) → MayRefuse config e
 refused_by_module config e (Some shape) given h = module_refused config shape e given h
 refused_by_module config e None given h = absurd h
 

@@ -1,17 +1,18 @@
 -- What stands once the exports of a module are made: those of a module shape, those of a shape for exports, or free ones.
-use Rattle.std.proofs.Common.{◌≡◌, ◌∙◌, ◌⊎◌, ℕ, ◌+◌, ◌<◌, ◌≤◌, ◌^◌, ◌||◌, false, true, List, length, inl, inr, refl, subst, sym, ap, arith}
+use Rattle.std.proofs.Common.{◌≡◌, ◌∙◌, ◌⊎◌, ℕ, ◌+◌, ◌<◌, ◌≤◌, ◌^◌, ◌||◌, false, true, List, [], length, inl, inr, refl, subst, sym, ap, arith}
 use Rattle.std.specs.Prelude.{All, IfSome, IsSome, Option, Some, None, is_some, if◌then◌else◌}
-use Rattle.std.proofs.lemmas.List.Elements.{All-contains}
+use Rattle.std.proofs.lemmas.List.Elements.{All-contains, All-weaker}
 use Rattle.smith_bytes.specs.declared.error.Count.{Count}
 use Rattle.smith_bytes.specs.declared.error.Count.TheVariants as counts
 use Rattle.smith_bytes.specs.declared.error.Error.{Error}
 use Rattle.smith_bytes.specs.declared.error.Error.TheVariants as errors
 use Rattle.smith_bytes.specs.declared.error.Which.TheVariants as which
 use Rattle.smith_bytes.specs.declared.error.Why.TheVariants.{SeveralMemories, SeveralTables}
-use Rattle.smith_types.specs.Grown.{Extends, AreSpacesGrown}
+use Rattle.smith_types.specs.Grown.{Extends, IsContextGrown, AreSpacesGrown}
 use Rattle.smith_types.specs.Imports.{flattened, imported_spaces}
 use Rattle.smith_types.specs.IndexSpaces.{spaces_in}
 use Rattle.smith_types.specs.Space.{Space}
+use Rattle.smith_types.specs.declared.value_type.ValType.TheVariants.{Ref}
 use Rattle.smith_types.specs.declared.composite_type.SubType.{SubType}
 use Rattle.smith_types.specs.declared.index_spaces.IndexSpaces.{IndexSpaces as Held}
 use Rattle.smith_types.proofs.EntityGrowthLemmas.{no_fewer}
@@ -21,9 +22,10 @@ use Rattle.smith_config.specs.Faults.{Passes}
 use Rattle.smith_config.specs.InUse.{FixesExports}
 use Rattle.smith_config.specs.Sanitized.{IsSanitized}
 use Rattle.smith_config.specs.Shapes.{IsShapeValid, most_listed, shape_spaces}
-use Rattle.smith_draw.specs.ConstBounds.{HoldsNonNullableField}
+use Rattle.smith_draw.specs.ConstBounds.{HoldsUngroundedField}
 use Rattle.smith_draw.specs.FuncSizes.{HasFewValues}
-use Rattle.smith_imports.specs.Imported.{HasNullableElements}
+use Rattle.smith_draw.proofs.FilledLemmas.{ungrounded_before}
+use Rattle.smith_imports.specs.Imported.{HasGroundedElements}
 use Rattle.smith_imports.specs.ShapeImports.{count_in}
 use Rattle.smith_contents.specs.Exporting.{Export, exported_size}
 use Rattle.smith_contents.specs.declared.exported.Exports.{Exports}
@@ -32,8 +34,8 @@ use Rattle.wasm_smith.specs.Begun.{Begun, IsOfEntities, StandsSoFar, begun_of, s
 use Rattle.smith_definitions.specs.Bounds.{exported_of}
 use Rattle.wasm_smith.specs.Build.{begun_size, exports_of}
 use Rattle.wasm_smith.specs.Contents.{MayHoldContents}
-use Rattle.smith_definitions.specs.Defined.{StandsBehind}
-use Rattle.wasm_smith.specs.DrawnSteps.{AreEntitiesDrawn, AreExportsDrawn, HoldsNullable, IsBeyond, MayGoOn}
+use Rattle.smith_definitions.specs.Defined.{StandsBehind, drawn_beside}
+use Rattle.wasm_smith.specs.DrawnSteps.{AreEntitiesDrawn, AreExportsDrawn, HoldsGrounded, IsBeyond, MayGoOn, drawn_next}
 use Rattle.smith_definitions.specs.Refusals.{AreShapesValid, HoldsNonNullable, MayRefuse, shape_for}
 use Rattle.smith_definitions.specs.Required.{AddsLimitsOf, MayDefineMore, MayLackIn, MayRefuseRequired}
 use Rattle.smith_definitions.specs.declared.definitions.Definitions.{Definitions}
@@ -41,7 +43,8 @@ use Rattle.wasm_smith.specs.declared.build.drawn.Drawn.{Drawn}
 use Rattle.wasm_smith.proofs.BroughtLemmas.{few_added, few_brought}
 use Rattle.smith_definitions.proofs.ExtensionLemmas.{all_kept}
 use Rattle.smith_definitions.proofs.DefinedMoreLemmas.{stands_within}
-use Rattle.wasm_smith.proofs.LackingLemmas.{shape_nullable}
+use Rattle.smith_definitions.proofs.StandsBehindLemmas.{defined_end}
+use Rattle.wasm_smith.proofs.LackingLemmas.{grounded_tables_of}
 use Rattle.wasm_smith.proofs.NonNullableLemmas.{holds_or_not}
 use Rattle.wasm_smith.proofs.StandsWholeLemmas.{either_kept, not_types, stands_required, stands_whole}
 
@@ -66,7 +69,7 @@ pub stands_already : (config : Config) (drawn : Drawn) → AreEntitiesDrawn conf
 stands_already config drawn now = record {
   whole = stands_whole config drawn now.may.so_far;
   few_values = now.may.few_values;
-  nullable = now.may.nullable;
+  grounded = now.may.grounded;
   least_types = now.may.least_types;
   least = now.least;
   small = now.small;
@@ -123,47 +126,63 @@ module _ (config : Config) (shape : Shape) (drawn : Drawn) (passes : Passes conf
   types_room = omega (arith, now.most_types, passes.few counts.Types, few_brought config valid counts.Types, one.short.exports)
 
 module _ (config : Config) (shape : Shape) (drawn : Drawn) (none : config.module_shape ≡ None) (given : config.exports ≡ Some shape) (may : MayGoOn config drawn) where
-  lacks : MayLackIn drawn.types.types shape → HoldsNonNullable config
+  lacks : MayLackIn config (drawn_next config drawn) shape → HoldsNonNullable config
   lacks (inl value) = (which.Exports, rw (none, given) value)
   lacks (inr field) = elim (holds_or_not config) [
     | inl holds ↦ holds
-    | inr never ↦ absurd ((may.nullable never).fields field)
+    | inr never ↦ absurd ((may.grounded never).fields field)
   ]
 
-  lacks_so : (e : Error) → (e ≡ errors.Memory) ⊎ ((e ≡ errors.EmptyChoose) × MayLackIn drawn.types.types shape) → MayRefuse config e
+  lacks_so : (e : Error) → (e ≡ errors.Memory) ⊎ ((e ≡ errors.EmptyChoose) × MayLackIn config (drawn_next config drawn) shape) → MayRefuse config e
   lacks_so e (inl memory) = subst (MayRefuse config) (sym memory) tt
   lacks_so e (inr (empty, lacking)) = subst (MayRefuse config) (sym empty) (lacks lacking)
 
   -- the exports of a shape are refused where a module may be
-  pub required_refuses : (e : Error) → MayRefuseRequired config drawn.types.types shape e → MayRefuse config e
+  pub required_refuses : (e : Error) → MayRefuseRequired config (drawn_next config drawn) shape e → MayRefuse config e
   required_refuses (errors.IncorrectFormat SeveralMemories) (some, few) = (inl (rw (none, given) some), few)
   required_refuses (errors.IncorrectFormat SeveralTables) (some, off) = (inl (rw (none, given) some), off)
   required_refuses e refused = lacks_so e refused
 
-  required_nullable : (types : Space) (spaces : Held) → (HoldsNonNullableField types.types → HoldsNonNullableField drawn.types.types) → AddsLimitsOf shape (spaces_in drawn.imported.spaces) (spaces_in spaces) → (HoldsNonNullable config → ⊥)
-      → HoldsNullable types.types spaces.tables
-  required_nullable types spaces lacking limits never =
-      let before = may.nullable never in
-      let theirs = shape_nullable config which.Exports shape (rw (none, given) refl) never in
+  required_grounded : (types : Space) (spaces : Held) (defined : Definitions) → Extends drawn.types.types types.types → AreSpacesGrown (spaces_in drawn.imported.spaces) (spaces_in spaces)
+      → (HoldsUngroundedField config (drawn_beside config types.types (spaces_in spaces) defined) → HoldsUngroundedField config (drawn_next config drawn)) → AddsLimitsOf shape (spaces_in drawn.imported.spaces) (spaces_in spaces)
+      → StandsBehind config (imported_spaces (flattened drawn.imported.groups)) types (spaces_in spaces) defined → (HoldsNonNullable config → ⊥) → HoldsGrounded config (drawn_beside config types.types (spaces_in spaces) defined) spaces.tables
+  required_grounded types spaces defined longer grown lacking limits stands never =
+      let old = drawn_next config drawn in
+      let new = drawn_beside config types.types (spaces_in spaces) defined in
+      let before = may.grounded never in
+      let theirs = grounded_tables_of config new which.Exports shape (rw (none, given) refl) never in
+      let growth : IsContextGrown old new = record {
+        features = refl;
+        types = longer;
+        funcs = grown.funcs;
+        globals = all_kept [];
+        imported_funcs = omega (arith, defined_end stands.funcs, defined_end may.so_far.stands.funcs);
+        imported_globals = refl;
+        visible = omega arith;
+      } in
+      let Earlier = HasGroundedElements config old in
+      let Later = HasGroundedElements config new in
       record {
         fields = λ field. before.fields (lacking field);
         elements =
-            either_kept HasNullableElements drawn.imported.spaces.tables (shape_spaces shape).tables spaces.tables before.elements
-            (λ table h. All-contains HasNullableElements (shape_spaces shape).tables table theirs.elements h) limits.tables;
+            either_kept Later drawn.imported.spaces.tables (shape_spaces shape).tables spaces.tables
+            (All-weaker Earlier Later (λ table grounded lacks. grounded (ungrounded_before config old new growth (Ref table.element_type) lacks)) drawn.imported.spaces.tables before.elements)
+            (λ table h. All-contains Later (shape_spaces shape).tables table theirs h) limits.tables;
       }
 
 -- the exports of a shape are made behind what stands
 module _ (config : Config) (shape : Shape) (drawn : Drawn) (types : Space) (spaces : Held) (defined : Definitions) (none : config.module_shape ≡ None) (given : config.exports ≡ Some shape) where
   pub required_drawn : AreEntitiesDrawn config drawn → Extends drawn.types.types types.types → length types.types ≤ length drawn.types.types + exported_of counts.Types shape
-      → (HoldsNonNullableField types.types → HoldsNonNullableField drawn.types.types) → (All (HasFewValues most_listed) drawn.types.types → All (HasFewValues most_listed) types.types)
+      → (HoldsUngroundedField config (drawn_beside config types.types (spaces_in spaces) defined) → HoldsUngroundedField config (drawn_next config drawn)) → (All (HasFewValues most_listed) drawn.types.types → All (HasFewValues most_listed) types.types)
       → ((count : Count) → (count ≡ counts.Types → ⊥) → count_in (spaces_in spaces) count ≡ count_in (spaces_in drawn.imported.spaces) count + exported_of count shape)
+      → AreSpacesGrown (spaces_in drawn.imported.spaces) (spaces_in spaces)
       → AddsLimitsOf shape (spaces_in drawn.imported.spaces) (spaces_in spaces)
       → StandsBehind config (imported_spaces (flattened drawn.imported.groups)) types (spaces_in spaces) defined
       → AreExportsDrawn config (record drawn { types = types; imported = record drawn.imported { spaces = spaces }; definitions = defined })
-  required_drawn now longer most lacking few counted limits stands = record {
+  required_drawn now longer most lacking few counted grown limits stands = record {
     whole = stands_required config shape drawn types spaces defined none given now.may.so_far longer most counted limits stands;
     few_values = few now.may.few_values;
-    nullable = required_nullable config shape drawn none given now.may types spaces lacking limits;
+    grounded = required_grounded config shape drawn none given now.may types spaces defined longer grown lacking limits stands;
     least_types = let before = now.may.least_types in let fewer = no_fewer drawn.types.types longer.more in let end = ap (λ (all : List SubType). length all) longer.parts in omega (arith, before, fewer, end);
     least = λ count is. let before = now.least count is in let here = counted count (not_types count is) in omega (arith, before, here);
     small = λ without. let shapeless = without.exports in absurd cc;

@@ -28,7 +28,7 @@ use Rattle.smith_spell.specs.SpellAnswers.{IsSpellable}
 use Rattle.smith_spell.specs.Spelling.{SpellsMember, SpellsRest, SpellsNoTag, SpellsFuncs, SpellsGlobal, SpellsNoStart, SpellsSegments}
 use Rattle.smith_spell.proofs.FamilyFitLemmas.{family_fits}
 use Rattle.wasm_smith.specs.Begun.{Begun, begun_at, nothing_begun}
-use Rattle.wasm_smith.specs.Build.{GivesOrLacks, IsGiven, as_drawn, begun_size, begun_typed_at, defined_at, exported_at, exported_for, exports_of, imported_at, in_full, module_at, module_of, typed_at}
+use Rattle.wasm_smith.specs.Build.{GivesOrLacks, IsGiven, as_drawn, begun_size, begun_typed_at, defined_at, exported_at, exported_for, exports_of, functions_begun, imported_at, in_full, module_at, module_of, typed_at}
 use Rattle.smith_definitions.specs.Defined.{nothing_defined}
 use Rattle.smith_definitions.specs.Definitions.{defined_in, definitions_at, standing_over, tables_at, memories_at, globals_at}
 use Rattle.wasm_smith.specs.DrawnContents.{segment_scope, all_segments_at, behind_exports_at}
@@ -136,7 +136,7 @@ member_read distinct config groups funcs piece after sanitized none least member
       rw (
         types_alone config (piece ++ after) none,
         joined_parts h after,
-        types_read config groups h.first (h.second ++ after) sanitized (least counts.Types) (family_fits config groups funcs member) h.is_first,
+        types_read config (functions_begun config nothing_begun) refl groups h.first (h.second ++ after) sanitized (least counts.Types) (family_fits config groups funcs member) h.is_first,
         freely_imported distinct config (with_entities groups (nothing, nothing_defined)) (h.second ++ after) none,
         joined_parts imports after,
         no_import_read config types distinct imports.first (imports.second ++ after) (least counts.Imports) imports.is_first,

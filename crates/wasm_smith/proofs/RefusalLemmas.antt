@@ -1,20 +1,20 @@
 -- When imports, exports and contents are refused.
-use Rattle.std.proofs.Common.{◌≡◌, ◌∙◌, ◌⊎◌, ◌<◌, ◌≤◌, true, not, ◌&&◌, List, [], ◌∷◌, refl, sym, subst, inl, inr}
+use Rattle.std.proofs.Common.{◌≡◌, ◌⊎◌, List, refl, sym, subst, inl, inr}
 use Rattle.std.specs.Prelude.{Option, Some, None, Result, Ok, Err, IfErr, All}
-use Rattle.smith_types.specs.Imports.{IndexSpaces}
-use Rattle.smith_types.specs.declared.composite_type.SubType.{SubType}
+use Rattle.smith_types.specs.Expressions.{Context}
+use Rattle.smith_types.specs.declared.entity_type.TableType.{TableType}
 use Rattle.smith_config.specs.declared.config.Config.{Config}
 use Rattle.smith_config.specs.declared.shape.Shape.{Shape}
 use Rattle.smith_config.specs.InUse.{FixesImports, FixesExports, HasNoShapes}
 use Rattle.smith_bytes.specs.declared.error.Error.{Error}
 use Rattle.smith_bytes.specs.declared.error.Error.TheVariants as errors
 use Rattle.smith_bytes.specs.declared.error.Which.TheVariants as which
-use Rattle.smith_contents.specs.DrawnElements.{HasNonNullableElements, MayLackItem, MayRefuseElements}
+use Rattle.smith_contents.specs.DrawnElements.{HasUngroundedElements, MayLackItem, MayRefuseElements}
 use Rattle.smith_contents.specs.Exported.{MayRunOut, MayRefuseExports}
 use Rattle.wasm_smith.proofs.NonNullableLemmas.{holds_or_not}
 use Rattle.wasm_smith.specs.Contents.{MayRefuseContents}
-use Rattle.smith_imports.specs.Imported.{HasNullableElements, MayRefuseImports}
-use Rattle.wasm_smith.specs.DrawnSteps.{HoldsNullable}
+use Rattle.smith_imports.specs.Imported.{HasGroundedElements, MayRefuseImports}
+use Rattle.wasm_smith.specs.DrawnSteps.{HoldsGrounded}
 use Rattle.smith_definitions.specs.Refusals.{HasShape, HoldsNonNullable, MayLackExports, MayRefuse}
 
 -- a configuration has no shapes, or one that is used
@@ -40,28 +40,26 @@ exports_refuse config e free (inl (all, inr size)) = subst (MayRefuse config) (s
 exports_refuse config e free (inr (some, inl memory)) = subst (MayRefuse config) (sym memory) tt
 exports_refuse config e free (inr (some, inr (unmet, asked, short))) = subst (MayRefuse config) (sym unmet) ((free, some), (asked, lack_exports config short))
 
-module _ (config : Config) (types : List SubType) (spaces : IndexSpaces) where
+module _ (config : Config) (context : Context) (tables : List TableType) where
   -- element segments are refused where contents may be
-  pub elements_refuse : (e : Error) → MayRefuseElements config types spaces.tables e → MayRefuseContents config types spaces e
-  elements_refuse e (inl (inl (inl memory))) = subst (MayRefuseContents config types spaces) (sym memory) tt
-  elements_refuse e (inl (inl (inr (unmet, asked)))) = subst (MayRefuseContents config types spaces) (sym unmet) (tt, (asked, tt))
-  elements_refuse e (inl (inr (empty, lacking))) = subst (MayRefuseContents config types spaces) (sym empty) lacking
-  elements_refuse e (inr (unmet, asked, off)) = subst (MayRefuseContents config types spaces) (sym unmet) (tt, (asked, off))
+  pub elements_refuse : (e : Error) → MayRefuseElements config context tables e → MayRefuseContents config context tables e
+  elements_refuse e (inl (inl (inl memory))) = subst (MayRefuseContents config context tables) (sym memory) tt
+  elements_refuse e (inl (inl (inr (unmet, asked)))) = subst (MayRefuseContents config context tables) (sym unmet) (tt, (asked, tt))
+  elements_refuse e (inl (inr (empty, lacking))) = subst (MayRefuseContents config context tables) (sym empty) lacking
+  elements_refuse e (inr (unmet, asked, off)) = subst (MayRefuseContents config context tables) (sym unmet) (tt, (asked, off))
 
-  item_there : HasNonNullableElements spaces.tables → All HasNullableElements spaces.tables → ⊥
-  item_there (k, table, inside, is, never) tables =
-      let may : table.element_type.nullable ≡ true = rw is at (tables k table inside) in
-      absurd (cc (sym may ∙ never))
+  item_there : HasUngroundedElements config context tables → All (HasGroundedElements config context) tables → ⊥
+  item_there (k, table, inside, is, lacks) each = each k table inside (rw is lacks)
 
   -- where there may be nothing to choose from, a shape that is used holds a reference that may not be null
-  pub lacks_so : ((HoldsNonNullable config → ⊥) → HoldsNullable types spaces.tables) → MayLackItem types spaces.tables → HoldsNonNullable config
-  lacks_so nullable lack = elim (holds_or_not config) [
+  pub lacks_so : ((HoldsNonNullable config → ⊥) → HoldsGrounded config context tables) → MayLackItem config context tables → HoldsNonNullable config
+  lacks_so grounded lack = elim (holds_or_not config) [
     | inl holds ↦ holds
-    | inr none ↦ let all = nullable none in elim lack [ inl field ↦ absurd (all.fields field) | inr table ↦ absurd (item_there table all.elements) ]
+    | inr none ↦ let all = grounded none in elim lack [ inl field ↦ absurd (all.fields field) | inr table ↦ absurd (item_there table all.elements) ]
   ]
 
   -- contents are refused where a module may be
-  pub contents_refuse : {X : Type 0} (r : Result X Error) → (MayLackItem types spaces.tables → HoldsNonNullable config) → IfErr r (MayRefuseContents config types spaces) → IfErr r (MayRefuse config)
+  pub contents_refuse : {X : Type 0} (r : Result X Error) → (MayLackItem config context tables → HoldsNonNullable config) → IfErr r (MayRefuseContents config context tables) → IfErr r (MayRefuse config)
   contents_refuse (Ok made) lacks h = tt
   contents_refuse (Err errors.EmptyChoose) lacks h = lacks h
   contents_refuse (Err errors.Memory) lacks h = h

@@ -3,6 +3,7 @@ use Rattle.std.proofs.Common.{◌≡◌, ℕ, zero, suc, ◌+◌, ◌≤◌, Boo
 use Rattle.std.proofs.lemmas.Bool.{ltb-true}
 use Rattle.smith_bytes.specs.Growth.{goes_at, grow_at}
 use Rattle.smith_bytes.proofs.GrownLemmas.{cond_both}
+use Rattle.smith_types.specs.Expressions.{Context}
 use Rattle.smith_types.specs.Grown.{Extends}
 use Rattle.smith_types.specs.Space.{Space}
 use Rattle.smith_config.specs.declared.config.Config.{Config}
@@ -34,9 +35,9 @@ same_space space = record { types = all_kept space.types; groups = all_kept spac
 behind_both : {first second third : Space} → IsBehind first second → IsBehind second third → IsBehind first third
 behind_both one two = record { types = extends_both one.types two.types; groups = extends_both one.groups two.groups }
 
-new_group_behind : (config : Config) (allow_empty : Bool) (space : Space) (bytes : List ℕ) → IsBehind space (new_group_at config allow_empty space bytes).0
+new_group_behind : (config : Config) (functions : Context) (allow_empty : Bool) (space : Space) (bytes : List ℕ) → IsBehind space (new_group_at config functions allow_empty space bytes).0
 unfolding new_group_at types_until_at
-new_group_behind config allow_empty space bytes = record {
+new_group_behind config functions allow_empty space bytes = record {
   types = grow_extends _ _ _ space.types _;
   groups = one_more space.groups _;
 }
@@ -48,40 +49,40 @@ clone_behind config allow_empty space bytes =
     cond_both (IsBehind space) (may_be_cloned config allow_empty space group.0) (with_clone space group.0) space
     (record { types = record { more = members space.types group.0; parts = refl }; groups = one_more space.groups _ }) (same_space space)
 
-rec_group_behind : (config : Config) (allow_empty : Bool) (space : Space) (bytes : List ℕ) → IsBehind space (rec_group_at config allow_empty space bytes).0
+rec_group_behind : (config : Config) (functions : Context) (allow_empty : Bool) (space : Space) (bytes : List ℕ) → IsBehind space (rec_group_at config functions allow_empty space bytes).0
 unfolding rec_group_at
-rec_group_behind config allow_empty space bytes =
+rec_group_behind config functions allow_empty space bytes =
     let wanted = clone_wanted_at config space bytes in
     let clone = clone_rec_group_at config allow_empty space wanted.1 in
     let P = λ (r : Space × List ℕ). IsBehind space r.0 in
-    cond_both P wanted.0 (cloned_or_new_at config allow_empty space wanted.1) (new_group_at config allow_empty space wanted.1)
-    (cond_both P _ clone.1 (new_group_at config allow_empty clone.1.0 clone.1.1) (clone_behind config allow_empty space wanted.1)
-    (behind_both (clone_behind config allow_empty space wanted.1) (new_group_behind config allow_empty clone.1.0 clone.1.1)))
-    (new_group_behind config allow_empty space wanted.1)
+    cond_both P wanted.0 (cloned_or_new_at config functions allow_empty space wanted.1) (new_group_at config functions allow_empty space wanted.1)
+    (cond_both P _ clone.1 (new_group_at config functions allow_empty clone.1.0 clone.1.1) (clone_behind config allow_empty space wanted.1)
+    (behind_both (clone_behind config allow_empty space wanted.1) (new_group_behind config functions allow_empty clone.1.0 clone.1.1)))
+    (new_group_behind config functions allow_empty space wanted.1)
 
 -- types and groups that stand stay
-pub types_behind : (config : Config) (space : Space) (bytes : List ℕ) → IsBehind space (types_at config space bytes).0
+pub types_behind : (config : Config) (functions : Context) (space : Space) (bytes : List ℕ) → IsBehind space (types_at config functions space bytes).0
 unfolding types_at
-types_behind config space bytes =
-    let least = least_types_at config config.min_types space bytes in
-    more_keeps config (IsBehind space) (λ s after room h. behind_both h (rec_group_behind config true s after)) (length least.1 + 1) least.0 least.1
-    (least_keeps config (IsBehind space) (λ s after few h. behind_both h (rec_group_behind config false s after)) config.min_types space bytes (same_space space))
+types_behind config functions space bytes =
+    let least = least_types_at config functions config.min_types space bytes in
+    more_keeps config functions (IsBehind space) (λ s after room h. behind_both h (rec_group_behind config functions true s after)) (length least.1 + 1) least.0 least.1
+    (least_keeps config functions (IsBehind space) (λ s after few h. behind_both h (rec_group_behind config functions false s after)) config.min_types space bytes (same_space space))
 
 not_less : (a b : ℕ) (less : Bool) → nat_lt a b ≡ less → b ≤ a → less ≡ false
 not_less a b true is most = let few = ltb-true a b is in absurd (omega (arith, few, most))
 not_less a b false is most = refl
 
-no_least : (config : Config) (turns : ℕ) (space : Space) (bytes : List ℕ) → config.min_types ≤ length space.types → least_types_at config turns space bytes ≡ (space, bytes)
+no_least : (config : Config) (functions : Context) (turns : ℕ) (space : Space) (bytes : List ℕ) → config.min_types ≤ length space.types → least_types_at config functions turns space bytes ≡ (space, bytes)
 unfolding least_types_at
-no_least config zero space bytes enough = refl
-no_least config (suc turns) space bytes enough = rw (not_less (length space.types) config.min_types (nat_lt (length space.types) config.min_types) refl enough) refl
+no_least config functions zero space bytes enough = refl
+no_least config functions (suc turns) space bytes enough = rw (not_less (length space.types) config.min_types (nat_lt (length space.types) config.min_types) refl enough) refl
 
-no_more : (config : Config) (turns : ℕ) (space : Space) (bytes : List ℕ) → config.max_types ≤ length space.types → more_types_at config turns space bytes ≡ (space, bytes)
+no_more : (config : Config) (functions : Context) (turns : ℕ) (space : Space) (bytes : List ℕ) → config.max_types ≤ length space.types → more_types_at config functions turns space bytes ≡ (space, bytes)
 unfolding more_types_at
-no_more config zero space bytes full = refl
-no_more config (suc turns) space bytes full = rw (not_less (length space.types) config.max_types (nat_lt (length space.types) config.max_types) refl full) refl
+no_more config functions zero space bytes full = refl
+no_more config functions (suc turns) space bytes full = rw (not_less (length space.types) config.max_types (nat_lt (length space.types) config.max_types) refl full) refl
 
 -- where there are as many as may be, none is drawn
-pub types_full : (config : Config) (space : Space) (bytes : List ℕ) → config.min_types ≤ config.max_types → config.max_types ≤ length space.types → types_at config space bytes ≡ (space, bytes)
+pub types_full : (config : Config) (functions : Context) (space : Space) (bytes : List ℕ) → config.min_types ≤ config.max_types → config.max_types ≤ length space.types → types_at config functions space bytes ≡ (space, bytes)
 unfolding types_at
-types_full config space bytes ordered full = rw (no_least config config.min_types space bytes (omega (arith, ordered, full))) (no_more config (length bytes + 1) space bytes full)
+types_full config functions space bytes ordered full = rw (no_least config functions config.min_types space bytes (omega (arith, ordered, full))) (no_more config functions (length bytes + 1) space bytes full)

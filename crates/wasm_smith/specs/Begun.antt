@@ -27,7 +27,7 @@ use Rattle.smith_bytes.specs.declared.error.Count.TheVariants as counts
 use Rattle.smith_draw.specs.Bounds.{IsTableWithin, IsMemoryWithin}
 use Rattle.smith_contents.specs.Exporting.{Export}
 use Rattle.smith_definitions.specs.Bounds.{added, brought, brought_by_module, of_shapes}
-use Rattle.smith_definitions.specs.Defined.{StandsBehind, nothing_defined}
+use Rattle.smith_definitions.specs.Defined.{StandsBehind, drawn_beside, nothing_defined}
 use Rattle.smith_definitions.specs.Required.{MayRefuseRequired}
 use Rattle.smith_definitions.specs.RequiredExports.{Required, required_at, then_with}
 use Rattle.smith_definitions.specs.ShapesKept.{IsSameExport}
@@ -119,7 +119,7 @@ pub record IsBegun (config : Config) (bytes : List ℕ) (drawn : Drawn) : Type 0
 
 -- why a module may not begin with the shapes that are used: for want of memory, or by the exports of a module shape
 abbrev pub MayRefuseBegun : Config → Error → Type 0
-MayRefuseBegun config e = (e ≡ errors.Memory) ⊎ IsSomeAnd config.module_shape (λ shape. MayRefuseRequired config (shape_types shape) shape e)
+MayRefuseBegun config e = (e ≡ errors.Memory) ⊎ IsSomeAnd config.module_shape (λ shape. MayRefuseRequired config (drawn_beside config (shape_types shape) (imported_spaces (shape_imports shape)) nothing_defined) shape e)
 
 -- a kind of entities
 abbrev pub IsOfEntities : Count → Type 0

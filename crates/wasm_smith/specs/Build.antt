@@ -4,9 +4,11 @@ use Rattle.std.specs.Prelude.{◌≡◌, ℕ, ◌+◌, ◌-◌, Bool, true, ◌|
 use Rattle.smith_bytes.specs.declared.error.Error.{Error}
 use Rattle.smith_bytes.specs.declared.error.Error.TheVariants as errors
 use Rattle.smith_bytes.specs.declared.error.Why.{Why}
+use Rattle.smith_types.specs.Expressions.{Context}
 use Rattle.smith_types.specs.Imports.{IndexSpaces, flattened, imported_spaces}
 use Rattle.smith_config.specs.declared.config.Config.{Config}
 use Rattle.smith_config.specs.declared.shape.Shape.{Shape}
+use Rattle.smith_config.specs.Features.{features_of}
 use Rattle.smith_draw.specs.RecGroups.{types_at}
 use Rattle.smith_imports.specs.Importing.{imports_at}
 use Rattle.smith_imports.specs.Steps.{◌>>=◌, section_flag_at}
@@ -23,9 +25,17 @@ use Rattle.wasm_smith.specs.declared.build.contents.Contents.{Contents}
 use Rattle.smith_definitions.specs.declared.definitions.Definitions.{Definitions}
 use Rattle.wasm_smith.specs.declared.build.drawn.Drawn.{Drawn}
 
+-- the context of functions, of which so many are imported, without types and globals
+abbrev pub functions_over : Config → List ℕ → ℕ → Context
+functions_over config funcs imported = record { features = features_of config; types = []; funcs = funcs; globals = []; imported_funcs = imported; imported_globals = 0; visible = 0 }
+
+-- the functions that stand
+abbrev pub functions_begun : Config → Begun → Context
+functions_begun config begun = functions_over config begun.spaces.funcs (length begun.spaces.funcs - begun.defined.num_funcs)
+
 -- what stands, with more types behind those that do
 abbrev pub typed_at : Config → Begun → List ℕ → Begun × List ℕ
-typed_at config begun bytes = let types = types_at config begun.types bytes in (record begun { types = types.0 }, types.1)
+typed_at config begun bytes = let types = types_at config (functions_begun config begun) begun.types bytes in (record begun { types = types.0 }, types.1)
 
 -- what a step that may be out of shape gives, as an answer
 abbrev pub in_full : {A : Type 0} → Result A Why → Result A Error

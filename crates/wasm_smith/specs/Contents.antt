@@ -4,10 +4,11 @@ use Rattle.std.specs.Prelude.{◌≡◌, ℕ, ◌*◌, ◌≤◌, List, length, 
 use Rattle.smith_bytes.specs.declared.error.Error.{Error}
 use Rattle.smith_bytes.specs.declared.error.Error.TheVariants as errors
 use Rattle.smith_types.specs.Entities.{AreEntitiesValid}
+use Rattle.smith_types.specs.Expressions.{Context}
 use Rattle.smith_types.specs.Imports.{IndexSpaces}
 use Rattle.smith_types.specs.Space.{Space}
 use Rattle.smith_types.specs.ValidTypes.{AreTypesValid}
-use Rattle.smith_types.specs.declared.composite_type.SubType.{SubType}
+use Rattle.smith_types.specs.declared.entity_type.TableType.{TableType}
 use Rattle.smith_config.specs.declared.config.Config.{Config}
 use Rattle.smith_config.specs.Faults.{Passes}
 use Rattle.smith_config.specs.Features.{features_of}
@@ -37,9 +38,9 @@ pub record MayHoldContents (config : Config) (space : Space) (spaces : IndexSpac
   pub small_imports : HasNoShapes config → imports_size ≤ 42 * config.max_imports
 
 -- when contents are refused: where a module may be, and where there may be nothing to choose from for an item of a segment
-abbrev pub MayRefuseContents : Config → List SubType → IndexSpaces → Error → Type 0
-MayRefuseContents config types spaces errors.EmptyChoose = MayLackItem types spaces.tables
-MayRefuseContents config types spaces e = MayRefuse config e
+abbrev pub MayRefuseContents : Config → Context → List TableType → Error → Type 0
+MayRefuseContents config context tables errors.EmptyChoose = MayLackItem config context tables
+MayRefuseContents config context tables e = MayRefuse config e
 
 -- what a segment may refer to, with these numbers of imported functions and globals
 pub record AreSpacesOver (space : Space) (spaces : IndexSpaces) (num_funcs num_globals : ℕ) (over : Spaces) : Type 0 where

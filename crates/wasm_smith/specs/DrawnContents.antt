@@ -14,6 +14,7 @@ use Rattle.smith_types.specs.declared.code.Code.{Code}
 use Rattle.smith_config.specs.declared.config.Config.{Config}
 use Rattle.smith_config.specs.Features.{features_of}
 use Rattle.smith_config.specs.InUse.{FixesExports}
+use Rattle.smith_draw.specs.Grounding.{without_globals}
 use Rattle.smith_draw.specs.ConstFloats.{GivesNoFloat}
 use Rattle.smith_contents.specs.Held.{HasItems}
 use Rattle.smith_contents.specs.ExportedItems.{AreAllExported}
@@ -59,7 +60,7 @@ behind_exports_at config types imported spaces made bytes = do
   let type_flag = section_flag_at (length types) bytes
   let start = start_at config types spaces.funcs type_flag.1
   segments ← all_segments_at config types imported spaces start.1
-  let code = bodies_at config types (length spaces.funcs - length imported.funcs) segments.1
+  let code = bodies_at config (without_globals (segment_scope config types imported spaces)) (length spaces.funcs - length imported.funcs) segments.1
   Ok (
     record {
       exports = made.exports;
@@ -83,7 +84,7 @@ pub record AreExportsMade (config : Config) (types : List SubType) (spaces : Ind
   pub fixed_size : FixesExports config → made.type_size ≡ imports_size
   pub within : made.type_size ≤ config.max_type_size
 
--- segments are valid, as many as are asked for and no more than may be, and where nothing may trap, what is copied fits
+-- segments are valid, as many as are asked for and no more than may be, and with `disallow_traps` what is copied fits
 pub record AreSegmentsFit (config : Config) (types : List SubType) (imported spaces : IndexSpaces) (segments : Segments) : Type 0 where
   pub elements : All (IsElementValid (segment_scope config types imported spaces) spaces.tables) segments.elements
   pub most_elements : length segments.elements ≤ config.max_element_segments

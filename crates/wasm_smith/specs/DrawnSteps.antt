@@ -3,11 +3,11 @@ use Rattle.std.specs.Prelude.{◌≡◌, ℕ, ◌*◌, ◌≤◌, Bool, false, I
 use Rattle.std.specs.List.{AllZip}
 use Rattle.smith_bytes.specs.declared.error.Count.{Count}
 use Rattle.smith_types.specs.Exports.{AreDistinct, AreExportsValid}
+use Rattle.smith_types.specs.Expressions.{Context}
 use Rattle.smith_types.specs.Floats.{HasNoFloat}
 use Rattle.smith_types.specs.Grown.{Extends, AreSpacesGrown}
 use Rattle.smith_types.specs.Imports.{flattened}
 use Rattle.smith_types.specs.IndexSpaces.{spaces_in}
-use Rattle.smith_types.specs.declared.composite_type.SubType.{SubType}
 use Rattle.smith_types.specs.declared.entity_type.TableType.{TableType}
 use Rattle.smith_types.specs.declared.imports.Import.{Import}
 use Rattle.smith_config.specs.declared.config.Config.{Config}
@@ -15,21 +15,25 @@ use Rattle.smith_config.specs.declared.shape.Shape.{Shape}
 use Rattle.smith_config.specs.Faults.{minimum_of}
 use Rattle.smith_config.specs.InUse.{HasNoShapes, FixesImports, shapes_of}
 use Rattle.smith_config.specs.Shapes.{most_listed, shape_imports, shape_spaces, shape_types, space_of}
-use Rattle.smith_draw.specs.ConstBounds.{HoldsNonNullableField}
+use Rattle.smith_draw.specs.ConstBounds.{HoldsUngroundedField}
 use Rattle.smith_draw.specs.FuncSizes.{HasFewValues, IsSmall}
-use Rattle.smith_imports.specs.Imported.{HasNoImports, HasNullableElements}
+use Rattle.smith_imports.specs.Imported.{HasNoImports, HasGroundedElements}
 use Rattle.smith_imports.specs.ShapeImports.{kept_groups, taken_from, count_in}
 use Rattle.smith_imports.specs.declared.imported.Imported.{Imported}
 use Rattle.wasm_smith.specs.Begun.{Begun, StandsSoFar, StandsWhole, IsOfEntities}
-use Rattle.smith_definitions.specs.Defined.{HaveNoFloats, nothing_defined}
+use Rattle.smith_definitions.specs.Defined.{HaveNoFloats, drawn_beside, nothing_defined}
 use Rattle.smith_definitions.specs.Refusals.{HoldsNonNullable}
 use Rattle.smith_definitions.specs.ShapesKept.{IsSameExport}
 use Rattle.wasm_smith.specs.declared.build.drawn.Drawn.{Drawn}
 
--- no field of a type, and no element of a table, is a reference that may not be null
-pub record HoldsNullable (types : List SubType) (tables : List TableType) : Type 0 where
-  pub fields : HoldsNonNullableField types → ⊥
-  pub elements : All HasNullableElements tables
+-- what is drawn next is over the types and functions that stand so far
+abbrev pub drawn_next : Config → Drawn → Context
+drawn_next config drawn = drawn_beside config drawn.types.types (spaces_in drawn.imported.spaces) drawn.definitions
+
+-- no field of a type, and no element of a table, is a reference that may not be null and is not grounded
+pub record HoldsGrounded (config : Config) (context : Context) (tables : List TableType) : Type 0 where
+  pub fields : HoldsUngroundedField config context → ⊥
+  pub elements : All (HasGroundedElements config context) tables
 
 -- without shapes function types are small, and so is what imports add to the type size
 pub record HasSmallSizes (config : Config) (drawn : Drawn) : Type 0 where
@@ -41,12 +45,12 @@ pub record HasNoFloatSoFar (drawn : Drawn) : Type 0 where
   pub types : All HasNoFloat drawn.types.types
   pub defined : HaveNoFloats (spaces_in drawn.imported.spaces) drawn.definitions
 
--- what stands so far may be drawn over: function types have no more values than a shape may list, references may be null unless a
--- shape holds others, and exports that were made are valid
+-- what stands so far may be drawn over: function types have no more values than a shape may list, references may be null or are
+-- grounded unless a shape holds others, and exports that were made are valid
 pub record MayGoOn (config : Config) (drawn : Drawn) : Type 0 where
   pub so_far : StandsSoFar config drawn
   pub few_values : All (HasFewValues most_listed) drawn.types.types
-  pub nullable : (HoldsNonNullable config → ⊥) → HoldsNullable drawn.types.types drawn.imported.spaces.tables
+  pub grounded : (HoldsNonNullable config → ⊥) → HoldsGrounded config (drawn_next config drawn) drawn.imported.spaces.tables
   pub exports : AreExportsValid (spaces_in drawn.imported.spaces) drawn.contents.exports
   pub least_types : config.min_types ≤ length drawn.types.types
 
@@ -84,7 +88,7 @@ pub record AreEntitiesDrawn (config : Config) (drawn : Drawn) : Type 0 where
 pub record AreExportsDrawn (config : Config) (drawn : Drawn) : Type 0 where
   pub whole : StandsWhole config drawn
   pub few_values : All (HasFewValues most_listed) drawn.types.types
-  pub nullable : (HoldsNonNullable config → ⊥) → HoldsNullable drawn.types.types drawn.imported.spaces.tables
+  pub grounded : (HoldsNonNullable config → ⊥) → HoldsGrounded config (drawn_next config drawn) drawn.imported.spaces.tables
   pub least_types : config.min_types ≤ length drawn.types.types
   pub least : (count : Count) → IsOfEntities count → minimum_of config count ≤ count_in (spaces_in drawn.imported.spaces) count
   pub small : HasNoShapes config → HasSmallSizes config drawn

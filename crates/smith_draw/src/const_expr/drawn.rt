@@ -30,11 +30,11 @@ pub(super) fn draw_whole_expression(
 ) -> Result<Items<ConstInstr>, Error>
     requires scope { IsScope (context_of scope.now) }
     requires wanted { IsValTypeValid (context_of scope.now).features (length (context_of scope.now).types) wanted }
-    ensures exact { IfOk result (λ drawn. expression_alone_at (context_of scope.now) scope.now.config.now.limit_arrays_in_const_exprs scope.now.config.now.const_expr_fuel wanted u.old ≡ Some (drawn, u.new)) }
-    ensures none { IfErr result (λ e. e ≡ Error.EmptyChoose → expression_alone_at (context_of scope.now) scope.now.config.now.limit_arrays_in_const_exprs scope.now.config.now.const_expr_fuel wanted u.old ≡ None) }
+    ensures exact { IfOk result (λ drawn. expression_alone_at (context_of scope.now) scope.now.config.now scope.now.config.now.const_expr_fuel wanted u.old ≡ Some (drawn, u.new)) }
+    ensures none { IfErr result (λ e. e ≡ Error.EmptyChoose → expression_alone_at (context_of scope.now) scope.now.config.now scope.now.config.now.const_expr_fuel wanted u.old ≡ None) }
     ensures typed { IfOk result (IsConstExpr (context_of scope.now) wanted) }
     ensures short { IfOk result (λ drawn. length drawn ≤ most_instructions scope.now.config.now (context_of scope.now).types) }
-    ensures refusal { IfErr result (MayRefuseConstExpr (context_of scope.now).types wanted) }
+    ensures refusal { IfErr result (MayRefuseConstExpr scope.now.config.now (context_of scope.now) wanted) }
     ensures left { KeepsPieces u.old u.new }
 {
     let mut drawn = Items::new(alloc);
@@ -55,9 +55,9 @@ fn draw_expression(
 ) -> Result<(), Error>
     requires scope { IsScope (context_of scope.now) }
     requires wanted { IsValTypeValid (context_of scope.now).features (length (context_of scope.now).types) wanted }
-    ensures exact { ReadsValue (context_of scope.now) scope.now.config.now.limit_arrays_in_const_exprs wanted (state_of out.old fuel.old u.old) (state_of out.new fuel.new u.new) result }
+    ensures exact { ReadsValue (context_of scope.now) scope.now.config.now wanted (state_of out.old fuel.old u.old) (state_of out.new fuel.new u.new) result }
     ensures drawn { OnOk result (IsDrawn (context_of scope.now) (wanted ∷ []) out.old fuel.old out.new fuel.new) }
-    ensures refusal { IfErr result (MayRefuseConstExpr (context_of scope.now).types wanted) }
+    ensures refusal { IfErr result (MayRefuseConstExpr scope.now.config.now (context_of scope.now) wanted) }
     ensures left { KeepsPieces u.old u.new }
 {
     let mut tasks = Vec::new(alloc);
@@ -81,9 +81,9 @@ fn carry_out(
 ) -> Result<(), Error>
     requires scope { IsScope (context_of scope.now) }
     requires valid { IsTaskValid (context_of scope.now) task }
-    ensures step { OnOk result (IsStep (context_of scope.now) scope.now.config.now.limit_arrays_in_const_exprs task (reverse tasks.old.items) (state_of out.old fuel.old u.old) (reverse tasks.new.items) (state_of out.new fuel.new u.new)) }
+    ensures step { OnOk result (IsStep (context_of scope.now) scope.now.config.now task (reverse tasks.old.items) (state_of out.old fuel.old u.old) (reverse tasks.new.items) (state_of out.new fuel.new u.new)) }
     ensures growth { OnOk result (IsGrowthPaid (context_of scope.now) tasks.old.items fuel.old tasks.new.items fuel.new) }
-    ensures refusal { IfErr result (MayRefuseTask (context_of scope.now) scope.now.config.now.limit_arrays_in_const_exprs task (state_of out.old fuel.old u.old)) }
+    ensures refusal { IfErr result (MayRefuseTask (context_of scope.now) scope.now.config.now task (state_of out.old fuel.old u.old)) }
     ensures left { KeepsPieces u.old u.new }
 {
     match task {
@@ -113,8 +113,8 @@ fn draw_choice(
 ) -> Result<(), Error>
     requires scope { IsScope (context_of scope.now) }
     requires wanted { IsValTypeValid (context_of scope.now).features (length (context_of scope.now).types) wanted }
-    ensures step { OnOk result (IsStep (context_of scope.now) scope.now.config.now.limit_arrays_in_const_exprs (Draw (Value wanted)) (reverse tasks.old.items) (state_of out.old fuel.old u.old) (reverse tasks.new.items) (state_of out.new fuel.new u.new)) }
-    ensures refusal { IfErr result (MayRefuseTask (context_of scope.now) scope.now.config.now.limit_arrays_in_const_exprs (Draw (Value wanted)) (state_of out.old fuel.old u.old)) }
+    ensures step { OnOk result (IsStep (context_of scope.now) scope.now.config.now (Draw (Value wanted)) (reverse tasks.old.items) (state_of out.old fuel.old u.old) (reverse tasks.new.items) (state_of out.new fuel.new u.new)) }
+    ensures refusal { IfErr result (MayRefuseTask (context_of scope.now) scope.now.config.now (Draw (Value wanted)) (state_of out.old fuel.old u.old)) }
     ensures left { KeepsPieces u.old u.new }
 {
     let choice = choose_offer(scope, wanted, *fuel, u)?;

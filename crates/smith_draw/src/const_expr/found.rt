@@ -18,7 +18,7 @@ use smith_types::ValType;
 fn count_offers(scope: &Scope<'_>, wanted: ValType, fuel: u32) -> usize
     requires scope { IsScope (context_of scope.now) }
     requires upper { IsValInRange (context_of scope.now).types wanted }
-    ensures { result ≡ length (offers (context_of scope.now) wanted fuel) }
+    ensures { result ≡ length (offers scope.now.config.now (context_of scope.now) wanted fuel) }
 {
     match past_offers(scope, wanted, fuel, usize::MAX) {
         Ok(rest) => usize::MAX - rest,
@@ -35,10 +35,10 @@ pub(super) fn choose_offer(
 ) -> Result<Choice, Error>
     requires scope { IsScope (context_of scope.now) }
     requires wanted { IsValTypeValid (context_of scope.now).features (length (context_of scope.now).types) wanted }
-    ensures exact { IfOk result (λ choice. choose_at (offers (context_of scope.now) wanted fuel) u.old ≡ (Some choice, u.new)) }
-    ensures none { IfErr result (λ e. (e ≡ Error.EmptyChoose) × ((choose_at (offers (context_of scope.now) wanted fuel) u.old).0 ≡ None)) }
-    ensures fits { IfOk result (IsFit (context_of scope.now) wanted fuel) }
-    ensures refusal { IfErr result (MayRefuseConstExpr (context_of scope.now).types wanted) }
+    ensures exact { IfOk result (λ choice. choose_at (offers scope.now.config.now (context_of scope.now) wanted fuel) u.old ≡ (Some choice, u.new)) }
+    ensures none { IfErr result (λ e. (e ≡ Error.EmptyChoose) × ((choose_at (offers scope.now.config.now (context_of scope.now) wanted fuel) u.old).0 ≡ None)) }
+    ensures fits { IfOk result (IsFit scope.now.config.now (context_of scope.now) wanted fuel) }
+    ensures refusal { IfErr result (MayRefuseConstExpr scope.now.config.now (context_of scope.now) wanted) }
     ensures left { KeepsPieces u.old u.new }
 {
     let count = count_offers(scope, wanted, fuel);

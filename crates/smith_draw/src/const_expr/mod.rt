@@ -9,6 +9,7 @@ ghost use Rattle.smith_types.specs.declared.value_type.ValType.TheVariants.{I32,
 ghost use Rattle.smith_types.specs.Expressions.{IsConstExpr};
 ghost use Rattle.smith_types.specs.Floats.{IsNoFloat, HasNoFloat};
 ghost use Rattle.smith_config.specs.Features.{features_of};
+ghost use Rattle.smith_draw.specs.Grounding.{standing_in};
 ghost use Rattle.smith_draw.specs.SpelledConstants.{SpellsConstExpr};
 ghost use Rattle.smith_draw.specs.ConstOffers.{readable_globals};
 ghost use Rattle.smith_draw.specs.ConstExprs.{const_expr_at, table_init_at};
@@ -17,7 +18,6 @@ ghost use Rattle.smith_draw.specs.ConstBounds.{most_instructions, MayRefuseConst
 ghost use Rattle.smith_draw.specs.ConstFloats.{GivesNoFloat};
 
 mod constant;
-mod defaults;
 mod drawn;
 mod extended;
 mod found;
@@ -49,7 +49,8 @@ use std::alloc::Global;
 /// # Errors
 ///
 /// `EmptyChoose` where nothing gives a value that is needed. That comes only where `wanted`, or a field or element type of
-/// `spaces`, is a reference that may not be null.
+/// `spaces`, is a reference that may not be null, and, where `config` has references that aren't nullable, none that a struct type
+/// or a function of `spaces` grounds.
 pub fn arbitrary_const_expr(
     alloc: Global,
     config: &Config,
@@ -65,7 +66,7 @@ pub fn arbitrary_const_expr(
     ensures typed { IfOk result (IsConstExpr (seen_by config.now spaces.now allow_defined) wanted) }
     ensures short { IfOk result (λ drawn. length drawn ≤ most_instructions config.now spaces.now.types.now.types) }
     ensures floats { All HasNoFloat spaces.now.types.now.types → IsNoFloat wanted → IfOk result (All GivesNoFloat) }
-    ensures refusal { IfErr result (MayRefuseConstExpr spaces.now.types.now.types wanted) }
+    ensures refusal { IfErr result (MayRefuseConstExpr config.now (standing_in config.now spaces.now) wanted) }
     ensures reach { wanted ≡ I32 → readable_globals (seen_by config.now spaces.now allow_defined) I32 ≡ [] → IfOk result (λ drawn. Takes (SpellsConstExpr config.now) u.old drawn u.new) }
     ensures left { KeepsPieces u.old u.new }
 {
@@ -111,7 +112,7 @@ pub fn arbitrary_table_init(
     ensures gc { IfOk result (λ initial. IsSome initial → IsTrue config.now.gc_enabled) }
     ensures without_gc { config.now.gc_enabled ≡ false → result ≡ Ok None }
     ensures needed { element.nullable ≡ false → IfOk result IsSome }
-    ensures refusal { IfErr result (MayRefuseConstExpr spaces.now.types.now.types (Ref element)) }
+    ensures refusal { IfErr result (MayRefuseConstExpr config.now (standing_in config.now spaces.now) (Ref element)) }
     ensures left { KeepsPieces u.old u.new }
 {
     if !config.gc_enabled {

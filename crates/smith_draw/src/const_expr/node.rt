@@ -7,11 +7,11 @@ ghost use Rattle.smith_types.specs.declared.value_type.ValType.TheVariants.{I32}
 ghost use Rattle.smith_draw.specs.declared.const_expr.node.Operand.TheVariants.{Value};
 
 use super::constant::draw_constant;
-use super::defaults::unpacked;
 use super::node_choice::Choice;
 use smith_bytes::{Error, Unstructured};
 use smith_types::{
     AbstractHeapType, CompositeInnerType, ConstInstr, HeapType, Items, RefType, SubType, ValType,
+    unpacked,
 };
 use std::alloc::Global;
 

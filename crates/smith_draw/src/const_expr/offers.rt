@@ -1,14 +1,13 @@
 ghost use Rattle.std.specs.Prelude.{◌≡◌, ◌<◌, ◌++◌, [], ◌∷◌, length, take, Some, IfOk, IfErr};
 ghost use Rattle.smith_types.specs.Subtyping.{IsValInRange};
 ghost use Rattle.smith_types.specs.Expressions.{unpacked};
+ghost use Rattle.smith_types.specs.Grounded.{is_defaultable, are_defaultable};
 ghost use Rattle.smith_types.specs.declared.value_type.ValType.TheVariants.{Ref};
 ghost use Rattle.smith_draw.specs.ConstScopes.{context_of, IsScope};
 ghost use Rattle.smith_draw.specs.ConstOffers.{
   past,
   each_from,
   offered_if,
-  is_defaultable,
-  are_defaultable,
   is_integer,
   global_offers,
   function_offers,
@@ -17,6 +16,7 @@ ghost use Rattle.smith_draw.specs.ConstOffers.{
   type_offers,
   types_offers,
   conversions,
+  conversions_to,
   other_offers,
   created_offers,
   reference_offers,
@@ -27,11 +27,14 @@ ghost use Rattle.smith_draw.specs.ConstOffers.{
 // Each function goes past the choices of one kind, and counts `place` from the first of these. The choice at `place` is answered
 // as an `Err`, with which a `?` leaves. Where `place` lies behind the last of these choices, how far is answered.
 
-use super::defaults::{are_defaultable, is_defaultable, unpacked};
 use super::node_choice::Choice;
 use super::references::{function_reference, gives, i31, is_below};
 use super::scope::Scope;
-use smith_types::{AbstractHeapType, CompositeInnerType, FieldType, HeapType, RefType, ValType};
+use smith_config::Config;
+use smith_types::{
+    AbstractHeapType, CompositeInnerType, FieldType, HeapType, RefType, ValType, are_defaultable,
+    is_defaultable, unpacked,
+};
 
 /// Goes past all that is offered where a value of the type `wanted` is drawn.
 #[tactic(auto, unfolding(crate::specs::ConstOffers::past))]
@@ -43,7 +46,7 @@ pub(super) fn past_offers(
 ) -> Result<usize, Choice>
     requires scope { IsScope (context_of scope.now) }
     requires upper { IsValInRange (context_of scope.now).types wanted }
-    ensures { result ≡ past (offers (context_of scope.now) wanted fuel) place }
+    ensures { result ≡ past (offers scope.now.config.now (context_of scope.now) wanted fuel) place }
 {
     let place = past_globals(scope, wanted, place)?;
     let place = past_constants(scope, wanted, place)?;
@@ -85,7 +88,7 @@ fn past_references(
 ) -> Result<usize, Choice>
     requires scope { IsScope (context_of scope.now) }
     requires upper { IsValInRange (context_of scope.now).types wanted }
-    ensures { result ≡ past (reference_offers (context_of scope.now) wanted fuel) place }
+    ensures { result ≡ past (reference_offers scope.now.config.now (context_of scope.now) wanted fuel) place }
 {
     match wanted {
         ValType::Ref(reference) => {
@@ -125,7 +128,7 @@ fn past_created(
 ) -> Result<usize, Choice>
     requires scope { IsScope (context_of scope.now) }
     requires upper { IsValInRange (context_of scope.now).types (Ref wanted) }
-    ensures { result ≡ past (created_offers (context_of scope.now) wanted fuel) place }
+    ensures { result ≡ past (created_offers scope.now.config.now (context_of scope.now) wanted fuel) place }
 {
     let place = past_types(scope, ValType::Ref(wanted), fuel, false, place)?;
     let place = past_types(scope, ValType::Ref(wanted), fuel, true, place)?;
@@ -214,7 +217,7 @@ fn past_array_ways(index: u32, element: FieldType, place: usize) -> Result<usize
 #[tactic(auto, using(crate::proofs::ConstFoundLemmas::past_append, crate::proofs::ConstFoundLemmas::past_front), unfolding(crate::specs::ConstOffers::past))]
 fn past_others(scope: &Scope<'_>, wanted: RefType, fuel: u32, place: usize) -> Result<usize, Choice>
     requires upper { IsValInRange (context_of scope.now).types (Ref wanted) }
-    ensures { result ≡ past (other_offers (context_of scope.now) wanted fuel) place }
+    ensures { result ≡ past (other_offers scope.now.config.now (context_of scope.now) wanted fuel) place }
 {
     if fuel == 0 {
         return Ok(place);
@@ -225,12 +228,22 @@ fn past_others(scope: &Scope<'_>, wanted: RefType, fuel: u32, place: usize) -> R
     let below = scope.config.shared_everything_threads_enabled
         && is_below(types, i31(true), ValType::Ref(wanted));
     let place = past_if(below, Choice::SharedI31, place)?;
-    past_conversions(wanted.heap_type, place)
+    past_conversions(scope.config, wanted, place)
 }
 
 #[tactic(auto, unfolding(crate::specs::ConstOffers::past))]
-fn past_conversions(heap_type: HeapType, place: usize) -> Result<usize, Choice>
-    ensures { result ≡ past (conversions heap_type) place }
+fn past_conversions(config: &Config, wanted: RefType, place: usize) -> Result<usize, Choice>
+    ensures { result ≡ past (conversions config.now wanted) place }
+{
+    if !wanted.nullable && config.non_nullable_enabled {
+        return Ok(place);
+    }
+    past_conversions_to(wanted.heap_type, place)
+}
+
+#[tactic(auto, unfolding(crate::specs::ConstOffers::past))]
+fn past_conversions_to(heap_type: HeapType, place: usize) -> Result<usize, Choice>
+    ensures { result ≡ past (conversions_to heap_type) place }
 {
     match heap_type {
         HeapType::Abstract { ty, .. } => match ty {

@@ -26,47 +26,49 @@ ghost use Rattle.smith_draw.specs.ExampleConstExprs.{context_of_types, packed_st
 
 #[tactic(auto, unfolding(crate::specs::ConstOffers::offers, crate::specs::Offered::ancestors, crate::specs::Below::is_heap_below))]
 fn offers_of_numbers()
-    ensures a_global_comes_first { offers (context_with usual_features 2) I32 1 ≡ choice.Global 0 ∷ choice.Constant ∷ choice.Extended ∷ [] }
-    ensures globals_by_their_index { offers (context_with usual_features 3) I32 1 ≡ choice.Global 0 ∷ choice.Global 2 ∷ choice.Constant ∷ choice.Extended ∷ [] }
-    ensures no_global_of_another_type { offers (context_with usual_features 3) I64 1 ≡ choice.Constant ∷ choice.Extended ∷ [] }
-    ensures without_fuel { offers (context_with usual_features 0) I32 0 ≡ choice.Constant ∷ choice.Extended ∷ [] }
-    ensures without_sums { offers (context_with (record usual_features { extended_const = false }) 0) I32 1 ≡ choice.Constant ∷ [] }
-    ensures a_float { offers (context_with usual_features 3) F32 1 ≡ choice.Constant ∷ [] }
+    ensures a_global_comes_first { offers default_config (context_with usual_features 2) I32 1 ≡ choice.Global 0 ∷ choice.Constant ∷ choice.Extended ∷ [] }
+    ensures globals_by_their_index { offers default_config (context_with usual_features 3) I32 1 ≡ choice.Global 0 ∷ choice.Global 2 ∷ choice.Constant ∷ choice.Extended ∷ [] }
+    ensures no_global_of_another_type { offers default_config (context_with usual_features 3) I64 1 ≡ choice.Constant ∷ choice.Extended ∷ [] }
+    ensures without_fuel { offers default_config (context_with usual_features 0) I32 0 ≡ choice.Constant ∷ choice.Extended ∷ [] }
+    ensures without_sums { offers default_config (context_with (record usual_features { extended_const = false }) 0) I32 1 ≡ choice.Constant ∷ [] }
+    ensures a_float { offers default_config (context_with usual_features 3) F32 1 ≡ choice.Constant ∷ [] }
 {}
 
 #[tactic(auto, unfolding(crate::specs::ConstOffers::offers, crate::specs::Offered::ancestors, crate::specs::Below::is_heap_below))]
 fn offers_of_references()
-    ensures functions { offers (context_with usual_features 3) (Ref (nullable (plain heap.Func))) 1 ≡ choice.Constant ∷ choice.Function 0 ∷ choice.Function 1 ∷ [] }
-    ensures a_function_that_is_known_exactly { offers (context_with every_feature 3) (Ref (not_null (Exact 0))) 1 ≡ choice.Function 1 ∷ [] }
-    ensures a_struct { offers (context_with usual_features 3) (Ref (nullable (Concrete 1))) 1 ≡ choice.Constant ∷ choice.Struct 1 ∷ choice.StructDefault 1 ∷ [] }
-    ensures a_struct_without_fuel { offers (context_with usual_features 3) (Ref (nullable (Concrete 1))) 0 ≡ choice.Constant ∷ choice.StructDefault 1 ∷ [] }
-    ensures a_struct_without_default { offers (context_with usual_features 3) (Ref (not_null (Concrete 3))) 1 ≡ choice.Struct 3 ∷ [] }
-    ensures an_array { offers (context_with usual_features 3) (Ref (not_null (Concrete 2))) 1 ≡ choice.Array 2 ∷ choice.FixedArray 2 ∷ choice.ArrayDefault 2 ∷ [] }
-    ensures an_array_without_default { offers (context_with usual_features 3) (Ref (not_null (Concrete 4))) 1 ≡ choice.Array 4 ∷ choice.FixedArray 4 ∷ [] }
-    ensures anything { offers (context_with usual_features 3) anyref 1
+    ensures functions { offers default_config (context_with usual_features 3) (Ref (nullable (plain heap.Func))) 1 ≡ choice.Constant ∷ choice.Function 0 ∷ choice.Function 1 ∷ [] }
+    ensures a_function_that_is_known_exactly { offers default_config (context_with every_feature 3) (Ref (not_null (Exact 0))) 1 ≡ choice.Function 1 ∷ [] }
+    ensures a_struct { offers default_config (context_with usual_features 3) (Ref (nullable (Concrete 1))) 1 ≡ choice.Constant ∷ choice.Struct 1 ∷ choice.StructDefault 1 ∷ [] }
+    ensures a_struct_without_fuel { offers default_config (context_with usual_features 3) (Ref (nullable (Concrete 1))) 0 ≡ choice.Constant ∷ choice.StructDefault 1 ∷ [] }
+    ensures a_struct_without_default { offers default_config (context_with usual_features 3) (Ref (not_null (Concrete 3))) 1 ≡ choice.Struct 3 ∷ [] }
+    ensures an_array { offers default_config (context_with usual_features 3) (Ref (not_null (Concrete 2))) 1 ≡ choice.Array 2 ∷ choice.FixedArray 2 ∷ choice.ArrayDefault 2 ∷ [] }
+    ensures an_array_without_default { offers default_config (context_with usual_features 3) (Ref (not_null (Concrete 4))) 1 ≡ choice.Array 4 ∷ choice.FixedArray 4 ∷ [] }
+    ensures anything { offers default_config (context_with usual_features 3) anyref 1
         ≡ choice.Constant ∷ choice.Struct 1 ∷ choice.StructDefault 1 ∷ choice.Struct 3 ∷ choice.Struct 5 ∷ choice.StructDefault 5 ∷ choice.Array 2 ∷ choice.FixedArray 2 ∷ choice.ArrayDefault 2
         ∷ choice.Array 4 ∷ choice.FixedArray 4 ∷ choice.I31 ∷ choice.FromExtern ∷ [] }
-    ensures anything_without_fuel { offers (context_with usual_features 3) anyref 0 ≡ choice.Constant ∷ choice.StructDefault 1 ∷ choice.StructDefault 5 ∷ [] }
-    ensures anything_without_collection { offers (context_with without_gc 2) anyref 1 ≡ choice.Constant ∷ [] }
-    ensures anything_shared { offers (context_with usual_features 3) shared_anyref 1 ≡ choice.Constant ∷ choice.SharedI31 ∷ choice.FromExtern ∷ [] }
-    ensures from_inside { offers (context_with usual_features 3) (Ref (not_null (plain heap.Extern))) 1 ≡ choice.FromAny ∷ [] }
-    ensures nothing_from_inside_without_fuel { offers (context_with usual_features 3) (Ref (not_null (plain heap.Extern))) 0 ≡ [] }
-    ensures nothing_below_every_reference { offers (context_with usual_features 3) (Ref (not_null (plain heap.None))) 50 ≡ [] }
+    ensures anything_without_fuel { offers default_config (context_with usual_features 3) anyref 0 ≡ choice.Constant ∷ choice.StructDefault 1 ∷ choice.StructDefault 5 ∷ [] }
+    ensures anything_without_collection { offers default_config (context_with without_gc 2) anyref 1 ≡ choice.Constant ∷ [] }
+    ensures anything_shared { offers default_config (context_with usual_features 3) shared_anyref 1 ≡ choice.Constant ∷ choice.SharedI31 ∷ choice.FromExtern ∷ [] }
+    ensures from_inside { offers default_config (context_with usual_features 3) (Ref (not_null (plain heap.Extern))) 1 ≡ choice.FromAny ∷ [] }
+    ensures nothing_from_inside_without_fuel { offers default_config (context_with usual_features 3) (Ref (not_null (plain heap.Extern))) 0 ≡ [] }
+    ensures from_inside_where_null_is_told { offers (record default_config { non_nullable_enabled = true }) (context_with usual_features 3) (Ref (not_null (plain heap.Extern))) 1 ≡ [] }
+    ensures from_inside_to_null { offers (record default_config { non_nullable_enabled = true }) (context_with usual_features 3) (Ref (nullable (plain heap.Extern))) 1 ≡ choice.Constant ∷ choice.FromAny ∷ [] }
+    ensures nothing_below_every_reference { offers default_config (context_with usual_features 3) (Ref (not_null (plain heap.None))) 50 ≡ [] }
 {}
 
 #[tactic(auto, unfolding(crate::specs::ConstExprs::expression_alone_at, crate::specs::ConstExprs::expression_at, crate::specs::ConstNodes::node_at, crate::specs::Constants::constant_at, crate::specs::Constants::extended_at, crate::specs::Constants::extended_within, crate::specs::Constants::operator_at, crate::specs::ConstOffers::offers, crate::specs::Offered::ancestors, crate::specs::Below::is_heap_below, smith_bytes::specs::Draws::choose_at, smith_bytes::specs::Draws::range_at, smith_bytes::specs::Draws::whole_at, smith_bytes::specs::Draws::digit_count))]
 fn draws()
-    ensures a_sum { expression_alone_at (context_of_types []) false 50 I32 (1 ∷ 1 ∷ 0 ∷ 5 ∷ 0 ∷ 0 ∷ 0 ∷ 0 ∷ 7 ∷ 0 ∷ 0 ∷ 0 ∷ [])
+    ensures a_sum { expression_alone_at (context_of_types []) default_config 50 I32 (1 ∷ 1 ∷ 0 ∷ 5 ∷ 0 ∷ 0 ∷ 0 ∷ 0 ∷ 7 ∷ 0 ∷ 0 ∷ 0 ∷ [])
         ≡ Some (instr.I32Const (pos 7) ∷ instr.I32Const (pos 5) ∷ instr.I32Add ∷ [], []) }
-    ensures a_struct { expression_alone_at (context_of_types (packed_struct ∷ [])) false 50 (Ref (nullable (Concrete 0))) (1 ∷ 0 ∷ 9 ∷ 0 ∷ 0 ∷ 0 ∷ 8 ∷ [])
+    ensures a_struct { expression_alone_at (context_of_types (packed_struct ∷ [])) default_config 50 (Ref (nullable (Concrete 0))) (1 ∷ 0 ∷ 9 ∷ 0 ∷ 0 ∷ 0 ∷ 8 ∷ [])
         ≡ Some (instr.I32Const (pos 9) ∷ instr.StructNew 0 ∷ [], 8 ∷ []) }
-    ensures a_struct_without_fuel { expression_alone_at (context_of_types (packed_struct ∷ [])) false 0 (Ref (nullable (Concrete 0))) (1 ∷ []) ≡ Some (instr.StructNewDefault 0 ∷ [], []) }
-    ensures a_limited_length { expression_alone_at (context_of_types (packed_array ∷ [])) true 50 (Ref (nullable (Concrete 0))) (3 ∷ 7 ∷ [])
+    ensures a_struct_without_fuel { expression_alone_at (context_of_types (packed_struct ∷ [])) default_config 0 (Ref (nullable (Concrete 0))) (1 ∷ []) ≡ Some (instr.StructNewDefault 0 ∷ [], []) }
+    ensures a_limited_length { expression_alone_at (context_of_types (packed_array ∷ [])) (record default_config { limit_arrays_in_const_exprs = true }) 50 (Ref (nullable (Concrete 0))) (3 ∷ 7 ∷ [])
         ≡ Some (instr.I32Const (pos 7) ∷ instr.ArrayNewDefault 0 ∷ [], []) }
-    ensures a_length_past_the_numbers_with_sign { expression_alone_at (context_of_types (packed_array ∷ [])) true (2 ^ 32 - 1) (Ref (nullable (Concrete 0))) (3 ∷ 255 ∷ 255 ∷ 255 ∷ 254 ∷ [])
+    ensures a_length_past_the_numbers_with_sign { expression_alone_at (context_of_types (packed_array ∷ [])) (record default_config { limit_arrays_in_const_exprs = true }) (2 ^ 32 - 1) (Ref (nullable (Concrete 0))) (3 ∷ 255 ∷ 255 ∷ 255 ∷ 254 ∷ [])
         ≡ Some (instr.I32Const (negsuc 1) ∷ instr.ArrayNewDefault 0 ∷ [], []) }
-    ensures from_inside { expression_alone_at (context_of_types []) false 2 (Ref (not_null (plain heap.Extern))) [] ≡ Some (instr.I32Const (pos 0) ∷ instr.RefI31 ∷ instr.ExternConvertAny ∷ [], []) }
-    ensures nothing_from_inside { expression_alone_at (context_of_types []) false 1 (Ref (not_null (plain heap.Extern))) [] ≡ None }
+    ensures from_inside { expression_alone_at (context_of_types []) default_config 2 (Ref (not_null (plain heap.Extern))) [] ≡ Some (instr.I32Const (pos 0) ∷ instr.RefI31 ∷ instr.ExternConvertAny ∷ [], []) }
+    ensures nothing_from_inside { expression_alone_at (context_of_types []) default_config 1 (Ref (not_null (plain heap.Extern))) [] ≡ None }
 {}
 
 fn globals()
@@ -98,17 +100,17 @@ fn spaces()
 {}
 
 fn refusals()
-    ensures a_number { ¬ MayLack [] I32 }
-    ensures a_reference_that_may_be_null { ¬ MayLack [] anyref }
-    ensures a_reference_that_may_not_be_null { MayLack [] (Ref (not_null (plain heap.Any))) }
-    ensures a_field_that_may_not_be_null { MayLack context_types anyref }
-    ensures an_element_that_may_not_be_null { MayLack (final_type (array (constant (Val (Ref (not_null (plain heap.Func)))))) ∷ []) I32 }
-    ensures a_parameter_that_may_not_be_null { ¬ MayLack (final_type (taking (Ref (not_null (plain heap.Func)) ∷ [])) ∷ []) I32 }
-    ensures fields_that_are_numbers { ¬ MayLack (final_type (struct (constant I8 ∷ [])) ∷ []) anyref }
-    ensures want_of_memory { MayRefuseConstExpr [] I32 errors.Memory }
-    ensures nothing_to_choose_from { MayRefuseConstExpr [] (Ref (not_null (plain heap.None))) errors.EmptyChoose }
-    ensures a_number_is_there { ¬ MayRefuseConstExpr [] I32 errors.EmptyChoose }
-    ensures exhausted_input { ¬ MayRefuseConstExpr context_types anyref errors.NotEnoughData }
+    ensures a_number { ¬ MayLack default_config (context_of_types []) I32 }
+    ensures a_reference_that_may_be_null { ¬ MayLack default_config (context_of_types []) anyref }
+    ensures a_reference_that_may_not_be_null { MayLack default_config (context_of_types []) (Ref (not_null (plain heap.Any))) }
+    ensures a_field_that_may_not_be_null { MayLack default_config (context_of_types context_types) anyref }
+    ensures an_element_that_may_not_be_null { MayLack default_config (context_of_types (final_type (array (constant (Val (Ref (not_null (plain heap.Func)))))) ∷ [])) I32 }
+    ensures a_parameter_that_may_not_be_null { ¬ MayLack default_config (context_of_types (final_type (taking (Ref (not_null (plain heap.Func)) ∷ [])) ∷ [])) I32 }
+    ensures fields_that_are_numbers { ¬ MayLack default_config (context_of_types (final_type (struct (constant I8 ∷ [])) ∷ [])) anyref }
+    ensures want_of_memory { MayRefuseConstExpr default_config (context_of_types []) I32 errors.Memory }
+    ensures nothing_to_choose_from { MayRefuseConstExpr default_config (context_of_types []) (Ref (not_null (plain heap.None))) errors.EmptyChoose }
+    ensures a_number_is_there { ¬ MayRefuseConstExpr default_config (context_of_types []) I32 errors.EmptyChoose }
+    ensures exhausted_input { ¬ MayRefuseConstExpr default_config (context_of_types context_types) anyref errors.NotEnoughData }
 {}
 
 fn spelled_constants()

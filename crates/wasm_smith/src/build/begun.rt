@@ -4,8 +4,10 @@ ghost use Rattle.std.specs.Prelude.{◌≡◌, IfErr, OnOk};
 ghost use Rattle.smith_bytes.specs.Source.{KeepsPieces};
 ghost use Rattle.smith_bytes.specs.declared.error.Which.TheVariants.{AvailableImports, ModuleShape};
 ghost use Rattle.smith_config.specs.Sanitized.{IsSanitized};
-ghost use Rattle.smith_config.specs.Shapes.{IsShapeValid, shape_types};
+ghost use Rattle.smith_config.specs.Shapes.{IsShapeValid, shape_imports, shape_types};
 ghost use Rattle.wasm_smith.specs.Begun.{begun_of, HasNothing, begun_by_module_at, begun_by_imports_at, begun_at, IsBegunByModule, IsBegunByImports, IsBegun, MayRefuseBegun};
+ghost use Rattle.smith_types.specs.Imports.{imported_spaces};
+ghost use Rattle.smith_definitions.specs.Defined.{drawn_beside, nothing_defined};
 ghost use Rattle.smith_definitions.specs.Refusals.{AreShapesValid};
 ghost use Rattle.smith_definitions.specs.Required.{MayRefuseRequired};
 ghost use Rattle.smith_definitions.specs.RequiredExports.{Answers};
@@ -33,7 +35,7 @@ pub(crate) fn begin_with_module(
     requires nothing { HasNothing drawn.old }
     ensures exact { Answers (λ _. (begun_of drawn.new, u.new)) result (begun_by_module_at config.now shape.now u.old) }
     ensures begun { OnOk result (IsBegunByModule config.now shape.now drawn.new) }
-    ensures refusal { IfErr result (MayRefuseRequired config.now (shape_types shape.now) shape.now) }
+    ensures refusal { IfErr result (MayRefuseRequired config.now (drawn_beside config.now (shape_types shape.now) (imported_spaces (shape_imports shape.now)) nothing_defined) shape.now) }
     ensures left { KeepsPieces u.old u.new }
 {
     drawn.types = types_of_shape(alloc, shape)?;

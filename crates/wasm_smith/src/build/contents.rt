@@ -8,6 +8,7 @@ ghost use Rattle.smith_config.specs.Faults.{Passes};
 ghost use Rattle.smith_config.specs.Sanitized.{IsSanitized};
 ghost use Rattle.wasm_smith.specs.Build.{GivesOrLacks, in_full};
 ghost use Rattle.wasm_smith.specs.DrawnSteps.{AreExportsDrawn};
+ghost use Rattle.smith_definitions.specs.Defined.{drawn_beside};
 ghost use Rattle.smith_definitions.specs.Refusals.{AreShapesValid, MayRefuse};
 ghost use Rattle.wasm_smith.specs.Contents.{MayHoldContents, MayRefuseContents};
 ghost use Rattle.wasm_smith.specs.DrawnContents.{TellsImported, AreExportsMade, AreContents, HasNoFloatContents, imported_in, behind_exports_at};
@@ -16,6 +17,7 @@ ghost use Rattle.smith_imports.specs.Steps.{Gives};
 
 use crate::build::drawn::Drawn;
 use crate::build::section_flag::draw_section_flag;
+use crate::build::segment_spaces::segment_spaces;
 use crate::build::segments::{Segments, draw_segments};
 use smith_bytes::{Error, Unstructured};
 use smith_config::Config;
@@ -84,13 +86,16 @@ pub(crate) fn draw_behind_exports(
     ensures kept { IfOk result (AreContents config.now types.now.types (imported_in imported.now) (spaces_of imported.now) imported.now.type_size) }
     ensures exports { IfOk result (λ contents. contents.exports ≡ made.exports) }
     ensures floats { config.now.allow_floats ≡ false → All HasNoFloat types.now.types → IfOk result HasNoFloatContents }
-    ensures refusal { IfErr result (MayRefuseContents config.now types.now.types (spaces_of imported.now)) }
+    ensures refusal { IfErr result (MayRefuseContents config.now (drawn_beside config.now types.now.types (spaces_of imported.now) definitions.now) (spaces_of imported.now).tables) }
     ensures left { KeepsPieces u.old u.new }
 {
     let encodes_types = draw_section_flag(types.types().len(), u);
     let start = arbitrary_start(config, types.types(), imported.spaces.funcs.as_slice(), u);
     let segments = draw_segments(alloc, config, types, imported, definitions, u)?;
-    let code = arbitrary_bodies(alloc, config, types, definitions.num_funcs, u)?;
+    let imported_funcs = imported.spaces.funcs.len() - definitions.num_funcs;
+    let imported_globals = imported.spaces.globals.len() - definitions.globals.len();
+    let spaces = segment_spaces(types, &imported.spaces, imported_funcs, imported_globals);
+    let code = arbitrary_bodies(alloc, config, &spaces, definitions.num_funcs, u)?;
     Ok(Contents {
         exports: made.exports,
         type_size: made.type_size,

@@ -38,7 +38,9 @@ pub(crate) fn begin_with_types(
     ensures left { KeepsPieces u.old u.new }
 {
     begin(alloc, config, drawn, u)?;
-    add_more_types(alloc, config, &mut drawn.types, u)
+    let funcs = drawn.imported.spaces.funcs.as_slice();
+    let imported_funcs = funcs.len() - drawn.definitions.num_funcs;
+    add_more_types(alloc, config, &mut drawn.types, funcs, imported_funcs, u)
 }
 
 /// Draws imports, where no shape fixes them. Where `distinct` is set, no two imports have the same pair of names.

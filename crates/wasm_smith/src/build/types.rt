@@ -5,10 +5,12 @@ ghost use Rattle.smith_types.specs.ValidTypes.{AreTypesValid};
 ghost use Rattle.smith_config.specs.Faults.{Passes};
 ghost use Rattle.smith_config.specs.Features.{features_of};
 ghost use Rattle.smith_config.specs.Sanitized.{IsSanitized};
-ghost use Rattle.smith_draw.specs.ConstBounds.{HoldsNonNullableField};
+ghost use Rattle.smith_draw.specs.ConstBounds.{HoldsUngroundedField};
 ghost use Rattle.smith_draw.specs.Drawing.{DrawsInto};
 ghost use Rattle.smith_draw.specs.FuncSizes.{HasFewValues};
+ghost use Rattle.smith_draw.specs.Grounding.{over};
 ghost use Rattle.smith_draw.specs.RecGroups.{types_at};
+ghost use Rattle.wasm_smith.specs.Build.{functions_over};
 
 use smith_bytes::{Error, Unstructured};
 use smith_config::Config;
@@ -16,18 +18,20 @@ use smith_draw::{Entities, arbitrary_types};
 use smith_types::TypeSpace;
 use std::alloc::Global;
 
-/// Draws types behind those of `types`, which stay.
+/// Draws types behind those of `types`, which stay, over the functions `funcs`, of which the first `imported_funcs` are imported.
 #[tactic(auto, using(smith_draw::proofs::CallerLemmas::passes_but_imports))]
 pub(crate) fn add_more_types(
     alloc: Global,
     config: &Config,
     types: &mut TypeSpace,
+    funcs: &[u32],
+    imported_funcs: usize,
     u: &mut Unstructured<'_>,
 ) -> Result<(), Error>
     requires passes { Passes config.now }
     requires sanitized { IsSanitized config.now }
     requires valid { AreTypesValid (features_of config.now) types.old }
-    ensures draws { DrawsInto (types_at config.now types.old u.old) types.new result u.old u.new }
+    ensures draws { DrawsInto (types_at config.now (functions_over config.now funcs.now imported_funcs) types.old u.old) types.new result u.old u.new }
     ensures valid { OnOk result (AreTypesValid (features_of config.now) types.new) }
     ensures types { OnOk result (Extends types.old.types types.new.types) }
     ensures groups { OnOk result (Extends types.old.groups types.new.groups) }
@@ -36,7 +40,12 @@ pub(crate) fn add_more_types(
     ensures least { OnOk result (config.now.min_types ≤ length types.new.types) }
     ensures floats { config.now.allow_floats ≡ false → All HasNoFloat types.old.types → OnOk result (All HasNoFloat types.new.types) }
     ensures few_values { (most : ℕ) → 20 ≤ most → All (HasFewValues most) types.old.types → OnOk result (All (HasFewValues most) types.new.types) }
-    ensures nullable { ¬ HoldsNonNullableField types.old.types → OnOk result (¬ HoldsNonNullableField types.new.types) }
+    ensures grounded { ¬ HoldsUngroundedField config.now (over (functions_over config.now funcs.now imported_funcs) types.old.types) → OnOk result (¬ HoldsUngroundedField config.now (over (functions_over config.now funcs.now imported_funcs) types.new.types)) }
 {
-    arbitrary_types(alloc, config, types, &Entities::none(), u)
+    let entities = Entities {
+        funcs,
+        imported_funcs,
+        ..Entities::none()
+    };
+    arbitrary_types(alloc, config, types, &entities, u)
 }

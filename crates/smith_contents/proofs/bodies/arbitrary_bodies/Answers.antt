@@ -1,3 +1,4 @@
+use Rattle.smith_draw.specs.Grounding.{standing_in}
 use Rattle.std.proofs.lemmas.Result.{IfOk-weaker}
 use Rattle.smith_draw.proofs.DrawingLemmas.{of_drawn}
 use Rattle.smith_contents.proofs.DrawnBodyLemmas.{bodies_each, bodies_valid, bodies_no_float, none_raw}
@@ -6,13 +7,13 @@ use Rattle.smith_contents.proofs.bodies.arbitrary_bodies.Goals as goal
 pub returns : goal.returns
 returns c =
     let config = c.args.config.now in
-    let types = c.args.types.now.types in
+    let context = standing_in c.args.config.now c.args.spaces.now in
     let draws = c.draw_bodies.ensures in
-    let valid = of_drawn _ draws (bodies_valid config types c.args.count c.args.u.now c.requires) in
+    let valid = of_drawn _ draws (bodies_valid config context c.args.count c.args.u.now c.requires) in
     record {
       draws = draws;
-      each = of_drawn _ draws (bodies_each config types c.args.count c.args.u.now);
+      each = of_drawn _ draws (bodies_each config context c.args.count c.args.u.now);
       valid = valid;
-      floats = λ off. of_drawn _ draws (bodies_no_float config types c.args.count c.args.u.now off);
+      floats = λ off. of_drawn _ draws (bodies_no_float config context c.args.count c.args.u.now off);
       no_raw = λ off. IfOk-weaker c.draw_bodies.result _ _ (λ bodies h. none_raw config _ bodies off h) valid;
     }

@@ -1,6 +1,8 @@
-use Rattle.std.proofs.Common.{◌≡◌, false}
+use Rattle.smith_types.specs.declared.value_type.ValType.TheVariants.{Ref}
+use Rattle.smith_draw.specs.ConstBounds.{IsUngrounded}
+use Rattle.smith_draw.specs.Grounding.{standing_in}
 use Rattle.smith_types.specs.declared.value_type.RefType.{RefType}
-use Rattle.smith_contents.specs.DrawnElements.{HasNonNullableElements}
+use Rattle.smith_contents.specs.DrawnElements.{HasUngroundedElements}
 use Rattle.smith_draw.proofs.DrawingLemmas.{of_drawn}
 use Rattle.smith_contents.proofs.ElementItemLemmas.{item_type_may, item_type_fits, item_type_needed}
 use Rattle.smith_contents.proofs.element_items.draw_item_type.Goals as goal
@@ -9,9 +11,11 @@ pub returns-clause-may : goal.returns-clause-may
 returns-clause-may c = of_drawn _ c.draw_type_for.ensures (item_type_may c.args.config.now c.args.spaces.now c.args.choice c.args.u.now c.requires.may c.requires.offered)
 
 pub returns-clause-fits : goal.returns-clause-fits
-returns-clause-fits c = of_drawn _ c.draw_type_for.ensures (item_type_fits c.args.config.now c.args.spaces.now.types.now.types c.args.choice c.args.u.now)
+returns-clause-fits c = of_drawn _ c.draw_type_for.ensures (item_type_fits c.args.config.now (standing_in c.args.config.now c.args.spaces.now) c.args.choice c.args.u.now)
 
 pub returns-clause-needed : goal.returns-clause-needed
 returns-clause-needed c =
-    of_drawn (λ (ty : RefType). ty.nullable ≡ false → HasNonNullableElements c.args.spaces.now.entities.tables.now) c.draw_type_for.ensures
-    (item_type_needed c.args.config.now c.args.spaces.now.types.now.types c.args.spaces.now.entities.tables.now c.args.choice c.args.u.now c.requires.offered)
+    let config = c.args.config.now in
+    let context = standing_in config c.args.spaces.now in
+    of_drawn (λ (ty : RefType). IsUngrounded config context (Ref ty) → HasUngroundedElements config context c.args.spaces.now.entities.tables.now) c.draw_type_for.ensures
+    (item_type_needed config context c.args.spaces.now.entities.tables.now c.args.choice c.args.u.now c.requires.may.standing.types.orderly c.requires.offered)

@@ -13,8 +13,8 @@ pub returns-then-not-goes_on-clause-exact : goal.returns-then-not-goes_on-clause
 returns-then-not-goes_on-clause-exact c =
     define_stop c.loop-made.invariant (rw (c.saturating_sub-made-end.ensures, c.len-before.ensures) at c.loop-made-test.true) (rw (c.saturating_sub-least.ensures, c.len-before.ensures) at c.goes_on.ensures.exact) c.if-not-goes_on.true
 
-pub draw_initialised_global-requires-clause-standing : goal.draw_initialised_global-requires-clause-standing
-draw_initialised_global-requires-clause-standing c =
+pub draw_initialised_global-requires-clause-spaces : goal.draw_initialised_global-requires-clause-spaces
+draw_initialised_global-requires-clause-spaces c =
     let may = c.requires.may in
     let count = count_is c.loop-made.invariant in
     let same = c.as_slice.ensures in

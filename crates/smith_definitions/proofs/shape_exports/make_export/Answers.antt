@@ -29,7 +29,7 @@ returns-in_err-define_entity-clause-refusal c =
     is_over c.args.own_types c.args.config.now c.args.shape.now c.args.types.now c.entity_over.new.types c.args.one.now.1 c.args.one.now.2 c.entity_of_shape-theirs.result c.in_ok-added.added c.requires.shape c.requires.may.valid
     c.entity_of_shape-theirs.ensures c.in_ok-added.ensures.types c.in_ok-added.ensures.entity in
     passed_on _ c.from_residual-in_err-define_entity.result c.in_err-define_entity.field-0.0 c.from_residual-in_err-define_entity.ensures.1
-    (export_refused c.args.own_types c.args.config.now c.args.shape.now c.args.types.now c.entity_over.new.types c.args.one.now c.entity_of_shape-theirs.result c.in_ok-added.added c.entity_of_shape-theirs.ensures c.in_ok-added.ensures.entity over
+    (export_refused c.args.own_types c.args.config.now c.args.shape.now c.args.types.now c.entity_over.new.types (spaces_in c.args.spaces.now) c.args.definitions.now c.args.one.now c.entity_of_shape-theirs.result c.in_ok-added.added c.entity_of_shape-theirs.ensures c.in_ok-added.ensures.entity over
     c.in_err-define_entity.field-0.0 c.in_err-define_entity.ensures.refusal)
 
 pub returns-clause-required : goal.returns-clause-required

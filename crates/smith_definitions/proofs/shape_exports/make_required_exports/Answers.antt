@@ -1,4 +1,6 @@
 use Rattle.std.proofs.lemmas.Result.{IfOk-weaker, IfErr-weaker}
+use Rattle.smith_types.specs.IndexSpaces.{spaces_in}
+use Rattle.smith_definitions.specs.Defined.{drawn_beside}
 use Rattle.smith_definitions.proofs.RequiredExportsLoop.{valid_so, only_memory}
 use Rattle.smith_definitions.proofs.shape_exports.make_required_exports.Goals as goal
 
@@ -22,7 +24,7 @@ returns-clause-spaces c = IfOk-weaker c.push_exports.result _ _ (λ exports made
 
 pub returns-clause-memory : goal.returns-clause-memory
 returns-clause-memory c = λ none on several.
-    IfErr-weaker c.push_exports.result _ _ (λ e. only_memory c.args.config.now c.args.types.now.types c.args.shape.now e none on several) c.push_exports.ensures.refusal
+    IfErr-weaker c.push_exports.result _ _ (λ e. only_memory c.args.config.now (drawn_beside c.args.config.now c.args.types.now.types (spaces_in c.args.spaces.now) c.args.definitions.now) c.args.shape.now e none on several) c.push_exports.ensures.refusal
 
 pub returns-clause-counted : goal.returns-clause-counted
 returns-clause-counted c = λ count other. IfOk-weaker c.push_exports.result _ _ (λ exports made. made.counted count other) c.push_exports.ensures.required

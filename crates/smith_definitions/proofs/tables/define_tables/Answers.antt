@@ -4,7 +4,6 @@ use Rattle.smith_types.specs.Entities.{IsTableValid}
 use Rattle.smith_config.specs.Features.{features_of}
 use Rattle.smith_draw.specs.Bounds.{IsTableWithin}
 use Rattle.smith_definitions.specs.Defined.{standing_of}
-use Rattle.smith_imports.specs.Imported.{HasNullableElements}
 use Rattle.smith_definitions.proofs.DefinedTableLemmas.{tables_fill, several_tables, tables_added, tables_all, tables_no_float, no_table_taken}
 use Rattle.smith_definitions.proofs.tables.define_tables.Goals as goal
 
@@ -24,9 +23,6 @@ returns-clause-valid c = λ all.
 
 pub returns-clause-within : goal.returns-clause-within
 returns-clause-within c = on_ok_weaker c.push_tables.result (λ drawn. tables_added (IsTableWithin c.args.config.now) (λ one fit. fit.within) drawn) c.push_tables.ensures.drawn
-
-pub returns-clause-nullable : goal.returns-clause-nullable
-returns-clause-nullable c = on_ok_weaker c.push_tables.result (λ drawn. tables_added HasNullableElements (λ one fit. fit.nullable) drawn) c.push_tables.ensures.drawn
 
 pub returns-clause-floats : goal.returns-clause-floats
 returns-clause-floats c = λ calm before. on_ok_weaker c.push_tables.result (tables_no_float calm before) c.push_tables.ensures.drawn

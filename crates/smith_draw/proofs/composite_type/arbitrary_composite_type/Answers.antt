@@ -1,4 +1,6 @@
+use Rattle.std.proofs.Common.{refl}
 use Rattle.std.proofs.lemmas.Result.{IfOk-weaker}
+use Rattle.smith_draw.specs.Grounding.{standing_in}
 use Rattle.smith_draw.proofs.ValueTypeLemmas.{values_valid, values_shared}
 use Rattle.smith_draw.proofs.DrawingLemmas.{of_drawn}
 use Rattle.smith_draw.proofs.CompositeTypeLemmas.{composite_type_drawn}
@@ -7,8 +9,8 @@ use Rattle.smith_draw.proofs.composite_type.arbitrary_composite_type.Goals as go
 
 pub returns : goal.returns
 returns c =
-    let draws = rw c.types.ensures.value at c.draw_composite_type.ensures in
-    let drawn = composite_type_drawn c.args.config.now c.args.spaces.now.types.now.types c.args.limit c.args.u.now c.requires.sanitized in
+    let draws = rw c.over-standing.ensures at c.draw_composite_type.ensures in
+    let drawn = composite_type_drawn c.args.config.now (standing_in c.args.config.now c.args.spaces.now) c.args.limit c.args.u.now c.requires.sanitized in
     record {
       draws = draws;
       enabled = of_drawn _ draws drawn.inner.enabled;
@@ -16,5 +18,5 @@ returns c =
       valid = of_drawn _ draws (values_valid _ _ _ _ _ drawn.inner.values);
       stands = of_drawn _ draws drawn.inner.stands;
       shared = of_drawn _ draws (λ must. values_shared _ _ _ _ _ must drawn.inner.values);
-      reach = IfOk-weaker c.draw_composite_type.result _ _ (λ _ e. composite_type_taken _ _ _ _ _ _ e) draws.exact;
+      reach = IfOk-weaker c.draw_composite_type.result _ _ (λ _ e. composite_type_taken c.args.config.now (standing_in c.args.config.now c.args.spaces.now) refl _ _ _ _ c.orderly.ensures e) draws.exact;
     }

@@ -1,4 +1,6 @@
+use Rattle.std.proofs.Common.{refl}
 use Rattle.std.proofs.lemmas.Result.{IfOk-weaker}
+use Rattle.smith_draw.specs.Grounding.{standing_in}
 use Rattle.smith_draw.proofs.ValueTypeLemmas.{values_shared}
 use Rattle.smith_draw.proofs.DrawingLemmas.{of_drawn}
 use Rattle.smith_draw.proofs.CompositeTypeLemmas.{func_type_drawn, func_type_valid, func_drawn}
@@ -7,13 +9,13 @@ use Rattle.smith_draw.proofs.composite_type.arbitrary_func_type.Goals as goal
 
 pub returns : goal.returns
 returns c =
-    let draws = rw c.types.ensures.value at c.draw_func_type.ensures in
-    let drawn = func_type_drawn c.args.config.now c.args.spaces.now.types.now.types c.args.must_share c.args.limit c.args.u.now c.requires.sanitized c.requires.may_share in
+    let draws = rw c.over-standing.ensures at c.draw_func_type.ensures in
+    let drawn = func_type_drawn c.args.config.now (standing_in c.args.config.now c.args.spaces.now) c.args.must_share c.args.limit c.args.u.now c.requires.sanitized c.requires.may_share in
     let inner = func_drawn _ _ _ _ _ drawn in
     record {
       draws = draws;
       valid = of_drawn _ draws (func_type_valid _ _ _ _ _ drawn);
       stands = of_drawn _ draws inner.stands;
       shared = λ must. of_drawn _ draws (values_shared _ _ _ _ _ must inner.values);
-      reach = λ no. IfOk-weaker c.draw_func_type.result _ _ (λ _ e. func_type_taken _ _ _ _ _ _ _ no e) draws.exact;
+      reach = λ no. IfOk-weaker c.draw_func_type.result _ _ (λ _ e. func_type_taken c.args.config.now (standing_in c.args.config.now c.args.spaces.now) refl _ _ _ _ _ c.orderly.ensures no e) draws.exact;
     }

@@ -1,6 +1,7 @@
 use Rattle.std.proofs.Common.{refl}
 use Rattle.smith_types.specs.ValidTypes.{values_of_storage}
 use Rattle.smith_types.specs.declared.composite_type.StorageType.{StorageType}
+use Rattle.smith_draw.specs.Grounding.{standing_in}
 use Rattle.smith_draw.proofs.ValueTypeLemmas.{drawn_is, values_valid, values_shared}
 use Rattle.smith_draw.proofs.FieldTypeLemmas.{IsStorageDrawn, storage_type_drawn}
 use Rattle.smith_draw.proofs.TakenLemmas.{storage_type_taken}
@@ -10,7 +11,7 @@ pub returns : goal.returns
 returns c =
     let types = c.args.spaces.now.types.now.types in
     let config = c.args.config.now in
-    let exact = rw c.types.ensures.value at c.draw_storage_type.ensures.exact in
+    let exact = rw c.over-standing.ensures at c.draw_storage_type.ensures.exact in
     let drawn = drawn_is (λ (ty : StorageType). IsStorageDrawn config types c.args.must_share c.args.limit ty) _ (storage_type_drawn _ _ _ _ _ c.requires.sanitized c.requires.may_share) exact in
     let values = values_of_storage c.draw_storage_type.result in
     record {
@@ -19,5 +20,5 @@ returns c =
       valid = values_valid config types c.args.must_share c.args.limit values drawn.values;
       stands = drawn.stands;
       shared = λ must. values_shared config types c.args.must_share c.args.limit values must drawn.values;
-      reach = λ no. storage_type_taken _ _ _ _ _ _ _ no exact;
+      reach = λ no. storage_type_taken c.args.config.now (standing_in c.args.config.now c.args.spaces.now) refl _ _ _ _ _ c.orderly.ensures no exact;
     }

@@ -1,22 +1,15 @@
 use Rattle.std.proofs.Common.{refl}
-use Rattle.smith_types.specs.Entities.{IsGlobalValid}
-use Rattle.smith_types.specs.Floats.{IsNoFloat}
-use Rattle.smith_types.specs.declared.entity_type.GlobalType.{GlobalType}
-use Rattle.smith_config.specs.Features.{features_of}
-use Rattle.smith_draw.specs.ConstBounds.{IsNonNullable}
-use Rattle.smith_draw.proofs.NullableLemmas.{global_type_nullable}
-use Rattle.smith_draw.proofs.ValueTypeLemmas.{drawn_is}
-use Rattle.smith_draw.proofs.GlobalTypeLemmas.{global_type_valid, global_type_no_float, global_type_taken}
 use Rattle.smith_draw.proofs.global_type.arbitrary_global_type.Goals as goal
 
 pub returns : goal.returns
 returns c =
-    let exact = rw c.types.ensures.value at c.draw_global_type.ensures.exact in
+    let drawn = rw c.over.ensures at c.draw_global_type.ensures in
     record {
       ok = refl;
-      draws = record { exact = exact; memory = tt; left = c.draw_global_type.ensures.left };
-      valid = λ valid. drawn_is (IsGlobalValid (features_of c.args.config.now) c.args.spaces.now.types.now.types) _ (global_type_valid _ _ _ c.requires valid) exact;
-      floats = λ off. drawn_is (λ (global : GlobalType). IsNoFloat global.val_type) _ (global_type_no_float _ _ _ off) exact;
-      nullable = drawn_is (λ (global : GlobalType). ¬ IsNonNullable global.val_type) _ (global_type_nullable _ _ _) exact;
-      reach = global_type_taken _ _ _ _ _ exact;
+      draws = record { exact = drawn.draws.exact; memory = tt; left = drawn.draws.left };
+      valid = λ valid. drawn.valid c.args.spaces.now.types.now refl valid;
+      floats = drawn.floats;
+      nullable = drawn.nullable;
+      grounded = drawn.grounded;
+      reach = drawn.reach;
     }

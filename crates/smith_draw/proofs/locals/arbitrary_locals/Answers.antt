@@ -1,19 +1,19 @@
 use Rattle.smith_draw.specs.Drawing.{Draws}
 use Rattle.smith_draw.specs.Locals.{locals_at}
+use Rattle.smith_draw.specs.Grounding.{standing_in}
 use Rattle.smith_draw.proofs.DrawingLemmas.{of_drawn}
 use Rattle.smith_draw.proofs.LocalLemmas.{locals_most, locals_valid, locals_no_float, locals_nullable}
 use Rattle.smith_draw.proofs.locals.arbitrary_locals.Goals as goal
 
 pub returns : goal.returns
-unfolding locals_at
 returns c =
     let config = c.args.config.now in
-    let types = c.args.spaces.now.types.now.types in
-    let draws : Draws (locals_at config types c.args.u.now) c.draw_val_types.result c.args.u.now c.draw_val_types.new.u = rw c.types-types.ensures.value at c.draw_val_types.ensures in
+    let context = standing_in c.args.config.now c.args.spaces.now in
+    let draws : Draws (locals_at config context c.args.u.now) c.draw_locals.result c.args.u.now c.draw_locals.new.u = rw c.over.ensures at c.draw_locals.ensures in
     record {
       draws = draws;
-      most = of_drawn _ draws (locals_most config types c.args.u.now);
-      valid = of_drawn _ draws (locals_valid config types c.args.u.now c.requires);
-      floats = λ off. of_drawn _ draws (locals_no_float config types c.args.u.now off);
-      nullable = of_drawn _ draws (locals_nullable config types c.args.u.now);
+      most = of_drawn _ draws (locals_most config context c.args.u.now);
+      valid = of_drawn _ draws (locals_valid config context c.args.u.now c.requires);
+      floats = λ off. of_drawn _ draws (locals_no_float config context c.args.u.now off);
+      nullable = λ off. of_drawn _ draws (locals_nullable config off context c.args.u.now);
     }

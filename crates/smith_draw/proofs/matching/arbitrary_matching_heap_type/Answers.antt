@@ -2,7 +2,7 @@ use Rattle.std.proofs.lemmas.Result.{IfOk-weaker}
 use Rattle.smith_draw.proofs.SharedLemmas.{below_shared}
 use Rattle.smith_draw.proofs.HeapTypeLemmas.{matching_heap_below, matching_heap_valid}
 use Rattle.smith_draw.proofs.ChosenLemmas.{matching_item}
-use Rattle.smith_draw.proofs.StandingLemmas.{below_stands}
+use Rattle.smith_types.proofs.RangeLemmas.{below_stands}
 use Rattle.smith_draw.proofs.DrawingLemmas.{of_drawn}
 use Rattle.smith_draw.proofs.matching.arbitrary_matching_heap_type.Goals as goal
 

@@ -5,13 +5,13 @@ use Rattle.smith_draw.proofs.DrawingLemmas.{of_drawn}
 use Rattle.smith_draw.proofs.matching.arbitrary_matching_val_type.Goals as goal
 
 pub returns-clause-below : goal.returns-clause-below
-returns-clause-below c = of_drawn _ c.draw_matching_val_type.ensures (matching_val_below _ _ _ _)
+returns-clause-below c = of_drawn _ (rw c.over-standing.ensures at c.draw_matching_val_type.ensures) (matching_val_below _ _ _ _)
 
 pub returns-clause-shared : goal.returns-clause-shared
-returns-clause-shared c = of_drawn _ c.draw_matching_val_type.ensures (val_shareable _ c.orderly.ensures _ _ (matching_val_below _ _ _ _))
+returns-clause-shared c = of_drawn _ (rw c.over-standing.ensures at c.draw_matching_val_type.ensures) (val_shareable _ c.orderly.ensures _ _ (matching_val_below _ _ _ _))
 
 pub returns-clause-valid : goal.returns-clause-valid
-returns-clause-valid c = of_drawn _ c.draw_matching_val_type.ensures (matching_val_valid _ _ _ _)
+returns-clause-valid c = of_drawn _ (rw c.over-standing.ensures at c.draw_matching_val_type.ensures) (matching_val_valid _ _ _ _)
 
 pub returns-clause-stands : goal.returns-clause-stands
-returns-clause-stands c = of_drawn _ c.draw_matching_val_type.ensures (val_stands _ _ _ (matching_val_below _ _ _ _))
+returns-clause-stands c = of_drawn _ (rw c.over-standing.ensures at c.draw_matching_val_type.ensures) (val_stands _ _ _ (matching_val_below _ _ _ _))

@@ -1,3 +1,4 @@
+use Rattle.smith_draw.specs.Grounding.{functions_in}
 use Rattle.smith_draw.proofs.SupertypeLemmas.{some_listed}
 use Rattle.smith_draw.proofs.SubTypeLemmas.{sub_type_of_valid, sub_type_of_follows, sub_type_of_some}
 use Rattle.smith_draw.proofs.DrawingLemmas.{of_drawn}
@@ -10,10 +11,10 @@ pub returns : goal.returns
 returns c =
     let types = c.args.spaces.now.types.now.types in
     let some = some_listed types c.orderly.ensures c.requires.some in
-    let draws = rw c.supertypes-indices.ensures at c.draw_sub_type_of.ensures in
+    let draws = rw (c.over-standing.ensures, c.supertypes-indices.ensures) at c.draw_sub_type_of.ensures in
     record {
       draws = draws;
       below = of_drawn _ draws (sub_type_of_some _ _ _ _ some);
-      valid = λ valid. of_drawn _ draws (sub_type_of_valid _ _ _ _ c.requires.sanitized c.requires.gc valid some);
+      valid = λ valid. of_drawn _ draws (sub_type_of_valid _ (functions_in c.args.config.now c.args.spaces.now.entities) _ _ _ c.requires.sanitized c.requires.gc valid some);
       follows = of_drawn _ draws (sub_type_of_follows _ _ _ _ some);
     }

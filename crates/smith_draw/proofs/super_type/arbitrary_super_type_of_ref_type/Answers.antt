@@ -1,6 +1,6 @@
 use Rattle.smith_draw.proofs.SharedLemmas.{above_shared}
 use Rattle.smith_draw.proofs.MatchingLemmas.{super_ref_nullable, super_ref_above, super_ref_valid}
-use Rattle.smith_draw.proofs.StandingLemmas.{above_stands}
+use Rattle.smith_types.proofs.RangeLemmas.{above_stands}
 use Rattle.smith_draw.proofs.DrawingLemmas.{of_drawn}
 use Rattle.smith_draw.proofs.super_type.arbitrary_super_type_of_ref_type.Goals as goal
 

@@ -2,6 +2,9 @@ use Rattle.std.proofs.Common.{◌≡◌, true, false, length}
 use Rattle.smith_types.specs.Flags.{IsElementEnabled}
 use Rattle.smith_types.specs.declared.value_type.RefType.{RefType}
 use Rattle.smith_config.specs.Features.{features_of}
+use Rattle.smith_types.specs.declared.value_type.ValType.TheVariants.{Ref}
+use Rattle.smith_draw.specs.ConstBounds.{IsUngrounded}
+use Rattle.smith_draw.proofs.FilledLemmas.{ref_type_filled}
 use Rattle.smith_draw.proofs.MemoryLemmas.{limits_fit}
 use Rattle.smith_draw.proofs.NullableLemmas.{ref_type_nullable}
 use Rattle.smith_draw.proofs.SharedHeapTypeLemmas.{sharing}
@@ -10,17 +13,18 @@ use Rattle.smith_draw.proofs.ValueTypeLemmas.{drawn_is, IsRefTypeDrawn, ref_type
 use Rattle.smith_draw.proofs.table_type.draw_table_type.Goals as goal
 
 pub returns-clause-valid : goal.returns-clause-valid
-returns-clause-valid c = λ valid.
+returns-clause-valid c = λ space same valid.
     let limits = c.arbitrary_limits64-minimum.ensures in
-    let exact = rw c.types-standing.ensures.value at c.draw_ref_type-element_type.ensures.exact in
-    let types = c.args.types.now.types in
-    let drawn = drawn_is (λ (ty : RefType). IsRefTypeDrawn c.args.config.now types false (length types) ty) _ (ref_type_drawn c.args.config.now types false (length types) _ c.requires (λ no. cc)) exact in
+    let context = c.args.standing.now in
+    let exact = rw (c.types-types.ensures.value, c.types.ensures) at c.draw_ref_type-element_type.ensures.exact in
+    let drawn = drawn_is (λ (ty : RefType). IsRefTypeDrawn c.args.config.now context.types false (length context.types) ty) _ (ref_type_drawn c.args.config.now context false (length context.types) _ c.requires (λ no. cc)) exact in
+    let element = rw (← same) at drawn.valid in
     record {
       limits = limits_fit _ _ _ _ c.drawn_elements-most.ensures.fits limits.minimum.1 limits.maximum;
-      element = drawn.valid;
+      element = element;
       element_enabled = drawn_is (IsElementEnabled (features_of c.args.config.now)) _ (element_enabled _ _ _ _ _) exact;
       table64 = c.draw_memory64-table64.ensures.enabled;
-      shared = λ on. sharing c.args.config.now c.args.types.now _ _ valid drawn.valid.heap_type (rw (c.is_reference_shared-shared.ensures, c.types-standing.ensures.value) at on);
+      shared = λ on. sharing c.args.config.now space _ _ valid element.heap_type (rw (c.is_reference_shared-shared.ensures, c.types-types.ensures.value, c.types.ensures, ← same) at on);
     }
 
 pub returns-clause-within : goal.returns-clause-within
@@ -29,4 +33,9 @@ returns-clause-within c =
     table_within _ _ limits.minimum.1 limits.maximum limits.required
 
 pub returns-clause-nullable : goal.returns-clause-nullable
-returns-clause-nullable c = drawn_is (λ (ty : RefType). ty.nullable ≡ true) _ (ref_type_nullable _ _ _ _ _) c.draw_ref_type-element_type.ensures.exact
+returns-clause-nullable c = λ off. drawn_is (λ (ty : RefType). ty.nullable ≡ true) _ (ref_type_nullable _ off _ _ _ _) c.draw_ref_type-element_type.ensures.exact
+
+pub returns-clause-grounded : goal.returns-clause-grounded
+returns-clause-grounded c =
+    let orderly = rw c.types.ensures at c.types-types.ensures.sound.orderly in
+    drawn_is (λ (ty : RefType). ¬ IsUngrounded c.args.config.now c.args.standing.now (Ref ty)) _ (ref_type_filled _ _ orderly _ _ _) c.draw_ref_type-element_type.ensures.exact

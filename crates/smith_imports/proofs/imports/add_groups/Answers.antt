@@ -22,6 +22,7 @@ pub loop-imported-preserved : goal.loop-imported-preserved
 loop-imported-preserved c =
     let so_far = c.in_ok-add_group.ensures.so_far in
     record {
+      kept = c.in_ok-add_group.ensures.kept;
       so_far = so_far;
       grouping = groups_more c.loop-imported.invariant.grouping c.loop-imported-test.true c.goes_on.ensures.exact c.if-not-goes_on.false c.in_ok-add_group.ensures.exact c.if-not-branch.false so_far.counts.count (omega (arith, so_far.fit.most, so_far.counts.count)) (c.in_ok-add_group.ensures.advances c.if-not-branch.false) c.goes_on.ensures.left c.in_ok-add_group.ensures.left;
     }

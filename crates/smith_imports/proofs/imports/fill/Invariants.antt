@@ -1,14 +1,17 @@
 use Rattle.std.proofs.Common.{◌≡◌, ◌≤◌, ◌-◌, ◌++◌}
 use Rattle.smith_bytes.specs.Source.{KeepsPieces}
 use Rattle.smith_types.specs.Imports.{imports_of, flattened}
+use Rattle.smith_draw.specs.KeptGrounds.{AreKeptGrounds}
+use Rattle.smith_imports.specs.ImportedEntities.{import_scope}
 use Rattle.smith_imports.specs.Importing.{fill_at}
-use Rattle.smith_imports.specs.Imported.{Counts, AreImportsFit, IsOpen}
+use Rattle.smith_imports.specs.Imported.{Counts, AreImportsFit, IsOpen, spaces_of}
 use Rattle.smith_imports.proofs.FilledGroupLoop.{IsFilling}
 use Rattle.smith_imports.proofs.imports.fill.Given as goal
 
 abbrev pub invariant-loop-imported : goal.invariant-loop-imported
 invariant-loop-imported l = record {
-  ready : IsOpen l.config l.types.types l.group;
+  kept : AreKeptGrounds (import_scope l.config l.types.types (spaces_of l.imported)) l.grounds;
+  ready : IsOpen l.config l.types.types (spaces_of l.imported) l.group;
   counts : Counts l.types.types l.distinct l.imported (flattened l.fn.imported.groups ++ imports_of l.group);
   fit : AreImportsFit l.config l.types.types l.distinct (flattened l.fn.imported.groups ++ imports_of l.group);
   groups : l.imported.groups ≡ l.fn.imported.groups;

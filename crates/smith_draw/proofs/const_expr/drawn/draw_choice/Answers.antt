@@ -23,7 +23,7 @@ returns-then-is_extended-clause-step c =
 pub returns-then-is_empty-clause-step : goal.returns-then-is_empty-clause-step
 returns-then-is_empty-clause-step c =
     let context = context_of c.args.scope.now in
-    let fits = node_made context c.args.wanted c.args.fuel.now c.in_ok-choice.choice _ c.choose_offer.new.u c.in_ok-node.node _ c.types.ensures.value c.in_ok-choice.ensures.fits c.in_ok-node.ensures.exact in
+    let fits = node_made c.args.scope.now.config.now context c.args.wanted c.args.fuel.now c.in_ok-choice.choice _ c.choose_offer.new.u c.in_ok-node.node _ c.types.ensures.value c.in_ok-choice.ensures.fits c.in_ok-node.ensures.exact in
     on_ok_weaker c.push.result
     (λ longer. leaf_step context _ c.args.wanted c.in_ok-choice.choice c.in_ok-node.node c.choose_offer.new.u (reverse c.args.tasks.now.items) (state_of c.args.out.now c.args.fuel.now c.args.u.now) (state_of c.push.new.self c.saturating_sub.result c.draw_node.new.u)
     c.in_ok-choice.ensures.exact (sym c.is_extended.ensures ∙ c.if-is_extended.false) (rw c.types.ensures.value at c.in_ok-node.ensures.exact) (c.is_empty.ensures.0 c.if-is_empty.true) fits longer c.saturating_sub.ensures)
@@ -32,7 +32,7 @@ returns-then-is_empty-clause-step c =
 pub returns-clause-step : goal.returns-clause-step
 returns-clause-step c =
     let context = context_of c.args.scope.now in
-    let fits = node_made context c.args.wanted c.args.fuel.now c.in_ok-choice.choice _ c.choose_offer.new.u c.in_ok-node.node _ c.types.ensures.value c.in_ok-choice.ensures.fits c.in_ok-node.ensures.exact in
+    let fits = node_made c.args.scope.now.config.now context c.args.wanted c.args.fuel.now c.in_ok-choice.choice _ c.choose_offer.new.u c.in_ok-node.node _ c.types.ensures.value c.in_ok-choice.ensures.fits c.in_ok-node.ensures.exact in
     let some : 0 < length c.in_ok-node.node.operands = not_empty _ c.is_empty.ensures c.if-is_empty.false in
     on_ok_weaker c.push_node.result
     (λ tasks. node_step context _ c.args.wanted c.in_ok-choice.choice c.in_ok-node.node c.choose_offer.new.u (reverse c.args.tasks.now.items) _ (state_of c.args.out.now c.args.fuel.now c.args.u.now) _

@@ -7,7 +7,7 @@ use Rattle.smith_draw.proofs.const_expr.drawn.draw_expression.Given as goal
 
 abbrev pub invariant-loop-task : goal.invariant-loop-task
 invariant-loop-task l = record {
-  carrying : IsCarrying (context_of l.scope) l.scope.config.now.limit_arrays_in_const_exprs l.fn.wanted (reverse l.tasks.items) (state_of l.fn.out l.fn.fuel l.fn.u) (state_of l.out l.fuel l.u);
+  carrying : IsCarrying (context_of l.scope) l.scope.config.now l.fn.wanted (reverse l.tasks.items) (state_of l.fn.out l.fn.fuel l.fn.u) (state_of l.out l.fuel l.u);
   kept : KeepsPieces l.fn.u l.u;
 }
 

@@ -1,41 +1,52 @@
-use Rattle.std.proofs.Common.{◌≡◌, ◌∙◌, sym, subst, ap, List, arith, ◌++◌, ◌∷◌, [], length, take}
-use Rattle.std.proofs.lemmas.Grind.{common_steps}
+use Rattle.std.proofs.Common.{◌≡◌, ◌∙◌, ap, List, arith, ◌++◌, ◌∷◌, []}
 use Rattle.smith_types.specs.declared.composite_type.SubType.{SubType}
-use Rattle.smith_types.specs.Space.{MayFollow, IsSound, extensible_from}
-use Rattle.smith_types.specs.Places.{ArePlaces, depths_in}
-use Rattle.smith_types.specs.Families.{AreFamilies}
-use Rattle.smith_types.proofs.ListLemmas.{slice_get-last, push_front, push_whole}
-use Rattle.smith_types.proofs.ResultLemmas.{ok_of, err_of}
+use Rattle.smith_types.specs.declared.place.Place.{Place}
+use Rattle.smith_types.specs.Space.{MayFollow}
+use Rattle.smith_types.proofs.ListLemmas.{slice_get-last}
 use Rattle.smith_types.proofs.SpaceLemmas.{IsSound-type}
-use Rattle.smith_types.proofs.PlaceLemmas.{ArePlaces-longer}
+use Rattle.smith_types.proofs.PlaceLemmas.{ArePlaces-push, ArePlaces-longer}
+use Rattle.smith_types.proofs.GroundLemmas.{kept_own, kinds_more}
 use Rattle.smith_types.proofs.type_space.TypeSpace.push_type.Goals as goal
 
-pub invariant_of-self-else-is_err : goal.invariant_of-self-else-is_err
-invariant_of-self-else-is_err c =
-    let types = c.self.inside.types.items in
-    let added : List SubType = types ++ c.args.added ∷ [] in
-    let follows : MayFollow types c.args.added = rw (ap (λ s. s.types) c.self.view_is) c.requires in
-    let pushed : c.push.new.self.items ≡ added = c.in_ok-push.ensures.items in
-    let count : c.len-count.result ≡ length types = c.len-count.ensures ∙ c.self.inside.types.ok.0 in
-    let whole : take c.len-count.result c.deref.result.now ++ c.index.result.now ∷ [] ≡ c.push.new.self.items = push_whole types c.args.added c.deref.result.now c.push.new.self.items c.len-count.result c.index.result.now _ c.deref.ensures.value pushed count c.index.ensures in
-    let placed = ok_of c.push_place.result (sym c.is_err.ensures.value ∙ c.if-is_err.false) c.push_place.ensures.places in
-    let extended = ok_of c.push_place.result (sym c.is_err.ensures.value ∙ c.if-is_err.false) c.push_place.ensures.extensible in
-    let joined = ok_of c.push_place.result (sym c.is_err.ensures.value ∙ c.if-is_err.false) c.push_place.ensures.families in (
-      subst (λ (all : List SubType). IsSound (record { types = all; groups = c.self.inside.groups.items })) (sym pushed) (IsSound-type _ _ _ c.self.invariant.0 follows),
-      subst (λ (all : List SubType). ArePlaces all c.push_place.new.rows.items c.push_place.new.places.items) whole placed,
-      subst (λ (all : List SubType). c.push_place.new.extensible.items ≡ extensible_from 0 all (depths_in c.push_place.new.places.items)) whole extended,
-      subst (λ (all : List SubType). AreFamilies all c.push_place.new.families.items) whole joined,
+pub invariant_of-self-in_err-place : goal.invariant_of-self-in_err-place
+invariant_of-self-in_err-place c =
+    let room = c.make_room.ensures in (
+      rw room.types c.self.invariant.0,
+      rw (room.types, room.places) (ArePlaces-longer _ _ _ _ c.make_place.ensures.rows c.self.invariant.1),
+      rw (room.types, room.places, c.in_err-place.ensures.err) c.self.invariant.2,
+      rw c.as_slice-types.ensures.value at c.make_place.ensures.families,
+      λ kept. rw (room.types, room.grounds) (c.self.invariant.4 kept),
+      λ kept. rw room.types (c.self.invariant.5 kept),
+      room.beside,
     )
 
-pub invariant_of-self-then-is_err : goal.invariant_of-self-then-is_err
-invariant_of-self-then-is_err c =
-    let types : c.pop.new.self.items ≡ c.self.inside.types.items = grind (arith, common_steps) in
-    let kept = err_of c.push_place.result (sym c.is_err.ensures.value ∙ c.if-is_err.true) c.push_place.ensures.err in
-    let known = err_of c.push_place.result (sym c.is_err.ensures.value ∙ c.if-is_err.true) c.push_place.ensures.known in
-    let count : c.len-count.result ≡ length c.self.inside.types.items = c.len-count.ensures ∙ c.self.inside.types.ok.0 in
-    let front : take c.len-count.result c.deref.result.now ≡ c.self.inside.types.items = push_front c.self.inside.types.items c.args.added c.deref.result.now c.push.new.self.items c.len-count.result c.deref.ensures.value c.in_ok-push.ensures.items count in
-    rw (types, kept.0, kept.1)
-    (c.self.invariant.0, ArePlaces-longer _ _ _ _ c.push_place.ensures.rows c.self.invariant.1, c.self.invariant.2, subst (λ (all : List SubType). AreFamilies all c.push_place.new.families.items) front known)
+pub invariant_of-self-2 : goal.invariant_of-self-2
+invariant_of-self-2 c =
+    let room = c.make_room.ensures in
+    let types = c.self.inside.types.items in
+    let added = c.args.added in
+    let seen : c.as_slice-types.result.now ≡ types = c.as_slice-types.ensures.value ∙ room.types in
+    let follows : MayFollow types added = rw (ap (λ s. s.types) c.self.view_is) c.requires in
+    let all : c.push_reserved-2.new.self.items ≡ types ++ added ∷ [] = c.push_reserved-2.ensures.items ∙ ap (λ (xs : List SubType). xs ++ added ∷ []) room.types in
+    let placed : c.push_reserved.new.self.items ≡ c.self.inside.places.items ++ c.in_ok-place.place ∷ [] = c.push_reserved.ensures.items ∙ ap (λ (xs : List Place). xs ++ c.in_ok-place.place ∷ []) room.places in
+    let beside = room.beside in (
+      rw all (IsSound-type _ _ _ c.self.invariant.0 follows),
+      rw (all, placed) (ArePlaces-push types added _ _ _ _ c.self.invariant.1 c.make_place.ensures.rows (rw seen at c.in_ok-place.ensures.place)),
+      rw (all, placed) (rw (seen, c.as_slice.ensures.value, room.places) at c.in_ok-place.ensures.extensible),
+      rw all (rw seen at c.join_family.ensures),
+      λ kept.
+          let own = kept_own c.self.inside.keeps_grounds c.is_kept_ground-own.result added c.is_kept_ground-own.ensures kept in
+          rw all (rw seen at (c.join_grounds.ensures.grounds own (rw (seen, room.grounds) (c.self.invariant.4 kept)))),
+      λ kept.
+          let own = kept_own c.self.inside.keeps_grounds c.is_kept_ground-own.result added c.is_kept_ground-own.ensures kept in
+          rw (all, c.with-self-inside.ensures) (kinds_more types added c.is_kept_ground-own.result c.self.inside.ground_kinds own (c.self.invariant.5 kept)),
+      record {
+        places_long = omega (arith, c.push_reserved.ensures.len, c.push_reserved-2.ensures.len, beside.places_long);
+        grounds_long = omega (arith, c.join_grounds.ensures.len, c.push_reserved-2.ensures.len, beside.grounds_long);
+        places_room = omega (arith, c.push_reserved.ensures.capacity, c.push_reserved-2.ensures.capacity, beside.places_room);
+        grounds_room = omega (arith, c.join_grounds.ensures.capacity, c.push_reserved-2.ensures.capacity, beside.grounds_room);
+      },
+    )
 
 pub returns-clause-stands : goal.returns-clause-stands
-returns-clause-stands c = rw (c.in_ok-push.ensures.items, c.len-count.ensures, c.self.inside.types.ok.0) (slice_get-last c.self.inside.types.items c.args.added)
+returns-clause-stands c = rw (c.push_reserved-2.ensures.items, c.as_slice-types.ensures.value) (slice_get-last c.make_room.new.types.items c.args.added)

@@ -1,6 +1,6 @@
 use Rattle.wasm_smith.proofs.ContentsLemmas.{imports_told}
 use Rattle.wasm_smith.proofs.MadeExportsLemmas.{may_hold_contents}
-use Rattle.smith_types.specs.IndexSpaces.{spaces_in}
+use Rattle.wasm_smith.specs.DrawnSteps.{drawn_next}
 use Rattle.wasm_smith.proofs.RefusalLemmas.{contents_refuse, lacks_so}
 use Rattle.wasm_smith.proofs.build.contents.draw_contents.Goals as goal
 
@@ -13,4 +13,4 @@ draw_behind_exports-requires-clause-told c = imports_told c.requires.drawn
 pub returns-clause-refusal : goal.returns-clause-refusal
 returns-clause-refusal c =
     let drawn = c.args.drawn.now in
-    contents_refuse c.args.config.now drawn.types.types (spaces_in drawn.imported.spaces) c.draw_behind_exports.result (lacks_so c.args.config.now drawn.types.types (spaces_in drawn.imported.spaces) c.requires.drawn.nullable) c.draw_behind_exports.ensures.refusal
+    contents_refuse c.args.config.now (drawn_next c.args.config.now drawn) drawn.imported.spaces.tables c.draw_behind_exports.result (lacks_so c.args.config.now (drawn_next c.args.config.now drawn) drawn.imported.spaces.tables c.requires.drawn.grounded) c.draw_behind_exports.ensures.refusal

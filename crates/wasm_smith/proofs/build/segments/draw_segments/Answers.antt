@@ -6,6 +6,7 @@ use Rattle.wasm_smith.specs.DrawnContents.{imported_in}
 use Rattle.wasm_smith.proofs.ContentsLemmas.{may_draw_elements, spaces_valid, memories_few}
 use Rattle.smith_draw.proofs.ConstStepLemmas.{passed_on}
 use Rattle.smith_imports.specs.Imported.{spaces_of}
+use Rattle.smith_definitions.specs.Defined.{drawn_beside}
 use Rattle.wasm_smith.proofs.RefusalLemmas.{elements_refuse}
 use Rattle.wasm_smith.proofs.SegmentScopeLemmas.{seen_over}
 use Rattle.wasm_smith.proofs.build.segments.draw_segments.Goals as goal
@@ -43,4 +44,5 @@ pub returns-in_err-elements-clause-refusal : goal.returns-in_err-elements-clause
 returns-in_err-elements-clause-refusal c =
     let over = c.segment_spaces-spaces.ensures in
     passed_on _ c.from_residual.result c.in_err-elements.field-0.0 c.from_residual.ensures.1
-    (elements_refuse c.args.config.now c.args.types.now.types (spaces_of c.args.imported.now) c.in_err-elements.field-0.0 (rw (over.types, over.tables) at c.in_err-elements.ensures.refusal))
+    (elements_refuse c.args.config.now (drawn_beside c.args.config.now c.args.types.now.types (spaces_of c.args.imported.now) c.args.definitions.now) (spaces_of c.args.imported.now).tables c.in_err-elements.field-0.0
+    (rw (over.types, over.funcs, over.imported_funcs, over.tables, c.len.ensures) at c.in_err-elements.ensures.refusal))

@@ -1,4 +1,5 @@
 use Rattle.smith_draw.proofs.ConstStepLemmas.{passed_on}
+use Rattle.wasm_smith.specs.DrawnSteps.{drawn_next}
 use Rattle.wasm_smith.proofs.BegunStandsLemmas.{begun_stands}
 use Rattle.wasm_smith.proofs.BegunTypedLemmas.{types_behind, drawn_behind}
 use Rattle.wasm_smith.proofs.LackingLemmas.{begun_refused}
@@ -14,4 +15,4 @@ pub returns-clause-drawn : goal.returns-clause-drawn
 returns-clause-drawn c =
     let more = c.add_more_types.ensures in
     drawn_behind c.args.config.now c.args.u.now c.begin.new.drawn c.add_more_types.new.types c.add_more_types.result c.requires.valid c.in_ok-begin.ensures.begun
-    (types_behind c.args.config.now c.begin.new.drawn.types c.add_more_types.new.types c.add_more_types.result more.valid more.types more.most more.full more.least more.floats more.few_values more.nullable)
+    (types_behind c.args.config.now (drawn_next c.args.config.now c.begin.new.drawn) c.begin.new.drawn.types c.add_more_types.new.types c.add_more_types.result more.valid more.types more.most more.full more.least more.floats more.few_values (rw c.as_slice-funcs.ensures at more.grounded))

@@ -1,0 +1,100 @@
+ghost use Rattle.std.specs.Prelude.{◌≡◌, [], ◌&&◌, nat_le, OnOk, IfOk, IfErr};
+ghost use Rattle.smith_types.specs.Expressions.{Context};
+ghost use Rattle.smith_types.specs.FuncGrounds.{AreFuncGrounds, IsFunctionAdded};
+ghost use Rattle.smith_draw.specs.Grounding.{standing_in, with_functions};
+ghost use Rattle.smith_draw.specs.KeptGrounds.{AreKeptGrounds};
+
+use crate::spaces::Spaces;
+use crate::standing::Standing;
+use smith_bytes::Error;
+use smith_config::Config;
+use smith_types::{FuncGrounds, TypeSpace};
+use std::alloc::Global;
+
+/// What functions ground, where it is kept: many draws then look at the functions once. Nothing is kept, and no memory taken, where the
+/// configuration has no references that aren't nullable.
+#[derive(Drop)]
+pub struct KeptGrounds {
+    kept: Option<FuncGrounds>,
+}
+
+impl KeptGrounds {
+    /// Begins with nothing kept. Takes no memory.
+    pub fn new() -> KeptGrounds
+        ensures { (context : Context) → AreKeptGrounds context result }
+    {
+        KeptGrounds { kept: None }
+    }
+
+    /// Keeps what no functions ground, over `types`, so that functions can be noted.
+    pub fn begin(&mut self, alloc: Global, config: &Config, types: &TypeSpace) -> Result<(), Error>
+        ensures none { (context : Context) → context.types ≡ types.now.types → context.funcs ≡ [] → OnOk result (AreKeptGrounds context self.new) }
+        ensures memory { IfErr result (λ e. e ≡ Error.Memory) }
+    {
+        self.kept = None;
+        if !config.non_nullable_enabled {
+            return Ok(());
+        }
+        self.kept = Some(FuncGrounds::none(alloc, types.types().len())?);
+        Ok(())
+    }
+
+    /// Notes a function whose type has the index `index` in `types`, as [`FuncGrounds::note`] does.
+    pub fn note(&mut self, types: &TypeSpace, index: u32, exact: bool)
+        ensures { (before after : Context) → before.types ≡ types.now.types → IsFunctionAdded before after index exact → AreKeptGrounds before self.old → AreKeptGrounds after self.new }
+    {
+        if let Some(grounds) = &mut self.kept {
+            grounds.note(types, index, exact);
+        }
+    }
+
+    /// Keeps what the functions of `spaces` ground, if there are any.
+    pub fn keep(&mut self, alloc: Global, config: &Config, spaces: &Spaces<'_>) -> Result<(), Error>
+        ensures kept { OnOk result (AreKeptGrounds (standing_in config.now spaces.now) self.new) }
+        ensures memory { IfErr result (λ e. e ≡ Error.Memory) }
+    {
+        self.kept = None;
+        if !config.non_nullable_enabled || spaces.entities.funcs.is_empty() {
+            return Ok(());
+        }
+        self.kept = Some(grounds_of(alloc, config, spaces)?);
+        Ok(())
+    }
+
+    /// The types and functions of `spaces`, for draws.
+    pub fn standing<'a>(&'a self, config: &'a Config, spaces: &Spaces<'a>) -> Standing<'a>
+        requires { AreKeptGrounds (standing_in config.now spaces.now) self.now }
+        ensures { result ≡ standing_in config.now spaces.now }
+    {
+        Standing::kept(config, spaces, self.kept.as_ref())
+    }
+}
+
+/// Returns what the functions of `spaces` ground.
+fn grounds_of(alloc: Global, config: &Config, spaces: &Spaces<'_>) -> Result<FuncGrounds, Error>
+    ensures kept { IfOk result (AreFuncGrounds (standing_in config.now spaces.now)) }
+    ensures memory { IfErr result (λ e. e ≡ Error.Memory) }
+{
+    let mut grounds = FuncGrounds::none(alloc, spaces.types.types().len())?;
+    note_functions(config, spaces, &mut grounds);
+    Ok(grounds)
+}
+
+/// Notes the functions of `spaces` among `grounds`, which has none.
+fn note_functions(config: &Config, spaces: &Spaces<'_>, grounds: &mut FuncGrounds)
+    requires { AreFuncGrounds (with_functions (standing_in config.now spaces.now) []) grounds.old }
+    ensures { AreFuncGrounds (standing_in config.now spaces.now) grounds.new }
+{
+    let funcs = spaces.entities.funcs;
+    for function in 0..funcs.len() {
+        let exact = is_exact(config, spaces, function);
+        grounds.note(spaces.types, funcs[function], exact);
+    }
+}
+
+/// Whether the reference that names the function `function` of `spaces` is exact.
+fn is_exact(config: &Config, spaces: &Spaces<'_>, function: usize) -> bool
+    ensures { result ≡ (nat_le spaces.now.entities.imported_funcs function && config.now.custom_descriptors_enabled) }
+{
+    function >= spaces.entities.imported_funcs && config.custom_descriptors_enabled
+}

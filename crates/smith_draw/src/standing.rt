@@ -1,0 +1,158 @@
+ghost use Rattle.std.specs.Prelude.{◌≡◌, ◌<◌, length, IsTrue, IfSome, ◌↔◌};
+ghost use Rattle.smith_types.specs.Types.{IsOrderly};
+ghost use Rattle.smith_types.specs.Subtyping.{IsInRange};
+ghost use Rattle.smith_types.specs.Expressions.{reference_to, function_reference};
+ghost use Rattle.smith_types.specs.FuncGrounds.{AreFuncGrounds};
+ghost use Rattle.smith_draw.specs.Grounding.{standing_in, any_from, function_grounds, is_grounded};
+
+use crate::spaces::Spaces;
+use smith_config::Config;
+use smith_types::{FuncGrounds, HeapType, SubType, TypeSpace};
+use std::marker::Model;
+
+/// What drawn references are over: types, and functions, which may ground references.
+#[derive(Drop)]
+pub struct Standing<'a> {
+    config: &'a Config,
+    types: &'a TypeSpace,
+    funcs: &'a [u32],
+    imported_funcs: usize,
+    // What the functions ground, where it is kept.
+    grounds: Option<&'a FuncGrounds>,
+}
+
+impl<'a> Model for Standing<'a> {
+    ghost use Rattle.std.specs.Prelude.{IfSome};
+    ghost use Rattle.smith_types.specs.Expressions.{Context};
+    ghost use Rattle.smith_types.specs.FuncGrounds.{AreFuncGrounds};
+    ghost use Rattle.smith_config.specs.Features.{features_of};
+    ghost use Rattle.smith_draw.specs.Grounding.{context_of};
+
+    ghost Value = { Context };
+
+    ghost view = { λ a. context_of (features_of a.config.now) a.types.now.types a.funcs.now a.imported_funcs };
+
+    ghost invariant = { λ a. IfSome a.grounds (λ grounds. AreFuncGrounds (context_of (features_of a.config.now) a.types.now.types a.funcs.now a.imported_funcs) grounds.now) };
+}
+
+impl<'a> Standing<'a> {
+    /// The types and functions of `spaces`. The functions are looked through for each heap type that they may ground.
+    pub(crate) fn over(config: &'a Config, spaces: &Spaces<'a>) -> Standing<'a>
+        ensures { result ≡ standing_in config.now spaces.now }
+    {
+        Standing {
+            config,
+            types: spaces.types,
+            funcs: spaces.entities.funcs,
+            imported_funcs: spaces.entities.imported_funcs,
+            grounds: None,
+        }
+    }
+
+    /// The types and functions of `spaces`. What these functions ground is read from `grounds`, where that is given.
+    pub(crate) fn kept(
+        config: &'a Config,
+        spaces: &Spaces<'a>,
+        grounds: Option<&'a FuncGrounds>,
+    ) -> Standing<'a>
+        requires { IfSome grounds (λ kept. AreFuncGrounds (standing_in config.now spaces.now) kept.now) }
+        ensures { result ≡ standing_in config.now spaces.now }
+    {
+        Standing {
+            config,
+            types: spaces.types,
+            funcs: spaces.entities.funcs,
+            imported_funcs: spaces.entities.imported_funcs,
+            grounds,
+        }
+    }
+
+    /// The types.
+    pub fn types(&self) -> &'a TypeSpace
+        ensures { result.now.types ≡ self.now.types }
+    {
+        self.types
+    }
+
+    /// Tells that the types are orderly, as those of every type space are.
+    pub(crate) fn orderly(&self)
+        ensures { IsOrderly self.now.types }
+    {
+        let _types = self.types.types();
+    }
+
+    /// Whether a type or a function grounds the heap type `ty`.
+    pub(crate) fn is_grounded(&self, ty: HeapType) -> bool
+        ensures { result ≡ is_grounded self.now ty }
+    {
+        if !stands(self.types.types(), ty) {
+            return false;
+        }
+        let descriptors = self.config.custom_descriptors_enabled;
+        if self.types.is_grounded_by_structs(ty, descriptors) {
+            return true;
+        }
+        self.is_grounded_by_functions(ty)
+    }
+
+    /// Whether a function grounds the heap type `ty`, whose type stands.
+    fn is_grounded_by_functions(&self, ty: HeapType) -> bool
+        requires orderly { IsOrderly self.now.types }
+        requires stands { IsInRange self.now.types ty }
+        ensures { result ≡ any_from (function_grounds self.now ty) 0 self.now.funcs }
+    {
+        if let Some(grounds) = self.grounds {
+            return grounds.are_grounding(ty);
+        }
+        self.is_above_a_function(ty)
+    }
+
+    /// The same, by a look at each function.
+    fn is_above_a_function(&self, ty: HeapType) -> bool
+        requires { IsInRange self.now.types ty }
+        ensures { result ≡ any_from (function_grounds self.now ty) 0 self.now.funcs }
+    {
+        let funcs = self.funcs;
+        for function in 0..funcs.len() {
+            if self.is_function_below(function, funcs[function], ty) {
+                return true;
+            }
+        }
+        false
+    }
+
+    /// Whether a reference to the function `function`, whose type is `index`, is below the heap type `ty`, whose type stands.
+    fn is_function_below(&self, function: usize, index: u32, ty: HeapType) -> bool
+        requires { IsInRange self.now.types ty }
+        ensures { result ≡ function_grounds self.now ty function index }
+    {
+        if index as usize >= self.types.types().len() {
+            return false;
+        }
+        let reference = self.reference_to(function, index);
+        self.types.heap_type_is_sub_type(reference, ty)
+    }
+
+    /// The heap type of a reference to the function `function`, whose type is `index`.
+    fn reference_to(&self, function: usize, index: u32) -> HeapType
+        ensures value { reference_to result ≡ function_reference self.now function index }
+        ensures stands { index < length self.now.types → IsInRange self.now.types result }
+    {
+        if self.config.custom_descriptors_enabled && function >= self.imported_funcs {
+            HeapType::Exact(index)
+        } else {
+            HeapType::Concrete(index)
+        }
+    }
+}
+
+/// Whether the type that `ty` names is one of `types`.
+fn stands(types: &[SubType], ty: HeapType) -> bool
+    ensures { IsTrue result ↔ IsInRange types.now ty }
+{
+    match ty {
+        HeapType::Abstract { .. } => true,
+        HeapType::Concrete(index) => (index as usize) < types.len(),
+        HeapType::Exact(index) => (index as usize) < types.len(),
+    }
+}

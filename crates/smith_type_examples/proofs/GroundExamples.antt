@@ -1,0 +1,65 @@
+-- What grounds a heap type, and what does not, as the examples need it.
+use Rattle.std.proofs.Common.{◌≡◌, ℕ, zero, suc, Bool, true, false, List, [], ◌∷◌, Some, None, IsTrue, refl, sym, ◌∙◌, inl, inr, ap, arith, rules, lit<}
+use Rattle.std.specs.Prelude.{slice_get, ◌&&◌}
+use Rattle.std.specs.List.{list_any}
+use Rattle.smith_types.specs.declared.value_type.AbstractHeapType.{AbstractHeapType}
+use Rattle.smith_types.specs.declared.value_type.AbstractHeapType.TheVariants as heap
+use Rattle.smith_types.specs.declared.value_type.HeapType.TheVariants.{Abstract, Concrete, Exact}
+use Rattle.smith_types.specs.declared.composite_type.SubType.{SubType}
+use Rattle.smith_types.specs.declared.ground.GroundKinds.{GroundKinds}
+use Rattle.smith_types.specs.Types.{IsOrderly}
+use Rattle.smith_types.specs.Subtyping.{is_abstract_below, IsBelow}
+use Rattle.smith_types.specs.Features.{Features}
+use Rattle.smith_types.specs.Grounded.{IsGrounded}
+use Rattle.smith_types.specs.Grounds.{is_ground, is_ground_of, kind_at, AreGroundKinds}
+use Rattle.smith_types.specs.declared.value_type.ValType.TheVariants.{Ref}
+use Rattle.smith_types.specs.declared.composite_type.StorageType.TheVariants.{Val}
+use Rattle.smith_types.specs.ExampleFeatures.{usual_features}
+use Rattle.smith_types.specs.ExampleTypes.{open_type, final_type, struct, empty_struct, constant, not_null, plain}
+use Rattle.smith_types.specs.ExampleContexts.{context_of}
+use Rattle.std.proofs.lemmas.Option.{same_Some}
+use Rattle.smith_types.proofs.WalkLemmas.{below_alone, concrete_not_below_exact}
+use Rattle.smith_types.proofs.GroundedLemmas.{grounded_is, abstract_grounded}
+
+-- the kinds of grounding structs among these types
+abbrev kinds_of : List SubType → GroundKinds
+kinds_of types = record { plain = list_any (is_ground_of false) types; shared = list_any (is_ground_of true) types }
+
+kind_known : (types : List SubType) (is_shared : Bool) → kind_at (kinds_of types) is_shared ≡ list_any (is_ground_of is_shared) types
+kind_known types true = refl
+kind_known types false = refl
+
+kinds_known : (types : List SubType) → AreGroundKinds types (kinds_of types)
+kinds_known types = record { each = kind_known types }
+
+module _ (features : Features) (types : List SubType) where
+  pub above_a_struct : (s : Bool) (b : AbstractHeapType) → IsOrderly types → (kind_at (kinds_of types) s && is_abstract_below heap.Struct b) ≡ true → IsGrounded (context_of features types [] 0) (Abstract s b)
+  above_a_struct s b orderly is = inl ((abstract_grounded types types (kinds_of types) features.custom_descriptors s b refl orderly (kinds_known types)).0 is)
+
+  pub not_above_a_struct : (s : Bool) (b : AbstractHeapType) → IsOrderly types → (kind_at (kinds_of types) s && is_abstract_below heap.Struct b) ≡ false → ¬ IsGrounded (context_of features types [] 0) (Abstract s b)
+  not_above_a_struct s b orderly off (inl h) =
+      let on : IsTrue (kind_at (kinds_of types) s && is_abstract_below heap.Struct b) = (abstract_grounded types types (kinds_of types) features.custom_descriptors s b refl orderly (kinds_known types)).1 h in
+      let never : true ≡ false = sym on ∙ off in
+      cc never
+  not_above_a_struct s b orderly off (inr (function, index, at, below)) = cc at
+
+-- creation pushes no exact reference without custom descriptors
+pub not_exact : ¬ IsGrounded (context_of usual_features (final_type empty_struct ∷ []) [] 0) (Exact 0)
+not_exact (inl (index, g)) = concrete_not_below_exact (final_type empty_struct ∷ []) index 0 g.below
+not_exact (inr (function, index, at, below)) = cc at
+
+-- a struct type, and one below it with a field that has no default
+abbrev closed_field : SubType
+closed_field = open_type (Some 0) (struct (constant (Val (Ref (not_null (plain heap.Func)))) ∷ []))
+
+abbrev lower_types : List SubType
+lower_types = open_type None empty_struct ∷ closed_field ∷ []
+
+lower_by : (index : ℕ) (t : SubType) → slice_get lower_types index ≡ Some t → is_ground t ≡ true → IsBelow lower_types (Concrete index) (Concrete 1) → ⊥
+lower_by zero t at on below = below_alone lower_types (search rules) 0 1 closed_field (lit< tt) refl (λ same. omega (arith, same)) below
+lower_by (suc zero) t at on below = let same : closed_field ≡ t = same_Some closed_field t at in let never : false ≡ true = ap is_ground same ∙ on in cc never
+lower_by (suc (suc index)) t at on below = cc at
+
+pub lower_not_grounded : ¬ IsGrounded (context_of usual_features lower_types [] 0) (Concrete 1)
+lower_not_grounded (inl (index, g)) = let (t, at, on) = grounded_is lower_types false (Concrete 1) index g in lower_by index t at on g.below
+lower_not_grounded (inr (function, index, at, below)) = cc at

@@ -1,0 +1,147 @@
+-- What a type space keeps of types that ground others, as types are added.
+use Rattle.std.proofs.Common.{◌≡◌, ℕ, ◌+◌, ◌<◌, Bool, true, false, List, [], ◌∷◌, ◌++◌, Option, Some, None, IsTrue, length, refl, sym, ◌∙◌, ap, subst, inl, inr, arith}
+use Rattle.std.specs.Prelude.{◌&&◌, slice_get, ◌||◌, if◌then◌else◌}
+use Rattle.std.specs.List.{list_any}
+use Rattle.std.proofs.lemmas.Bool.{cases_eq, cases_lt}
+use Rattle.std.proofs.lemmas.List.Folds.{list_any-append}
+use Rattle.std.proofs.lemmas.Option.{slice_get_within, none-some}
+use Rattle.std.proofs.lemmas.List.{length-append}
+use Rattle.smith_types.specs.declared.composite_type.SubType.{SubType}
+use Rattle.smith_types.specs.declared.value_type.HeapType.TheVariants.{Concrete}
+use Rattle.smith_types.specs.declared.ground.Ground.{Ground}
+use Rattle.smith_types.specs.declared.ground.GroundKinds.{GroundKinds}
+use Rattle.smith_types.specs.Types.{IsOrderly}
+use Rattle.smith_types.specs.Space.{MayFollow}
+use Rattle.smith_types.specs.Subtyping.{IsBelow, itself}
+use Rattle.smith_types.specs.Grounds.{is_ground, IsGroundBelow, own_at, below_at, AreGrounds, AreClosed, AreMarked, is_ground_of, kind_at, kinds_with, AreGroundKinds}
+use Rattle.smith_types.proofs.ListLemmas.{slice_get-grown, slice_get-last, slice_get-push, slice_get-front}
+use Rattle.smith_types.proofs.GrowthLemmas.{IsBelow-grown, IsBelow-trans}
+use Rattle.smith_types.proofs.PathLemmas.{below_declared}
+use Rattle.smith_types.proofs.RangeLemmas.{above_stands}
+use Rattle.smith_types.proofs.SpaceLemmas.{IsOrderly-push}
+use Rattle.smith_types.proofs.WalkLemmas.{Reaches, here, up, by_cases_from_below, path_along}
+use Rattle.smith_types.proofs.MarkLemmas.{said_inside, said_front, said_last, above_other}
+
+-- what is reached from a type that stood before is reached as before
+reaches_front : (types : List SubType) (t : SubType) (i j : ℕ) → IsOrderly types → i < length types → Reaches (types ++ t ∷ []) i j → Reaches types i j
+reaches_front types t i j o inside here = here
+reaches_front types t i j o inside (up {s = s} {t = u} at sup reach) =
+    let old = slice_get-front types (t ∷ []) i u inside at in
+    let less : s < i = (o.under i s u old sup).0 in
+    up {t = u} old sup (reaches_front types t s j o (omega (arith, less, inside)) reach)
+
+-- a type above one that is grounded is grounded
+pub grounds_closed : (types : List SubType) (grounds : List Ground) → AreGrounds types grounds → AreClosed types grounds
+grounds_closed types grounds h = record {
+  up = λ i j below marks. let (k, g) = (h.below i).0 marks in (h.below j).1 (k, record { ground = g.ground; at = g.at; is = g.is; below = IsBelow-trans types g.below below });
+}
+
+-- which type is marked first
+from_if : (b : Bool) (o from : Option ℕ) (s : ℕ) → from ≡ (if b then o else None) → from ≡ Some s → (b ≡ true) × (o ≡ Some s)
+from_if true o from s is some = (refl, sym is ∙ some)
+from_if false o from s is some = absurd (none-some s (sym is ∙ some))
+
+from_on : (b : Bool) (o from : Option ℕ) → from ≡ (if b then o else None) → b ≡ true → from ≡ o
+from_on true o from is on = is
+from_on false o from is on = cc
+
+-- one type more, and the marks above it
+module _ (types : List SubType) (t : SubType) (orderly : IsOrderly types) (follows : MayFollow types t) (grounds marked : List Ground) (own : Bool) (from : Option ℕ) (is_own : own ≡ is_ground t) (is_from : from ≡ (if own then t.supertype else None)) (h : AreGrounds types grounds) (marks : AreMarked types from grounds marked) where
+  long : length marked ≡ length types
+  long = marks.long ∙ h.long
+
+  last : slice_get (types ++ t ∷ []) (length types) ≡ Some t
+  last = slice_get-last types t
+
+  orderly_more : IsOrderly (types ++ t ∷ [])
+  orderly_more = IsOrderly-push types t orderly follows.below
+
+  below_front : (i j : ℕ) → i < length types → IsBelow (types ++ t ∷ []) (Concrete i) (Concrete j) → IsBelow types (Concrete i) (Concrete j)
+  below_front i j inside below = path_along types (reaches_front types t i j orderly inside (by_cases_from_below (types ++ t ∷ []) orderly_more (Concrete i) (Concrete j) below))
+
+  owns : (i : ℕ) (u : SubType) → slice_get (types ++ t ∷ []) i ≡ Some u → own_at (marked ++ record { own = own; below = own } ∷ []) i ≡ is_ground u
+  owns i u at = elim (slice_get-push types t i u at) [
+    | inl before ↦
+        let inside : i < length types = slice_get_within types i u before in
+        said_front (λ (ground : Ground). ground.own) marked (record { own = own; below = own }) i (omega (arith, inside, long)) ∙ marks.own i ∙ h.own i u before
+    | inr (is, same) ↦ said_last (λ (ground : Ground). ground.own) marked (record { own = own; below = own }) i (long ∙ sym is) ∙ is_own ∙ ap is_ground same
+  ]
+
+  -- a type before the last is marked exactly where it is to be
+  front_grounded : (j : ℕ) → IsTrue (below_at marked j) → (i : ℕ) × IsGroundBelow (types ++ t ∷ []) i j
+  front_grounded j now = elim ((marks.below j).0 now) [
+    | inl before ↦
+        let (i, g) = (h.below j).0 before in
+        (i, record { ground = g.ground; at = slice_get-grown types (t ∷ []) i g.ground g.at; is = g.is; below = IsBelow-grown types (t ∷ []) g.below })
+    | inr (s, is, below) ↦
+        let (on, is_up) = from_if own t.supertype from s is_from is in
+        (length types, record { ground = t; at = last; is = sym is_own ∙ on; below = IsBelow-trans (types ++ t ∷ []) (below_declared (types ++ t ∷ []) (length types) s t last is_up) (IsBelow-grown types (t ∷ []) below) })
+  ]
+
+  marked_front : (j : ℕ) → j < length types → IsTrue (below_at marked j) → IsTrue (below_at (marked ++ record { own = own; below = own } ∷ []) j)
+  marked_front j inside now = said_front (λ (ground : Ground). ground.below) marked (record { own = own; below = own }) j (omega (arith, inside, long)) ∙ now
+
+  marked_last : (j : ℕ) → length types ≡ j → own ≡ true → IsTrue (below_at (marked ++ record { own = own; below = own } ∷ []) j)
+  marked_last j end on = said_last (λ (ground : Ground). ground.below) marked (record { own = own; below = own }) j (long ∙ end) ∙ on
+
+  grounded : (j : ℕ) → IsTrue (below_at (marked ++ record { own = own; below = own } ∷ []) j) → (i : ℕ) × IsGroundBelow (types ++ t ∷ []) i j
+  grounded j now = elim (cases_eq (length marked) j) [
+    | inl end ↦
+        let on : is_ground t ≡ true = sym is_own ∙ sym (said_last (λ (ground : Ground). ground.below) marked (record { own = own; below = own }) j end) ∙ now in
+        let is : length types ≡ j = sym long ∙ end in
+        (length types, subst (λ (m : ℕ). IsGroundBelow (types ++ t ∷ []) (length types) m) is (record { ground = t; at = last; is = on; below = itself }))
+    | inr other ↦
+        let within : j < length (marked ++ record { own = own; below = own } ∷ []) = said_inside (λ (ground : Ground). ground.below) (marked ++ record { own = own; below = own } ∷ []) j now in
+        let most : j < length marked + 1 = simp length-append at within in
+        let inside : j < length marked = elim (cases_lt j (length marked)) [ inl less ↦ less | inr least ↦ absurd (other (omega (arith, most, least))) ] in
+        front_grounded j (sym (said_front (λ (ground : Ground). ground.below) marked (record { own = own; below = own }) j inside) ∙ now)
+  ]
+
+  -- what a type that stood before grounds is marked as before
+  marked_before : (i j : ℕ) (g : IsGroundBelow (types ++ t ∷ []) i j) → slice_get types i ≡ Some g.ground → IsTrue (below_at (marked ++ record { own = own; below = own } ∷ []) j)
+  marked_before i j g before =
+      let below = below_front i j (slice_get_within types i g.ground before) g.below in
+      marked_front j (above_stands types orderly (Concrete i) (Concrete j) below (slice_get_within types i g.ground before)) ((marks.below j).1 (inl ((h.below j).1 (i, record { ground = g.ground; at = before; is = g.is; below = below }))))
+
+  -- what the last type grounds is marked
+  marked_above : (j : ℕ) → own ≡ true → IsBelow (types ++ t ∷ []) (Concrete (length types)) (Concrete j) → IsTrue (below_at (marked ++ record { own = own; below = own } ∷ []) j)
+  marked_above j on below = elim (cases_eq (length types) j) [
+    | inl end ↦ marked_last j end on
+    | inr other ↦
+        let (s, is_up, on_up) = above_other (types ++ t ∷ []) (length types) j t last other (by_cases_from_below (types ++ t ∷ []) orderly_more (Concrete (length types)) (Concrete j) below) in
+        let (u, at, alike) = follows.below s is_up in
+        let path = below_front s j (slice_get_within types s u at) on_up in
+        marked_front j (above_stands types orderly (Concrete s) (Concrete j) path (slice_get_within types s u at)) ((marks.below j).1 (inr (s, from_on own t.supertype from is_from on ∙ is_up, path)))
+  ]
+
+  pub grounds_more : AreGrounds (types ++ t ∷ []) (marked ++ record { own = own; below = own } ∷ [])
+  grounds_more = record {
+    long = simp length-append (ap (λ (n : ℕ). n + 1) long);
+    own = owns;
+    below = λ j. (
+      grounded j,
+      λ (i, g). elim (slice_get-push types t i g.ground g.at) [
+        | inl before ↦ marked_before i j g before
+        | inr (is, same) ↦ marked_above j (is_own ∙ ap is_ground same ∙ g.is) (subst (λ (m : ℕ). IsBelow (types ++ t ∷ []) (Concrete m) (Concrete j)) is g.below)
+      ],
+    );
+  }
+
+either_none : (b : Bool) → (b || false) ≡ b
+either_none true = refl
+either_none false = refl
+
+-- the kinds with a type more
+pub kinds_more : (types : List SubType) (t : SubType) (own : Bool) (kinds : GroundKinds) → own ≡ is_ground t → AreGroundKinds types kinds
+    → AreGroundKinds (types ++ t ∷ []) (kinds_with own t.composite_type.shared kinds)
+kinds_more types t own kinds is h = rw is (record { each = λ is_shared. kind_more is_shared }) where
+  turn : (is_shared : Bool) → (kind_at kinds is_shared || is_ground_of is_shared t) ≡ list_any (is_ground_of is_shared) (types ++ t ∷ [])
+  turn is_shared = ap (λ (b : Bool). b || is_ground_of is_shared t) (h.each is_shared) ∙ ap (λ (b : Bool). list_any (is_ground_of is_shared) types || b) (sym (either_none (is_ground_of is_shared t))) ∙ sym (list_any-append (is_ground_of is_shared) types (t ∷ []))
+
+  kind_more : (is_shared : Bool) → kind_at (kinds_with (is_ground t) t.composite_type.shared kinds) is_shared ≡ list_any (is_ground_of is_shared) (types ++ t ∷ [])
+  kind_more true = turn true
+  kind_more false = turn false
+
+-- what is kept
+pub kept_own : (kept own : Bool) (t : SubType) → own ≡ (kept && is_ground t) → kept ≡ true → own ≡ is_ground t
+kept_own kept own t is on = is ∙ ap (λ (b : Bool). b && is_ground t) on

@@ -1,0 +1,97 @@
+ghost use Rattle.std.specs.Prelude.{◌≡◌, ◌<◌, ◌↔◌, [], Some, length, vec_len, IsTrue, ◌||◌, IfOk, IfErr};
+ghost use Rattle.smith_types.specs.Types.{IsOrderly};
+ghost use Rattle.smith_types.specs.Subtyping.{IsInRange};
+ghost use Rattle.smith_types.specs.Expressions.{Context};
+ghost use Rattle.smith_types.specs.Grounded.{IsGroundedByFuncs};
+ghost use Rattle.smith_types.specs.Grounds.{AreClosed};
+ghost use Rattle.smith_types.specs.FuncGrounds.{AreFuncGrounds, IsFunctionAdded, IsTypeNoted};
+
+use crate::composite_type::SubType;
+use crate::ground::{Ground, mark_above};
+use crate::noted_kinds::{NotedKinds, no_kinds};
+use crate::type_space::TypeSpace;
+use crate::value_type::HeapType;
+use smith_bytes::Error;
+use std::alloc::Global;
+
+/// What functions ground, kept as they are noted one by one: whether they ground a heap type is then found at once, however many they are.
+///
+/// A function grounds each heap type above the reference that names it. With custom descriptors that reference is exact, unless the
+/// function is imported.
+#[derive(Drop)]
+pub struct FuncGrounds {
+    // Of each type: whether it is the type of a function whose reference is exact, and whether it is or is above that of any.
+    marks: Vec<Ground>,
+    kinds: NotedKinds,
+}
+
+impl FuncGrounds {
+    /// Begins without functions, over `types` types, with memory of `alloc` for a mark of each.
+    pub fn none(alloc: Global, types: usize) -> Result<FuncGrounds, Error>
+        ensures none { (context : Context) → context.funcs ≡ [] → length context.types ≡ types → IfOk result (AreFuncGrounds context) }
+        ensures memory { IfErr result (λ e. e ≡ Error.Memory) }
+    {
+        let unmarked = Ground {
+            own: false,
+            below: false,
+        };
+        Ok(FuncGrounds {
+            marks: Vec::from_elem(alloc, unmarked, types)?,
+            kinds: no_kinds(),
+        })
+    }
+
+    /// Notes a function whose type has the index `index` in `types`, and a reference to which is exact where `exact` is set. A type
+    /// that doesn't exist is left out, since it grounds nothing that does. All notes together take a step for each type and each function.
+    pub fn note(&mut self, types: &TypeSpace, index: u32, exact: bool)
+        ensures { (before after : Context) → before.types ≡ types.now.types → IsFunctionAdded before after index exact → AreFuncGrounds before self.old → AreFuncGrounds after self.new }
+    {
+        let types = types.types();
+        let Some(ty) = types.get(index as usize) else {
+            return;
+        };
+        if index as usize >= self.marks.len() {
+            return;
+        }
+        note_type(types, index, exact, &mut self.marks);
+        self.kinds = self.kinds.with(ty);
+    }
+
+    /// Whether one of the functions grounds the heap type `ty`.
+    pub fn are_grounding(&self, ty: HeapType) -> bool
+        ensures { (context : Context) → AreFuncGrounds context self.now → IsInRange context.types ty → IsTrue result ↔ IsGroundedByFuncs context ty }
+    {
+        match ty {
+            HeapType::Abstract { shared, ty } => self.kinds.are_below(shared, ty),
+            HeapType::Concrete(index) => match self.marks.get(index as usize) {
+                Some(mark) => mark.below,
+                None => false,
+            },
+            HeapType::Exact(index) => match self.marks.get(index as usize) {
+                Some(mark) => mark.own,
+                None => false,
+            },
+        }
+    }
+}
+
+// Notes a function of the type `index` among `marks`.
+fn note_type(types: &[SubType], index: u32, exact: bool, marks: &mut Vec<Ground>)
+    requires orderly { IsOrderly types.now }
+    requires stands { index < length types.now }
+    requires entry { index < vec_len marks.old }
+    ensures { AreClosed types.now marks.old.items → IsTypeNoted types.now index exact marks.old.items marks.new.items }
+{
+    marks[index as usize] = with_exact(marks[index as usize], exact);
+    mark_above(types, Some(index), marks);
+}
+
+// The mark `mark`, where `exact` is set with an exact reference.
+fn with_exact(mark: Ground, exact: bool) -> Ground
+    ensures { result ≡ record { own = mark.own || exact; below = mark.below } }
+{
+    Ground {
+        own: mark.own || exact,
+        below: mark.below,
+    }
+}

@@ -1,0 +1,145 @@
+ghost use Rattle.std.specs.Prelude.{◌≡◌, ◌&&◌, ◌+◌, ◌++◌, ◌<◌, ℕ, [], ◌∷◌, None, Some, length, false, vec_len, vec_capacity, if◌then◌else◌};
+ghost use Rattle.smith_types.specs.Types.{IsOrderly};
+ghost use Rattle.smith_types.specs.Space.{MayFollow};
+ghost use Rattle.smith_types.specs.Expressions.{unpacked};
+ghost use Rattle.smith_types.specs.Grounded.{is_defaultable, are_defaultable};
+ghost use Rattle.smith_types.specs.Grounds.{is_ground, kind_at, kinds_with, AreGrounds, AreClosed, AreMarked};
+
+use crate::composite_type::{CompositeInnerType, FieldType, StorageType, SubType};
+use crate::value_type::ValType;
+
+// What a type space keeps of a type: whether a reference below it that isn't null can be made of a struct without operands.
+#[derive(Clone, Copy)]
+pub(crate) struct Ground {
+    // Whether the type is a struct type whose fields all have defaults.
+    pub(crate) own: bool,
+    // Whether the type or one below it is.
+    pub(crate) below: bool,
+}
+
+// Whether there is a struct type whose fields all have defaults, among those that aren't shared and those that are.
+#[derive(Clone, Copy)]
+pub(crate) struct GroundKinds {
+    pub(crate) plain: bool,
+    pub(crate) shared: bool,
+}
+
+impl GroundKinds {
+    // What there is with a type too that is such a struct type if `ground` is set, and shared if `shared` is.
+    pub(crate) fn with(self, ground: bool, shared: bool) -> GroundKinds
+        ensures { result ≡ kinds_with ground shared self }
+    {
+        GroundKinds {
+            plain: self.plain || (ground && !shared),
+            shared: self.shared || (ground && shared),
+        }
+    }
+
+    // Whether there is one of the sharedness `shared`.
+    pub(crate) fn has(self, shared: bool) -> bool
+        ensures { result ≡ kind_at self shared }
+    {
+        if shared { self.shared } else { self.plain }
+    }
+}
+
+// What there is among no types.
+pub(crate) fn no_grounds() -> GroundKinds
+    ensures { result ≡ record { plain = false; shared = false } }
+{
+    GroundKinds {
+        plain: false,
+        shared: false,
+    }
+}
+
+// Adds to `grounds`, which has room, an entry for the type `added`, the next one after `types`, and marks the types above it. Where
+// `own` isn't set it says that the type grounds nothing.
+pub(crate) fn join_grounds(types: &[SubType], added: &SubType, own: bool, grounds: &mut Vec<Ground>)
+    requires orderly { IsOrderly types.now }
+    requires follows { MayFollow types.now added.now }
+    requires long { vec_len grounds.old ≡ length types.now }
+    requires room { vec_len grounds.old < vec_capacity grounds.old }
+    ensures grounds { own ≡ is_ground added.now → AreGrounds types.now grounds.old.items → AreGrounds (types.now ++ added.now ∷ []) grounds.new.items }
+    ensures len { vec_len grounds.new ≡ vec_len grounds.old + 1 }
+    ensures capacity { vec_capacity grounds.new ≡ vec_capacity grounds.old }
+{
+    mark_above(types, supertype_if(own, added), grounds);
+    grounds.push_reserved(Ground { own, below: own });
+}
+
+// The supertype of `ty`, where `wanted` is true.
+fn supertype_if(wanted: bool, ty: &SubType) -> Option<u32>
+    ensures { result ≡ (if wanted then ty.now.supertype else None) }
+{
+    if wanted { ty.supertype } else { None }
+}
+
+// Marks the type of the index `from`, where there is one, and each type above it. A type that is marked has all above it marked, so
+// that each is marked once.
+pub(crate) fn mark_above(types: &[SubType], from: Option<u32>, grounds: &mut Vec<Ground>)
+    requires orderly { IsOrderly types.now }
+    requires stands { (s : ℕ) → from ≡ Some s → (s < length types.now) × (s < vec_len grounds.old) }
+    ensures marked { AreClosed types.now grounds.old.items → AreMarked types.now from grounds.old.items grounds.new.items }
+    ensures len { vec_len grounds.new ≡ vec_len grounds.old }
+    ensures capacity { vec_capacity grounds.new ≡ vec_capacity grounds.old }
+{
+    let mut above = from;
+    while let Some(index) = above {
+        let ground = grounds[index as usize];
+        if ground.below {
+            return;
+        }
+        grounds[index as usize] = Ground {
+            own: ground.own,
+            below: true,
+        };
+        above = types[index as usize].supertype;
+    }
+}
+
+// Whether `ty` is such a struct type, where `kept` is set.
+pub(crate) fn is_kept_ground(kept: bool, ty: &SubType) -> bool
+    ensures { result ≡ (kept && is_ground ty.now) }
+{
+    kept && is_ground(ty)
+}
+
+// Whether `ty` is a struct type whose fields all have defaults.
+pub(crate) fn is_ground(ty: &SubType) -> bool
+    ensures { result ≡ is_ground ty.now }
+{
+    match &ty.composite_type.inner {
+        CompositeInnerType::Struct(structure) => are_defaultable(structure.fields.as_slice()),
+        _ => false,
+    }
+}
+
+/// Whether all of `fields` have a default value: Structure, Types, Defaultable.
+pub fn are_defaultable(fields: &[FieldType]) -> bool
+    ensures { result ≡ are_defaultable fields.now }
+{
+    fields
+        .iter()
+        .all(|field| is_defaultable(unpacked(field.element_type)))
+}
+
+/// Whether `value` has a default value: all but references that aren't nullable have.
+pub fn is_defaultable(value: ValType) -> bool
+    ensures { result ≡ is_defaultable value }
+{
+    match value {
+        ValType::Ref(reference) => reference.nullable,
+        _ => true,
+    }
+}
+
+/// The type of the value that a field takes which stores `stored`: a packed integer is unpacked.
+pub fn unpacked(stored: StorageType) -> ValType
+    ensures { result ≡ unpacked stored }
+{
+    match stored {
+        StorageType::Val(value) => value,
+        _ => ValType::I32,
+    }
+}
