@@ -4,7 +4,7 @@ ghost use Rattle.smith_binary.specs.Pieces.{Writes};
 ghost use Rattle.smith_sections.specs.Modules.{IsModule};
 ghost use Rattle.smith_encode.specs.Contents.{contents_of};
 ghost use Rattle.smith_encode.specs.Layout.{section_ids, HasSections};
-ghost use Rattle.smith_encode.specs.Written.{IsFront, IsMiddle, IsBack};
+ghost use Rattle.smith_encode.specs.Written.{IsFront, IsMiddle, IsBack, IsWritten};
 ghost use Rattle.smith_encode.specs.TooLong.{IsTooLong};
 
 use crate::sections::{
@@ -68,6 +68,7 @@ fn write_back(module: &Module, sink: &mut Sink) -> Result<(), EncodeError>
 pub fn encode(alloc: Global, module: &Module) -> Result<Vec<u8>, EncodeError>
     ensures spelled { IfOk result (λ bytes. IsModule (contents_of «module».now) bytes.items) }
     ensures sections { IfOk result (λ bytes. HasSections (section_ids «module».now) bytes.items) }
+    ensures written { IfOk result (λ bytes. IsWritten «module».now bytes.items) }
     ensures fault { IfErr result (IsFault (IsTooLong «module».now)) }
 {
     let mut sink = Sink::new(alloc);

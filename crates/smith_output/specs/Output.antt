@@ -6,6 +6,7 @@ use Rattle.smith_config.specs.declared.config.Config.{Config}
 use Rattle.smith_definitions.specs.Module.{Parts}
 use Rattle.smith_sections.specs.Modules.{IsModule}
 use Rattle.smith_encode.specs.Contents.{contents_of}
+use Rattle.smith_encode.specs.TooLong.{IsTooLong}
 use Rattle.wasm_smith.specs.Generated.{IsGenerated}
 use Rattle.smith_output.specs.declared.made.OutputFault.{OutputFault}
 use Rattle.smith_output.specs.declared.made.OutputFault.TheVariants.{Refused, TooLong}
@@ -16,12 +17,12 @@ pub record IsBinaryOf (config : Config) (input bytes left : List ℕ) : Type 0 w
   pub generated : IsGenerated false config input (Ok made) left
   pub spelled : IsModule (contents_of made) bytes
 
--- a module is not written for want of memory, or where it is too long
-abbrev pub IsUnencoded : OutputFault → Type 0
-IsUnencoded (Refused e) = e ≡ Memory
-IsUnencoded TooLong = Unit {0}
+-- a module is not written for want of memory, or because it is too long
+abbrev pub IsUnencoded : Parts → OutputFault → Type 0
+IsUnencoded m (Refused e) = e ≡ Memory
+IsUnencoded m TooLong = IsTooLong m
 
--- a refusal is the generator's for the configuration and the input, or want of memory
+-- a refusal is the generator's for the configuration and the input, or want of memory; or the module that it gives is too long
 abbrev pub IsRefusedFor : Config → List ℕ → List ℕ → OutputFault → Type 0
 IsRefusedFor config input left (Refused e) = (e ≡ Memory) ⊎ IsGenerated false config input (Err e) left
-IsRefusedFor config input left TooLong = Unit {0}
+IsRefusedFor config input left TooLong = (made : Parts) × IsGenerated false config input (Ok made) left × IsTooLong made

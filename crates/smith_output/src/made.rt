@@ -73,7 +73,7 @@ pub fn binary(
 /// Encodes `module` in the binary format.
 fn encoded(alloc: Global, module: &Module) -> Result<Vec<u8>, OutputFault>
     ensures spelled { IfOk result (λ bytes. IsModule (contents_of «module».now) bytes.items) }
-    ensures refused { IfErr result IsUnencoded }
+    ensures refused { IfErr result (IsUnencoded «module».now) }
 {
     match encode(alloc, module) {
         Ok(bytes) => Ok(bytes),
@@ -96,6 +96,7 @@ pub fn output(
     u: &mut Unstructured<'_>,
 ) -> Result<Vec<u8>, OutputFault>
     ensures binary { manner.form ≡ Binary → manner.fuel ≡ None → IfOk result (λ bytes. IsBinaryOf config u.old bytes.items u.new) }
+    ensures refused { manner.form ≡ Binary → manner.fuel ≡ None → IfErr result (IsRefusedFor config u.old u.new) }
 {
     match manner {
         Manner {

@@ -5,5 +5,8 @@ use Rattle.smith_encode.proofs.modules.encode.Goals as goal
 pub returns-clause-spelled : goal.returns-clause-spelled
 returns-clause-spelled c = rw c.into_vec.ensures (module_is c.args.module.now _ (written_whole (joined_written (rw c.new-sink.ensures at c.in_ok-write_preamble.ensures.writes) (joined_written c.in_ok-write_front.ensures.writes (joined_written c.in_ok-write_middle.ensures.writes c.in_ok-write_back.ensures.writes)))))
 
+pub returns-clause-written : goal.returns-clause-written
+returns-clause-written c = rw c.into_vec.ensures (written_whole (joined_written (rw c.new-sink.ensures at c.in_ok-write_preamble.ensures.writes) (joined_written c.in_ok-write_front.ensures.writes (joined_written c.in_ok-write_middle.ensures.writes c.in_ok-write_back.ensures.writes))))
+
 pub returns-clause-sections : goal.returns-clause-sections
 returns-clause-sections c = rw c.into_vec.ensures (sections_are c.args.module.now _ (written_whole (joined_written (rw c.new-sink.ensures at c.in_ok-write_preamble.ensures.writes) (joined_written c.in_ok-write_front.ensures.writes (joined_written c.in_ok-write_middle.ensures.writes c.in_ok-write_back.ensures.writes)))))
