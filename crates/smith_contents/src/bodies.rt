@@ -6,6 +6,7 @@ ghost use Rattle.smith_config.specs.Features.{features_of};
 ghost use Rattle.smith_config.specs.Sanitized.{IsSanitized};
 ghost use Rattle.smith_draw.specs.Grounding.{standing_in};
 ghost use Rattle.smith_draw.specs.Drawing.{AlwaysDraws, Draws};
+ghost use Rattle.smith_draw.specs.KeptGrounds.{AreKeptGrounds};
 ghost use Rattle.smith_contents.specs.DrawnBodies.{raw_bytes_at, is_raw_at, instructions_at, body_at, bodies_at};
 ghost use Rattle.smith_contents.specs.Held.{IsRaw};
 
@@ -68,7 +69,7 @@ fn draw_body(
 }
 
 #[tactic(auto, unfolding(crate::specs::DrawnBodies::bodies_at))]
-fn draw_bodies(
+fn draw_each_body(
     alloc: Global,
     config: &Config,
     standing: &Standing<'_>,
@@ -82,6 +83,35 @@ fn draw_bodies(
         bodies.push(draw_body(alloc, config, standing, u)?)?;
     }
     Ok(bodies)
+}
+
+fn draw_over(
+    alloc: Global,
+    config: &Config,
+    spaces: &Spaces<'_>,
+    grounds: &KeptGrounds,
+    count: usize,
+    u: &mut Unstructured<'_>,
+) -> Result<Items<Code>, Error>
+    requires { AreKeptGrounds (standing_in config.now spaces.now) grounds.now }
+    ensures { Draws (bodies_at config.now (standing_in config.now spaces.now) count u.old) result u.old u.new }
+{
+    let kept = grounds.standing(config, spaces);
+    draw_each_body(alloc, config, &kept, count, u)
+}
+
+fn draw_bodies(
+    alloc: Global,
+    config: &Config,
+    spaces: &Spaces<'_>,
+    count: usize,
+    u: &mut Unstructured<'_>,
+) -> Result<Items<Code>, Error>
+    ensures { Draws (bodies_at config.now (standing_in config.now spaces.now) count u.old) result u.old u.new }
+{
+    let mut grounds = KeptGrounds::new();
+    grounds.keep(alloc, config, spaces)?;
+    draw_over(alloc, config, spaces, &grounds, count, u)
 }
 
 /// Draws the bodies of `count` functions: locals over the types and functions of `spaces`, then `unreachable`, or raw bytes where
@@ -102,8 +132,5 @@ pub fn arbitrary_bodies(
     ensures floats { config.now.allow_floats ≡ false → IfOk result (λ bodies. All IsNoFloat (flat_map (λ body. body.locals) bodies)) }
     ensures no_raw { config.now.allow_invalid_funcs ≡ false → IfOk result (λ bodies. ¬ Any (λ body. IsRaw body.instructions) bodies) }
 {
-    let mut grounds = KeptGrounds::new();
-    grounds.keep(alloc, config, spaces)?;
-    let standing = grounds.standing(config, spaces);
-    draw_bodies(alloc, config, &standing, count, u)
+    draw_bodies(alloc, config, spaces, count, u)
 }

@@ -8,7 +8,7 @@ pub returns : goal.returns
 returns c =
     let config = c.args.config.now in
     let context = standing_in c.args.config.now c.args.spaces.now in
-    let draws = rw c.standing.ensures at c.draw_bodies.ensures in
+    let draws = c.draw_bodies.ensures in
     let valid = of_drawn _ draws (bodies_valid config context c.args.count c.args.u.now c.requires) in
     record {
       draws = draws;
