@@ -6,7 +6,7 @@ use smith_types::Items;
 use std::alloc::Global;
 
 // Each shape by its name, with its parts in the form that `add_part` reads.
-static SHAPES: [(&str, &[&str]); 42] = [
+static SHAPES: [(&str, &[&str]); 47] = [
     ("nothing", &[]),
     (
         "a function without parameters and results",
@@ -29,6 +29,18 @@ static SHAPES: [(&str, &[&str]); 42] = [
     (
         "an array of bytes and a struct that refers to it",
         &["group array i8", "group struct (mut (ref null 0))"],
+    ),
+    (
+        "a struct and a struct of a constant reference to it",
+        &["group struct", "group struct (ref 0)"],
+    ),
+    (
+        "a struct of a constant reference to extern",
+        &["group struct (ref extern)"],
+    ),
+    (
+        "a struct of a constant reference to a function",
+        &["group struct (ref func)"],
     ),
     ("a struct of a byte", &["group struct i8"]),
     ("an array of bytes", &["group array i8"]),
@@ -112,6 +124,14 @@ static SHAPES: [(&str, &[&str]); 42] = [
             "global (ref 0)",
             "export g global 0",
         ],
+    ),
+    (
+        "an empty struct and a struct of a reference to it",
+        &["group struct", "group struct (ref 0)"],
+    ),
+    (
+        "a constant external reference",
+        &["global (ref extern)", "export g global 0"],
     ),
     (
         "each kind to import",

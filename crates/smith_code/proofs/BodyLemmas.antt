@@ -1,5 +1,5 @@
 -- The body without fuel.
-use Rattle.std.proofs.Common.{List, [], ◌∷◌, refl}
+use Rattle.std.proofs.Common.{[], ◌∷◌, refl}
 use Rattle.smith_instr.specs.Contexts.{BodyContext, AreValid}
 use Rattle.smith_instr.specs.Sequences.{IsBodyTyped, step}
 use Rattle.smith_instr.specs.declared.instr.Instr.TheVariants as instr

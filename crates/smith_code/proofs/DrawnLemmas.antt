@@ -1,16 +1,15 @@
 -- What was drawn, one part after another.
 use Rattle.std.proofs.Common.{◌≡◌, ℕ, zero, suc, ◌+◌, ◌-◌, ◌*◌, ◌<◌, ◌≤◌, List, [], ◌∷◌, ◌++◌, length, replicate, take, get_or, refl, sym, subst, ap, ◌∙◌, append_assoc, arith, length-append}
 use Rattle.std.specs.Prelude.{option_to_list, Option, All}
-use Rattle.std.specs.List.{AllZip}
 use Rattle.std.proofs.Math.Seq.{take-append_seam}
 use Rattle.std.proofs.lemmas.List.{append-nil, take_more, length-replicate}
 use Rattle.std.proofs.lemmas.List.Elements.{All-nil, All-push, All-append, All-take}
-use Rattle.smith_types.specs.Subtyping.{IsValBelow}
 use Rattle.smith_types.specs.declared.value_type.ValType.{ValType}
 use Rattle.smith_types.specs.declared.value_type.ValType.TheVariants.{I32}
 use Rattle.smith_instr.specs.Contexts.{BodyContext, labelled, IsValid, AreValid, AreBelow, IsBlockType}
+use Rattle.smith_instr.specs.Enabled.{is_enabled}
 use Rattle.smith_instr.specs.InstrTypes.{sets, HasInstrType}
-use Rattle.smith_instr.specs.Sequences.{stacked, IsFramed, IsStep, AreTyped, IsBodyTyped, nothing, step, block, loop, if_else}
+use Rattle.smith_instr.specs.Sequences.{stacked, IsFramed, IsStep, AreTyped, IsBodyTyped, step, block, loop, if_else}
 use Rattle.smith_instr.specs.declared.control.BlockType.{BlockType}
 use Rattle.smith_instr.specs.declared.instr.Instr.{Instr}
 use Rattle.smith_instr.specs.declared.instr.Instr.TheVariants as instr
@@ -38,10 +37,12 @@ both_allowed : (scope : Scope) (first second : List Instr) → All (IsAllowedIn 
 both_allowed scope first second = All-append (IsAllowedIn scope) first second
 
 ends_allowed : (scope : Scope) → IsAllowedIn scope instr.End
-ends_allowed scope = record { features_on = tt; kind_allowed = tt }
+unfolding is_enabled
+ends_allowed scope = refl
 
 else_allowed : (scope : Scope) → IsAllowedIn scope instr.Else
-else_allowed scope = record { features_on = tt; kind_allowed = tt }
+unfolding is_enabled
+else_allowed scope = refl
 
 -- one instruction on top of any stack
 pub one : (context : BodyContext) (instruction : Instr) (operands results given base : List ValType) (set set' : List ℕ)
@@ -271,7 +272,7 @@ node_drawn {scope = scope} {values = values} {node = node} {old = old} {middle =
     paid_for {n = length node.operands + block_cost scope.types.now.types + length fits.dropped} (omega arith) paid (drawn_then (drawn_then operands top) (dropped_drawn values fits.dropped fits.given fits.spare allowed out' set labels fuel))
 
 -- what was set before is left
-height_left : (xs ys zs : List ℕ) → zs ≡ xs ++ ys → take (length xs) zs ≡ xs
+pub height_left : (xs ys zs : List ℕ) → zs ≡ xs ++ ys → take (length xs) zs ≡ xs
 height_left xs ys zs is = rw is (take-append_seam xs ys)
 
 pub around : (context : BodyContext) (params results values base : List ValType) (set after : List ℕ) → AreBelow context results values → AreValid context values → after ≡ set → IsFramed context params results [] (stacked (base ++ params) set) (stacked (base ++ values) after)

@@ -1,18 +1,17 @@
 -- Instructions that give a value without operands.
-use Rattle.std.proofs.Common.{◌≡◌, ℕ, true, Some, List, [], ◌∷◌, refl}
-use Rattle.std.specs.Prelude.{slice_get}
+use Rattle.std.proofs.Common.{◌≡◌, ℕ, true, List, [], refl}
 use Rattle.smith_types.specs.Types.{IsOrderly}
-use Rattle.smith_types.specs.Subtyping.{IsValBelow, itself}
+use Rattle.smith_types.specs.Subtyping.{itself}
 use Rattle.smith_types.specs.declared.value_type.RefType.{RefType}
 use Rattle.smith_types.specs.declared.value_type.ValType.{ValType}
 use Rattle.smith_types.specs.declared.value_type.ValType.TheVariants.{Ref}
 use Rattle.smith_types.proofs.GrowthLemmas.{IsValBelow-refl}
-use Rattle.smith_instr.specs.Contexts.{BodyContext, IsValid}
-use Rattle.smith_instr.specs.declared.instr.Instr.{Instr}
+use Rattle.smith_instr.specs.Contexts.{BodyContext}
+use Rattle.smith_instr.specs.Enabled.{is_enabled}
 use Rattle.smith_instr.specs.declared.instr.Instr.TheVariants as instr
 use Rattle.smith_instr.specs.declared.reference.ReferenceInstr.TheVariants as reference
 use Rattle.smith_code.specs.Drawn.{IsConstant, IsLeaf}
-use Rattle.smith_code.specs.Scopes.{IsAllowedIn, IsScope}
+use Rattle.smith_code.specs.Scopes.{IsAllowedIn}
 use Rattle.smith_code.specs.Offered.{is_readable, is_global_below, IsReferenceTo}
 use Rattle.smith_code.specs.declared.scope.Scope.{Scope}
 use Rattle.smith_code.proofs.OfferLemmas.{readable, global_below}
@@ -35,7 +34,8 @@ no_constant wanted context set valid = record {
 }
 
 pub stop_allowed : (scope : Scope) → IsAllowedIn scope instr.Unreachable
-stop_allowed scope = record { features_on = tt; kind_allowed = tt }
+unfolding is_enabled
+stop_allowed scope = refl
 
 pub local_leaf : (context : BodyContext) (set : List ℕ) (wanted : ValType) (index : ℕ) → IsOrderly context.types → is_readable context set wanted index ≡ true → IsLeaf context set wanted (instr.LocalGet index)
 local_leaf context set wanted index orderly is =

@@ -8,3 +8,7 @@ pub mod LeafLemmas
 pub mod DrawnLemmas
 pub mod ResultLemmas
 pub mod BodyLemmas
+pub mod ChoiceLemmas
+pub mod ExactLemmas
+pub mod TargetLemmas
+pub mod LeafChoiceLemmas

@@ -1,6 +1,6 @@
 -- Nodes that give what they should.
 use Rattle.std.proofs.Common.{rules, ◌≡◌, ℕ, zero, suc, ◌+◌, ◌-◌, ◌<◌, ◌≤◌, Bool, true, false, List, [], ◌∷◌, ◌++◌, Option, Some, None, length, length-append, get_or, drop, refl, sym, subst, ap, ◌∙◌, arith}
-use Rattle.std.specs.Prelude.{slice_get, All, ◌&&◌}
+use Rattle.std.specs.Prelude.{slice_get, All}
 use Rattle.std.specs.List.{list_all, AllZip}
 use Rattle.std.proofs.lemmas.List.{append-nil}
 use Rattle.std.proofs.lemmas.List.Elements.{All-nil, All-append, All-push, All-drop}
@@ -14,7 +14,6 @@ use Rattle.smith_types.specs.declared.value_type.ValType.TheVariants.{I32, I64, 
 use Rattle.smith_types.specs.declared.composite_type.FuncType.{FuncType}
 use Rattle.smith_types.specs.declared.composite_type.SubType.{SubType}
 use Rattle.smith_types.specs.declared.entity_type.GlobalType.{GlobalType}
-use Rattle.smith_types.specs.declared.entity_type.MemoryType.{MemoryType}
 use Rattle.smith_types.proofs.GrowthLemmas.{IsValBelow-refl}
 use Rattle.smith_instr.specs.Contexts.{BodyContext, IsValid, AreValid, AreBelow, IsFunction, IsBlockType, address}
 use Rattle.smith_instr.specs.InstrTypes.{IsNumeric, IsTaken}
@@ -22,7 +21,6 @@ use Rattle.smith_instr.specs.MemoryTypes.{IsAccess, loaded, stored}
 use Rattle.smith_instr.specs.NumericTypes.{signature}
 use Rattle.smith_instr.specs.declared.control.BlockType.{BlockType}
 use Rattle.smith_instr.specs.declared.control.BlockType.TheVariants as block
-use Rattle.smith_instr.specs.declared.instr.Instr.{Instr}
 use Rattle.smith_instr.specs.declared.instr.Instr.TheVariants as instr
 use Rattle.smith_instr.specs.declared.memory.Load.{Load}
 use Rattle.smith_instr.specs.declared.memory.Store.{Store}
@@ -34,7 +32,7 @@ use Rattle.smith_code.specs.Scopes.{context_of, bare, func_size, widest, AreLabe
 use Rattle.smith_code.specs.Nodes.{IsNode, node_of, setting, blocked}
 use Rattle.smith_code.specs.Offered.{is_addressed, is_callable, is_callable_at, is_first_below, function_at, IsLocalBelow, IsGlobalMutable}
 use Rattle.smith_code.proofs.OfferLemmas.{tested, function_there, addressed}
-use Rattle.smith_code.specs.Rows.{i32_rows, i64_rows, f32_rows, f64_rows, numeric_rows, loads_of}
+use Rattle.smith_code.specs.Rows.{numeric_rows, loads_of}
 use Rattle.smith_code.specs.declared.node.Opening.{Opening}
 use Rattle.smith_code.specs.declared.scope.Scope.{Scope}
 

@@ -1,10 +1,10 @@
 -- What is offered is what was looked for.
-use Rattle.std.proofs.Common.{◌≡◌, inl, inr, ℕ, zero, suc, ◌+◌, ◌<◌, ◌⊎◌, Bool, true, false, List, [], ◌∷◌, ◌++◌, Option, Some, None, length, get_or, refl, sym, subst, ap, ◌∙◌, arith}
-use Rattle.std.specs.Prelude.{slice_get, nat_lt, ◌&&◌, ◌||◌, ◌==◌, All}
+use Rattle.std.proofs.Common.{◌≡◌, inl, inr, ℕ, suc, ◌<◌, ◌⊎◌, Bool, true, false, List, [], ◌∷◌, Option, Some, None, refl, ap, arith}
+use Rattle.std.specs.Prelude.{slice_get, nat_lt, ◌&&◌, ◌||◌, ◌==◌}
 use Rattle.std.specs.List.{AllZip, Contains}
 use Rattle.std.specs.Cmp.{unsigned_Decides}
 use Rattle.std.proofs.lemmas.Bool.{ltb-true}
-use Rattle.std.proofs.lemmas.Option.{same_Some, slice_get_within, slice_get-get_or}
+use Rattle.std.proofs.lemmas.Option.{same_Some}
 use Rattle.smith_types.specs.Subtyping.{IsValBelow}
 use Rattle.smith_types.specs.Types.{IsOrderly}
 use Rattle.smith_types.specs.Entities.{IsFuncAt}
@@ -19,9 +19,9 @@ use Rattle.smith_types.specs.declared.entity_type.GlobalType.{GlobalType}
 use Rattle.smith_types.specs.declared.entity_type.MemoryType.{MemoryType}
 use Rattle.smith_draw.specs.Below.{is_val_below}
 use Rattle.smith_draw.proofs.BelowLemmas.{val_decides}
-use Rattle.smith_instr.specs.Contexts.{BodyContext, AreBelow, IsFunction, address, reference_to_function}
+use Rattle.smith_instr.specs.Contexts.{BodyContext, IsFunction, address}
 use Rattle.smith_instr.specs.InstrTypes.{IsTaken}
-use Rattle.smith_code.specs.Scopes.{context_of, bare, IsScope}
+use Rattle.smith_code.specs.Scopes.{context_of, bare}
 use Rattle.smith_code.specs.Offered.{
   is_below_at,
   is_local_below,

@@ -14,7 +14,7 @@ use Rattle.smith_code.specs.Rows.{numeric_rows, loads_of}
 use Rattle.smith_code.proofs.NodeLemmas.{numeric_at, load_node}
 
 -- within a list every default gives the same
-same_item : {A : Type 0} (xs : List A) (i : ℕ) (d e : A) → i < length xs → get_or xs i d ≡ get_or xs i e
+pub same_item : {A : Type 0} (xs : List A) (i : ℕ) (d e : A) → i < length xs → get_or xs i d ≡ get_or xs i e
 same_item xs i d e inside = same_Some (get_or xs i d) (get_or xs i e) (sym (slice_get-get_or xs i d inside) ∙ slice_get-get_or xs i e inside)
 
 pub numeric_row : (rows : List NumericInstr) (index : ℕ) (d : NumericInstr) (wanted : ValType) → rows ≡ numeric_rows wanted → index < length rows → (context : BodyContext) (set : List ℕ)

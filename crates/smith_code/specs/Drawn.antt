@@ -6,6 +6,7 @@ use Rattle.smith_instr.specs.Contexts.{BodyContext, IsValid, AreValid}
 use Rattle.smith_instr.specs.InstrTypes.{sets, HasInstrType}
 use Rattle.smith_instr.specs.Sequences.{stacked, AreTyped}
 use Rattle.smith_instr.specs.declared.instr.Instr.{Instr}
+use Rattle.smith_code.specs.Bodies.{State}
 use Rattle.smith_code.specs.Scopes.{bare, where_stands, most, IsAllowedIn}
 use Rattle.smith_code.specs.declared.scope.Draft.{Draft}
 use Rattle.smith_code.specs.declared.scope.Scope.{Scope}
@@ -23,6 +24,11 @@ pub record IsDrawn (scope : Scope) (operands values : List ValType) (cost : ℕ)
   pub same : new.labels.items ≡ old.labels.items
   pub spent : new.fuel ≤ old.fuel
   pub short : length new.out + most scope.types.now.types * new.fuel ≤ length old.out + cost + most scope.types.now.types * old.fuel
+
+-- the state of a draft before these bytes
+abbrev pub state_of : Scope → Draft → List ℕ → State
+state_of scope draft bytes =
+    record { context = where_stands scope draft; out = draft.out; set = draft.set.items; fuel = draft.fuel; bytes = bytes }
 
 -- an instruction is written, and the local is set
 pub record IsWritten (instruction : Instr) (set : Option ℕ) (old new : Draft) : Type 0 where

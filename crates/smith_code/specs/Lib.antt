@@ -3,3 +3,6 @@ pub mod Nodes
 pub mod Drawn
 pub mod Offered
 pub mod Rows
+pub mod Choices
+pub mod Leaves
+pub mod Bodies

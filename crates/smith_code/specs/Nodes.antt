@@ -1,13 +1,14 @@
 -- Instructions that are chosen, with the operands that are drawn before them.
-use Rattle.std.specs.Prelude.{◌≡◌, ℕ, ◌+◌, ◌*◌, ◌≤◌, ◌<◌, Option, Some, None, Result, IfOk, IfSome, List, [], ◌∷◌, ◌++◌, length, option_to_list, All}
+use Rattle.std.specs.Prelude.{◌≡◌, ℕ, ◌+◌, ◌*◌, ◌≤◌, ◌<◌, ◌==◌, ◌&&◌, ◌||◌, Bool, Option, Some, None, Result, IfOk, IfSome, List, [], ◌∷◌, ◌++◌, length, option_to_list, All}
 use Rattle.smith_bytes.specs.declared.error.Error.{Error}
 use Rattle.smith_types.specs.Features.{Features}
+use Rattle.smith_types.specs.declared.instruction_kind.InstructionKinds.{InstructionKinds}
 use Rattle.smith_types.specs.ValidTypes.{IsValTypeValid}
 use Rattle.smith_types.specs.declared.value_type.ValType.{ValType}
 use Rattle.smith_types.specs.declared.value_type.ValType.TheVariants.{I32}
-use Rattle.smith_types.specs.declared.composite_type.FuncType.{FuncType}
 use Rattle.smith_types.specs.declared.composite_type.SubType.{SubType}
 use Rattle.smith_instr.specs.Contexts.{BodyContext, AreValid, AreBelow, IsBlockType}
+use Rattle.smith_instr.specs.Enabled.{is_enabled}
 use Rattle.smith_instr.specs.InstrTypes.{sets, HasInstrType}
 use Rattle.smith_instr.specs.declared.control.BlockType.{BlockType}
 use Rattle.smith_instr.specs.declared.instr.Instr.{Instr}
@@ -80,6 +81,17 @@ pub record IsHeadAllowed (scope : Scope) (head : Head) : Type 0 where
 pub record IsNodeAllowed (scope : Scope) (node : Node) : Type 0 where
   pub head : IsHeadAllowed scope node.head
   pub drops : 0 < node.drops → IsAllowedIn scope instr.Drop
+
+-- whether so many values may be dropped
+abbrev pub is_drop_allowed : Features → InstructionKinds → ℕ → Bool
+is_drop_allowed features kinds count = (count == 0) || is_enabled features kinds instr.Drop
+
+-- whether the instructions of a node may be used, its operands aside: `drop` where it drops anything
+abbrev pub is_head_allowed : Features → InstructionKinds → Head → Bool
+is_head_allowed features kinds head = is_enabled features kinds (head_instruction head) && is_drop_allowed features kinds (length (head_params head))
+
+abbrev pub is_node_allowed : Features → InstructionKinds → Node → Bool
+is_node_allowed features kinds node = is_head_allowed features kinds node.head && is_drop_allowed features kinds node.drops
 
 -- a node gives values of these types, and above them some that are dropped, wherever at least these locals are set
 pub record IsNode (context : BodyContext) (set : List ℕ) (values : List ValType) (node : Node) : Type 0 where

@@ -1,6 +1,8 @@
 ghost use Rattle.std.specs.Prelude.{◌≡◌, [], ◌∷◌, IfOk, IfErr};
 ghost use Rattle.smith_bytes.specs.Source.{KeepsPieces};
+ghost use Rattle.smith_draw.specs.Drawing.{AlwaysDraws};
 ghost use Rattle.smith_instr.specs.Contexts.{IsValid};
+ghost use Rattle.smith_code.specs.Choices.{any_block_at, block_at, opening_at, or_nop};
 ghost use Rattle.smith_code.specs.Nodes.{IsNode, IsOffer};
 ghost use Rattle.smith_code.specs.Scopes.{IsScope, bare, where_stands};
 
@@ -12,8 +14,9 @@ use smith_instr::BlockType;
 use smith_types::ValType;
 use std::alloc::Global;
 
+#[tactic(auto, unfolding(crate::specs::Choices::opening_at))]
 fn draw_opening(u: &mut Unstructured<'_>) -> Option<Opening>
-    ensures { KeepsPieces u.old u.new }
+    ensures { AlwaysDraws (opening_at u.old) result u.old u.new }
 {
     match u.int_in_range(0..=2u8) {
         0 => Some(Opening::Block),
@@ -31,6 +34,7 @@ pub(crate) fn choose_block(
     u: &mut Unstructured<'_>,
 ) -> Result<Option<Node>, Error>
     requires wanted { IsValid (bare scope.now) wanted }
+    ensures exact { IfOk result (λ chosen. block_at wanted u.old ≡ (chosen, u.new)) }
     ensures offer { IsOffer (where_stands scope.now draft.now) draft.now.set.items (wanted ∷ []) result }
     ensures memory { IfErr result (λ e. e ≡ Error.Memory) }
     ensures left { KeepsPieces u.old u.new }
@@ -48,6 +52,7 @@ pub(crate) fn choose_any_block(
     u: &mut Unstructured<'_>,
 ) -> Result<Node, Error>
     requires scope { IsScope (bare scope.now) }
+    ensures exact { IfOk result (λ node. or_nop (any_block_at (where_stands scope.now draft.now) u.old) ≡ (node, u.new)) }
     ensures node { IfOk result (IsNode (where_stands scope.now draft.now) draft.now.set.items []) }
     ensures memory { IfErr result (λ e. e ≡ Error.Memory) }
     ensures left { KeepsPieces u.old u.new }

@@ -1,6 +1,7 @@
-ghost use Rattle.std.specs.Prelude.{◌≡◌, ◌≤◌, ◌+◌, ◌*◌, All, length, IfOk, IfErr};
-ghost use Rattle.smith_bytes.specs.Source.{KeepsPieces};
+ghost use Rattle.std.specs.Prelude.{◌≤◌, ◌<◌, ◌+◌, ◌*◌, All, length, IfOk};
+ghost use Rattle.smith_draw.specs.Drawing.{Draws};
 ghost use Rattle.smith_instr.specs.Sequences.{IsBodyTyped};
+ghost use Rattle.smith_code.specs.Bodies.{body_at};
 ghost use Rattle.smith_code.specs.Scopes.{IsAllowedIn, IsScope, bare, most};
 
 use crate::drawn::draw_whole;
@@ -31,8 +32,7 @@ pub fn draw_body(
     ensures typed { IfOk result (IsBodyTyped (bare scope.now)) }
     ensures allowed { IfOk result (All (IsAllowedIn scope.now)) }
     ensures short { IfOk result (λ body. length body ≤ 1 + length scope.now.results.now + most scope.now.types.now.types * fuel) }
-    ensures refusal { IfErr result (λ e. e ≡ Error.Memory) }
-    ensures left { KeepsPieces u.old u.new }
+    ensures exact { Draws (body_at scope.now.kinds (bare scope.now) fuel u.old) result u.old u.new }
 {
     if fuel == 0 {
         let mut body = Items::new(alloc);
@@ -49,11 +49,11 @@ fn draw_some(
     u: &mut Unstructured<'_>,
 ) -> Result<Items<Instr>, Error>
     requires scope { IsScope (bare scope.now) }
+    requires some { 0 < fuel }
     ensures typed { IfOk result (IsBodyTyped (bare scope.now)) }
     ensures allowed { IfOk result (All (IsAllowedIn scope.now)) }
     ensures short { IfOk result (λ body. length body ≤ length scope.now.results.now + most scope.now.types.now.types * fuel) }
-    ensures refusal { IfErr result (λ e. e ≡ Error.Memory) }
-    ensures left { KeepsPieces u.old u.new }
+    ensures exact { Draws (body_at scope.now.kinds (bare scope.now) fuel u.old) result u.old u.new }
 {
     let mut labels = Vec::new(alloc);
     labels.push(Items::from_slice(alloc, scope.results)?)?;

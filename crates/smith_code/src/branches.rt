@@ -1,8 +1,9 @@
-ghost use Rattle.std.specs.Prelude.{◌≡◌, ◌<◌, List, [], All, length, min, IfOk, IfErr};
+ghost use Rattle.std.specs.Prelude.{◌≡◌, ◌<◌, List, [], All, length, min, Some, IfOk, IfErr};
 ghost use Rattle.smith_bytes.specs.Source.{KeepsPieces};
 ghost use Rattle.smith_types.specs.declared.value_type.ValType.{ValType as Val};
 ghost use Rattle.smith_instr.specs.Contexts.{AreValid};
 ghost use Rattle.smith_instr.specs.InstrTypes.{IsTaken};
+ghost use Rattle.smith_code.specs.Choices.{branch_at, leaving_at, or_nop, some_targets_at, table_at};
 ghost use Rattle.smith_code.specs.Nodes.{IsNode};
 ghost use Rattle.smith_code.specs.Offered.{are_below};
 ghost use Rattle.smith_code.specs.Scopes.{AreLabels, IsScope, bare, context_of, where_stands};
@@ -25,6 +26,7 @@ pub(crate) fn choose_leaving(
 ) -> Result<Node, Error>
     requires scope { IsScope (bare scope.now) }
     requires labels { AreLabels scope.now draft.now.labels.items }
+    ensures exact { IfOk result (λ node. leaving_at (where_stands scope.now draft.now) u.old ≡ (Some node, u.new)) }
     ensures node { (values : List Val) → AreValid (bare scope.now) values → IfOk result (IsNode (where_stands scope.now draft.now) draft.now.set.items values) }
     ensures memory { IfErr result (λ e. e ≡ Error.Memory) }
     ensures left { KeepsPieces u.old u.new }
@@ -47,6 +49,7 @@ pub(crate) fn choose_branch(
 ) -> Result<Node, Error>
     requires scope { IsScope (bare scope.now) }
     requires labels { AreLabels scope.now draft.now.labels.items }
+    ensures exact { IfOk result (λ node. or_nop (branch_at (where_stands scope.now draft.now) u.old) ≡ (node, u.new)) }
     ensures node { IfOk result (IsNode (where_stands scope.now draft.now) draft.now.set.items []) }
     ensures memory { IfErr result (λ e. e ≡ Error.Memory) }
     ensures left { KeepsPieces u.old u.new }
@@ -117,12 +120,14 @@ fn draw_targets<'a>(
     requires scope { IsScope (bare scope.now) }
     requires labels { AreLabels scope.now labels.now }
     requires taken { AreValid (bare scope.now) taken.now }
+    ensures exact { IfOk result (λ targets. some_targets_at (context_of scope.now labels.now) taken.now u.old ≡ (targets, u.new)) }
     ensures taken { IfOk result (All (IsTaken (context_of scope.now labels.now) taken.now)) }
     ensures memory { IfErr result (λ e. e ≡ Error.Memory) }
     ensures left { KeepsPieces u.old u.new }
 {
+    let count = u.int_in_range(0..=7u8);
     let mut targets = Items::new(alloc);
-    for _ in 0..u.int_in_range(0..=7u8) {
+    for _ in 0..count {
         let offer = TargetOffer {
             scope,
             labels,
@@ -145,6 +150,7 @@ pub(crate) fn choose_table(
 ) -> Result<Node, Error>
     requires scope { IsScope (bare scope.now) }
     requires labels { AreLabels scope.now draft.now.labels.items }
+    ensures exact { IfOk result (λ node. table_at (where_stands scope.now draft.now) u.old ≡ (Some node, u.new)) }
     ensures node { (values : List Val) → AreValid (bare scope.now) values → IfOk result (IsNode (where_stands scope.now draft.now) draft.now.set.items values) }
     ensures memory { IfErr result (λ e. e ≡ Error.Memory) }
     ensures left { KeepsPieces u.old u.new }

@@ -1,11 +1,26 @@
 ghost use Rattle.std.specs.Prelude.{◌≡◌, ◌<◌, [], ◌∷◌, length, IfOk, IfErr, IfSome};
 ghost use Rattle.smith_bytes.specs.Source.{KeepsPieces};
 ghost use Rattle.smith_instr.specs.Contexts.{IsValid};
+ghost use Rattle.smith_code.specs.Choices.{
+  allowed_choice_at,
+  any_call_at,
+  call_at,
+  drop_at,
+  dropped_at,
+  global_set_at,
+  leaving_at,
+  or_nop,
+  set_at,
+  statement_choice_at,
+  tee_at,
+  value_choice_at,
+};
 ghost use Rattle.smith_code.specs.Nodes.{IsNode, IsNodeAllowed, IsOffer};
 ghost use Rattle.smith_code.specs.Scopes.{AreLabels, IsScope, bare, where_stands};
 
 use crate::blocks::{choose_any_block, choose_block};
 use crate::branches::{choose_branch, choose_leaving, choose_table};
+use crate::families::{StatementFamily, ValueFamily, statement_families, value_families};
 use crate::funcs::{choose_callable, function_of};
 use crate::globals::choose_mutable;
 use crate::locals::choose_local;
@@ -14,6 +29,7 @@ use crate::node::{Node, is_node_allowed, plain, setter};
 use crate::numeric::{choose_numeric, choose_select};
 use crate::scope::{Draft, Scope, indexed};
 use smith_bytes::{Error, Unstructured};
+use smith_draw::choose;
 use smith_instr::Instr;
 use smith_types::ValType;
 use std::alloc::Global;
@@ -29,6 +45,7 @@ pub(crate) fn choose_allowed(
     requires scope { IsScope (bare scope.now) }
     requires labels { AreLabels scope.now draft.now.labels.items }
     requires wanted { IsValid (bare scope.now) wanted }
+    ensures exact { IfOk result (λ chosen. allowed_choice_at scope.now.kinds (where_stands scope.now draft.now) wanted u.old ≡ (chosen, u.new)) }
     ensures offer { IsOffer (where_stands scope.now draft.now) draft.now.set.items (wanted ∷ []) result }
     ensures allowed { IfOk result (λ chosen. IfSome chosen (IsNodeAllowed scope.now)) }
     ensures memory { IfErr result (λ e. e ≡ Error.Memory) }
@@ -56,20 +73,21 @@ fn choose_value(
     requires scope { IsScope (bare scope.now) }
     requires labels { AreLabels scope.now draft.now.labels.items }
     requires wanted { IsValid (bare scope.now) wanted }
+    ensures exact { IfOk result (λ chosen. value_choice_at (where_stands scope.now draft.now) wanted u.old ≡ (chosen, u.new)) }
     ensures offer { IsOffer (where_stands scope.now draft.now) draft.now.set.items (wanted ∷ []) result }
     ensures memory { IfErr result (λ e. e ≡ Error.Memory) }
     ensures left { KeepsPieces u.old u.new }
 {
-    match u.int_in_range(0..=15u8) {
-        1 | 2 | 3 | 4 | 5 => choose_numeric(alloc, wanted, u),
-        6 => choose_select(alloc, wanted),
-        7 => choose_tee(alloc, scope, wanted, draft, u),
-        8 | 9 => choose_call(alloc, scope, wanted, draft, u),
-        10 | 11 => choose_block(alloc, scope, wanted, draft, u),
-        12 => choose_leaving_for(alloc, scope, wanted, draft, u),
-        13 | 14 => choose_load(alloc, scope, wanted, draft, u),
-        15 => choose_memory(alloc, scope, wanted, draft, u),
-        _ => Ok(None),
+    match choose(value_families(), u) {
+        ValueFamily::Leaf => Ok(None),
+        ValueFamily::Numeric => choose_numeric(alloc, wanted, u),
+        ValueFamily::Select => choose_select(alloc, wanted),
+        ValueFamily::Tee => choose_tee(alloc, scope, wanted, draft, u),
+        ValueFamily::Call => choose_call(alloc, scope, wanted, draft, u),
+        ValueFamily::Block => choose_block(alloc, scope, wanted, draft, u),
+        ValueFamily::Leaving => choose_leaving_for(alloc, scope, wanted, draft, u),
+        ValueFamily::Load => choose_load(alloc, scope, wanted, draft, u),
+        ValueFamily::Memory => choose_memory(alloc, scope, wanted, draft, u),
     }
 }
 
@@ -83,6 +101,7 @@ fn choose_leaving_for(
     requires scope { IsScope (bare scope.now) }
     requires labels { AreLabels scope.now draft.now.labels.items }
     requires wanted { IsValid (bare scope.now) wanted }
+    ensures exact { IfOk result (λ chosen. leaving_at (where_stands scope.now draft.now) u.old ≡ (chosen, u.new)) }
     ensures offer { IsOffer (where_stands scope.now draft.now) draft.now.set.items (wanted ∷ []) result }
     ensures memory { IfErr result (λ e. e ≡ Error.Memory) }
     ensures left { KeepsPieces u.old u.new }
@@ -100,6 +119,7 @@ fn choose_tee(
 ) -> Result<Option<Node>, Error>
     requires scope { IsScope (bare scope.now) }
     requires wanted { IsValid (bare scope.now) wanted }
+    ensures exact { IfOk result (λ chosen. tee_at (where_stands scope.now draft.now) wanted u.old ≡ (chosen, u.new)) }
     ensures offer { IsOffer (where_stands scope.now draft.now) draft.now.set.items (wanted ∷ []) result }
     ensures memory { IfErr result (λ e. e ≡ Error.Memory) }
     ensures left { KeepsPieces u.old u.new }
@@ -121,6 +141,7 @@ fn choose_call(
 ) -> Result<Option<Node>, Error>
     requires scope { IsScope (bare scope.now) }
     requires wanted { IsValid (bare scope.now) wanted }
+    ensures exact { IfOk result (λ chosen. call_at (where_stands scope.now draft.now) wanted u.old ≡ (chosen, u.new)) }
     ensures offer { IsOffer (where_stands scope.now draft.now) draft.now.set.items (wanted ∷ []) result }
     ensures memory { IfErr result (λ e. e ≡ Error.Memory) }
     ensures left { KeepsPieces u.old u.new }
@@ -145,22 +166,23 @@ pub(crate) fn choose_statement(
 ) -> Result<Node, Error>
     requires scope { IsScope (bare scope.now) }
     requires labels { AreLabels scope.now draft.now.labels.items }
+    ensures exact { IfOk result (λ node. statement_choice_at (where_stands scope.now draft.now) u.old ≡ (node, u.new)) }
     ensures node { IfOk result (IsNode (where_stands scope.now draft.now) draft.now.set.items []) }
     ensures memory { IfErr result (λ e. e ≡ Error.Memory) }
     ensures left { KeepsPieces u.old u.new }
 {
-    match u.int_in_range(0..=15u8) {
-        0 => plain(alloc, &[], Instr::Nop, 0),
-        1 | 2 => choose_drop(alloc, scope, draft, u),
-        3 | 4 => choose_global_set(alloc, scope, draft, u),
-        5 | 6 => choose_any_call(alloc, scope, draft, u),
-        7 | 8 => choose_any_block(alloc, scope, draft, u),
-        9 => choose_branch(alloc, scope, draft, u),
-        10 => choose_leaving(alloc, scope, draft, u),
-        11 => choose_table(alloc, scope, draft, u),
-        12 | 13 => choose_store(alloc, scope, draft, u),
-        14 => plain(alloc, &[], Instr::Unreachable, 0),
-        _ => choose_set(alloc, scope, draft, u),
+    match choose(statement_families(), u) {
+        StatementFamily::Nop => plain(alloc, &[], Instr::Nop, 0),
+        StatementFamily::Drop => choose_drop(alloc, scope, draft, u),
+        StatementFamily::GlobalSet => choose_global_set(alloc, scope, draft, u),
+        StatementFamily::Call => choose_any_call(alloc, scope, draft, u),
+        StatementFamily::Block => choose_any_block(alloc, scope, draft, u),
+        StatementFamily::Branch => choose_branch(alloc, scope, draft, u),
+        StatementFamily::Leaving => choose_leaving(alloc, scope, draft, u),
+        StatementFamily::Table => choose_table(alloc, scope, draft, u),
+        StatementFamily::Store => choose_store(alloc, scope, draft, u),
+        StatementFamily::Unreachable => plain(alloc, &[], Instr::Unreachable, 0),
+        StatementFamily::LocalSet => choose_set(alloc, scope, draft, u),
     }
 }
 
@@ -172,6 +194,7 @@ fn choose_drop(
     u: &mut Unstructured<'_>,
 ) -> Result<Node, Error>
     requires scope { IsScope (bare scope.now) }
+    ensures exact { IfOk result (λ node. or_nop (drop_at (where_stands scope.now draft.now) u.old) ≡ (node, u.new)) }
     ensures node { IfOk result (IsNode (where_stands scope.now draft.now) draft.now.set.items []) }
     ensures memory { IfErr result (λ e. e ≡ Error.Memory) }
     ensures left { KeepsPieces u.old u.new }
@@ -182,11 +205,12 @@ fn choose_drop(
 
 fn draw_dropped(scope: &Scope<'_>, u: &mut Unstructured<'_>) -> ValType
     requires scope { IsScope (bare scope.now) }
+    ensures exact { dropped_at scope.now.locals.now u.old ≡ (result, u.new) }
     ensures valid { IsValid (bare scope.now) result }
     ensures left { KeepsPieces u.old u.new }
 {
     let count = scope.locals.len();
-    match u.int_in_range(0..=count.saturating_add(3)) {
+    match u.int_in_range(0..=count + 3) {
         0 => ValType::I32,
         1 => ValType::I64,
         2 => ValType::F32,
@@ -207,6 +231,7 @@ fn choose_set(
     u: &mut Unstructured<'_>,
 ) -> Result<Node, Error>
     requires scope { IsScope (bare scope.now) }
+    ensures exact { IfOk result (λ node. or_nop (set_at (where_stands scope.now draft.now) u.old) ≡ (node, u.new)) }
     ensures node { IfOk result (IsNode (where_stands scope.now draft.now) draft.now.set.items []) }
     ensures memory { IfErr result (λ e. e ≡ Error.Memory) }
     ensures left { KeepsPieces u.old u.new }
@@ -227,6 +252,7 @@ fn choose_global_set(
     u: &mut Unstructured<'_>,
 ) -> Result<Node, Error>
     requires scope { IsScope (bare scope.now) }
+    ensures exact { IfOk result (λ node. or_nop (global_set_at (where_stands scope.now draft.now) u.old) ≡ (node, u.new)) }
     ensures node { IfOk result (IsNode (where_stands scope.now draft.now) draft.now.set.items []) }
     ensures memory { IfErr result (λ e. e ≡ Error.Memory) }
     ensures left { KeepsPieces u.old u.new }
@@ -245,6 +271,7 @@ fn choose_any_call(
     u: &mut Unstructured<'_>,
 ) -> Result<Node, Error>
     requires scope { IsScope (bare scope.now) }
+    ensures exact { IfOk result (λ node. or_nop (any_call_at (where_stands scope.now draft.now) u.old) ≡ (node, u.new)) }
     ensures node { IfOk result (IsNode (where_stands scope.now draft.now) draft.now.set.items []) }
     ensures memory { IfErr result (λ e. e ≡ Error.Memory) }
     ensures left { KeepsPieces u.old u.new }

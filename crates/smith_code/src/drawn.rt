@@ -1,10 +1,21 @@
-ghost use Rattle.std.specs.Prelude.{◌≡◌, ◌++◌, ◌+◌, ◌<◌, ◌≤◌, [], ◌∷◌, List, length, IfErr, OnOk, option_to_list};
+ghost use Rattle.std.specs.Prelude.{◌≡◌, ◌++◌, ◌+◌, ◌-◌, ◌<◌, ◌≤◌, [], ◌∷◌, List, length, IfErr, OnOk, option_to_list};
 ghost use Rattle.smith_bytes.specs.Source.{KeepsPieces};
 ghost use Rattle.smith_types.specs.declared.value_type.ValType.{ValType as Val};
 ghost use Rattle.smith_types.specs.declared.value_type.ValType.TheVariants.{I32};
 ghost use Rattle.smith_instr.specs.Contexts.{AreBelow, AreValid, IsBlockType, IsValid};
 ghost use Rattle.smith_instr.specs.declared.instr.Instr.TheVariants as instr;
-ghost use Rattle.smith_code.specs.Drawn.{IsDrawn};
+ghost use Rattle.smith_code.specs.Bodies.{
+  drawing_at,
+  enclosed_at,
+  head_at,
+  inside_at,
+  node_at,
+  statement_at,
+  values_at,
+  whole_at,
+  written,
+};
+ghost use Rattle.smith_code.specs.Drawn.{IsDrawn, state_of};
 ghost use Rattle.smith_code.specs.Nodes.{
   AreSidesValid,
   HasHeadType,
@@ -20,7 +31,7 @@ ghost use Rattle.smith_code.specs.Nodes.{
 ghost use Rattle.smith_code.specs.Scopes.{AreLabels, IsAllowedIn, IsScope, bare, where_stands};
 
 use crate::choices::{choose_allowed, choose_statement};
-use crate::leaf::draw_leaf;
+use crate::leaf::write_leaf;
 use crate::node::{Head, Node, Opening, Sides, is_node_allowed};
 use crate::scope::{Draft, Scope};
 use crate::written::{drop_values, write_else, write_end, write_opening, write_plain};
@@ -42,17 +53,19 @@ fn draw_value(
     requires scope { IsScope (bare scope.now) }
     requires labels { AreLabels scope.now draft.old.labels.items }
     requires wanted { IsValid (bare scope.now) wanted }
+    ensures exact { OnOk result ((drawing_at scope.now.kinds depth).value wanted (state_of scope.now draft.old u.old) ≡ state_of scope.now draft.new u.new) }
     ensures drawn { OnOk result (IsDrawn scope.now [] (wanted ∷ []) 1 draft.old draft.new) }
     ensures memory { IfErr result (λ e. e ≡ Error.Memory) }
     ensures left { KeepsPieces u.old u.new }
 {
-    if depth > 0 && draft.fuel > 0 {
-        if let Some(node) = choose_allowed(alloc, scope, wanted, draft, u)? {
-            return draw_node(alloc, scope, node, depth - 1, draft, u);
-        }
+    if depth == 0 || draft.fuel == 0 {
+        return write_leaf(scope, wanted, draft, u);
     }
-    let leaf = draw_leaf(scope, wanted, draft, u);
-    draft.out.push(leaf)
+    let chosen = choose_allowed(alloc, scope, wanted, draft, u)?;
+    match chosen {
+        Some(node) => draw_node(alloc, scope, node, depth - 1, draft, u),
+        None => write_leaf(scope, wanted, draft, u),
+    }
 }
 
 /// Draws the operands of `node`, which takes one unit of fuel, and the rest of it.
@@ -71,6 +84,7 @@ fn draw_node(
     requires inside { IsHeadValid (bare scope.now).features (bare scope.now).types node.head }
     requires allowed { IsNodeAllowed scope.now node }
     requires paid { 0 < draft.old.fuel }
+    ensures exact { OnOk result (node_at (drawing_at scope.now.kinds depth) node (state_of scope.now draft.old u.old) ≡ state_of scope.now draft.new u.new) }
     ensures drawn { (values : List Val) → IsNode (where_stands scope.now draft.old) draft.old.set.items values node → OnOk result (IsDrawn scope.now [] values 0 draft.old draft.new) }
     ensures less { OnOk result (draft.new.fuel < draft.old.fuel) }
     ensures memory { IfErr result (λ e. e ≡ Error.Memory) }
@@ -103,6 +117,7 @@ fn draw_head(
     requires labels { AreLabels scope.now draft.old.labels.items }
     requires inside { IsHeadValid (bare scope.now).features (bare scope.now).types head }
     requires allowed { IsHeadAllowed scope.now head }
+    ensures exact { OnOk result (head_at (drawing_at scope.now.kinds depth) head sets (state_of scope.now draft.old u.old) ≡ state_of scope.now draft.new u.new) }
     ensures drawn { (operands given values : List Val) → HasHeadType (where_stands scope.now draft.old) draft.old.set.items head operands given → AreBelow (bare scope.now) given values → AreValid (bare scope.now) values → head_sets head ≡ option_to_list sets → OnOk result (IsDrawn scope.now operands values (block_cost scope.now.types.now.types) draft.old draft.new) }
     ensures less { OnOk result (draft.new.fuel ≤ draft.old.fuel) }
     ensures memory { IfErr result (λ e. e ≡ Error.Memory) }
@@ -134,6 +149,7 @@ fn draw_enclosed(
     requires sides { AreSidesValid (bare scope.now).features (bare scope.now).types sides.now }
     requires allowed { IsAllowedIn scope.now (opened opening ty) }
     requires drops { 0 < length sides.now.params → IsAllowedIn scope.now instr.Drop }
+    ensures exact { OnOk result (written instr.End (enclosed_at (drawing_at scope.now.kinds depth) (label_of opening sides.now.params sides.now.results) sides.now (written (opened opening ty) (state_of scope.now draft.old u.old))) ≡ state_of scope.now draft.new u.new) }
     ensures drawn { (values : List Val) → IsBlockType (bare scope.now) ty sides.now.params sides.now.results → AreBelow (bare scope.now) sides.now.results values → AreValid (bare scope.now) values → OnOk result (IsDrawn scope.now sides.now.params values (block_cost scope.now.types.now.types) draft.old draft.new) }
     ensures less { OnOk result (draft.new.fuel ≤ draft.old.fuel) }
     ensures memory { IfErr result (λ e. e ≡ Error.Memory) }
@@ -180,6 +196,7 @@ fn draw_if(
     requires sides { AreSidesValid (bare scope.now).features (bare scope.now).types sides.now }
     requires allowed { IsAllowedIn scope.now (instr.If ty) }
     requires drops { 0 < length sides.now.params → IsAllowedIn scope.now instr.Drop }
+    ensures exact { OnOk result (written instr.End (enclosed_at (drawing_at scope.now.kinds depth) sides.now.results sides.now (written instr.Else (enclosed_at (drawing_at scope.now.kinds depth) sides.now.results sides.now (written (instr.If ty) (state_of scope.now draft.old u.old))))) ≡ state_of scope.now draft.new u.new) }
     ensures drawn { (values : List Val) → IsBlockType (bare scope.now) ty sides.now.params sides.now.results → AreBelow (bare scope.now) sides.now.results values → AreValid (bare scope.now) values → OnOk result (IsDrawn scope.now (sides.now.params ++ I32 ∷ []) values (block_cost scope.now.types.now.types) draft.old draft.new) }
     ensures less { OnOk result (draft.new.fuel ≤ draft.old.fuel) }
     ensures memory { IfErr result (λ e. e ≡ Error.Memory) }
@@ -208,6 +225,7 @@ fn draw_inside(
     requires params { AreValid (bare scope.now) sides.now.params }
     requires results { AreValid (bare scope.now) sides.now.results }
     requires drops { 0 < length sides.now.params → IsAllowedIn scope.now instr.Drop }
+    ensures exact { OnOk result (inside_at (drawing_at scope.now.kinds depth) sides.now (state_of scope.now draft.old u.old) ≡ state_of scope.now draft.new u.new) }
     ensures drawn { OnOk result (IsDrawn scope.now sides.now.params sides.now.results (length sides.now.params + length sides.now.results) draft.old draft.new) }
     ensures memory { IfErr result (λ e. e ≡ Error.Memory) }
     ensures left { KeepsPieces u.old u.new }
@@ -230,6 +248,7 @@ fn draw_values(
     requires scope { IsScope (bare scope.now) }
     requires labels { AreLabels scope.now draft.old.labels.items }
     requires valid { AreValid (bare scope.now) wanted.now }
+    ensures exact { OnOk result (values_at (drawing_at scope.now.kinds depth) wanted.now (state_of scope.now draft.old u.old) ≡ state_of scope.now draft.new u.new) }
     ensures drawn { OnOk result (IsDrawn scope.now [] wanted.now (length wanted.now) draft.old draft.new) }
     ensures memory { IfErr result (λ e. e ≡ Error.Memory) }
     ensures left { KeepsPieces u.old u.new }
@@ -253,6 +272,7 @@ fn draw_statement(
     requires labels { AreLabels scope.now draft.old.labels.items }
     requires deep { 0 < depth }
     requires paid { 0 < draft.old.fuel }
+    ensures exact { OnOk result (statement_at scope.now.kinds (drawing_at scope.now.kinds (depth - 1)) (state_of scope.now draft.old u.old) ≡ state_of scope.now draft.new u.new) }
     ensures drawn { OnOk result (IsDrawn scope.now [] [] 0 draft.old draft.new) }
     ensures less { OnOk result (draft.new.fuel < draft.old.fuel) }
     ensures memory { IfErr result (λ e. e ≡ Error.Memory) }
@@ -277,6 +297,7 @@ fn draw_statements(
 ) -> Result<(), Error>
     requires scope { IsScope (bare scope.now) }
     requires labels { AreLabels scope.now draft.old.labels.items }
+    ensures exact { OnOk result ((drawing_at scope.now.kinds depth).statements (state_of scope.now draft.old u.old) ≡ state_of scope.now draft.new u.new) }
     ensures drawn { OnOk result (IsDrawn scope.now [] [] 0 draft.old draft.new) }
     ensures memory { IfErr result (λ e. e ≡ Error.Memory) }
     ensures left { KeepsPieces u.old u.new }
@@ -303,6 +324,7 @@ pub(crate) fn draw_whole(
 ) -> Result<(), Error>
     requires scope { IsScope (bare scope.now) }
     requires labels { AreLabels scope.now draft.old.labels.items }
+    ensures exact { OnOk result (whole_at (drawing_at scope.now.kinds depth) scope.now.results.now (state_of scope.now draft.old u.old) ≡ state_of scope.now draft.new u.new) }
     ensures drawn { OnOk result (IsDrawn scope.now [] scope.now.results.now (length scope.now.results.now) draft.old draft.new) }
     ensures memory { IfErr result (λ e. e ≡ Error.Memory) }
     ensures left { KeepsPieces u.old u.new }

@@ -1,27 +1,45 @@
-ghost use Rattle.std.specs.Prelude.{◌≡◌};
+ghost use Rattle.std.specs.Prelude.{◌≡◌, [], ◌∷◌, IfSome, IfErr, OnOk};
 ghost use Rattle.smith_bytes.specs.Source.{KeepsPieces};
 ghost use Rattle.smith_instr.specs.Contexts.{IsValid};
-ghost use Rattle.smith_code.specs.Drawn.{IsConstant, IsLeaf};
+ghost use Rattle.smith_code.specs.Bodies.{leaf_in};
+ghost use Rattle.smith_code.specs.Drawn.{IsConstant, IsDrawn, IsLeaf, state_of};
+ghost use Rattle.smith_code.specs.Leaves.{any_leaf_at, constant_at, leaf_at, leaf_choice_at};
 ghost use Rattle.smith_code.specs.Scopes.{IsAllowedIn, IsScope, bare, where_stands};
 
+use crate::families::{LeafFamily, leaf_families};
 use crate::globals::choose_global;
 use crate::locals::choose_set_local;
 use crate::node::is_allowed;
 use crate::references::choose_reference;
 use crate::scope::{Draft, Scope};
-use smith_bytes::Unstructured;
+use smith_bytes::{Error, Unstructured};
+use smith_draw::choose;
 use smith_instr::{Instr, ReferenceInstr};
 use smith_types::ValType;
 
-/// Draws an instruction that is allowed, and gives a value below `wanted` without operands; where there is none `unreachable`.
-pub(crate) fn draw_leaf(
+/// Writes an instruction that gives a value below `wanted` without operands.
+pub(crate) fn write_leaf(
     scope: &Scope<'_>,
     wanted: ValType,
-    draft: &Draft,
+    draft: &mut Draft,
     u: &mut Unstructured<'_>,
-) -> Instr
+) -> Result<(), Error>
     requires scope { IsScope (bare scope.now) }
     requires wanted { IsValid (bare scope.now) wanted }
+    ensures exact { OnOk result (leaf_in scope.now.kinds wanted (state_of scope.now draft.old u.old) ≡ state_of scope.now draft.new u.new) }
+    ensures drawn { OnOk result (IsDrawn scope.now [] (wanted ∷ []) 1 draft.old draft.new) }
+    ensures memory { IfErr result (λ e. e ≡ Error.Memory) }
+    ensures left { KeepsPieces u.old u.new }
+{
+    let leaf = draw_leaf(scope, wanted, draft, u);
+    draft.out.push(leaf)
+}
+
+/// Draws an instruction that is allowed, and gives a value below `wanted` without operands; where there is none `unreachable`.
+fn draw_leaf(scope: &Scope<'_>, wanted: ValType, draft: &Draft, u: &mut Unstructured<'_>) -> Instr
+    requires scope { IsScope (bare scope.now) }
+    requires wanted { IsValid (bare scope.now) wanted }
+    ensures exact { leaf_at scope.now.kinds (where_stands scope.now draft.now) draft.now.set.items wanted u.old ≡ (result, u.new) }
     ensures typed { IsLeaf (where_stands scope.now draft.now) draft.now.set.items wanted result }
     ensures allowed { IsAllowedIn scope.now result }
     ensures left { KeepsPieces u.old u.new }
@@ -42,32 +60,50 @@ fn draw_any_leaf(
 ) -> Instr
     requires scope { IsScope (bare scope.now) }
     requires wanted { IsValid (bare scope.now) wanted }
+    ensures exact { any_leaf_at (where_stands scope.now draft.now) draft.now.set.items wanted u.old ≡ (result, u.new) }
     ensures typed { IsLeaf (where_stands scope.now draft.now) draft.now.set.items wanted result }
     ensures left { KeepsPieces u.old u.new }
 {
-    match u.int_in_range(0..=4u8) {
-        0 | 1 => {
-            if let Some(index) = choose_set_local(scope, wanted, draft, u) {
-                return Instr::LocalGet(index);
-            }
-        }
-        2 => {
-            if let Some(index) = choose_global(scope, wanted, u) {
-                return Instr::GlobalGet(index);
-            }
-        }
-        3 => {
-            if let Some(function) = choose_reference(scope, wanted, u) {
-                return Instr::Reference(ReferenceInstr::Func(function));
-            }
-        }
-        _ => {}
+    match choose_leaf(scope, wanted, draft, u) {
+        Some(instruction) => instruction,
+        None => draw_constant(wanted, u),
     }
-    draw_constant(wanted, u)
+}
+
+/// Chooses a local that is set, a global, or a reference to a function, if there is one.
+fn choose_leaf(
+    scope: &Scope<'_>,
+    wanted: ValType,
+    draft: &Draft,
+    u: &mut Unstructured<'_>,
+) -> Option<Instr>
+    requires scope { IsScope (bare scope.now) }
+    requires wanted { IsValid (bare scope.now) wanted }
+    ensures exact { leaf_choice_at (where_stands scope.now draft.now) draft.now.set.items wanted u.old ≡ (result, u.new) }
+    ensures typed { IfSome result (IsLeaf (where_stands scope.now draft.now) draft.now.set.items wanted) }
+    ensures left { KeepsPieces u.old u.new }
+{
+    match choose(leaf_families(), u) {
+        LeafFamily::Local => {
+            let index = choose_set_local(scope, wanted, draft, u)?;
+            Some(Instr::LocalGet(index))
+        }
+        LeafFamily::Global => {
+            let index = choose_global(scope, wanted, u)?;
+            Some(Instr::GlobalGet(index))
+        }
+        LeafFamily::Reference => {
+            let function = choose_reference(scope, wanted, u)?;
+            Some(Instr::Reference(ReferenceInstr::Func(function)))
+        }
+        LeafFamily::Constant => None,
+    }
 }
 
 /// Draws a constant of the type `wanted`, or null; where there is none `unreachable`.
+#[tactic(auto, unfolding(crate::specs::Leaves::constant_at))]
 fn draw_constant(wanted: ValType, u: &mut Unstructured<'_>) -> Instr
+    ensures exact { constant_at wanted u.old ≡ (result, u.new) }
     ensures typed { IsConstant wanted result }
     ensures left { KeepsPieces u.old u.new }
 {

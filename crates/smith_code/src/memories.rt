@@ -1,8 +1,9 @@
-ghost use Rattle.std.specs.Prelude.{◌≡◌, true, ◌<◌, ◌≤◌, ◌^◌, if◌then◌else◌, [], ◌∷◌, length, IfOk, IfErr, IfSome};
-ghost use Rattle.smith_bytes.specs.Draws.{choose_at};
+ghost use Rattle.std.specs.Prelude.{◌≡◌, Some, false, true, ◌<◌, ◌≤◌, ◌^◌, if◌then◌else◌, [], ◌∷◌, length, IfOk, IfErr, IfSome};
+ghost use Rattle.smith_bytes.specs.Draws.{choose_at, whole_at};
 ghost use Rattle.smith_bytes.specs.Source.{KeepsPieces};
 ghost use Rattle.smith_instr.specs.Contexts.{IsValid, address};
-ghost use Rattle.smith_instr.specs.MemoryTypes.{IsAccess};
+ghost use Rattle.smith_instr.specs.MemoryTypes.{IsAccess, stored};
+ghost use Rattle.smith_code.specs.Choices.{access_at, giving, growth_node, load_at, memory_at, or_nop, store_at, store_node};
 ghost use Rattle.smith_code.specs.Nodes.{IsNode, IsOffer};
 ghost use Rattle.smith_code.specs.Offered.{is_address, is_addressed, offered};
 ghost use Rattle.smith_code.specs.Rows.{loads_of, stores};
@@ -69,6 +70,7 @@ struct Access {
 /// Draws where one of the memories is accessed, at an alignment of at most `2 ^ log2_bytes`, or none where there is no memory.
 fn draw_access(scope: &Scope<'_>, log2_bytes: u32, u: &mut Unstructured<'_>) -> Option<Access>
     requires scope { IsScope (bare scope.now) }
+    ensures exact { access_at scope.now.memories.now log2_bytes u.old ≡ (result, u.new) }
     ensures access { IfSome result (λ access. IsAccess scope.now.memories.now access.at access.wide) }
     ensures aligned { IfSome result (λ access. access.at.align ≤ log2_bytes) }
     ensures left { KeepsPieces u.old u.new }
@@ -93,6 +95,7 @@ fn draw_access(scope: &Scope<'_>, log2_bytes: u32, u: &mut Unstructured<'_>) -> 
 }
 
 fn draw_offset(wide: bool, u: &mut Unstructured<'_>) -> u64
+    ensures exact { whole_at (if wide then 8 else 4) u.old ≡ (result, u.new) }
     ensures offset { result < (if wide then 2 ^ 64 else 2 ^ 32) }
     ensures left { KeepsPieces u.old u.new }
 {
@@ -169,6 +172,7 @@ pub(crate) fn choose_load(
 ) -> Result<Option<Node>, Error>
     requires scope { IsScope (bare scope.now) }
     requires wanted { IsValid (bare scope.now) wanted }
+    ensures exact { IfOk result (λ chosen. load_at (where_stands scope.now draft.now) wanted u.old ≡ (chosen, u.new)) }
     ensures offer { IsOffer (where_stands scope.now draft.now) draft.now.set.items (wanted ∷ []) result }
     ensures memory { IfErr result (λ e. e ≡ Error.Memory) }
     ensures left { KeepsPieces u.old u.new }
@@ -198,6 +202,7 @@ pub(crate) fn choose_store(
     u: &mut Unstructured<'_>,
 ) -> Result<Node, Error>
     requires scope { IsScope (bare scope.now) }
+    ensures exact { IfOk result (λ node. or_nop (store_at (where_stands scope.now draft.now) u.old) ≡ (node, u.new)) }
     ensures node { IfOk result (IsNode (where_stands scope.now draft.now) draft.now.set.items []) }
     ensures memory { IfErr result (λ e. e ≡ Error.Memory) }
     ensures left { KeepsPieces u.old u.new }
@@ -214,6 +219,7 @@ fn store_of(
     u: &mut Unstructured<'_>,
 ) -> Result<Node, Error>
     requires scope { IsScope (bare scope.now) }
+    ensures exact { IfOk result (λ node. or_nop (giving (store_node op) (access_at (where_stands scope.now draft.now).memories (stored op).1 u.old)) ≡ (node, u.new)) }
     ensures node { IfOk result (IsNode (where_stands scope.now draft.now) draft.now.set.items []) }
     ensures memory { IfErr result (λ e. e ≡ Error.Memory) }
     ensures left { KeepsPieces u.old u.new }
@@ -234,6 +240,7 @@ pub(crate) fn choose_memory(
     u: &mut Unstructured<'_>,
 ) -> Result<Option<Node>, Error>
     requires scope { IsScope (bare scope.now) }
+    ensures exact { IfOk result (λ chosen. memory_at (where_stands scope.now draft.now) wanted u.old ≡ (chosen, u.new)) }
     ensures offer { IsOffer (where_stands scope.now draft.now) draft.now.set.items (wanted ∷ []) result }
     ensures memory { IfErr result (λ e. e ≡ Error.Memory) }
     ensures left { KeepsPieces u.old u.new }
@@ -255,6 +262,7 @@ fn choose_growth(
     draft: &Draft,
 ) -> Result<Option<Node>, Error>
     requires addressed { is_addressed (bare scope.now) wanted index ≡ true }
+    ensures exact { IfOk result (λ chosen. chosen ≡ Some (growth_node wanted index true)) }
     ensures offer { IsOffer (where_stands scope.now draft.now) draft.now.set.items (wanted ∷ []) result }
     ensures memory { IfErr result (λ e. e ≡ Error.Memory) }
 {
@@ -270,6 +278,7 @@ fn choose_size(
     draft: &Draft,
 ) -> Result<Option<Node>, Error>
     requires addressed { is_addressed (bare scope.now) wanted index ≡ true }
+    ensures exact { IfOk result (λ chosen. chosen ≡ Some (growth_node wanted index false)) }
     ensures offer { IsOffer (where_stands scope.now draft.now) draft.now.set.items (wanted ∷ []) result }
     ensures memory { IfErr result (λ e. e ≡ Error.Memory) }
 {

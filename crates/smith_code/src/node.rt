@@ -1,6 +1,8 @@
-ghost use Rattle.std.specs.Prelude.{◌≡◌, ◌<◌, List, length, ◌∷◌, [], ◌++◌, replicate, Some, None, IfOk, IfErr, OnOk, IsTrue};
+ghost use Rattle.std.specs.Prelude.{◌≡◌, ◌<◌, List, length, ◌∷◌, [], ◌++◌, ◌&&◌, replicate, Some, None, IfOk, IfErr, OnOk, IsTrue};
+ghost use Rattle.smith_types.specs.FeatureBits.{features_in};
 ghost use Rattle.smith_types.specs.declared.value_type.ValType.{ValType as Val};
 ghost use Rattle.smith_types.specs.declared.value_type.ValType.TheVariants.{I32};
+ghost use Rattle.smith_instr.specs.Enabled.{is_enabled};
 ghost use Rattle.smith_instr.specs.declared.instr.Instr.TheVariants as instr;
 ghost use Rattle.smith_code.specs.Scopes.{IsAllowedIn};
 ghost use Rattle.smith_code.specs.Nodes.{
@@ -9,6 +11,9 @@ ghost use Rattle.smith_code.specs.Nodes.{
   blocked,
   head_instruction,
   head_params,
+  is_drop_allowed,
+  is_head_allowed,
+  is_node_allowed,
   node_of,
   setting,
 };
@@ -148,7 +153,8 @@ pub(crate) fn block(
 
 /// Whether the instructions of `node`, its operands aside, are allowed in `scope`.
 pub(crate) fn is_node_allowed(scope: &Scope<'_>, node: &Node) -> bool
-    ensures { IsTrue result → IsNodeAllowed scope.now node.now }
+    ensures exact { result ≡ is_node_allowed (features_in scope.now.features) scope.now.kinds node.now }
+    ensures allowed { IsTrue result → IsNodeAllowed scope.now node.now }
 {
     if !is_head_allowed(scope, &node.head) {
         return false;
@@ -157,7 +163,8 @@ pub(crate) fn is_node_allowed(scope: &Scope<'_>, node: &Node) -> bool
 }
 
 fn is_head_allowed(scope: &Scope<'_>, head: &Head) -> bool
-    ensures { IsTrue result → IsHeadAllowed scope.now head.now }
+    ensures exact { result ≡ is_head_allowed (features_in scope.now.features) scope.now.kinds head.now }
+    ensures allowed { IsTrue result → IsHeadAllowed scope.now head.now }
 {
     match head {
         Head::Plain(instruction) => is_allowed(scope, instruction),
@@ -172,6 +179,7 @@ fn is_head_allowed(scope: &Scope<'_>, head: &Head) -> bool
 }
 
 fn is_block_allowed(scope: &Scope<'_>, opening: &Instr, sides: &Sides) -> bool
+    ensures exact { result ≡ (is_enabled (features_in scope.now.features) scope.now.kinds opening.now && is_drop_allowed (features_in scope.now.features) scope.now.kinds (length sides.now.params)) }
     ensures opening { IsTrue result → IsAllowedIn scope.now opening.now }
     ensures drops { IsTrue result → 0 < length sides.now.params → IsAllowedIn scope.now instr.Drop }
 {
@@ -183,7 +191,7 @@ fn is_block_allowed(scope: &Scope<'_>, opening: &Instr, sides: &Sides) -> bool
 
 /// Whether `instruction` may be used in `scope`.
 pub(crate) fn is_allowed(scope: &Scope<'_>, instruction: &Instr) -> bool
-    ensures { IsTrue result → IsAllowedIn scope.now instruction.now }
+    ensures { result ≡ is_enabled (features_in scope.now.features) scope.now.kinds instruction.now }
 {
     instruction.is_enabled(scope.features, scope.kinds)
 }

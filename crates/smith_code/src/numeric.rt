@@ -2,6 +2,7 @@ ghost use Rattle.std.specs.Prelude.{◌≡◌, ◌-◌, ℕ, List, length, [], �
 ghost use Rattle.smith_bytes.specs.Source.{KeepsPieces};
 ghost use Rattle.smith_instr.specs.Contexts.{BodyContext, IsValid};
 ghost use Rattle.smith_instr.specs.InstrTypes.{IsNumeric};
+ghost use Rattle.smith_code.specs.Choices.{is_numeric, numeric_at, select_node};
 ghost use Rattle.smith_code.specs.Nodes.{IsOffer};
 ghost use Rattle.smith_code.specs.Rows.{numeric_rows};
 
@@ -18,6 +19,7 @@ pub(crate) fn choose_numeric(
     wanted: ValType,
     u: &mut Unstructured<'_>,
 ) -> Result<Option<Node>, Error>
+    ensures exact { IfOk result (λ chosen. numeric_at wanted u.old ≡ (chosen, u.new)) }
     ensures offer { (context : BodyContext) (set : List ℕ) → IsOffer context set (wanted ∷ []) result }
     ensures memory { IfErr result (λ e. e ≡ Error.Memory) }
     ensures left { KeepsPieces u.old u.new }
@@ -32,6 +34,7 @@ fn choose_row(
     u: &mut Unstructured<'_>,
 ) -> Result<Option<Node>, Error>
     requires rows { rows.now ≡ numeric_rows wanted }
+    ensures exact { IfOk result (λ chosen. numeric_at wanted u.old ≡ (chosen, u.new)) }
     ensures offer { (context : BodyContext) (set : List ℕ) → IsOffer context set (wanted ∷ []) result }
     ensures memory { IfErr result (λ e. e ≡ Error.Memory) }
     ensures left { KeepsPieces u.old u.new }
@@ -47,6 +50,7 @@ fn choose_row(
 
 /// Chooses `select`, where `wanted` is a type of numbers or vectors.
 pub(crate) fn choose_select(alloc: Global, wanted: ValType) -> Result<Option<Node>, Error>
+    ensures exact { IfOk result (λ chosen. chosen ≡ select_node wanted) }
     ensures offer { (context : BodyContext) (set : List ℕ) → IsValid context wanted → IsOffer context set (wanted ∷ []) result }
     ensures memory { IfErr result (λ e. e ≡ Error.Memory) }
 {
@@ -58,7 +62,8 @@ pub(crate) fn choose_select(alloc: Global, wanted: ValType) -> Result<Option<Nod
 }
 
 fn is_numeric(value: ValType) -> bool
-    ensures { IsTrue result → IsNumeric value }
+    ensures exact { result ≡ is_numeric value }
+    ensures numeric { IsTrue result → IsNumeric value }
 {
     match value {
         ValType::Ref(_) => false,

@@ -1,6 +1,7 @@
 ghost use Rattle.std.specs.Prelude.{◌≡◌, ◌<◌, length, Some, IfSome};
 ghost use Rattle.smith_bytes.specs.Source.{KeepsPieces};
 ghost use Rattle.smith_instr.specs.Contexts.{IsValid, reference_to_function};
+ghost use Rattle.smith_code.specs.Leaves.{named_at};
 ghost use Rattle.smith_code.specs.Offered.{IsReferenceTo, is_named, is_reference};
 ghost use Rattle.smith_code.specs.Scopes.{IsScope, bare};
 
@@ -86,6 +87,7 @@ pub(crate) fn choose_reference(
 ) -> Option<u32>
     requires scope { IsScope (bare scope.now) }
     requires wanted { IsValid (bare scope.now) wanted }
+    ensures exact { named_at (bare scope.now) wanted u.old ≡ (result, u.new) }
     ensures named { IfSome result (IsReferenceTo (bare scope.now) wanted) }
     ensures left { KeepsPieces u.old u.new }
 {

@@ -19,7 +19,7 @@ pub struct Config {
     pub min_types: usize,
 
     /// The greatest number of types. Default 100. Functions and tags need function types, so 0
-    /// leaves out functions and tags too.
+    /// leaves out functions and tags too, but for those that a shape brings.
     pub max_types: usize,
 
     /// The least number of imports, compact groups counted by their items. Default 0. A number
@@ -133,8 +133,8 @@ pub struct Config {
     /// all the same.
     pub allow_floats: bool,
 
-    /// Whether active segments stay inside their tables and memories, so that no module traps
-    /// while it is instantiated. Default false. Where true, a table may have one element and a
+    /// Whether active segments stay inside their tables and memories, so that none of them traps. A
+    /// start function still may. Default false. Where true, a table may have one element and a
     /// memory one page whatever `max_table_elements`, `max_memory32_bytes` and `max_memory64_bytes`
     /// say.
     pub disallow_traps: bool,
@@ -210,8 +210,9 @@ pub struct Config {
     /// on the module but its features.
     pub multibyte_array_access_enabled: bool,
 
-    /// References that aren't nullable where a value of their heap type can be made. Default false;
-    /// off without `gc_enabled`. Kept without effect: drawn references are nullable.
+    /// References that aren't nullable, in types where a struct or a function that exists gives one
+    /// without operands. Default false; off without `gc_enabled`. [`Config::arbitrary`] leaves it
+    /// false.
     pub non_nullable_enabled: bool,
 
     /// The kinds of instructions that bodies may hold. Default all. Kept without effect: bodies

@@ -1,4 +1,4 @@
--- Data segments that are drawn may stand in a module: they are valid, and where nothing may trap, what they copy fits.
+-- Data segments that are drawn may stand in a module: they are valid, and with `disallow_traps` what they copy fits.
 use Rattle.std.proofs.Common.{◌≡◌, ◌⊎◌, inl, inr, ℕ, ◌<◌, ◌≤◌, Bool, true, false, cond, List, [], length, refl, subst, arith}
 use Rattle.std.specs.Prelude.{◌↔◌, All, IsTrue, IfSome, Option, Some, None}
 use Rattle.std.specs.List.{Contains}

@@ -1,4 +1,4 @@
--- Element segments that are drawn may stand in a module: they are valid, and where nothing may trap, what they copy fits.
+-- Element segments that are drawn may stand in a module: they are valid, and with `disallow_traps` what they copy fits.
 use Rattle.std.proofs.Common.{◌≡◌, ℕ, ◌≤◌, true, Option, Some, None, List, [], length, inl, refl, arith}
 use Rattle.std.specs.Prelude.{All, IsTrue, IsSomeAnd, IfOk, Result, Ok, Err}
 use Rattle.std.specs.List.{flat_map}

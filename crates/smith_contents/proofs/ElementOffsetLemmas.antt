@@ -1,4 +1,4 @@
--- Offsets of element segments are placed: of the addresses of their table, and where nothing may trap, with a limit.
+-- Offsets of element segments are placed: of the addresses of their table, and with `disallow_traps` with a limit.
 use Rattle.std.proofs.Common.{◌≡◌, ℕ, ◌+◌, ◌-◌, ◌<◌, ◌≤◌, Option, Some, None, List, [], length, refl, ap, arith}
 use Rattle.std.specs.Prelude.{IsTrue}
 use Rattle.smith_types.specs.Expressions.{Context, IsVisible}
@@ -25,7 +25,7 @@ constant_placed config context table drawn most offset hint within same valid in
   inside = λ on. rw (hinted on) (inside (table.minimum - drawn) table.minimum (omega (arith, within, same, most_without_traps config table on)));
 }
 
--- the value of a global, which is read only where something may trap
+-- the value of a global, which is read only without `disallow_traps`
 pub global_placed : (config : Config) (context : Context) (table : TableType) {globals : List ℕ} (bytes : List ℕ) {after : List ℕ} {index : ℕ} → TellOffsets context table.table64 globals → (IsTrue config.disallow_traps → globals ≡ []) → 0 < length globals
     → chosen_at 0 globals bytes ≡ (index, after) → IsPlaced config context table (Global index) None
 global_placed config context table {globals = globals} bytes tell none some chosen =

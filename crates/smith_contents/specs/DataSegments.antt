@@ -48,7 +48,7 @@ pub record Targets : Type 0 where
 abbrev pub HasPages : Indexed → Type 0
 HasPages one = page_log2 one.1.page_size_log2 ≤ 16
 
--- the globals that may tell an offset: none where nothing may trap
+-- the globals that may tell an offset: none with `disallow_traps`
 abbrev pub offset_globals : Config → Context → Bool → List ℕ
 offset_globals config context wide = if config.disallow_traps then [] else readable_globals context (address_type wide)
 
@@ -72,14 +72,14 @@ last_address wide = addresses wide - 1
 abbrev pub constant_offset : Bool → ℕ → Offset
 constant_offset wide address = if wide then Const64 (cast_signed w64 address) else Const32 (cast_signed w32 address)
 
--- where a number of bytes begins: where nothing may trap within the least bytes, else up to the greatest address
+-- where a number of bytes begins: with `disallow_traps` within the least bytes, else up to the greatest address
 unfoldable pub address_at : Bool → MemoryType → ℕ → List ℕ → ℕ × List ℕ
 address_at no_traps memory size bytes =
     let last = last_address memory.memory64 in
     let inside = min (least_bytes memory) last in
     offset_at inside (if no_traps then inside else last) size bytes
 
--- a constant offset, and what is copied there: where nothing may trap, no more than the least bytes, and low enough to fit
+-- a constant offset, and what is copied there: with `disallow_traps` no more than the least bytes, and low enough to fit
 unfoldable pub constant_at : Bool → MemoryType → List ℕ → List ℕ → (Offset × List ℕ) × List ℕ
 constant_at no_traps memory init bytes =
     let address = address_at no_traps memory (length init) bytes in

@@ -23,14 +23,14 @@ StandsIn memories one = slice_get memories one.0 ≡ Some one.1
 abbrev pub TellOffsets : Context → Bool → List ℕ → Type 0
 TellOffsets context wide globals = All (λ index. IsVisible context index (address_type wide)) globals
 
--- each memory stands at its index, each global tells an offset, and none does where nothing may trap
+-- each memory stands at its index, each global tells an offset, and none does with `disallow_traps`
 pub record AreTargets (config : Config) (context : Context) (memories : List MemoryType) (targets : Targets) : Type 0 where
   pub stand : All (StandsIn memories) targets.memories
   pub globals : (wide : Bool) → TellOffsets context wide (globals_for targets wide)
   pub none : IsTrue config.disallow_traps → (wide : Bool) → globals_for targets wide ≡ []
   pub bulk : IsTrue config.bulk_memory_enabled → IsTrue context.features.bulk_memory
 
--- a segment may stand in the module: it is valid, and where nothing may trap, what is copied fits
+-- a segment may stand in the module: it is valid, and with `disallow_traps` what is copied fits
 pub record IsDataFit (config : Config) (context : Context) (memories : List MemoryType) (segment : DataSegment) : Type 0 where
   pub valid : IsDataValid context memories segment
   pub inside : IsTrue config.disallow_traps → IsDataInside memories segment

@@ -58,7 +58,7 @@ abbrev pub FitsAddresses : KindChoice → Type 0
 FitsAddresses (choice.Active index table) = table.minimum ≤ most_elements table.table64
 FitsAddresses _ = Unit {0}
 
--- an offset into a table, and where nothing may trap, how many items end within the least elements from it on
+-- an offset into a table, and with `disallow_traps` how many items end within the least elements from it on
 pub record IsPlaced (config : Config) (context : Context) (table : TableType) (offset : Offset) (hint : Option ℕ) : Type 0 where
   pub valid : IsOffsetValid context table.table64 offset
   pub inside : IsTrue config.disallow_traps → IsSomeAnd hint (λ most. IsOffsetInside offset most table.minimum)
@@ -86,7 +86,7 @@ pub record AreItemsFit (config : Config) (context : Context) (ty : RefType) (ite
   pub enough : HasItems config context.types context.funcs items
   pub floats : All HasNoFloat context.types → All (All GivesNoFloat) (expressions_of items)
 
--- a segment may stand in the module: it is valid, has enough items without a float, and where nothing may trap, what is copied
+-- a segment may stand in the module: it is valid, has enough items without a float, and with `disallow_traps` what is copied
 -- fits
 pub record IsElementFit (config : Config) (context : Context) (tables : List TableType) (segment : ElementSegment) : Type 0 where
   pub valid : IsElementValid context tables segment

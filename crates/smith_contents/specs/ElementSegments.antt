@@ -77,7 +77,7 @@ kept_kinds config = if config.bulk_memory_enabled then choice.Passive ∷ choice
 unfoldable pub kinds_at : Config → List TableType → List ℕ → List KindChoice × List ℕ
 kinds_at config tables bytes = table_kinds_at config (kept_kinds config) 0 tables bytes
 
--- the globals that an offset may be read from: none where nothing may trap
+-- the globals that an offset may be read from: none with `disallow_traps`
 abbrev pub offset_globals : Config → Context → TableType → List ℕ
 offset_globals config context table = if config.disallow_traps then [] else readable_globals context (address_type table.table64)
 
@@ -89,8 +89,8 @@ most_offset config table = if config.disallow_traps then table.minimum else most
 abbrev pub constant_offset : TableType → ℕ → Offset
 constant_offset table offset = if table.table64 then Const64 (cast_signed w64 offset) else Const32 (cast_signed w32 offset)
 
--- how many elements fit between an offset and the minimum, where a segment is to fit: where nothing may trap, and in ten of
--- eleven cases where it can
+-- how many elements fit between an offset and the minimum, where a segment is to fit: with `disallow_traps`, and without it in ten
+-- of eleven cases where it can
 unfoldable pub hint_at : Config → TableType → ℕ → List ℕ → Option ℕ × List ℕ
 hint_at config table offset bytes =
     if config.disallow_traps then (Some (table.minimum - offset), bytes)

@@ -83,7 +83,7 @@ fn cut(init: Items<u8>, most: u128) -> Items<u8>
     Items::from_vec(bytes)
 }
 
-/// Draws a constant offset for `init`, of which what fits is kept where nothing may trap.
+/// Draws a constant offset for `init`, of which what fits is kept with `disallow_traps`.
 #[tactic(auto, unfolding(crate::specs::DataSegments::constant_at))]
 fn draw_constant(
     no_traps: bool,

@@ -38,7 +38,7 @@ impl<'a> Model for OffsetGlobals<'a> {
 
 impl<'a> OffsetGlobals<'a> {
     /// Counts the globals of `spaces` that an offset may be read from: of 64 bits where `wide` is set, else of 32 bits. There are
-    /// none where nothing may trap.
+    /// none with `disallow_traps`.
     pub(crate) fn new(config: &Config, spaces: &'a Spaces<'_>, wide: bool) -> OffsetGlobals<'a>
         requires { AreSpacesValid config.now spaces.now }
         ensures exact { result ≡ offset_globals config.now (seen_by config.now spaces.now true) wide }
@@ -93,7 +93,7 @@ fn visible_end(config: &Config, spaces: &Spaces<'_>) -> usize
     entities.imported_globals
 }
 
-/// The globals that an offset may be read from where they have its type: none where nothing may trap.
+/// The globals that an offset may be read from where they have its type: none with `disallow_traps`.
 fn read_globals<'a>(config: &Config, spaces: &'a Spaces<'_>) -> &'a [GlobalType]
     requires { AreSpacesValid config.now spaces.now }
     ensures exact { (wide : Bool) → telling_from wide 0 result.now ≡ offset_globals config.now (seen_by config.now spaces.now true) wide }

@@ -1,6 +1,7 @@
 -- The numbers that are interesting in each module, as a list, and what holds the same numbers as a list.
 use Rattle.std.proofs.Common.{arith, ◌≡◌, ◌⊎◌, inl, inr, ℕ, zero, suc, ◌+◌, ◌≤◌, ◌-◌, ◌*◌, ◌^◌, ◌<◌, Bool, true, List, [], ◌∷◌, ◌++◌, refl, sym, subst, ap, ◌∙◌}
-use Rattle.std.specs.Prelude.{nat_eq, nat_lt, slice_index_or, map}
+use Rattle.std.specs.Prelude.{nat_eq, nat_lt, slice_index_or, map, length, get_or}
+use Rattle.std.specs.List.Sorted.{IsStrictlyIncreasing}
 use Rattle.std.specs.List.{All, Contains, list_all, list_any, range_with_len, flat_map}
 use Rattle.std.proofs.lemmas.Bool.{eqb-true, ltb-true}
 use Rattle.std.proofs.lemmas.List.Elements.{All-nil, All-cons, All-append, All-map, All-contains, All-contains_itself, All-weaker, Contains-append_cases}
@@ -53,6 +54,10 @@ below p most all i small =
     let at : p (slice_index_or (range_with_len 0 most) i 0) ≡ true = each i 0 (rw (length-range_with_len 0 most) small) in
     let place : slice_index_or (range_with_len 0 most) i 0 ≡ i = get_or-range_with_len 0 most i 0 small ∙ omega arith in
     sym (ap p place) ∙ at
+
+-- numbers of which each is below the next, which is seen by a look at each
+pub rises : (xs : List ℕ) → list_all (λ k. nat_lt (get_or xs k 0) (get_or xs (k + 1) 0)) (range_with_len 0 (length xs - 1)) ≡ true → IsStrictlyIncreasing xs
+rises xs all k within = ltb-true (get_or xs k 0) (get_or xs (k + 1) 0) (below (λ i. nat_lt (get_or xs i 0) (get_or xs (i + 1) 0)) (length xs - 1) all k (omega arith))
 
 power_positive : (i : ℕ) → i < 64 → 0 < 2 ^ i
 power_positive i small = ltb-true 0 (2 ^ i) (below (λ k. nat_lt 0 (2 ^ k)) 64 refl i small)

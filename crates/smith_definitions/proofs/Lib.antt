@@ -13,6 +13,7 @@ pub mod DefinedTablesLoop
 pub mod DefinedTableLemmas
 pub mod ConstantValueLemmas
 pub mod CollectedValueLemmas
+pub mod MergeLemmas
 pub mod RequiredEntityLemmas
 pub mod PlainEntityLemmas
 pub mod GroupedTypeLemmas

@@ -1,5 +1,5 @@
 -- Interesting values as they are collected: in any order, and maybe more than once. Rules of this project.
-use Rattle.std.specs.Prelude.{◌≡◌, ◌⊎◌, ℕ, ◌+◌, ◌*◌, ◌^◌, ◌<◌, List, [], ◌∷◌, ◌++◌}
+use Rattle.std.specs.Prelude.{◌≡◌, ◌⊎◌, ℕ, ◌+◌, ◌*◌, ◌^◌, ◌<◌, ◌≤◌, List, [], ◌∷◌, ◌++◌, length, get_or}
 use Rattle.std.specs.List.{All, Any, Contains}
 use Rattle.std.specs.List.Sorted.{IsStrictlyIncreasing}
 use Rattle.smith_types.specs.declared.entity_type.TableType.{TableType}
@@ -52,3 +52,22 @@ pub record IsInOrder (numbers made : List ℕ) : Type 0 where
   pub ascending : IsStrictlyIncreasing made
   pub keeps : (n : ℕ) → Contains numbers n → Contains made n
   pub adds_none : (n : ℕ) → Contains made n → Contains numbers n
+
+-- where a number belongs in a list in ascending order: what is before a first place is below it, what is at a second place or later is
+-- above it, and between them is the number itself, if the list has it
+pub record IsPlaceOf (numbers : List ℕ) (number before after : ℕ) : Type 0 where
+  pub ordered : before ≤ after
+  pub fits : after ≤ length numbers
+  pub below : (k : ℕ) → k < before → get_or numbers k 0 < number
+  pub same : (k : ℕ) → before ≤ k → k < after → get_or numbers k 0 ≡ number
+  pub above : (k : ℕ) → after ≤ k → k < length numbers → number < get_or numbers k 0
+
+-- a number is added to what is made, after those of the rest that are below it; those above it are left
+pub record IsPut (made rest : List ℕ) (number : ℕ) (new left : List ℕ) : Type 0 where
+  pub front : List ℕ
+  pub same : List ℕ
+  pub parts : rest ≡ front ++ (same ++ left)
+  pub below : All (λ x. x < number) front
+  pub is : All (λ x. x ≡ number) same
+  pub above : All (λ x. number < x) left
+  pub longer : new ≡ made ++ (front ++ number ∷ [])

@@ -130,7 +130,7 @@ pub record AreRequired (own_types : Bool) (config : Config) (shape : Shape) (old
   pub few_values : All (HasFewValues most_listed) old_types.types → All (HasFewValues most_listed) types.types
   pub stands : (imported : IndexSpaces) → StandsBehind config imported old_types old old_defined → StandsBehind config imported types spaces defined
 
--- a shape holds a reference that may not be null, or types do, which is not grounded
+-- a shape holds a reference that may not be null, or a type holds one that, where the field is on, is not grounded
 abbrev pub MayLackIn : Config → Context → Shape → Type 0
 MayLackIn config context shape = Any IsNonNullable (shape_values shape) ⊎ HoldsUngroundedField config context
 
@@ -140,8 +140,8 @@ MayRefuseExported config context shape one (errors.IncorrectFormat SeveralMemori
 MayRefuseExported config context shape one (errors.IncorrectFormat SeveralTables) = (counts_as counts.Tables one.1 ≡ 1) × (config.reference_types_enabled ≡ false)
 MayRefuseExported config context shape one e = (e ≡ errors.Memory) ⊎ ((e ≡ errors.EmptyChoose) × MayLackIn config context shape)
 
--- why the exports of a shape may be refused, over these types and functions: a reference is there that may not be null, or the shape has a
--- memory or a table that may not stand beside others
+-- why the exports of a shape may be refused, over these types and functions: such a reference is there, or the shape has a memory or
+-- a table that may not stand beside others
 abbrev pub MayRefuseRequired : Config → Context → Shape → Error → Type 0
 MayRefuseRequired config context shape (errors.IncorrectFormat SeveralMemories) = (0 < exported_of counts.Memories shape) × (config.max_memories ≤ 1)
 MayRefuseRequired config context shape (errors.IncorrectFormat SeveralTables) = (0 < exported_of counts.Tables shape) × (config.reference_types_enabled ≡ false)

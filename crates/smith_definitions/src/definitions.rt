@@ -59,7 +59,8 @@ impl Definitions {
 /// # Errors
 ///
 /// `Unmet(Tags)` or `Unmet(Funcs)` where no type is right for a tag or a function; `EmptyChoose` where nothing gives a value of
-/// an initialiser, which comes only where a field of a type is a reference that may not be null and isn't grounded.
+/// an initialiser, which comes only where a field of a type is a reference that may not be null and, where `config` has references
+/// that aren't nullable, isn't grounded.
 #[tactic(auto, unfolding(crate::specs::Definitions::definitions_at))]
 pub fn define(
     alloc: Global,

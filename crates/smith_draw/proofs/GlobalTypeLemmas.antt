@@ -21,7 +21,7 @@ use Rattle.smith_draw.specs.ValueTypes.{val_type_at}
 use Rattle.smith_draw.specs.Spelling.{SpellsValType}
 use Rattle.smith_draw.proofs.FloatLemmas.{val_type_no_float}
 use Rattle.smith_draw.proofs.SharedHeapTypeLemmas.{sharing}
-use Rattle.smith_draw.proofs.SpelledValueLemmas.{unshared_read, i32_readable, val_type_read}
+use Rattle.smith_draw.proofs.SpelledValueLemmas.{unshared_read, val_type_read}
 use Rattle.smith_draw.proofs.ValueTypeLemmas.{sharedness_may, val_type_drawn}
 
 global_sharing : (config : Config) (space : Space) (value : ValType) (bytes : List ℕ) → AreTypesValid (features_of config) space → IsValTypeValid (features_of config) (length space.types) value → IsTrue (global_sharedness_at config space.types value bytes).0
@@ -60,7 +60,7 @@ mutable_i32_read config context piece after h =
     rw (
       joined_parts h after,
       joined_parts rest after,
-      val_type_read config context (length context.types) I32 h.first behind (i32_readable config) tt class,
+      val_type_read config context (length context.types) I32 h.first behind tt class,
       unshared_read config rest.first (rest.second ++ after) rest.is_first,
       bool_read true rest.second after rest.is_second,
     ) refl

@@ -65,14 +65,14 @@ pub record IsAdded (config : Config) (context : Context) (space : Space) (group 
   pub made : rec_group_at config context true space bytes ≡ (with_group (space.types ++ group) space.groups, after)
   pub roots : All IsRoot (space.types ++ group)
 
-pub group_read : (config : Config) (off : config.non_nullable_enabled ≡ false) (context : Context) (space : Space) (group : List SubType) (piece after : List ℕ) → IsSanitized config → All IsRoot space.types → ReferBack space.types group
+pub group_read : (config : Config) (context : Context) (same : context.features.custom_descriptors ≡ config.custom_descriptors_enabled) (space : Space) (group : List SubType) (piece after : List ℕ) → IsSanitized config → All IsRoot space.types → ReferBack config space.types group
     → SpellsGroup config space.types (nat_lt 0 (length space.groups)) group piece → IsAdded config context space group (piece ++ after) after
 unfolding types_until_at SpellsGroup
-group_read config off context space group piece after sanitized roots back h =
+group_read config context same space group piece after sanitized roots back h =
     let rest = h.second ++ after in
     let limit = length space.types + length group in
     let sized = size_read config.gc_enabled config space (length group) h.first rest refl h.is_first in
-    let behind = sub_types_read config off context limit space.types group h.second after sanitized roots back refl h.is_second in
+    let behind = sub_types_read config context same limit space.types group h.second after sanitized roots back refl h.is_second in
     let count : limit - length space.types ≡ length group = omega arith in
     let types : types_until_at config context limit space.types rest ≡ (space.types ++ group, after) = rw count behind.made in
     record {
@@ -90,24 +90,24 @@ ended : (room : Bool) (space : Space) (piece after : List ℕ) (more : Space × 
 ended true space piece after more h = rw (bool_read false piece after h) refl
 ended false space piece after more h = rw h refl
 
-groups_read : (config : Config) (off : config.non_nullable_enabled ≡ false) (context : Context) (turns : ℕ) (space : Space) (stands : Bool) (groups : List (List SubType)) (piece after : List ℕ) → IsSanitized config → stands ≡ nat_lt 0 (length space.groups) → length groups < turns → All IsRoot space.types
-    → GroupsFit config.max_types space.types groups → SpellsGroups config space.types stands groups piece → more_types_at config context turns space (piece ++ after) ≡ (with_groups space groups, after)
+groups_read : (config : Config) (context : Context) (same : context.features.custom_descriptors ≡ config.custom_descriptors_enabled) (turns : ℕ) (space : Space) (stands : Bool) (groups : List (List SubType)) (piece after : List ℕ) → IsSanitized config → stands ≡ nat_lt 0 (length space.groups) → length groups < turns → All IsRoot space.types
+    → GroupsFit config space.types groups → SpellsGroups config space.types stands groups piece → more_types_at config context turns space (piece ++ after) ≡ (with_groups space groups, after)
 unfolding more_types_at SpellsGroups
-groups_read config off context zero space stands groups piece after sanitized some enough roots fit h = absurd (omega arith)
-groups_read config off context (suc turns) space stands [] piece after sanitized some enough roots fit h =
+groups_read config context same zero space stands groups piece after sanitized some enough roots fit h = absurd (omega arith)
+groups_read config context same (suc turns) space stands [] piece after sanitized some enough roots fit h =
     let bytes = piece ++ after in
     let grown = rec_group_at config context true space (bool_at bytes).1 in
     ended (nat_lt (length space.types) config.max_types) space piece after (more_types_at config context turns grown.0 grown.1) h
-groups_read config off context (suc turns) space stands (group ∷ groups) piece after sanitized some enough roots fit h =
+groups_read config context same (suc turns) space stands (group ∷ groups) piece after sanitized some enough roots fit h =
     let rest = h.is_second in
     let later = rest.second ++ after in
     let (filled, room, back, others) = fit in
     let next = with_group (space.types ++ group) space.groups in
     let spelled = subst (λ (one : Bool). SpellsGroup config space.types one group rest.first) some rest.is_first in
-    let added = group_read config off context space group rest.first later sanitized roots back spelled in
+    let added = group_read config context same space group rest.first later sanitized roots back spelled in
     let stand : true ≡ nat_lt 0 (length next.groups) = sym (lt-ltb 0 (length next.groups) (simp length-append (omega arith))) in
     let below : length space.types < config.max_types = omega arith in
-    let again = groups_read config off context turns next true groups rest.second after sanitized stand (omega arith) added.roots others rest.is_second in
+    let again = groups_read config context same turns next true groups rest.second after sanitized stand (omega arith) added.roots others rest.is_second in
     rw (joined_parts h after, joined_parts rest after, lt-ltb (length space.types) config.max_types below, bool_read true h.first (rest.first ++ later) h.is_first, added.made) again
 
 -- each group has a byte
@@ -136,13 +136,13 @@ unfolding least_types_at
 least_none config context zero space bytes e = refl
 least_none config context (suc least) space bytes e = absurd (omega arith)
 
-pub types_read : (config : Config) (off : config.non_nullable_enabled ≡ false) (context : Context) (groups : List (List SubType)) (piece after : List ℕ) → IsSanitized config → config.min_types ≡ 0 → GroupsFit config.max_types [] groups → SpellsGroups config [] false groups piece
+pub types_read : (config : Config) (context : Context) (same : context.features.custom_descriptors ≡ config.custom_descriptors_enabled) (groups : List (List SubType)) (piece after : List ℕ) → IsSanitized config → config.min_types ≡ 0 → GroupsFit config [] groups → SpellsGroups config [] false groups piece
     → types_at config context (space_of []) (piece ++ after) ≡ (space_of groups, after)
 unfolding types_at
-types_read config off context groups piece after sanitized least fit h =
+types_read config context same groups piece after sanitized least fit h =
     let bytes = piece ++ after in
     let short = groups_short config [] false groups piece h in
     let long = length-append piece after in
     let enough : length groups < length bytes + 1 = omega arith in
     rw (least_none config context config.min_types (space_of []) bytes least)
-    (groups_read config off context (length bytes + 1) (space_of []) false groups piece after sanitized refl enough (All-nil IsRoot) fit h ∙ ap (λ (space : Space). (space, after)) (with_groups_is (space_of []) groups refl))
+    (groups_read config context same (length bytes + 1) (space_of []) false groups piece after sanitized refl enough (All-nil IsRoot) fit h ∙ ap (λ (space : Space). (space, after)) (with_groups_is (space_of []) groups refl))

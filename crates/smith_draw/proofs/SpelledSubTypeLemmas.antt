@@ -11,7 +11,8 @@ use Rattle.smith_bytes.specs.Growth.{grow_at}
 use Rattle.smith_bytes.specs.Spelling.{SpellsRefusal, Where}
 use Rattle.smith_bytes.proofs.SpelledLemmas.{joined_parts, bool_read}
 use Rattle.smith_types.specs.Expressions.{Context}
-use Rattle.smith_types.specs.Matching.{IsInnerInRange}
+use Rattle.smith_types.specs.Decided.{AreHeld}
+use Rattle.smith_types.specs.Types.{IsOrderly}
 use Rattle.smith_types.specs.declared.composite_type.SubType.{SubType}
 use Rattle.smith_config.specs.declared.config.Config.{Config}
 use Rattle.smith_config.specs.Sanitized.{IsSanitized}
@@ -21,8 +22,8 @@ use Rattle.smith_draw.specs.CompositeTypes.{composite_type_at}
 use Rattle.smith_draw.specs.SubTypes.{supertypes_from, supertypes, is_final_at, root_type_at, supertype_wanted_at, sub_type_at}
 use Rattle.smith_draw.specs.Spelling.{SpellsUnshared, SpellsKind, SpellsPlainFunction, SpellsCompositeType, is_open, SpellsDeclared, SpellsForm, SpellsSubType, SpellsSubTypes, IsRoot, ReferBack}
 use Rattle.smith_draw.proofs.AncestorLemmas.{within_none}
-use Rattle.smith_draw.proofs.SpelledValueLemmas.{refused_where}
-use Rattle.smith_draw.proofs.SpelledTypeLemmas.{composite_type_read}
+use Rattle.smith_draw.proofs.SpelledValueLemmas.{refused_where, IsReadable}
+use Rattle.smith_draw.proofs.SpelledTypeLemmas.{composite_type_read, inner_readable}
 
 no_supertype : (types : List SubType) (index : ℕ) → All IsRoot types → (at : Option SubType) → slice_get types index ≡ at → supertype_of at ≡ None
 no_supertype types index roots None at = refl
@@ -83,9 +84,9 @@ final_without : (on : Bool) (drawn : Bool × List ℕ) (bytes : List ℕ) → on
 final_without true drawn bytes e = cc
 final_without false drawn bytes e = refl
 
-declared_read : (config : Config) (off : config.non_nullable_enabled ≡ false) (context : Context) (limit : ℕ) (t : SubType) (piece after : List ℕ) → config.gc_enabled ≡ true → All IsRoot context.types → IsInnerInRange context.types t.composite_type.inner → IsRoot t → t.composite_type.shared ≡ false
+declared_read : (config : Config) (context : Context) (limit : ℕ) (t : SubType) (piece after : List ℕ) → config.gc_enabled ≡ true → All IsRoot context.types → AreHeld (IsReadable context) t.composite_type.inner → IsRoot t → t.composite_type.shared ≡ false
     → SpellsDeclared config context.types limit t piece → sub_type_at config context limit (piece ++ after) ≡ (t, after)
-declared_read config off context limit t piece after on roots stands root unshared h =
+declared_read config context limit t piece after on roots stands root unshared h =
     let rest = h.is_second in
     let last = rest.is_second in
     let behind = rest.second ++ after in
@@ -95,16 +96,16 @@ declared_read config off context limit t piece after on roots stands root unshar
     let final = final_with config.gc_enabled (bool_at (rest.first ++ behind)) (rest.first ++ behind) on ∙ bool_read t.is_final rest.first behind rest.is_first in
     rw (joined_parts h after, joined_parts rest after)
     (sub_type_of config context limit t (h.first ++ (rest.first ++ behind)) (rest.first ++ behind) after (none_wanted config context.types h.first (rest.first ++ behind) on roots h.is_first)
-    (root_of config context limit t (rest.first ++ behind) behind after root final (composite_type_read config off context limit t.composite_type rest.second after stands composite)))
+    (root_of config context limit t (rest.first ++ behind) behind after root final (composite_type_read config context limit t.composite_type rest.second after stands composite)))
 
 -- without garbage collection nothing is shared
 none_shared : (config : Config) → IsSanitized config → config.gc_enabled ≡ false → (on : Bool) → config.shared_everything_threads_enabled ≡ on → on ≡ false
 none_shared config sanitized off true e = let gc : config.gc_enabled ≡ true = sanitized.shared_gc e in cc
 none_shared config sanitized off false e = refl
 
-plain_read : (config : Config) (off : config.non_nullable_enabled ≡ false) (context : Context) (limit : ℕ) (t : SubType) (piece after : List ℕ) → IsSanitized config → config.gc_enabled ≡ false → IsInnerInRange context.types t.composite_type.inner → IsRoot t → t.composite_type.shared ≡ false
+plain_read : (config : Config) (context : Context) (limit : ℕ) (t : SubType) (piece after : List ℕ) → IsSanitized config → config.gc_enabled ≡ false → AreHeld (IsReadable context) t.composite_type.inner → IsRoot t → t.composite_type.shared ≡ false
     → IsTrue t.is_final × SpellsPlainFunction config limit t.composite_type.inner piece → sub_type_at config context limit (piece ++ after) ≡ (t, after)
-plain_read config off context limit t piece after sanitized plain stands root unshared h =
+plain_read config context limit t piece after sanitized plain stands root unshared h =
     let bytes = piece ++ after in
     let count = length (supertypes context.types) in
     let unasked : SpellsUnshared config [] =
@@ -114,32 +115,39 @@ plain_read config off context limit t piece after sanitized plain stands root un
     record { unshared = unshared; form = record { first = []; second = piece; is_first = unasked; is_second = kind; whole = refl } } in
     let final : is_final_at config bytes ≡ (t.is_final, bytes) = final_without config.gc_enabled (bool_at bytes) bytes plain ∙ ap (λ (final : Bool). (final, bytes)) (sym h.0) in
     sub_type_of config context limit t bytes bytes after (none_asked (config.gc_enabled && nat_lt 0 count) (ratio_at 1 32 bytes) bytes (and_off config.gc_enabled (nat_lt 0 count) plain))
-    (root_of config context limit t bytes bytes after root final (composite_type_read config off context limit t.composite_type piece after stands composite))
+    (root_of config context limit t bytes bytes after root final (composite_type_read config context limit t.composite_type piece after stands composite))
 
-form_read : (gc : Bool) (config : Config) (off : config.non_nullable_enabled ≡ false) (context : Context) (limit : ℕ) (t : SubType) (piece after : List ℕ) → config.gc_enabled ≡ gc → IsSanitized config → All IsRoot context.types → IsInnerInRange context.types t.composite_type.inner
+form_read : (gc : Bool) (config : Config) (context : Context) (limit : ℕ) (t : SubType) (piece after : List ℕ) → config.gc_enabled ≡ gc → IsSanitized config → All IsRoot context.types → AreHeld (IsReadable context) t.composite_type.inner
     → IsRoot t → t.composite_type.shared ≡ false → SpellsForm gc config context.types limit t piece → sub_type_at config context limit (piece ++ after) ≡ (t, after)
-form_read true config off context limit t piece after e sanitized roots stands root unshared h = declared_read config off context limit t piece after e roots stands root unshared h
-form_read false config off context limit t piece after e sanitized roots stands root unshared h = plain_read config off context limit t piece after sanitized e stands root unshared h
+form_read true config context limit t piece after e sanitized roots stands root unshared h = declared_read config context limit t piece after e roots stands root unshared h
+form_read false config context limit t piece after e sanitized roots stands root unshared h = plain_read config context limit t piece after sanitized e stands root unshared h
 
-pub sub_type_read : (config : Config) (off : config.non_nullable_enabled ≡ false) (context : Context) (limit : ℕ) (t : SubType) (piece after : List ℕ) → IsSanitized config → All IsRoot context.types → IsInnerInRange context.types t.composite_type.inner → SpellsSubType config context.types limit t piece
+pub sub_type_read : (config : Config) (context : Context) (limit : ℕ) (t : SubType) (piece after : List ℕ) → IsSanitized config → All IsRoot context.types → AreHeld (IsReadable context) t.composite_type.inner → SpellsSubType config context.types limit t piece
     → sub_type_at config context limit (piece ++ after) ≡ (t, after)
-sub_type_read config off context limit t piece after sanitized roots stands h = form_read config.gc_enabled config off context limit t piece after refl sanitized roots stands h.root h.unshared h.form
+sub_type_read config context limit t piece after sanitized roots stands h = form_read config.gc_enabled config context limit t piece after refl sanitized roots stands h.root h.unshared h.form
+
+-- types without supertypes are orderly
+pub roots_orderly : (types : List SubType) → All IsRoot types → IsOrderly types
+roots_orderly types roots = record {
+  under = λ index s t at below. let root : t.supertype ≡ None = no_supertype types index roots (Some t) at in cc;
+}
 
 -- what is drawn behind the types of before, and that none has a supertype
 pub record Behind (before more : List SubType) (drawn : List SubType × List ℕ) (after : List ℕ) : Type 0 where
   pub made : drawn ≡ (before ++ more, after)
   pub roots : All IsRoot (before ++ more)
 
-pub sub_types_read : (config : Config) (off : config.non_nullable_enabled ≡ false) (context : Context) (limit : ℕ) (before more : List SubType) (piece after : List ℕ) → IsSanitized config → All IsRoot before → ReferBack before more → limit ≡ length before + length more
+pub sub_types_read : (config : Config) (context : Context) (same : context.features.custom_descriptors ≡ config.custom_descriptors_enabled) (limit : ℕ) (before more : List SubType) (piece after : List ℕ) → IsSanitized config → All IsRoot before → ReferBack config before more → limit ≡ length before + length more
     → SpellsSubTypes config before limit more piece → Behind before more (grow_at (λ made. sub_type_at config (over context made) limit) limit (length more) before (piece ++ after)) after
 unfolding grow_at SpellsSubTypes
-sub_types_read config off context limit before [] piece after sanitized roots back ends h =
+sub_types_read config context same limit before [] piece after sanitized roots back ends h =
     record { made = rw (h, append-nil) refl; roots = subst (λ (types : List SubType). All IsRoot types) (sym (append-nil before)) roots }
-sub_types_read config off context limit before (t ∷ more) piece after sanitized roots back ends h =
+sub_types_read config context same limit before (t ∷ more) piece after sanitized roots back ends h =
     let few : length before < limit = omega arith in
     let rest : limit ≡ length (before ++ t ∷ []) + length more = omega (arith, length-append before (t ∷ [])) in
-    let one = sub_type_read config off (over context before) limit t h.first (h.second ++ after) sanitized roots back.0 h.is_first in
-    let again = sub_types_read config off context limit (before ++ t ∷ []) more h.second after sanitized (All-push IsRoot before t roots h.is_first.root) back.1 rest h.is_second in
+    let held = inner_readable config (over context before) t.composite_type.inner same (roots_orderly before roots) back.0 in
+    let one = sub_type_read config (over context before) limit t h.first (h.second ++ after) sanitized roots held h.is_first in
+    let again = sub_types_read config context same limit (before ++ t ∷ []) more h.second after sanitized (All-push IsRoot before t roots h.is_first.root) back.1 rest h.is_second in
     let whole = append_assoc before (t ∷ []) more in
     record {
       made = rw (joined_parts h after, lt-ltb (length before) limit few, one) (again.made ∙ ap (λ (types : List SubType). (types, after)) whole);

@@ -1,15 +1,15 @@
 -- A source that begins with a piece that spells a heap or value type gives it, and leaves what follows.
-use Rattle.std.proofs.Common.{◌≡◌, ℕ, zero, suc, [], ◌∷◌, subst, ◌<◌, ◌-◌, ◌&&◌, Bool, true, false, cond, Some, List, ◌++◌, length, refl, nat_lt, arith}
-use Rattle.std.specs.Prelude.{IsTrue, slice_get}
-use Rattle.std.specs.List.{AllByRecursion as ByRecursion}
+use Rattle.std.proofs.Common.{◌≡◌, ℕ, zero, suc, [], ◌∷◌, sym, subst, ◌<◌, ◌-◌, ◌&&◌, not, Bool, true, false, cond, Some, List, ◌++◌, length, refl, nat_lt, inl, inr, arith}
+use Rattle.std.specs.Prelude.{IsTrue, ◌⊎◌, slice_get}
 use Rattle.std.proofs.lemmas.Bool.{lt-ltb, ltb-true}
-use Rattle.std.proofs.lemmas.Option.{get_or_from_slice_get, slice_get_within}
-use Rattle.std.proofs.lemmas.List.Elements.{All-from_recursion}
+use Rattle.std.proofs.lemmas.Option.{get_or_from_slice_get}
 use Rattle.smith_bytes.specs.Draws.{bool_at, ratio_at}
 use Rattle.smith_bytes.specs.Spelling.{SpellsBool, SpellsRefusal, Where}
 use Rattle.smith_bytes.proofs.SpelledLemmas.{joined_parts, bool_read, number_read, refusal_read}
 use Rattle.smith_types.specs.Expressions.{Context}
-use Rattle.smith_types.specs.Subtyping.{IsInRange, IsValInRange}
+use Rattle.smith_types.specs.Grounded.{IsGroundedByStructs}
+use Rattle.smith_types.specs.Subtyping.{IsInRange}
+use Rattle.smith_types.specs.Types.{IsOrderly}
 use Rattle.smith_types.specs.declared.value_type.AbstractHeapType.{AbstractHeapType}
 use Rattle.smith_types.specs.declared.value_type.AbstractHeapType.TheVariants.{Func}
 use Rattle.smith_types.specs.declared.value_type.HeapType.{HeapType}
@@ -19,12 +19,12 @@ use Rattle.smith_types.specs.declared.value_type.ValType.{ValType}
 use Rattle.smith_types.specs.declared.value_type.ValType.TheVariants as vals
 use Rattle.smith_types.specs.declared.composite_type.SubType.{SubType}
 use Rattle.smith_config.specs.declared.config.Config.{Config}
-use Rattle.smith_draw.specs.declared.value_type.ValueClass.{ValueClass}
-use Rattle.smith_draw.specs.declared.value_type.ValueClass.TheVariants.{I32, Reference}
+use Rattle.smith_draw.specs.declared.value_type.ValueClass.TheVariants.{I32}
 use Rattle.smith_draw.specs.Choices.{enabled, chosen_at}
+use Rattle.smith_draw.specs.Grounding.{is_grounded}
 use Rattle.smith_draw.specs.ValueTypes.{value_classes, abstract_heap_types, sharedness_at, abstract_heap_type_at, index_wanted_at, type_index_at, heap_type_at, granted_at, ref_type_at, value_of_class_at, val_type_at}
-use Rattle.smith_draw.specs.Spelling.{SpellsPlace, SpellsUnshared, SpellsConcrete, SpellsHeapType, SpellsRefType, SpellsBehindClass, SpellsValType, class_of}
-use Rattle.smith_draw.proofs.EnabledLemmas.{enabled_all}
+use Rattle.smith_draw.specs.Spelling.{SpellsPlace, SpellsUnshared, SpellsConcrete, SpellsHeapType, SpellsNullable, SpellsRefType, SpellsBehindClass, SpellsValType, class_of, RefersTo}
+use Rattle.smith_draw.proofs.GroundingLemmas.{by_structs}
 
 pub chosen_read : {A : Type 0} (other : A) (items : List A) (item : A) (piece after : List ℕ) → SpellsPlace items item piece → chosen_at other items (piece ++ after) ≡ (item, after)
 unfolding chosen_at
@@ -97,69 +97,70 @@ heap_type_read config types limit (Concrete index) piece after stands h =
     concrete_read config types limit index piece after t at h
 heap_type_read config types limit (Exact index) piece after stands h = absurd h
 
--- an enabled class of references comes with reference types
-ReferenceTypes : Config → ValueClass → Type 0
-ReferenceTypes config Reference = IsTrue config.reference_types_enabled
-ReferenceTypes config _ = Unit {0}
+-- a value type is drawn from what spells it over types and functions: those that it refers to stand, and a reference that is not nullable is
+-- granted
+abbrev pub IsReadable : Context → ValType → Type 0
+IsReadable context (vals.Ref reference) = IsInRange context.types reference.heap_type × (IsTrue reference.nullable ⊎ IsTrue (is_grounded context reference.heap_type))
+IsReadable context _ = Unit {0}
 
-class_needs : (config : Config) (class : ValueClass) (piece : List ℕ) → SpellsPlace (enabled (value_classes config)) class piece → ReferenceTypes config class
-unfolding ReferenceTypes
-class_needs config class piece h =
-    let P = λ (class : ValueClass). ReferenceTypes config class in
-    let items = enabled (value_classes config) in
-    let rows : ByRecursion (λ (row : ValueClass × Bool). IsTrue row.1 → P row.0) (value_classes config) = ((λ _. tt), ((λ _. tt), ((λ _. tt), ((λ _. tt), ((λ _. tt), ((λ on. on), tt)))))) in
-    let all = enabled_all P (value_classes config) (All-from_recursion (λ (row : ValueClass × Bool). IsTrue row.1 → P row.0) (value_classes config) rows) in
-    subst P (get_or_from_slice_get items h.place class class h.stands) (all h.place class (slice_get_within items h.place class h.stands))
+-- a struct type among the types grounds what it grounds over them and functions
+pub readable : (config : Config) (context : Context) (value : ValType) → context.features.custom_descriptors ≡ config.custom_descriptors_enabled → IsOrderly context.types → RefersTo config context.types value → IsReadable context value
+readable config context vals.I32 same orderly h = tt
+readable config context vals.I64 same orderly h = tt
+readable config context vals.F32 same orderly h = tt
+readable config context vals.F64 same orderly h = tt
+readable config context vals.V128 same orderly h = tt
+readable config context (vals.Ref reference) same orderly (stands, granted) = (
+  stands,
+  elim granted [
+    | inl nullable ↦ inl nullable
+    | inr grounded ↦ inr (sym (by_structs context reference.heap_type orderly (subst (λ (exact : Bool). IsGroundedByStructs context.types exact reference.heap_type) (sym same) grounded)))
+  ],
+)
 
-nullable_by : (on : Bool) (drawn other : RefType × List ℕ) (reference : RefType) (after : List ℕ) → IsTrue on → drawn ≡ (reference, after) → cond {A = RefType × List ℕ} on drawn other ≡ (reference, after)
-nullable_by true drawn other reference after on read = read
-nullable_by false drawn other reference after on read = cc
+granted_by : (on nullable grounded : Bool) (piece after : List ℕ) → IsTrue nullable ⊎ IsTrue grounded → SpellsNullable on nullable piece
+    → cond {A = Bool × List ℕ} on ((bool_at (piece ++ after)).0 && grounded, (bool_at (piece ++ after)).1) (false, piece ++ after) ≡ (not nullable, after)
+granted_by true true grounded piece after may h = rw (bool_read false piece after h) refl
+granted_by true false true piece after may h = rw (bool_read true piece after h) refl
+granted_by true false false piece after may h = elim may [ inl never ↦ cc | inr never ↦ cc ]
+granted_by false true grounded piece after may h = rw h.1 refl
+granted_by false false grounded piece after may h = cc h.0
 
 -- with the field off no bool is drawn
-granted_off : (config : Config) (off : config.non_nullable_enabled ≡ false) (context : Context) (ty : HeapType) (bytes : List ℕ) → granted_at config context ty bytes ≡ (false, bytes)
+granted_read : (config : Config) (context : Context) (ty : HeapType) (nullable : Bool) (piece after : List ℕ) → IsTrue nullable ⊎ IsTrue (is_grounded context ty) → SpellsNullable config.non_nullable_enabled nullable piece
+    → granted_at config context ty (piece ++ after) ≡ (not nullable, after)
 unfolding granted_at
-granted_off config off context ty bytes = rw off refl
+granted_read config context ty nullable piece after may h = granted_by config.non_nullable_enabled nullable (is_grounded context ty) piece after may h
 
-pub ref_type_read : (config : Config) (off : config.non_nullable_enabled ≡ false) (context : Context) (limit : ℕ) (reference : RefType) (piece after : List ℕ) → IsInRange context.types reference.heap_type → SpellsRefType config limit reference piece
+not_twice : (b : Bool) → not (not b) ≡ b
+not_twice true = refl
+not_twice false = refl
+
+drawn_where : (on : Bool) (drawn other : RefType × List ℕ) (reference : RefType) (after : List ℕ) → IsTrue on → drawn ≡ (reference, after) → cond {A = RefType × List ℕ} on drawn other ≡ (reference, after)
+drawn_where true drawn other reference after on read = read
+drawn_where false drawn other reference after on read = cc
+
+pub ref_type_read : (config : Config) (context : Context) (limit : ℕ) (reference : RefType) (piece after : List ℕ) → IsReadable context (vals.Ref reference) → SpellsRefType config limit reference piece
     → ref_type_at config context false limit (piece ++ after) ≡ (reference, after)
 unfolding ref_type_at
-ref_type_read config off context limit reference piece after stands h =
-    let read = heap_type_read config context.types limit reference.heap_type piece after stands h.heap_type in
-    let granted = granted_off config off context reference.heap_type after in
-    nullable_by config.reference_types_enabled _ _ reference after h.enabled (rw (read, granted, ← h.nullable) refl)
+ref_type_read config context limit reference piece after stands h =
+    let parts = h.form in
+    let read = heap_type_read config context.types limit reference.heap_type parts.first (parts.second ++ after) stands.0 parts.is_first in
+    let granted = granted_read config context reference.heap_type reference.nullable parts.second after stands.1 parts.is_second in
+    rw (joined_parts parts after) (drawn_where config.reference_types_enabled _ _ reference after h.enabled (rw (read, granted, not_twice reference.nullable) refl))
 
--- with the field off every value type is read, and with it on those that are no references
-pub Readable : Config → ValType → Type 0
-Readable config (vals.Ref reference) = config.non_nullable_enabled ≡ false
-Readable config _ = Unit {0}
-
-pub readable : (config : Config) (off : config.non_nullable_enabled ≡ false) (value : ValType) → Readable config value
-unfolding Readable
-readable config off vals.I32 = tt
-readable config off vals.I64 = tt
-readable config off vals.F32 = tt
-readable config off vals.F64 = tt
-readable config off vals.V128 = tt
-readable config off (vals.Ref reference) = off
-
-pub i32_readable : (config : Config) → Readable config vals.I32
-unfolding Readable
-i32_readable config = tt
-
-rest_read : (config : Config) (context : Context) (limit : ℕ) (value : ValType) (piece after : List ℕ) → Readable config value → ReferenceTypes config (class_of value) → IsValInRange context.types value → SpellsBehindClass config limit value piece
+rest_read : (config : Config) (context : Context) (limit : ℕ) (value : ValType) (piece after : List ℕ) → IsReadable context value → SpellsBehindClass config limit value piece
     → value_of_class_at config context false limit (class_of value) (piece ++ after) ≡ (value, after)
-unfolding ReferenceTypes Readable
-rest_read config context limit vals.I32 piece after off on stands h = rw h refl
-rest_read config context limit vals.I64 piece after off on stands h = rw h refl
-rest_read config context limit vals.F32 piece after off on stands h = rw h refl
-rest_read config context limit vals.F64 piece after off on stands h = rw h refl
-rest_read config context limit vals.V128 piece after off on stands h = rw h refl
-rest_read config context limit (vals.Ref reference) piece after off on stands h =
-    rw (ref_type_read config off context limit reference piece after stands (record { enabled = on; nullable = h.0; heap_type = h.1 })) refl
+rest_read config context limit vals.I32 piece after stands h = rw h refl
+rest_read config context limit vals.I64 piece after stands h = rw h refl
+rest_read config context limit vals.F32 piece after stands h = rw h refl
+rest_read config context limit vals.F64 piece after stands h = rw h refl
+rest_read config context limit vals.V128 piece after stands h = rw h refl
+rest_read config context limit (vals.Ref reference) piece after stands h = rw (ref_type_read config context limit reference piece after stands h) refl
 
-pub val_type_read : (config : Config) (context : Context) (limit : ℕ) (value : ValType) (piece after : List ℕ) → Readable config value → IsValInRange context.types value → SpellsValType config limit value piece
+pub val_type_read : (config : Config) (context : Context) (limit : ℕ) (value : ValType) (piece after : List ℕ) → IsReadable context value → SpellsValType config limit value piece
     → val_type_at config context false limit (piece ++ after) ≡ (value, after)
 unfolding val_type_at SpellsValType
-val_type_read config context limit value piece after off stands h =
+val_type_read config context limit value piece after stands h =
     rw (joined_parts h after, chosen_read I32 (enabled (value_classes config)) (class_of value) h.first (h.second ++ after) h.is_first)
-    (rest_read config context limit value h.second after off (class_needs config (class_of value) h.first h.is_first) stands h.is_second)
+    (rest_read config context limit value h.second after stands h.is_second)

@@ -9,7 +9,7 @@ use Rattle.smith_config.specs.declared.config.Config.{Config}
 abbrev pub memory_bytes : Config → Bool → ℕ
 memory_bytes config memory64 = if memory64 then config.max_memory64_bytes else config.max_memory32_bytes
 
--- a number of pages takes at most the configured bytes, or is at most 1 where nothing may trap
+-- a number of pages takes at most the configured bytes, or is at most 1 with `disallow_traps`
 abbrev pub ArePagesWithin : Config → MemoryType → ℕ → Type 0
 ArePagesWithin config memory pages =
     (pages * 2 ^ page_log2 memory.page_size_log2 ≤ memory_bytes config memory.memory64)
@@ -21,7 +21,7 @@ pub record IsMemoryWithin (config : Config) (memory : MemoryType) : Type 0 where
   pub maximum : IfSome memory.maximum (ArePagesWithin config memory)
   pub required : IsTrue config.memory_max_size_required → IsSome memory.maximum
 
--- a number of elements is at most the configured number, or at most 1 where nothing may trap
+-- a number of elements is at most the configured number, or at most 1 with `disallow_traps`
 abbrev pub AreElementsWithin : Config → ℕ → Type 0
 AreElementsWithin config elements = (elements ≤ config.max_table_elements) ⊎ (IsTrue config.disallow_traps × (elements ≤ 1))
 

@@ -35,7 +35,7 @@ behind instruction s = record s { made = s.made ++ instruction ∷ [] }
 abbrev pub length_at : State → State
 length_at s = let n = range_at 0 s.fuel s.bytes in state_of (s.made ++ instr.I32Const (cast_signed w32 n.0) ∷ []) (s.fuel - n.0) n.1
 
--- an operand, by the draw of a value: a length is drawn as an i32, save where lengths are config
+-- an operand, by the draw of a value: a length is drawn as an i32, save where lengths are limited
 abbrev pub operand_at : Config → (ValType → State → Option State) → Operand → State → Option State
 operand_at config draw (Value value) s = draw value s
 operand_at config draw Length s = if config.limit_arrays_in_const_exprs then Some (length_at s) else draw I32 s

@@ -25,7 +25,7 @@ page_size_at config bytes =
     let stated = if config.custom_page_sizes_enabled then bool_at bytes else (false, bytes) in
     if stated.0 then stated_page_at stated.1 else (None, stated.1)
 
--- a memory has at least a page where nothing may trap
+-- a memory has at least a page with `disallow_traps`
 abbrev pub least_pages : Config → ℕ
 least_pages config = if config.disallow_traps then 1 else 0
 

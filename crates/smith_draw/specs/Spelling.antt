@@ -1,7 +1,7 @@
--- Which bytes spell types: pieces of bytes, in the words of this project. Types that a spelling knows are unshared, without
--- supertypes, and hold nullable references.
-use Rattle.std.specs.Prelude.{◌≡◌, ℕ, ◌<◌, ◌≤◌, ◌+◌, ◌-◌, ◌&&◌, Bool, true, false, not, nat_lt, IsTrue, List, [], ◌∷◌, ◌++◌, Some, None, length, slice_get}
-use Rattle.std.specs.List.{list_any}
+-- Which bytes spell types: pieces of bytes, in the words of this project. Types that a spelling knows are unshared and without
+-- supertypes.
+use Rattle.std.specs.Prelude.{◌≡◌, ℕ, ◌<◌, ◌≤◌, ◌+◌, ◌-◌, ◌&&◌, ◌⊎◌, Bool, true, false, not, nat_lt, IsTrue, List, [], ◌∷◌, ◌++◌, Some, None, length, slice_get}
+use Rattle.std.specs.List.{All, list_any}
 use Rattle.smith_bytes.specs.Spelling.{SpellsBool, SpellsNumber, SpellsRefusal, Where, Joined, Each, Listed}
 use Rattle.smith_types.specs.declared.value_type.HeapType.{HeapType}
 use Rattle.smith_types.specs.declared.value_type.HeapType.TheVariants.{Abstract, Concrete, Exact}
@@ -17,8 +17,10 @@ use Rattle.smith_types.specs.declared.composite_type.CompositeInnerType.{Composi
 use Rattle.smith_types.specs.declared.composite_type.CompositeInnerType.TheVariants.{Array, Func, Struct}
 use Rattle.smith_types.specs.declared.composite_type.CompositeType.{CompositeType}
 use Rattle.smith_types.specs.declared.composite_type.SubType.{SubType}
+use Rattle.smith_types.specs.Grounded.{IsGroundedByStructs}
 use Rattle.smith_types.specs.Space.{Space}
-use Rattle.smith_types.specs.Matching.{IsInnerInRange}
+use Rattle.smith_types.specs.Subtyping.{IsInRange}
+use Rattle.smith_types.specs.ValidTypes.{values_of}
 use Rattle.smith_config.specs.declared.config.Config.{Config}
 use Rattle.smith_config.specs.Shapes.{space_of}
 use Rattle.smith_draw.specs.declared.value_type.ValueClass.{ValueClass}
@@ -51,11 +53,15 @@ SpellsHeapType config limit (Concrete index) piece =
     IsTrue (config.gc_enabled && nat_lt index limit) × Joined (SpellsConcrete config limit true) (SpellsNumber index 0 (limit - 1)) piece
 SpellsHeapType config limit (Exact index) piece = ⊥
 
--- a nullable reference, where there are reference types
+-- whether a reference is not nullable, where there are such references; else it is nullable
+abbrev pub SpellsNullable : Bool → Bool → List ℕ → Type 0
+SpellsNullable true nullable piece = SpellsBool (not nullable) piece
+SpellsNullable false nullable piece = IsTrue nullable × (piece ≡ [])
+
+-- a reference, where there are reference types: its heap type, then whether it is not nullable
 pub record SpellsRefType (config : Config) (limit : ℕ) (reference : RefType) (piece : List ℕ) : Type 0 where
   pub enabled : IsTrue config.reference_types_enabled
-  pub nullable : IsTrue reference.nullable
-  pub heap_type : SpellsHeapType config limit reference.heap_type piece
+  pub form : Joined (SpellsHeapType config limit reference.heap_type) (SpellsNullable config.non_nullable_enabled reference.nullable) piece
 
 -- the class of a value type
 abbrev pub class_of : ValType → ValueClass
@@ -66,9 +72,9 @@ class_of vals.F64 = F64
 class_of vals.V128 = V128
 class_of (vals.Ref reference) = Reference
 
--- what follows the class: of a reference its heap type
+-- what follows the class: of a reference the reference type
 abbrev pub SpellsBehindClass : Config → ℕ → ValType → List ℕ → Type 0
-SpellsBehindClass config limit (vals.Ref reference) piece = IsTrue reference.nullable × SpellsHeapType config limit reference.heap_type piece
+SpellsBehindClass config limit (vals.Ref reference) piece = SpellsRefType config limit reference piece
 SpellsBehindClass config limit _ piece = piece ≡ []
 
 -- a value type: the place of its class, and what follows it
@@ -163,27 +169,35 @@ SpellsGroups config before stands (group ∷ groups) piece =
 abbrev pub IsRoot : SubType → Type 0
 IsRoot t = t.supertype ≡ None
 
--- types behind others, each of which refers to types before it alone
-abbrev pub ReferBack : List SubType → List SubType → Type 0
-ReferBack before [] = Unit {0}
-ReferBack before (t ∷ types) = IsInnerInRange before t.composite_type.inner × ReferBack (before ++ t ∷ []) types
+-- a value type refers to these types alone, and a reference that is not nullable is grounded by a struct type among them
+abbrev pub RefersTo : Config → List SubType → ValType → Type 0
+RefersTo config types (vals.Ref reference) =
+    IsInRange types reference.heap_type × (IsTrue reference.nullable ⊎ IsGroundedByStructs types config.custom_descriptors_enabled reference.heap_type)
+RefersTo config types _ = Unit {0}
 
--- groups behind types: none is empty, there is room for all, and their types refer to types before them alone
-abbrev pub GroupsFit : ℕ → List SubType → List (List SubType) → Type 0
-GroupsFit most before [] = Unit {0}
-GroupsFit most before (group ∷ groups) =
-    (0 < length group) × (length before + length group ≤ most) × ReferBack before group × GroupsFit most (before ++ group) groups
+-- types behind others, each of which refers to types before it alone, and has references that are not nullable only where a
+-- struct type before it grounds them
+abbrev pub ReferBack : Config → List SubType → List SubType → Type 0
+ReferBack config before [] = Unit {0}
+ReferBack config before (t ∷ types) = All (RefersTo config before) (values_of t.composite_type.inner) × ReferBack config (before ++ t ∷ []) types
 
--- a space with one group more, of types that refer to types before them alone
+-- groups behind types: none is empty, there is room for all, and their types refer to types before them alone, which ground their
+-- references that are not nullable
+abbrev pub GroupsFit : Config → List SubType → List (List SubType) → Type 0
+GroupsFit config before [] = Unit {0}
+GroupsFit config before (group ∷ groups) =
+    (0 < length group) × (length before + length group ≤ config.max_types) × ReferBack config before group × GroupsFit config (before ++ group) groups
+
+-- a space with one group more, of types that refer to types before them alone, which ground their references that are not nullable
 pub record SpellsAdded (config : Config) (before space : Space) (piece : List ℕ) : Type 0 where
   pub added : List SubType
   pub is_behind : space ≡ with_group (before.types ++ added) before.groups
-  pub back : ReferBack before.types added
+  pub back : ReferBack config before.types added
   pub spelled : SpellsGroup config before.types (nat_lt 0 (length before.groups)) added piece
 
 -- the space of groups that fit
 pub record SpellsSpace (config : Config) (space : Space) (piece : List ℕ) : Type 0 where
   pub parts : List (List SubType)
   pub is_of : space ≡ space_of parts
-  pub fit : GroupsFit config.max_types [] parts
+  pub fit : GroupsFit config [] parts
   pub spelled : SpellsGroups config [] false parts piece

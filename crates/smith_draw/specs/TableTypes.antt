@@ -9,7 +9,7 @@ use Rattle.smith_draw.specs.Memories.{memory64_at}
 use Rattle.smith_draw.specs.SharedHeapTypes.{is_heap_type_shared}
 use Rattle.smith_draw.specs.ValueTypes.{ref_type_at}
 
--- a table has at least an element where nothing may trap (own rule)
+-- a table has at least an element with `disallow_traps` (own rule)
 abbrev pub least_elements : Config → ℕ
 least_elements config = if config.disallow_traps then 1 else 0
 

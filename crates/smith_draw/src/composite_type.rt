@@ -18,10 +18,10 @@ ghost use Rattle.smith_draw.specs.CompositeTypes.{
   inner_of_number_at,
   composite_type_at,
 };
-ghost use Rattle.smith_draw.specs.Spelling.{SpellsFuncType, SpellsStructType, SpellsCompositeType};
+ghost use Rattle.smith_draw.specs.Spelling.{RefersTo, SpellsFuncType, SpellsStructType, SpellsCompositeType};
 
 use crate::field_type::draw_field_type;
-use crate::spaces::Spaces;
+use crate::spaces::{Spaces, orderly};
 use crate::standing::Standing;
 use crate::value_type::{draw_sharedness, draw_val_type};
 use smith_bytes::{Error, Unstructured, goes_on};
@@ -179,8 +179,9 @@ pub fn arbitrary_func_type(
     ensures valid { IfOk result (IsFuncTypeValid (features_of config.now) limit) }
     ensures stands { IfOk result (IsFuncInRange spaces.now.types.now.types) }
     ensures shared { IsTrue must_share → IfOk result (λ drawn. All (IsShareable spaces.now.types.now.types) (values_of (Func drawn))) }
-    ensures reach { config.now.non_nullable_enabled ≡ false → must_share ≡ false → IfOk result (λ drawn. Takes (SpellsSuch (IsFuncInRange spaces.now.types.now.types) (SpellsFuncType config.now limit)) u.old drawn u.new) }
+    ensures reach { must_share ≡ false → IfOk result (λ drawn. Takes (SpellsSuch (λ function. All (RefersTo config.now spaces.now.types.now.types) (values_of (Func function))) (SpellsFuncType config.now limit)) u.old drawn u.new) }
 {
+    orderly(spaces);
     let standing = Standing::over(config, spaces);
     draw_func_type(alloc, config, &standing, must_share, limit, u)
 }
@@ -204,8 +205,9 @@ pub fn arbitrary_struct_type(
     ensures valid { IfOk result (λ drawn. All (IsValTypeValid (features_of config.now) limit) (values_of (Struct drawn))) }
     ensures stands { IfOk result (λ drawn. All (IsFieldInRange spaces.now.types.now.types) drawn.fields) }
     ensures shared { IsTrue must_share → IfOk result (λ drawn. All (IsShareable spaces.now.types.now.types) (values_of (Struct drawn))) }
-    ensures reach { config.now.non_nullable_enabled ≡ false → must_share ≡ false → IfOk result (λ drawn. Takes (SpellsSuch (λ structure. All (IsFieldInRange spaces.now.types.now.types) structure.fields) (SpellsStructType config.now limit)) u.old drawn u.new) }
+    ensures reach { must_share ≡ false → IfOk result (λ drawn. Takes (SpellsSuch (λ structure. All (RefersTo config.now spaces.now.types.now.types) (values_of (Struct structure))) (SpellsStructType config.now limit)) u.old drawn u.new) }
 {
+    orderly(spaces);
     let standing = Standing::over(config, spaces);
     draw_struct_type(alloc, config, &standing, must_share, limit, u)
 }
@@ -229,8 +231,9 @@ pub fn arbitrary_composite_type(
     ensures valid { IfOk result (λ drawn. All (IsValTypeValid (features_of config.now) limit) (values_of drawn.inner)) }
     ensures stands { IfOk result (λ drawn. IsInnerInRange spaces.now.types.now.types drawn.inner) }
     ensures shared { IfOk result (λ drawn. IsTrue drawn.shared → All (IsShareable spaces.now.types.now.types) (values_of drawn.inner)) }
-    ensures reach { config.now.non_nullable_enabled ≡ false → IfOk result (λ drawn. Takes (SpellsSuch (λ composite. IsInnerInRange spaces.now.types.now.types composite.inner) (SpellsCompositeType config.now limit)) u.old drawn u.new) }
+    ensures reach { IfOk result (λ drawn. Takes (SpellsSuch (λ composite. All (RefersTo config.now spaces.now.types.now.types) (values_of composite.inner)) (SpellsCompositeType config.now limit)) u.old drawn u.new) }
 {
+    orderly(spaces);
     let standing = Standing::over(config, spaces);
     draw_composite_type(alloc, config, &standing, limit, u)
 }

@@ -69,7 +69,7 @@ fn pages_in(bytes: u128, page_size: Option<u32>) -> u128
     bytes / (1 << page_size.unwrap_or(16))
 }
 
-/// The greatest number of pages of a drawn memory: within the bytes that `config` allows, but at least 1 where nothing may trap.
+/// The greatest number of pages of a drawn memory: within the bytes that `config` allows, but at least 1 with `disallow_traps`.
 #[tactic(auto, unfolding(crate::specs::Memories::drawn_pages))]
 fn drawn_pages(config: &Config, memory64: bool, page_size: Option<u32>) -> u64
     requires { page_log2 page_size ≤ 16 }
@@ -136,8 +136,8 @@ fn draw_memory_type(config: &Config, u: &mut Unstructured<'_>) -> MemoryType
     }
 }
 
-/// Draws a memory type. Its limits, in pages, stay within the bytes that `config` allows, but for a single page where nothing may
-/// trap. The standard's section Structure, Memory Types.
+/// Draws a memory type. Its limits, in pages, stay within the bytes that `config` allows, but for a single page with
+/// `disallow_traps`. The standard's section Structure, Memory Types.
 ///
 /// The memory type is valid where `config` passes its check, but for the pair of `min_imports` and `max_imports`.
 ///

@@ -7,9 +7,9 @@ ghost use Rattle.smith_config.specs.Sanitized.{IsSanitized};
 ghost use Rattle.smith_draw.specs.Drawing.{AlwaysDraws, Draws};
 ghost use Rattle.smith_draw.specs.Grounding.{standing_in};
 ghost use Rattle.smith_draw.specs.FieldTypes.{storage_of_number_at, storage_type_at, field_type_at};
-ghost use Rattle.smith_draw.specs.Spelling.{SpellsStorage, SpellsField};
+ghost use Rattle.smith_draw.specs.Spelling.{RefersTo, SpellsStorage, SpellsField};
 
-use crate::spaces::Spaces;
+use crate::spaces::{Spaces, orderly};
 use crate::standing::Standing;
 use crate::value_type::draw_val_type;
 use smith_bytes::{Error, Unstructured};
@@ -73,8 +73,9 @@ pub fn arbitrary_storage_type(
     ensures valid { IfOk result (λ drawn. All (IsValTypeValid (features_of config.now) limit) (values_of_storage drawn)) }
     ensures stands { IfOk result (IsStorageInRange spaces.now.types.now.types) }
     ensures shared { IsTrue must_share → IfOk result (λ drawn. All (IsShareable spaces.now.types.now.types) (values_of_storage drawn)) }
-    ensures reach { config.now.non_nullable_enabled ≡ false → must_share ≡ false → IfOk result (λ drawn. Takes (SpellsSuch (IsStorageInRange spaces.now.types.now.types) (SpellsStorage config.now limit)) u.old drawn u.new) }
+    ensures reach { must_share ≡ false → IfOk result (λ drawn. Takes (SpellsSuch (λ storage. All (RefersTo config.now spaces.now.types.now.types) (values_of_storage storage)) (SpellsStorage config.now limit)) u.old drawn u.new) }
 {
+    orderly(spaces);
     let standing = Standing::over(config, spaces);
     Ok(draw_storage_type(config, &standing, must_share, limit, u))
 }
@@ -100,8 +101,9 @@ pub fn arbitrary_field_type(
     ensures valid { IfOk result (λ drawn. All (IsValTypeValid (features_of config.now) limit) (values_of_storage drawn.element_type)) }
     ensures stands { IfOk result (IsFieldInRange spaces.now.types.now.types) }
     ensures shared { IsTrue must_share → IfOk result (λ drawn. All (IsShareable spaces.now.types.now.types) (values_of_storage drawn.element_type)) }
-    ensures reach { config.now.non_nullable_enabled ≡ false → must_share ≡ false → IfOk result (λ drawn. Takes (SpellsSuch (IsFieldInRange spaces.now.types.now.types) (SpellsField config.now limit)) u.old drawn u.new) }
+    ensures reach { must_share ≡ false → IfOk result (λ drawn. Takes (SpellsSuch (λ field. All (RefersTo config.now spaces.now.types.now.types) (values_of_storage field.element_type)) (SpellsField config.now limit)) u.old drawn u.new) }
 {
+    orderly(spaces);
     let standing = Standing::over(config, spaces);
     Ok(draw_field_type(config, &standing, must_share, limit, u))
 }

@@ -70,8 +70,8 @@ pub fn draw_global_type(
 }
 
 /// Draws a global type: a value type over the types of `spaces`, whether the global is shared, and whether it is mutable. A
-/// global of a reference, which may be null, is shared exactly where the heap type of the reference is. The standard's section
-/// Structure, Global Types.
+/// global of a reference is shared exactly where the heap type of the reference is. The standard's section Structure, Global
+/// Types.
 ///
 /// `config` is sanitised. The global type is valid where the types of `spaces` are.
 ///

@@ -334,7 +334,7 @@ pub fn arbitrary_rec_group(
     ensures valid { AreTypesValid (features_of config.now) types.old → OnOk result (AreTypesValid (features_of config.now) types.new) }
     ensures most { OnOk result (length types.new.types ≤ config.now.max_types) }
     ensures some { OnOk result (allow_empty ≡ false → length types.old.types < length types.new.types) }
-    ensures reach { config.now.non_nullable_enabled ≡ false → allow_empty ≡ true → All IsRoot types.old.types → OnOk result (Takes (SpellsAdded config.now types.old) u.old types.new u.new) }
+    ensures reach { allow_empty ≡ true → All IsRoot types.old.types → OnOk result (Takes (SpellsAdded config.now types.old) u.old types.new u.new) }
 {
     let _groups = types.types();
     add_rec_group(alloc, config, types, entities, allow_empty, u)
@@ -361,7 +361,7 @@ pub fn arbitrary_types(
     ensures few_values { (most : ℕ) → 20 ≤ most → All (HasFewValues most) types.old.types → OnOk result (All (HasFewValues most) types.new.types) }
     ensures nullable { config.now.non_nullable_enabled ≡ false → ¬ HoldsNonNullableField types.old.types → OnOk result (¬ HoldsNonNullableField types.new.types) }
     ensures grounded { ¬ HoldsUngroundedField config.now (over (functions_in config.now entities.now) types.old.types) → OnOk result (¬ HoldsUngroundedField config.now (over (functions_in config.now entities.now) types.new.types)) }
-    ensures reach { config.now.non_nullable_enabled ≡ false → config.now.min_types ≡ 0 → types.old ≡ space_of [] → OnOk result (Takes (SpellsSpace config.now) u.old types.new u.new) }
+    ensures reach { config.now.min_types ≡ 0 → types.old ≡ space_of [] → OnOk result (Takes (SpellsSpace config.now) u.old types.new u.new) }
 {
     let _types = types.types();
     add_all_types(alloc, config, types, entities, u)

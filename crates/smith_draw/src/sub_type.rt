@@ -1,9 +1,8 @@
 ghost use Rattle.std.specs.Prelude.{◌≡◌, ◌<◌, ◌+◌, ◌^◌, None, Some, length, slice_get, IsTrue, IsSome, IfOk, All, false};
 ghost use Rattle.smith_bytes.specs.Takes.{Takes, SpellsSuch};
-ghost use Rattle.smith_types.specs.Matching.{IsInnerInRange};
 ghost use Rattle.smith_types.specs.Space.{MayFollow};
 ghost use Rattle.smith_types.specs.OpenTypes.{AreTypesOpen};
-ghost use Rattle.smith_types.specs.ValidTypes.{IsTypeValid};
+ghost use Rattle.smith_types.specs.ValidTypes.{values_of, IsTypeValid};
 ghost use Rattle.smith_config.specs.Features.{features_of};
 ghost use Rattle.smith_config.specs.Sanitized.{IsSanitized};
 ghost use Rattle.smith_draw.specs.Drawing.{AlwaysDraws, Draws};
@@ -19,7 +18,7 @@ ghost use Rattle.smith_draw.specs.SubTypes.{
   HasSuperType,
   SomeMayHaveSubtypes,
 };
-ghost use Rattle.smith_draw.specs.Spelling.{IsRoot, SpellsSubType};
+ghost use Rattle.smith_draw.specs.Spelling.{IsRoot, RefersTo, SpellsSubType};
 
 use crate::choice::choose;
 use crate::composite_type::draw_composite_type;
@@ -157,7 +156,7 @@ pub fn arbitrary_sub_type(
     ensures draws { Draws (sub_type_at config.now (standing_in config.now spaces.now) limit u.old) result u.old u.new }
     ensures valid { AreTypesOpen (features_of config.now) limit spaces.now.types.now → IfOk result (IsTypeValid (features_of config.now) spaces.now.types.now.types limit) }
     ensures follows { IfOk result (HasSuperType spaces.now.types.now.types) }
-    ensures reach { config.now.non_nullable_enabled ≡ false → All IsRoot spaces.now.types.now.types → IfOk result (λ drawn. Takes (SpellsSuch (λ t. IsInnerInRange spaces.now.types.now.types t.composite_type.inner) (SpellsSubType config.now spaces.now.types.now.types limit)) u.old drawn u.new) }
+    ensures reach { All IsRoot spaces.now.types.now.types → IfOk result (λ drawn. Takes (SpellsSuch (λ t. All (RefersTo config.now spaces.now.types.now.types) (values_of t.composite_type.inner)) (SpellsSubType config.now spaces.now.types.now.types limit)) u.old drawn u.new) }
 {
     let standing = Standing::over(config, spaces);
     draw_sub_type(alloc, config, &standing, limit, u)

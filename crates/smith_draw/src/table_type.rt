@@ -22,7 +22,7 @@ use smith_config::Config;
 use smith_types::{TableType, most_elements_of};
 use std::alloc::Global;
 
-/// The greatest number of elements of a drawn table: at most what `config` allows, but at least 1 where nothing may trap.
+/// The greatest number of elements of a drawn table: at most what `config` allows, but at least 1 with `disallow_traps`.
 #[tactic(auto, unfolding(crate::specs::TableTypes::drawn_elements))]
 fn drawn_elements(config: &Config, table64: bool) -> u64
     ensures exact { result ≡ drawn_elements config.now table64 }
@@ -67,7 +67,7 @@ pub fn draw_table_type(
 }
 
 /// Draws a table type over the types of `spaces`, of nullable references or such as [`arbitrary_ref_type`] draws. Its limits, in
-/// elements, stay within the number that `config` allows, but for a single element where nothing may trap. The table is shared
+/// elements, stay within the number that `config` allows, but for a single element with `disallow_traps`. The table is shared
 /// where its references are. The standard's section Structure, Table Types.
 ///
 /// `config` is sanitised. The table type is valid where the types of `spaces` are.

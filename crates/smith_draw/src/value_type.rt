@@ -1,6 +1,7 @@
 ghost use Rattle.std.specs.Prelude.{◌≡◌, false, ◌<◌, IsTrue, IsOk, IfOk, slice_get};
 ghost use Rattle.smith_bytes.specs.Takes.{Takes, SpellsSuch};
 ghost use Rattle.smith_types.specs.Subtyping.{IsInRange, IsValInRange};
+ghost use Rattle.smith_types.specs.declared.value_type.ValType.TheVariants.{Ref};
 ghost use Rattle.smith_types.specs.ValidTypes.{
   IsHeapTypeValid,
   IsRefTypeValid,
@@ -28,7 +29,7 @@ ghost use Rattle.smith_draw.specs.ValueTypes.{
   val_type_at,
 };
 ghost use Rattle.smith_draw.specs.Choices.{enabled};
-ghost use Rattle.smith_draw.specs.Spelling.{SpellsHeapType, SpellsRefType, SpellsValType};
+ghost use Rattle.smith_draw.specs.Spelling.{RefersTo, SpellsHeapType, SpellsRefType, SpellsValType};
 
 use crate::choice::choose;
 use crate::spaces::{Spaces, orderly};
@@ -304,7 +305,7 @@ pub fn arbitrary_ref_type(
     ensures valid { IfOk result (IsRefTypeValid (features_of config.now) limit) }
     ensures stands { IfOk result (λ drawn. IsInRange spaces.now.types.now.types drawn.heap_type) }
     ensures shared { IsTrue must_share → IfOk result (λ drawn. IsHeapTypeShared spaces.now.types.now.types drawn.heap_type) }
-    ensures reach { config.now.non_nullable_enabled ≡ false → must_share ≡ false → IfOk result (λ drawn. Takes (SpellsSuch (λ reference. IsInRange spaces.now.types.now.types reference.heap_type) (SpellsRefType config.now limit)) u.old drawn u.new) }
+    ensures reach { must_share ≡ false → IfOk result (λ drawn. Takes (SpellsSuch (λ reference. RefersTo config.now spaces.now.types.now.types (Ref reference)) (SpellsRefType config.now limit)) u.old drawn u.new) }
 {
     orderly(spaces);
     let standing = Standing::over(config, spaces);
@@ -332,8 +333,9 @@ pub fn arbitrary_valtype(
     ensures valid { IfOk result (IsValTypeValid (features_of config.now) limit) }
     ensures stands { IfOk result (IsValInRange spaces.now.types.now.types) }
     ensures shared { IsTrue must_share → IfOk result (IsShareable spaces.now.types.now.types) }
-    ensures reach { config.now.non_nullable_enabled ≡ false → must_share ≡ false → IfOk result (λ drawn. Takes (SpellsSuch (IsValInRange spaces.now.types.now.types) (SpellsValType config.now limit)) u.old drawn u.new) }
+    ensures reach { must_share ≡ false → IfOk result (λ drawn. Takes (SpellsSuch (RefersTo config.now spaces.now.types.now.types) (SpellsValType config.now limit)) u.old drawn u.new) }
 {
+    orderly(spaces);
     let standing = Standing::over(config, spaces);
     Ok(draw_val_type(config, &standing, must_share, limit, u))
 }

@@ -42,7 +42,7 @@ fn globals()
 fn elements()
     ensures configured { drawn_elements default_config false ≡ 1000000 }
     ensures none { drawn_elements (record default_config { max_table_elements = 0 }) true ≡ 0 }
-    ensures where_nothing_traps { drawn_elements (record default_config { max_table_elements = 0; disallow_traps = true }) true ≡ 1 }
+    ensures with_traps_disallowed { drawn_elements (record default_config { max_table_elements = 0; disallow_traps = true }) true ≡ 1 }
     ensures configured_past_32_bits { drawn_elements (record default_config { max_table_elements = 2 ^ 32 }) false ≡ 4294967295 }
     ensures configured_of_wide_addresses { drawn_elements (record default_config { max_table_elements = 2 ^ 32 }) true ≡ 2 ^ 32 }
 {}
@@ -56,7 +56,7 @@ fn tables()
     ensures unlikely { table_type_at default_config (context_of_types []) (0 ∷ 0 ∷ 0 ∷ 0 ∷ 255 ∷ 0 ∷ 0 ∷ []) ≡ (table funcref 996093 None, []) }
     ensures with_a_maximum { table_type_at default_config (context_of_types []) (0 ∷ 0 ∷ 0 ∷ 0 ∷ 0 ∷ 1 ∷ 0 ∷ 0 ∷ 9 ∷ 1 ∷ []) ≡ (table (nullable (Abstract false heap.Extern)) 0 (Some 9), []) }
     ensures where_one_is_required { table_type_at (record default_config { table_max_size_required = true }) (context_of_types []) (0 ∷ 0 ∷ 0 ∷ 0 ∷ 0 ∷ 0 ∷ 0 ∷ 9 ∷ []) ≡ (table funcref 0 (Some 9), []) }
-    ensures where_nothing_traps { table_type_at (record default_config { max_table_elements = 0; disallow_traps = true }) (context_of_types []) [] ≡ (table funcref 1 None, []) }
+    ensures with_traps_disallowed { table_type_at (record default_config { max_table_elements = 0; disallow_traps = true }) (context_of_types []) [] ≡ (table funcref 1 None, []) }
     ensures shared { table_type_at (record default_config { shared_everything_threads_enabled = true }) (context_of_types []) [] ≡ (record (table (nullable (Abstract true heap.Func)) 0 None) { shared = true }, []) }
 {}
 

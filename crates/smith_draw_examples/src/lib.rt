@@ -10,5 +10,6 @@ mod locals;
 mod offered;
 mod offered_lists;
 mod offsets;
+mod references;
 mod sizes;
 mod spelled_groups;

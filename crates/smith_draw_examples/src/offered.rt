@@ -38,7 +38,7 @@ fn ancestors_are_all()
     ensures { AncestorsAreAll }
 {}
 
-#[tactic(auto, unfolding(smith_draw::specs::MatchingTypes::matching_heap_type_at, smith_draw::specs::MatchingTypes::matching_ref_type_at, smith_draw::specs::MatchingTypes::matching_field_type_at, smith_draw::specs::Offered::subtypes_offered, smith_draw::specs::Choices::chosen_at, smith_bytes::specs::Draws::range_at, smith_bytes::specs::Draws::digit_count,))]
+#[tactic(auto, unfolding(smith_draw::specs::MatchingTypes::matching_heap_type_at, smith_draw::specs::MatchingTypes::references_offered, smith_draw::specs::MatchingTypes::matching_ref_type_at, smith_draw::specs::MatchingTypes::matching_field_type_at, smith_draw::specs::Offered::subtypes_offered, smith_draw::specs::Choices::chosen_at, smith_bytes::specs::Draws::range_at, smith_bytes::specs::Draws::digit_count,))]
 fn matching_types()
     ensures last { matching_heap_type_at default_config struct_and_below (plain heap.Any) (7 ∷ []) ≡ (Concrete 1, []) }
     ensures none { matching_heap_type_at default_config struct_and_below (plain heap.Any) (5 ∷ []) ≡ (plain heap.None, []) }

@@ -58,7 +58,7 @@ fn pages()
     ensures drawn_bytes { drawn_pages default_config false (Some 0) ≡ 4294967295 }
     ensures drawn_of_wide_addresses { drawn_pages default_config true None ≡ 2 ^ 48 }
     ensures drawn_of_no_bytes { drawn_pages (record default_config { max_memory32_bytes = 0 }) false None ≡ 0 }
-    ensures drawn_where_nothing_traps { drawn_pages (record default_config { max_memory32_bytes = 0; disallow_traps = true }) false None ≡ 1 }
+    ensures drawn_with_traps_disallowed { drawn_pages (record default_config { max_memory32_bytes = 0; disallow_traps = true }) false None ≡ 1 }
 {}
 
 #[tactic(auto, unfolding(smith_draw::specs::Memories::memtype_at, smith_draw::specs::Memories::shared_memory_at, smith_draw::specs::Memories::memory64_at, smith_draw::specs::Memories::page_size_at, smith_draw::specs::Memories::likely_pages, smith_draw::specs::Memories::drawn_pages, smith_draw::specs::Limits::limits64_at, smith_draw::specs::Limits::gradually_at, smith_draw::specs::Limits::gradual, smith_draw::specs::Limits::sixth_power, smith_draw::specs::Limits::scaled, smith_bytes::specs::Draws::whole_at, smith_bytes::specs::Draws::bool_at, smith_bytes::specs::Draws::range_at, smith_bytes::specs::Draws::digit_count, smith_bytes::specs::Draws::ratio_at))]

@@ -54,9 +54,9 @@ fn write_back(module: &Module, sink: &mut Sink) -> Result<(), EncodeError>
 /// Encodes `module` in the binary format of the WebAssembly Core Specification 3.0 (chapter Binary Format), in fresh memory of
 /// `alloc`.
 ///
-/// A type or import section is written where the module's flag says so or it isn't empty. The number of data segments is stated before
-/// the bodies where there is one and the configuration of the module enables bulk memory. Other sections are written where they aren't
-/// empty.
+/// A type or import section is written where the module's flag says so or it isn't empty (groups without types count). The number of
+/// data segments is stated before the bodies where there is one and the configuration of the module enables bulk memory. Other
+/// sections are written where they aren't empty.
 ///
 /// An active segment names its table or memory only where that is not the first, or where its items are of a type that the short
 /// form can't state, so that tools without bulk memory read as many modules as possible. A body that is not raw begins with the

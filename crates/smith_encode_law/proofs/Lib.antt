@@ -7,4 +7,5 @@ pub mod ImportLemmas
 pub mod InstructionLemmas
 pub mod ModuleLemmas
 pub mod PartLemmas
+pub mod SegmentLemmas
 pub mod TypeLemmas

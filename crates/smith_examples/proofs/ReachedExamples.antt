@@ -10,7 +10,6 @@ use Rattle.wasm_smith.specs.Reached.{BeginsWithMember}
 pub function_first : (behind : List ℕ) → BeginsWithMember default_config one_function_type (0 ∷ []) (function_bytes ++ behind) behind
 unfolding digit_count
 function_first behind = record {
-  nullable = refl;
   spellable = function_spellable;
   piece = function_bytes;
   spelled = one_function_spelled 1 1 1 1 0 0 0 0 0 0 1 0 refl (record { digits = refl; read = refl }) refl (record { digits = refl; read = refl }) refl refl refl refl refl refl refl;

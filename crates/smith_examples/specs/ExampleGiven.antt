@@ -112,7 +112,7 @@ memory_alone config one = record (empty_module config) { memories = one ∷ []; 
 abbrev pub full_memory : Parts
 full_memory = memory_alone (record default_config { min_memories = 1 }) (memory 65536 (Some 65536))
 
--- a memory of a page where no byte is configured, but nothing may trap
+-- a memory of a page where no byte is configured, with `disallow_traps`
 abbrev pub forced_page : Parts
 forced_page = memory_alone (record default_config { disallow_traps = true; max_memory32_bytes = 0; min_memories = 1 }) (shared_memory 1)
 

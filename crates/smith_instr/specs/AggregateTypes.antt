@@ -1,4 +1,5 @@
--- The types of aggregate instructions: the section Validation, Aggregate Instructions, of the WebAssembly Core Specification 3.0.
+-- The types of aggregate instructions: the sections Validation, Aggregate Reference, Scalar Reference and External Reference
+-- Instructions, of the WebAssembly Core Specification 3.0.
 -- Shared references are an own rule: an instruction on every i31, array or external reference takes either sharedness.
 use Rattle.std.specs.Prelude.{◌≡◌, ℕ, ◌<◌, Bool, true, false, List, [], ◌∷◌, replicate, slice_get, Some, All}
 use Rattle.smith_types.specs.Expressions.{IsDefaultable, IsStructAt, IsArrayAt, reference_to, unpacked, field_values}

@@ -1,7 +1,7 @@
 -- The features and the kind of instructions that each instruction needs. That a body may use an instruction only where its feature
 -- is on is a rule of this project; the standard has one language. Kinds are the standard's sections of chapter Structure,
 -- Instructions; that those of numbers, vectors and memories come in two, without floats and whole, is this project's rule.
-use Rattle.std.specs.Prelude.{◌≡◌, Bool, true, false, IsTrue, bit_and, if◌then◌else◌}
+use Rattle.std.specs.Prelude.{Bool, true, false, IsTrue, ◌&&◌, ◌||◌, ◌==◌, bit_and, if◌then◌else◌}
 use Rattle.smith_types.specs.Features.{Features}
 use Rattle.smith_types.specs.Instructions.{kind_bits, kinds_bits}
 use Rattle.smith_types.specs.declared.instruction_kind.InstructionKind.{InstructionKind}
@@ -81,8 +81,8 @@ store_kind store.F32 = kind.Memory
 store_kind store.F64 = kind.Memory
 store_kind _ = kind.MemoryInt
 
--- the kind of an instruction: its section of chapter Structure, Instructions; atomic ones, of which the
--- standard has none, count among those of memories (own rule)
+-- the kind of an instruction: its section of chapter Structure, Instructions; nop and unreachable, which the standard has among the
+-- parametric instructions, count as control, and atomic ones, of which the standard has none, among those of memories (own rules)
 abbrev pub instr_kind : Instr → InstructionKind
 instr_kind instr.Drop = kind.Parametric
 instr_kind instr.Select = kind.Parametric
@@ -114,97 +114,102 @@ instr_kind instr.AtomicFence = kind.MemoryInt
 instr_kind _ = kind.Control
 
 -- numeric instructions (own rule)
-abbrev pub IsNumericEnabled : Features → NumericInstr → Type 0
-IsNumericEnabled features (numeric.Saturate op) = IsTrue features.saturating_float_to_int
-IsNumericEnabled features (numeric.Extend op) = IsTrue features.sign_extension
-IsNumericEnabled features (numeric.Wide op) = IsTrue features.wide_arithmetic
-IsNumericEnabled features _ = Unit {0}
+abbrev pub is_numeric_enabled : Features → NumericInstr → Bool
+is_numeric_enabled features (numeric.Saturate op) = features.saturating_float_to_int
+is_numeric_enabled features (numeric.Extend op) = features.sign_extension
+is_numeric_enabled features (numeric.Wide op) = features.wide_arithmetic
+is_numeric_enabled features _ = true
 
 -- reference instructions (own rule)
-abbrev pub IsReferenceEnabled : Features → ReferenceInstr → Type 0
-IsReferenceEnabled features (reference.Null heap_type) = IsTrue features.reference_types
-IsReferenceEnabled features (reference.Func function) = IsTrue features.reference_types
-IsReferenceEnabled features reference.IsNull = IsTrue features.reference_types
-IsReferenceEnabled features reference.AsNonNull = IsTrue features.function_references
-IsReferenceEnabled features _ = IsTrue features.gc
+abbrev pub is_reference_enabled : Features → ReferenceInstr → Bool
+is_reference_enabled features (reference.Null heap_type) = features.reference_types
+is_reference_enabled features (reference.Func function) = features.reference_types
+is_reference_enabled features reference.IsNull = features.reference_types
+is_reference_enabled features reference.AsNonNull = features.function_references
+is_reference_enabled features _ = features.gc
 
 -- table instructions (own rule)
-abbrev pub IsTableEnabled : Features → TableInstr → Type 0
-IsTableEnabled features (table.Copy to from) = IsTrue features.bulk_memory
-IsTableEnabled features (table.Init index segment) = IsTrue features.bulk_memory
-IsTableEnabled features (table.ElemDrop segment) = IsTrue features.bulk_memory
-IsTableEnabled features _ = IsTrue features.reference_types
+abbrev pub is_table_enabled : Features → TableInstr → Bool
+is_table_enabled features (table.Copy to from) = features.bulk_memory
+is_table_enabled features (table.Init index segment) = features.bulk_memory
+is_table_enabled features (table.ElemDrop segment) = features.bulk_memory
+is_table_enabled features _ = features.reference_types
 
 -- instructions on whole memories (own rule)
-abbrev pub IsMemoryEnabled : Features → MemoryInstr → Type 0
-IsMemoryEnabled features (memory.Size index) = Unit {0}
-IsMemoryEnabled features (memory.Grow index) = Unit {0}
-IsMemoryEnabled features _ = IsTrue features.bulk_memory
+abbrev pub is_memory_enabled : Features → MemoryInstr → Bool
+is_memory_enabled features (memory.Size index) = true
+is_memory_enabled features (memory.Grow index) = true
+is_memory_enabled features _ = features.bulk_memory
 
 -- aggregate instructions (own rule)
-abbrev pub IsAggregateEnabled : Features → AggregateInstr → Type 0
-IsAggregateEnabled features aggregate.RefI31Shared = IsTrue features.gc × IsTrue features.shared_everything_threads
-IsAggregateEnabled features _ = IsTrue features.gc
+abbrev pub is_aggregate_enabled : Features → AggregateInstr → Bool
+is_aggregate_enabled features aggregate.RefI31Shared = features.gc && features.shared_everything_threads
+is_aggregate_enabled features _ = features.gc
 
 -- vector instructions (own rule)
-abbrev pub IsVectorEnabled : Features → VectorInstr → Type 0
-IsVectorEnabled features (vector.RelaxedFloatUnary op) = IsTrue features.simd × IsTrue features.relaxed_simd
-IsVectorEnabled features (vector.RelaxedBinary op) = IsTrue features.simd × IsTrue features.relaxed_simd
-IsVectorEnabled features (vector.RelaxedFloatBinary op) = IsTrue features.simd × IsTrue features.relaxed_simd
-IsVectorEnabled features (vector.RelaxedTernary op) = IsTrue features.simd × IsTrue features.relaxed_simd
-IsVectorEnabled features (vector.RelaxedFloatTernary op) = IsTrue features.simd × IsTrue features.relaxed_simd
-IsVectorEnabled features _ = IsTrue features.simd
+abbrev pub is_vector_enabled : Features → VectorInstr → Bool
+is_vector_enabled features (vector.RelaxedFloatUnary op) = features.simd && features.relaxed_simd
+is_vector_enabled features (vector.RelaxedBinary op) = features.simd && features.relaxed_simd
+is_vector_enabled features (vector.RelaxedFloatBinary op) = features.simd && features.relaxed_simd
+is_vector_enabled features (vector.RelaxedTernary op) = features.simd && features.relaxed_simd
+is_vector_enabled features (vector.RelaxedFloatTernary op) = features.simd && features.relaxed_simd
+is_vector_enabled features _ = features.simd
 
 -- blocks of several results or with parameters (own rule)
-abbrev pub IsBlockEnabled : Features → BlockType → Type 0
-IsBlockEnabled features (block.Func index) = IsTrue features.multi_value
-IsBlockEnabled features _ = Unit {0}
+abbrev pub is_block_enabled : Features → BlockType → Bool
+is_block_enabled features (block.Func index) = features.multi_value
+is_block_enabled features _ = true
 
 -- the features that an instruction needs (own rule)
-abbrev pub HasFeatures : Features → Instr → Type 0
-HasFeatures features (instr.Block ty) = IsBlockEnabled features ty
-HasFeatures features (instr.Loop ty) = IsBlockEnabled features ty
-HasFeatures features (instr.If ty) = IsBlockEnabled features ty
-HasFeatures features (instr.TryTable ty clauses) = IsBlockEnabled features ty × IsTrue features.exceptions
-HasFeatures features (instr.Throw tag) = IsTrue features.exceptions
-HasFeatures features instr.ThrowRef = IsTrue features.exceptions
-HasFeatures features (instr.BrOnNull label) = IsTrue features.function_references
-HasFeatures features (instr.BrOnNonNull label) = IsTrue features.function_references
-HasFeatures features (instr.BrOnCast cast) = IsTrue features.gc
-HasFeatures features (instr.BrOnCastFail cast) = IsTrue features.gc
-HasFeatures features (instr.CallRef ty) = IsTrue features.function_references
-HasFeatures features (instr.ReturnCall function) = IsTrue features.tail_call
-HasFeatures features (instr.ReturnCallIndirect index ty) = IsTrue features.tail_call
-HasFeatures features (instr.ReturnCallRef ty) = IsTrue features.tail_call × IsTrue features.function_references
-HasFeatures features (instr.SelectTyped value) = IsTrue features.reference_types
-HasFeatures features (instr.V128Const bits) = IsTrue features.simd
-HasFeatures features (instr.Numeric op) = IsNumericEnabled features op
-HasFeatures features (instr.Reference op) = IsReferenceEnabled features op
-HasFeatures features (instr.Table op) = IsTableEnabled features op
-HasFeatures features (instr.Memory op) = IsMemoryEnabled features op
-HasFeatures features (instr.Aggregate op) = IsAggregateEnabled features op
-HasFeatures features (instr.Vector op) = IsVectorEnabled features op
-HasFeatures features (instr.VectorLoad op at) = IsTrue features.simd
-HasFeatures features (instr.VectorStore at) = IsTrue features.simd
-HasFeatures features (instr.VectorLoadLane log2_bytes at lane) = IsTrue features.simd
-HasFeatures features (instr.VectorStoreLane log2_bytes at lane) = IsTrue features.simd
-HasFeatures features (instr.Atomic op at) = IsTrue features.threads
-HasFeatures features instr.AtomicFence = IsTrue features.threads
-HasFeatures features _ = Unit {0}
+abbrev pub has_features : Features → Instr → Bool
+has_features features (instr.Block ty) = is_block_enabled features ty
+has_features features (instr.Loop ty) = is_block_enabled features ty
+has_features features (instr.If ty) = is_block_enabled features ty
+has_features features (instr.TryTable ty clauses) = is_block_enabled features ty && features.exceptions
+has_features features (instr.Throw tag) = features.exceptions
+has_features features instr.ThrowRef = features.exceptions
+has_features features (instr.BrOnNull label) = features.function_references
+has_features features (instr.BrOnNonNull label) = features.function_references
+has_features features (instr.BrOnCast cast) = features.gc
+has_features features (instr.BrOnCastFail cast) = features.gc
+has_features features (instr.CallRef ty) = features.function_references
+has_features features (instr.ReturnCall function) = features.tail_call
+has_features features (instr.ReturnCallIndirect index ty) = features.tail_call
+has_features features (instr.ReturnCallRef ty) = features.tail_call && features.function_references
+has_features features (instr.SelectTyped value) = features.reference_types
+has_features features (instr.V128Const bits) = features.simd
+has_features features (instr.Numeric op) = is_numeric_enabled features op
+has_features features (instr.Reference op) = is_reference_enabled features op
+has_features features (instr.Table op) = is_table_enabled features op
+has_features features (instr.Memory op) = is_memory_enabled features op
+has_features features (instr.Aggregate op) = is_aggregate_enabled features op
+has_features features (instr.Vector op) = is_vector_enabled features op
+has_features features (instr.VectorLoad op at) = features.simd
+has_features features (instr.VectorStore at) = features.simd
+has_features features (instr.VectorLoadLane log2_bytes at lane) = features.simd
+has_features features (instr.VectorStoreLane log2_bytes at lane) = features.simd
+has_features features (instr.Atomic op at) = features.threads
+has_features features instr.AtomicFence = features.threads
+has_features features _ = true
 
 -- a kind is among the kinds (own rule)
-abbrev pub IsAllowed : InstructionKinds → InstructionKind → Type 0
-IsAllowed kinds wanted = bit_and (kinds_bits kinds) (kind_bits wanted) ≡ kind_bits wanted
+abbrev pub is_allowed : InstructionKinds → InstructionKind → Bool
+is_allowed kinds wanted = bit_and (kinds_bits kinds) (kind_bits wanted) == kind_bits wanted
 
--- where a body may use an instruction, by the features and the allowed kinds (own rule). `unreachable`, `else` and `end` are
--- allowed by every set of kinds: without them there is no body of every type, and no block
-abbrev pub IsKindEnabled : InstructionKinds → Instr → Type 0
-IsKindEnabled kinds instr.Unreachable = Unit {0}
-IsKindEnabled kinds instr.Else = Unit {0}
-IsKindEnabled kinds instr.End = Unit {0}
-IsKindEnabled kinds instruction = IsAllowed kinds (instr_kind instruction)
+-- instructions that every set of kinds allows (own rule): without these there is no body of every type, and no block
+abbrev pub is_always_allowed : Instr → Bool
+is_always_allowed instr.Unreachable = true
+is_always_allowed instr.Else = true
+is_always_allowed instr.End = true
+is_always_allowed _ = false
+
+-- where a body may use an instruction, by the allowed kinds (own rule)
+abbrev pub is_kind_enabled : InstructionKinds → Instr → Bool
+is_kind_enabled kinds instruction = is_always_allowed instruction || is_allowed kinds (instr_kind instruction)
 
 -- an instruction is enabled (own rule)
-pub record IsEnabled (features : Features) (kinds : InstructionKinds) (instruction : Instr) : Type 0 where
-  pub features_on : HasFeatures features instruction
-  pub kind_allowed : IsKindEnabled kinds instruction
+unfoldable pub is_enabled : Features → InstructionKinds → Instr → Bool
+is_enabled features kinds instruction = has_features features instruction && is_kind_enabled kinds instruction
+
+abbrev pub IsEnabled : Features → InstructionKinds → Instr → Type 0
+IsEnabled features kinds instruction = IsTrue (is_enabled features kinds instruction)

@@ -84,7 +84,9 @@ pub record IsBranchCast (context : BodyContext) (cast : BranchCast) (branches : 
   pub arrives : IsRefBelow context.types branches wanted
 
 -- an instruction takes operands of these types, the last on top, and gives results of those, where these locals are set. Blocks,
--- loops, ifs and try_tables are typed with their bodies (`AreTyped`)
+-- loops, ifs and try_tables are typed with their bodies (`AreTyped`). There is no bottom type, so that br_table and select in code
+-- that cannot be reached are typed more strictly than in the standard, which has unreachable and nop among the parametric
+-- instructions
 abbrev pub HasInstrType : BodyContext → List ℕ → Instr → List ValType → List ValType → Type 0
 HasInstrType context set instr.Unreachable operands results = Leaves context operands results []
 HasInstrType context set instr.Nop operands results = To operands results [] []

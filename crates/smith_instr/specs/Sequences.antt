@@ -77,7 +77,8 @@ pub data AreTyped : BodyContext → List Instr → Stacked → Stacked → Type 
       → IsFramed context params results [] before between → AreTyped context more between after → AreTyped context all before after
 
 -- a body, its last `end` aside, leaves the results of its function and nothing else. At its start no local is set but those that
--- always are, and its one label is that of the function, to which a branch is a return (Validation, Functions)
+-- always are, and its one label is that of the function, to which a branch is a return (Validation, Functions).
+-- That the types of the context are valid, its locals among them, is left to whoever makes it
 pub record IsBodyTyped (context : BodyContext) (body : List Instr) : Type 0 where
   pub set : List ℕ
   pub typed : AreTyped (record context { labels = context.results ∷ [] }) body (stacked [] []) (stacked context.results set)

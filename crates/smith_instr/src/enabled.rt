@@ -1,16 +1,17 @@
-ghost use Rattle.std.specs.Prelude.{◌↔◌, IsTrue};
+ghost use Rattle.std.specs.Prelude.{◌≡◌, ◌&&◌};
 ghost use Rattle.smith_types.specs.FeatureBits.{features_in};
 ghost use Rattle.smith_instr.specs.Enabled.{
-  HasFeatures,
-  IsAggregateEnabled,
-  IsBlockEnabled,
-  IsEnabled,
-  IsKindEnabled,
-  IsMemoryEnabled,
-  IsNumericEnabled,
-  IsReferenceEnabled,
-  IsTableEnabled,
-  IsVectorEnabled,
+  has_features,
+  is_aggregate_enabled,
+  is_always_allowed,
+  is_block_enabled,
+  is_enabled,
+  is_kind_enabled,
+  is_memory_enabled,
+  is_numeric_enabled,
+  is_reference_enabled,
+  is_table_enabled,
+  is_vector_enabled,
 };
 
 use crate::aggregate::AggregateInstr;
@@ -25,24 +26,31 @@ use smith_types::{InstructionKinds, WasmFeatures};
 
 impl Instr {
     /// Whether a body may use the instruction where `features` are on and `kinds` are allowed.
+    #[tactic(auto, unfolding(crate::specs::Enabled::is_enabled))]
     pub fn is_enabled(&self, features: WasmFeatures, kinds: InstructionKinds) -> bool
-        ensures { IsTrue result ↔ IsEnabled (features_in features) kinds self.now }
+        ensures { result ≡ is_enabled (features_in features) kinds self.now }
     {
         has_features(self, features) && is_kind_enabled(self, kinds)
     }
 }
 
 fn is_kind_enabled(instruction: &Instr, kinds: InstructionKinds) -> bool
-    ensures { IsTrue result ↔ IsKindEnabled kinds instruction.now }
+    ensures { result ≡ is_kind_enabled kinds instruction.now }
+{
+    is_always_allowed(instruction) || kinds.contains(instruction.kind())
+}
+
+fn is_always_allowed(instruction: &Instr) -> bool
+    ensures { result ≡ is_always_allowed instruction.now }
 {
     match instruction {
         Instr::Unreachable | Instr::Else | Instr::End => true,
-        _ => kinds.contains(instruction.kind()),
+        _ => false,
     }
 }
 
 fn has_features(instruction: &Instr, features: WasmFeatures) -> bool
-    ensures { IsTrue result ↔ HasFeatures (features_in features) instruction.now }
+    ensures { result ≡ has_features (features_in features) instruction.now }
 {
     match instruction {
         Instr::Block(ty) | Instr::Loop(ty) | Instr::If(ty) => is_block_enabled(*ty, features),
@@ -79,7 +87,7 @@ fn has_features(instruction: &Instr, features: WasmFeatures) -> bool
 }
 
 fn is_block_enabled(ty: BlockType, features: WasmFeatures) -> bool
-    ensures { IsTrue result ↔ IsBlockEnabled (features_in features) ty }
+    ensures { result ≡ is_block_enabled (features_in features) ty }
 {
     match ty {
         BlockType::Func(_) => features.contains(WasmFeatures::MULTI_VALUE),
@@ -88,20 +96,20 @@ fn is_block_enabled(ty: BlockType, features: WasmFeatures) -> bool
 }
 
 fn is_try_enabled(ty: BlockType, features: WasmFeatures) -> bool
-    ensures { IsTrue result ↔ (IsBlockEnabled (features_in features) ty × IsTrue (features_in features).exceptions) }
+    ensures { result ≡ (is_block_enabled (features_in features) ty && (features_in features).exceptions) }
 {
     is_block_enabled(ty, features) && features.contains(WasmFeatures::EXCEPTIONS)
 }
 
 fn is_tail_call_by_reference_enabled(features: WasmFeatures) -> bool
-    ensures { IsTrue result ↔ (IsTrue (features_in features).tail_call × IsTrue (features_in features).function_references) }
+    ensures { result ≡ ((features_in features).tail_call && (features_in features).function_references) }
 {
     features.contains(WasmFeatures::TAIL_CALL)
         && features.contains(WasmFeatures::FUNCTION_REFERENCES)
 }
 
 fn is_numeric_enabled(op: NumericInstr, features: WasmFeatures) -> bool
-    ensures { IsTrue result ↔ IsNumericEnabled (features_in features) op }
+    ensures { result ≡ is_numeric_enabled (features_in features) op }
 {
     match op {
         NumericInstr::Saturate(_) => features.contains(WasmFeatures::SATURATING_FLOAT_TO_INT),
@@ -112,7 +120,7 @@ fn is_numeric_enabled(op: NumericInstr, features: WasmFeatures) -> bool
 }
 
 fn is_reference_enabled(op: ReferenceInstr, features: WasmFeatures) -> bool
-    ensures { IsTrue result ↔ IsReferenceEnabled (features_in features) op }
+    ensures { result ≡ is_reference_enabled (features_in features) op }
 {
     match op {
         ReferenceInstr::Null(_) | ReferenceInstr::Func(_) | ReferenceInstr::IsNull =>
@@ -125,7 +133,7 @@ fn is_reference_enabled(op: ReferenceInstr, features: WasmFeatures) -> bool
 }
 
 fn is_table_enabled(op: TableInstr, features: WasmFeatures) -> bool
-    ensures { IsTrue result ↔ IsTableEnabled (features_in features) op }
+    ensures { result ≡ is_table_enabled (features_in features) op }
 {
     match op {
         TableInstr::Copy { .. } | TableInstr::Init { .. } | TableInstr::ElemDrop(_) =>
@@ -135,7 +143,7 @@ fn is_table_enabled(op: TableInstr, features: WasmFeatures) -> bool
 }
 
 fn is_memory_enabled(op: MemoryInstr, features: WasmFeatures) -> bool
-    ensures { IsTrue result ↔ IsMemoryEnabled (features_in features) op }
+    ensures { result ≡ is_memory_enabled (features_in features) op }
 {
     match op {
         MemoryInstr::Size(_) | MemoryInstr::Grow(_) => true,
@@ -144,7 +152,7 @@ fn is_memory_enabled(op: MemoryInstr, features: WasmFeatures) -> bool
 }
 
 fn is_aggregate_enabled(op: AggregateInstr, features: WasmFeatures) -> bool
-    ensures { IsTrue result ↔ IsAggregateEnabled (features_in features) op }
+    ensures { result ≡ is_aggregate_enabled (features_in features) op }
 {
     match op {
         AggregateInstr::RefI31Shared => {
@@ -156,7 +164,7 @@ fn is_aggregate_enabled(op: AggregateInstr, features: WasmFeatures) -> bool
 }
 
 fn is_vector_enabled(op: VectorInstr, features: WasmFeatures) -> bool
-    ensures { IsTrue result ↔ IsVectorEnabled (features_in features) op }
+    ensures { result ≡ is_vector_enabled (features_in features) op }
 {
     match op {
         VectorInstr::RelaxedFloatUnary(_) | VectorInstr::RelaxedBinary(_) => {
@@ -171,7 +179,7 @@ fn is_vector_enabled(op: VectorInstr, features: WasmFeatures) -> bool
 }
 
 fn is_relaxed_enabled(features: WasmFeatures) -> bool
-    ensures { IsTrue result ↔ (IsTrue (features_in features).simd × IsTrue (features_in features).relaxed_simd) }
+    ensures { result ≡ ((features_in features).simd && (features_in features).relaxed_simd) }
 {
     features.contains(WasmFeatures::SIMD) && features.contains(WasmFeatures::RELAXED_SIMD)
 }

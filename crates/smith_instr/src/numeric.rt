@@ -1,4 +1,4 @@
-/// An operator on one integer: the standard's section Structure, Numeric Instructions, iunop.
+/// An operator on one integer: the standard's section Structure, Numeric Instructions, unop at an integer type.
 #[derive(Clone, Copy, Debug)]
 pub enum IntUnary {
     Clz,
@@ -6,7 +6,7 @@ pub enum IntUnary {
     Popcnt,
 }
 
-/// An operator on two integers: ibinop.
+/// An operator on two integers: binop.
 #[derive(Clone, Copy, Debug)]
 pub enum IntBinary {
     Add,
@@ -26,7 +26,7 @@ pub enum IntBinary {
     Rotr,
 }
 
-/// A comparison of two integers: irelop.
+/// A comparison of two integers: relop.
 #[derive(Clone, Copy, Debug)]
 pub enum IntCompare {
     Eq,
@@ -41,7 +41,7 @@ pub enum IntCompare {
     GeU,
 }
 
-/// An operator on one float: funop.
+/// An operator on one float: unop at a float type.
 #[derive(Clone, Copy, Debug)]
 pub enum FloatUnary {
     Abs,
@@ -53,7 +53,7 @@ pub enum FloatUnary {
     Sqrt,
 }
 
-/// An operator on two floats: fbinop.
+/// An operator on two floats: binop.
 #[derive(Clone, Copy, Debug)]
 pub enum FloatBinary {
     Add,
@@ -65,7 +65,7 @@ pub enum FloatBinary {
     Copysign,
 }
 
-/// A comparison of two floats: frelop.
+/// A comparison of two floats: relop.
 #[derive(Clone, Copy, Debug)]
 pub enum FloatCompare {
     Eq,
@@ -119,7 +119,7 @@ pub enum SaturatingConversion {
     I64TruncSatF64U,
 }
 
-/// An extension of a sign within an integer: iunop, extendN_s.
+/// An extension of a sign within an integer: unop, extendN_s.
 #[derive(Clone, Copy, Debug)]
 pub enum SignExtension {
     I32From8,

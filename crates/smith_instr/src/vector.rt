@@ -222,7 +222,7 @@ pub enum VectorFloatBinary {
     F64x2Pmax,
 }
 
-/// A shift of each lane: the standard's section Structure, Vector Instructions, vishiftop.
+/// A shift of each lane: the standard's section Structure, Vector Instructions, vshiftop.
 #[derive(Clone, Copy, Debug)]
 pub enum VectorShift {
     Shl,

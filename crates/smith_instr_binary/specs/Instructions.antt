@@ -18,9 +18,10 @@ use Rattle.smith_instr_binary.specs.Vector.{IsVectorInstr}
 
 -- an instruction
 abbrev pub IsInstr : Instr → List ℕ → Type 0
--- Control Instructions
+-- Parametric Instructions, the first two
 IsInstr instr.Unreachable piece = IsByte 0x00 piece
 IsInstr instr.Nop piece = IsByte 0x01 piece
+-- Control Instructions
 IsInstr (instr.Block ty) piece = Joined (IsByte 0x02) (IsBlockType ty) piece
 IsInstr (instr.Loop ty) piece = Joined (IsByte 0x03) (IsBlockType ty) piece
 IsInstr (instr.If ty) piece = Joined (IsByte 0x04) (IsBlockType ty) piece
@@ -43,7 +44,7 @@ IsInstr (instr.BrOnNull label) piece = Joined (IsByte 0xD5) (IsIndex label) piec
 IsInstr (instr.BrOnNonNull label) piece = Joined (IsByte 0xD6) (IsIndex label) piece
 IsInstr (instr.BrOnCast cast) piece = Joined (IsPrefixed 0xFB 24) (IsBranchCast cast) piece
 IsInstr (instr.BrOnCastFail cast) piece = Joined (IsPrefixed 0xFB 25) (IsBranchCast cast) piece
--- Parametric Instructions
+-- Parametric Instructions, the others
 IsInstr instr.Drop piece = IsByte 0x1A piece
 IsInstr instr.Select piece = IsByte 0x1B piece
 IsInstr (instr.SelectTyped ty) piece = Joined (IsByte 0x1C) (IsList IsValType (ty ∷ [])) piece

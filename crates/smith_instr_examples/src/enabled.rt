@@ -14,6 +14,7 @@ ghost use Rattle.smith_instr.specs.declared.vector.LaneShape.TheVariants as shap
 ghost use Rattle.smith_instr.specs.declared.vector.VectorInstr.TheVariants as vector;
 ghost use Rattle.smith_instr_examples.specs.ExampleBodies.{aligned, add, kinds_of};
 
+#[tactic(auto, unfolding(smith_instr::specs::Enabled::is_enabled))]
 fn kinds()
     ensures integers { IsEnabled usual_features (kinds_of NumericInt) add }
     ensures integers_among_floats { IsEnabled usual_features (kinds_of Numeric) add }
@@ -30,6 +31,7 @@ fn kinds()
     ensures nop { IsEnabled usual_features (kinds_of Control) instr.Nop }
 {}
 
+#[tactic(auto, unfolding(smith_instr::specs::Enabled::is_enabled))]
 fn features()
     ensures saturating { ¬ IsEnabled (record usual_features { saturating_float_to_int = false }) every_kind (instr.Numeric (numeric.Saturate saturate.I32TruncSatF32S)) }
     ensures trapping { IsEnabled (record usual_features { saturating_float_to_int = false }) every_kind (instr.Numeric (numeric.Convert convert.I32TruncF32S)) }

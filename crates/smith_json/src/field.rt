@@ -218,7 +218,7 @@ pub static FIELDS: [Field; 71] = [
     Field {
         name: "disallow-traps",
         kind: FieldKind::Flag,
-        about: "Whether active segments stay inside their tables and memories, so that none of them traps. A start function may trap.",
+        about: "Whether active segments stay inside their tables and memories, so that none of them traps. A start function still may.",
     },
     Field {
         name: "allow-invalid-funcs",
@@ -328,7 +328,7 @@ pub static FIELDS: [Field; 71] = [
     Field {
         name: "non-nullable-enabled",
         kind: FieldKind::Flag,
-        about: "References that aren't nullable where a value of their heap type can be made.",
+        about: "References that aren't nullable, to what a struct or a function that exists gives without operands.",
     },
     Field {
         name: "allowed-instructions",

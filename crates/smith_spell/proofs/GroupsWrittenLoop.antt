@@ -4,6 +4,7 @@ use Rattle.std.specs.Prelude.{slice_get, All}
 use Rattle.std.specs.List.{flat_map}
 use Rattle.std.proofs.Math.Seq.{take-suc}
 use Rattle.std.proofs.Math.ListN.{drop_of_length-le}
+use Rattle.std.proofs.lemmas.List.{length-take}
 use Rattle.smith_bytes.specs.Spelling.{SpellsBool, Where}
 use Rattle.smith_types.specs.Groups.{space_of}
 use Rattle.smith_types.specs.Space.{Space}
@@ -14,10 +15,9 @@ use Rattle.smith_config.specs.declared.config.Config.{Config}
 use Rattle.smith_draw.specs.Spelling.{SpellsGroup, SpellsGroups, SpellsSize, SpellsSubTypes}
 use Rattle.smith_spell.specs.Family.{IsMemberType}
 use Rattle.smith_spell.specs.declared.sub_types.Before.{Before}
-use Rattle.smith_spell.specs.Written.{Writes, IsSummary, AreMembers}
+use Rattle.smith_spell.specs.Written.{Writes, IsSummary, OverSome, AreMembers}
 use Rattle.smith_spell.proofs.WrittenLemmas.{joined_written}
 use Rattle.smith_spell.proofs.WritingLoop.{Leads, leads_over, leads_as}
-use Rattle.smith_spell.proofs.MemberBelowLemmas.{member_below}
 
 -- its size, then its types
 pub group_written : (config : Config) (types : List SubType) (before : Before) (stands : Bool) (group : List SubType) {old between new : List ℕ} → IsSummary types before
@@ -37,15 +37,16 @@ at_behind [] xs n k d is inside = let same : n ≡ k = omega arith in rw same (a
 at_behind (y ∷ front) xs zero k d is inside = absurd (omega arith)
 at_behind (y ∷ front) xs (suc n) k d is inside = at_behind front xs n k d (omega arith) inside
 
--- the types of a group are members at the end of the group
+-- each type of a group is a member after types, no more than those up to the end of the group
 pub group_members : (config : Config) (groups : List (List SubType)) (i : ℕ) (group d : List SubType) → i < length groups → group ≡ get_or groups i d → AreMembers config (space_of groups).types
-    → All (IsMemberType config (length (space_of (take i groups)).types + length group)) group
+    → All (λ (t : SubType). OverSome (length (space_of (take i groups)).types + length group) (λ types. IsMemberType config types t)) group
 group_members config groups i group d inside read each = λ k other small.
     let front = (space_of (take i groups)).types in
     let rest = flat_map (λ (group : List SubType). group) (drop (suc i) groups) in
     let at = slice_get-grown (front ++ group) rest (length front + k) _ (at_behind front group (length front + k) k other refl small) in
     let there : slice_get (space_of groups).types (length front + k) ≡ Some (get_or group k other) = rw (groups_cut groups i group d inside read) at in
-    member_below config (length front + k) (length front + length group) (get_or group k other) (omega arith) (each (length front + k) (get_or group k other) there)
+    let short = length-take (length front + k) (space_of groups).types in
+    record { types = take (length front + k) (space_of groups).types; few = omega (arith, short); holds = each (length front + k) (get_or group k other) there }
 
 -- there is room for the types of a group
 pub group_room : (groups : List (List SubType)) (i : ℕ) (group d : List SubType) → i < length groups → group ≡ get_or groups i d → length (space_of (take i groups)).types + length group ≤ length (space_of groups).types
@@ -55,7 +56,8 @@ group_room groups i group d inside read =
     let whole : length (space_of groups).types ≡ length ((front ++ group) ++ rest) = ap length (groups_cut groups i group d inside read) in
     omega (arith, whole, length-append (front ++ group) rest, length-append front group)
 
-types_turn : (groups : List (List SubType)) (i : ℕ) (group d : List SubType) → i < length groups → group ≡ get_or groups i d → (space_of (take i groups)).types ++ group ≡ (space_of (take (i + 1) groups)).types
+-- the types of groups up to a place, with those of the group there
+pub types_turn : (groups : List (List SubType)) (i : ℕ) (group d : List SubType) → i < length groups → group ≡ get_or groups i d → (space_of (take i groups)).types ++ group ≡ (space_of (take (i + 1) groups)).types
 types_turn groups i group d inside read =
     let more : take i groups ++ group ∷ [] ≡ take (i + 1) groups = ap (λ (g : List SubType). take i groups ++ g ∷ []) read ∙ sym (take-suc groups i d inside) ∙ ap (λ (n : ℕ). take n groups) (sym (add-one i)) in
     sym (ap (λ (s : Space). s.types) (space_of_push (take i groups) group)) ∙ ap (λ (g : List (List SubType)). (space_of g).types) more

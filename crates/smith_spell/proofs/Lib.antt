@@ -6,14 +6,16 @@ pub mod WritingLoop
 pub mod WrittenTypeLemmas
 pub mod WrittenCompositeLemmas
 pub mod SubTypesLoop
-pub mod MemberBelowLemmas
+pub mod KnownLemmas
 pub mod GroupsWrittenLoop
 pub mod FuncPlaceLemmas
 pub mod MemberWrittenLemmas
 pub mod AnsweredLemmas
 pub mod ListedTypeLemmas
 pub mod MemberLemmas
+pub mod EarlierLoop
 pub mod AskedLemmas
 pub mod SpelledExamples
 pub mod SpelledMemberLemmas
+pub mod GroundedExamples
 pub mod SpellExamples

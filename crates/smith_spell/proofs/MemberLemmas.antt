@@ -1,5 +1,5 @@
--- Types one behind another are members where each is, and what lists of the family are by their parts.
-use Rattle.std.proofs.Common.{◌≡◌, ℕ, zero, suc, ◌+◌, ◌<◌, List, [], ◌∷◌, ◌++◌, Some, length, drop, get_or, refl, ap, sym, subst, rules, arith, add-one, drop-cons, length-append}
+-- Types one after another are members where each is, and what lists of the family are by their parts.
+use Rattle.std.proofs.Common.{◌≡◌, ℕ, zero, suc, ◌+◌, ◌<◌, List, [], ◌∷◌, ◌++◌, Some, length, take, drop, get_or, refl, ap, sym, subst, rules, arith, add-one, drop-cons, append_assoc, append-nil}
 use Rattle.std.specs.Prelude.{◌≤◌, ◌↔◌, slice_get, All}
 use Rattle.std.specs.List.{flat_map}
 use Rattle.std.proofs.lemmas.Option.{same_Some}
@@ -8,71 +8,59 @@ use Rattle.smith_config.specs.declared.config.Config.{Config}
 use Rattle.smith_types.specs.Entities.{IsFuncValid}
 use Rattle.smith_types.specs.Groups.{space_of}
 use Rattle.smith_spell.specs.Family.{IsMemberType, IsInFamily}
-use Rattle.smith_spell.specs.Decided.{AreMembersFrom, AreGroupsInFamily}
+use Rattle.smith_spell.specs.Decided.{AreMembersAfter, AreGroupsInFamily}
+
+-- the types of groups
+abbrev pub all_types : List (List SubType) → List SubType
+all_types groups = flat_map (λ (group : List SubType). group) groups
 
 -- the types of groups from a place on are those of the group there, then those of the others
-from_place : (groups : List (List SubType)) (i : ℕ) (group other : List SubType) → i < length groups → group ≡ get_or groups i other
-    → flat_map (λ (one : List SubType). one) (drop i groups) ≡ group ++ flat_map (λ (one : List SubType). one) (drop (i + 1) groups)
+pub from_place : (groups : List (List SubType)) (i : ℕ) (group other : List SubType) → i < length groups → group ≡ get_or groups i other → all_types (drop i groups) ≡ group ++ all_types (drop (i + 1) groups)
 from_place groups i group other inside read = rw (read, add-one, drop-cons groups i other)
 
--- what a group leaves of the room for types
-pub room_behind : (groups : List (List SubType)) (i index size most : ℕ) (group other : List SubType) → i < length groups → group ≡ get_or groups i other → size ≡ length group
-    → index + length (flat_map (λ (one : List SubType). one) (drop i groups)) < most → index + size + length (flat_map (λ (one : List SubType). one) (drop (i + 1) groups)) < most
-room_behind groups i index size most group other inside read is room =
-    let rest : List SubType = flat_map (λ (one : List SubType). one) (drop (i + 1) groups) in
-    let same = ap length (from_place groups i group other inside read) in
-    let parts = length-append group rest in
-    omega arith
-
 module _ (config : Config) where
-  at_same : (index other : ℕ) (types : List SubType) → index ≡ other → AreMembersFrom config index types → AreMembersFrom config other types
-  at_same index other types same h = subst (λ n. AreMembersFrom config n types) same h
+  after_same : (types : List SubType) {before other : List SubType} → before ≡ other → AreMembersAfter config before types → AreMembersAfter config other types
+  after_same types same h = subst (λ (list : List SubType). AreMembersAfter config list types) same h
 
   -- members that are joined are those of each part
-  members_apart : (index : ℕ) (xs ys : List SubType) → AreMembersFrom config index (xs ++ ys) → AreMembersFrom config index xs × AreMembersFrom config (index + length xs) ys
-  members_apart index [] ys h = (tt, at_same index (index + 0) ys (omega arith) h)
-  members_apart index (x ∷ xs) ys (here, more) =
-      let (first, second) = members_apart (index + 1) xs ys more in
-      ((here, first), at_same (index + 1 + length xs) (index + suc (length xs)) ys (omega arith) second)
+  members_apart : (before xs ys : List SubType) → AreMembersAfter config before (xs ++ ys) → AreMembersAfter config before xs × AreMembersAfter config (before ++ xs) ys
+  members_apart before [] ys h = (tt, after_same ys (sym (append-nil before)) h)
+  members_apart before (x ∷ xs) ys (here, more) =
+      let (first, second) = members_apart (before ++ x ∷ []) xs ys more in
+      ((here, first), after_same ys (append_assoc before (x ∷ []) xs) second)
 
-  members_joined : (index : ℕ) (xs ys : List SubType) → AreMembersFrom config index xs → AreMembersFrom config (index + length xs) ys → AreMembersFrom config index (xs ++ ys)
-  members_joined index [] ys h more = at_same (index + 0) index ys (omega arith) more
-  members_joined index (x ∷ xs) ys (here, rest) more =
-      (here, members_joined (index + 1) xs ys rest (at_same (index + suc (length xs)) (index + 1 + length xs) ys (omega arith) more))
+  members_joined : (before xs ys : List SubType) → AreMembersAfter config before xs → AreMembersAfter config (before ++ xs) ys → AreMembersAfter config before (xs ++ ys)
+  members_joined before [] ys h more = after_same ys (append-nil before) more
+  members_joined before (x ∷ xs) ys (here, rest) more = (here, members_joined (before ++ x ∷ []) xs ys rest (after_same ys (sym (append_assoc before (x ∷ []) xs)) more))
 
-  -- the types of groups are members where those from a place on are, and so on behind the group there
-  pub groups_turn : (groups : List (List SubType)) (i index size : ℕ) (group other : List SubType) (Whole : Type 0) → i < length groups → group ≡ get_or groups i other → size ≡ length group
-      → AreMembersFrom config index group → AreMembersFrom config index (flat_map (λ (one : List SubType). one) (drop i groups)) ↔ Whole
-      → AreMembersFrom config (index + size) (flat_map (λ (one : List SubType). one) (drop (i + 1) groups)) ↔ Whole
-  groups_turn groups i index size group other Whole inside read is here (to, back) =
-      let rest : List SubType = flat_map (λ (one : List SubType). one) (drop (i + 1) groups) in
-      let same = from_place groups i group other inside read in
-      let ends : index + size ≡ index + length group = omega arith in (
-        λ more. to (subst (AreMembersFrom config index) (sym same) (members_joined index group rest here (at_same (index + size) (index + length group) rest ends more))),
-        λ whole. at_same (index + length group) (index + size) rest (sym ends) (members_apart index group rest (subst (AreMembersFrom config index) same (back whole))).1,
+  -- the types of groups are members where those from a place on are, and so on after the group there
+  pub groups_turn : (groups : List (List SubType)) (i : ℕ) (group other : List SubType) (Whole : Type 0) → i < length groups → group ≡ get_or groups i other → AreMembersAfter config (all_types (take i groups)) group
+      → AreMembersAfter config (all_types (take i groups)) (all_types (drop i groups)) ↔ Whole → AreMembersAfter config (all_types (take i groups) ++ group) (all_types (drop (i + 1) groups)) ↔ Whole
+  groups_turn groups i group other Whole inside read here (to, back) =
+      let before = all_types (take i groups) in
+      let rest = all_types (drop (i + 1) groups) in
+      let same = from_place groups i group other inside read in (
+        λ more. to (subst (AreMembersAfter config before) (sym same) (members_joined before group rest here more)),
+        λ whole. (members_apart before group rest (subst (AreMembersAfter config before) same (back whole))).1,
       )
 
-  pub group_among : (groups : List (List SubType)) (i index : ℕ) (group other : List SubType) → i < length groups → group ≡ get_or groups i other
-      → AreMembersFrom config index (flat_map (λ (one : List SubType). one) (drop i groups)) → AreMembersFrom config index group
-  group_among groups i index group other inside read h =
-      let rest : List SubType = flat_map (λ (one : List SubType). one) (drop (i + 1) groups) in
-      (members_apart index group rest (subst (AreMembersFrom config index) (from_place groups i group other inside read) h)).0
+  pub group_among : (groups : List (List SubType)) (i : ℕ) (group other : List SubType) → i < length groups → group ≡ get_or groups i other → AreMembersAfter config (all_types (take i groups)) (all_types (drop i groups))
+      → AreMembersAfter config (all_types (take i groups)) group
+  group_among groups i group other inside read h =
+      let before = all_types (take i groups) in
+      (members_apart before group (all_types (drop (i + 1) groups)) (subst (AreMembersAfter config before) (from_place groups i group other inside read) h)).0
 
-  -- each is a member at its index
-  each_from : (start : ℕ) (types : List SubType) → AreMembersFrom config start types → (i : ℕ) (t : SubType) → slice_get types i ≡ Some t → IsMemberType config (start + i) t
-  each_from start [] h i t at = cc
-  each_from start (u ∷ types) (here, more) zero t at =
-      let same : start ≡ start + 0 = omega arith in
-      subst (λ n. IsMemberType config n t) same (subst (IsMemberType config start) (same_Some u t at) here)
-  each_from start (u ∷ types) (here, more) (suc i) t at =
-      let same : start + 1 + i ≡ start + suc i = omega arith in
-      subst (λ n. IsMemberType config n t) same (each_from (start + 1) types more i t at)
+  -- each is a member after those before it
+  each_after : (before types : List SubType) → AreMembersAfter config before types → (i : ℕ) (t : SubType) → slice_get types i ≡ Some t → IsMemberType config (before ++ take i types) t
+  each_after before [] h i t at = cc
+  each_after before (u ∷ types) (here, more) zero t at = subst (λ (list : List SubType). IsMemberType config list t) (sym (append-nil before)) (subst (IsMemberType config before) (same_Some u t at) here)
+  each_after before (u ∷ types) (here, more) (suc i) t at = subst (λ (list : List SubType). IsMemberType config list t) (append_assoc before (u ∷ []) (take i types)) (each_after (before ++ u ∷ []) types more i t at)
 
-  all_from : (start : ℕ) (types : List SubType) → ((i : ℕ) (t : SubType) → slice_get types i ≡ Some t → IsMemberType config (start + i) t) → AreMembersFrom config start types
-  all_from start [] each = tt
-  all_from start (u ∷ types) each = (
-    let same : start + 0 ≡ start = omega arith in subst (λ n. IsMemberType config n u) same (each 0 u refl),
-    all_from (start + 1) types (λ i t at. let same : start + suc i ≡ start + 1 + i = omega arith in subst (λ n. IsMemberType config n t) same (each (suc i) t at)),
+  all_after : (before types : List SubType) → ((i : ℕ) (t : SubType) → slice_get types i ≡ Some t → IsMemberType config (before ++ take i types) t) → AreMembersAfter config before types
+  all_after before [] each = tt
+  all_after before (u ∷ types) each = (
+    subst (λ (list : List SubType). IsMemberType config list u) (append-nil before) (each 0 u refl),
+    all_after (before ++ u ∷ []) types (λ i t at. subst (λ (list : List SubType). IsMemberType config list t) (sym (append_assoc before (u ∷ []) (take i types))) (each (suc i) t at)),
   )
 
   -- lists of the family by their groups and their functions
@@ -81,7 +69,7 @@ module _ (config : Config) where
     filled = h.filled;
     single = h.single;
     few_types = h.few_types;
-    members = all_from 0 (space_of groups).types (λ i t at. let same : i ≡ 0 + i = omega arith in subst (λ n. IsMemberType config n t) same (h.each_type i t at));
+    members = all_after [] (space_of groups).types h.each_type;
   }
 
   pub family_of_groups : (groups : List (List SubType)) (funcs : List ℕ) → AreGroupsInFamily config groups → length funcs ≤ config.max_funcs → All (IsFuncValid (space_of groups).types) funcs → IsInFamily config groups funcs
@@ -89,7 +77,7 @@ module _ (config : Config) where
     filled = h.filled;
     single = h.single;
     few_types = h.few_types;
-    each_type = λ i t at. let same : 0 + i ≡ i = omega arith in subst (λ n. IsMemberType config n t) same (each_from 0 (space_of groups).types h.members i t at);
+    each_type = each_after [] (space_of groups).types h.members;
     few_funcs = few;
     each_func = valid;
   }

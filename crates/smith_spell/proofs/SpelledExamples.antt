@@ -4,11 +4,12 @@ use Rattle.std.specs.Prelude.{ℤ, Some, slice_get, if◌then◌else◌}
 use Rattle.std.specs.Int.{cast_signed, w32}
 use Rattle.smith_bytes.specs.Draws.{big_endian, little_endian, digit_count}
 use Rattle.smith_bytes.specs.Spelling.{SpellsBool, SpellsNumber, SpellsAnyByte, SpellsRefusal, Joined, Listed}
+use Rattle.smith_types.specs.declared.value_type.HeapType.TheVariants.{Concrete}
 use Rattle.smith_config.specs.Config.{default_config}
 use Rattle.smith_config.specs.declared.config.Config.{Config}
 use Rattle.smith_draw.specs.Choices.{enabled}
 use Rattle.smith_draw.specs.ValueTypes.{value_classes}
-use Rattle.smith_draw.specs.Spelling.{SpellsPlace, SpellsUnshared, SpellsGroups, SpellsGroup, SpellsSubTypes, SpellsFuncType}
+use Rattle.smith_draw.specs.Spelling.{SpellsPlace, SpellsNullable, SpellsRefType, SpellsUnshared, SpellsGroups, SpellsGroup, SpellsSubTypes, SpellsFuncType}
 use Rattle.smith_draw.specs.SpelledConstants.{SpellsI32, SpellsConstant}
 use Rattle.smith_draw.specs.TypeUses.{is_tag_type, is_unshared_function}
 use Rattle.smith_spell.specs.Spelling.{SpellsMember, SpellsGlobal}
@@ -33,6 +34,9 @@ stop = even 0 refl
 
 pub one_odd : SpellsBool false (1 ∷ []) → ⊥
 one_odd h = let same : 1 ≡ h.byte = cc h.whole in let never : 1 ≡ 0 = ap (λ n. n % 2) same ∙ h.lowest in cc never
+
+pub zero_even : SpellsBool true (0 ∷ []) → ⊥
+zero_even h = let same : 0 ≡ h.byte = cc h.whole in let never : 0 ≡ 1 = ap (λ n. n % 2) same ∙ h.lowest in cc never
 
 pub any_byte : (byte : ℕ) → SpellsAnyByte (byte ∷ [])
 any_byte byte = record { byte = byte; whole = refl }
@@ -110,6 +114,14 @@ bool_first {Second = Second} {byte = byte} {rest = rest} both =
     let head : byte ≡ bool.byte = cc in
     let tail : both.second ≡ rest = cc in
     (ap (λ n. n % 2) head ∙ bool.lowest, subst Second tail both.is_second)
+
+-- a number that takes no byte, in front
+pub number_alone : {value lo hi : ℕ} {Second : List ℕ → Type 0} {piece : List ℕ} → digit_count (hi - lo) ≡ 0 → Joined (SpellsNumber value lo hi) Second piece → Second piece
+number_alone {lo = lo} {hi = hi} none both = without_nothing (first_weaker (λ part h. empty part (h.digits ∙ none)) both)
+  where
+    empty : (part : List ℕ) → length part ≡ 0 → part ≡ []
+    empty [] none = refl
+    empty (byte ∷ part) none = cc none
 
 -- a number of one byte in front is told by the first byte
 pub digit_first : {value lo hi : ℕ} {Second : List ℕ → Type 0} {byte : ℕ} {rest : List ℕ}
@@ -190,3 +202,8 @@ place_alone both = without_nothing (first_weaker (λ part h. empty part h.number
 -- a first piece that is itself two, opened
 pub opened : {First Second : List ℕ → Type 0} {piece : List ℕ} (One Other : List ℕ → Type 0) → Joined First Second piece → ((part : List ℕ) → First part → Joined One Other part) → Joined One (Joined Other Second) piece
 opened One Other both as_two = regrouped (first_weaker as_two both)
+
+-- what follows a concrete heap type, where there is one type
+pub after_reference : (on nullable : Bool) (rest : List ℕ) → SpellsRefType (record default_config { non_nullable_enabled = on }) 1 (record { nullable = nullable; heap_type = Concrete 0 }) (1 ∷ rest) → SpellsNullable on nullable rest
+unfolding digit_count
+after_reference on nullable rest h = number_alone {value = 0} {lo = 0} {hi = 0} refl (bool_first (opened (SpellsBool true) (SpellsNumber 0 0 0) h.form (λ part stands. stands.1))).1

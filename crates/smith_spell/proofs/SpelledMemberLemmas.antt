@@ -1,5 +1,5 @@
 -- What a spelling of types and functions says of its bytes: the groups that are drawn from them, and what is left behind these.
-use Rattle.std.proofs.Common.{◌≡◌, ℕ, ◌+◌, ◌*◌, ◌^◌, Bool, true, false, List, [], length, ap, sym, subst, ◌∙◌}
+use Rattle.std.proofs.Common.{◌≡◌, ℕ, ◌+◌, ◌*◌, ◌^◌, Bool, true, false, List, [], length, refl, ap, sym, subst, ◌∙◌}
 use Rattle.std.specs.Prelude.{fold, if◌then◌else◌}
 use Rattle.std.proofs.Math.Dec.{T, eqb, eqb_refl}
 use Rattle.smith_bytes.specs.Spelling.{Joined, SpellsAnyByte, SpellsNone}
@@ -32,12 +32,12 @@ SpellsBehindGroups config types funcs = Joined (SpellsNone config.max_imports) (
 abbrev pub no_functions : Config → Context
 no_functions config = record { features = features_of config; types = []; funcs = []; globals = []; imported_funcs = 0; imported_globals = 0; visible = 0 }
 
-pub member_read : (config : Config) (off : config.non_nullable_enabled ≡ false) (groups : List (List SubType)) (funcs bytes left : List ℕ) (space : Space) → IsSanitized config → config.min_types ≡ 0 → GroupsFit config.max_types [] groups
+pub member_read : (config : Config) (groups : List (List SubType)) (funcs bytes left : List ℕ) (space : Space) → IsSanitized config → config.min_types ≡ 0 → GroupsFit config [] groups
     → types_at config (no_functions config) (space_of []) bytes ≡ (space, left) → SpellsMember config groups funcs bytes
     → (space ≡ space_of groups) × SpellsBehindGroups config (space_of groups).types funcs left
 unfolding SpellsMember
-member_read config off groups funcs bytes left space sanitized least fit drawn h =
-    let read = types_read config off (no_functions config) groups h.first h.second sanitized least fit h.is_first in
+member_read config groups funcs bytes left space sanitized least fit drawn h =
+    let read = types_read config (no_functions config) refl groups h.first h.second sanitized least fit h.is_first in
     let same : (space, left) ≡ (space_of groups, h.second) = sym drawn ∙ (ap (λ piece. types_at config (no_functions config) (space_of []) piece) h.whole ∙ read) in
     let behind : left ≡ h.second = ap (λ pair. pair.1) same in
     (ap (λ pair. pair.0) same, subst (SpellsBehindGroups config (space_of groups).types funcs) (sym behind) h.is_second)
@@ -54,7 +54,7 @@ value_number I64 = 1
 value_number F32 = 2
 value_number F64 = 3
 value_number V128 = 4
-value_number (Ref reference) = 5 + heap_number reference.heap_type
+value_number (Ref reference) = 5 + 2 * heap_number reference.heap_type + (if reference.nullable then 1 else 0)
 
 abbrev storage_number : StorageType → ℕ
 storage_number I8 = 0

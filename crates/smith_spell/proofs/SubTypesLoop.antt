@@ -9,7 +9,7 @@ use Rattle.smith_config.specs.declared.config.Config.{Config}
 use Rattle.smith_draw.specs.Spelling.{SpellsUnshared, SpellsInner, SpellsDeclared, SpellsForm, SpellsSubType, SpellsSubTypes}
 use Rattle.smith_spell.specs.Family.{IsMemberType}
 use Rattle.smith_spell.specs.declared.sub_types.Before.{Before}
-use Rattle.smith_spell.specs.Written.{Writes, IsSummary}
+use Rattle.smith_spell.specs.Written.{Writes, IsSummary, OverSome}
 use Rattle.smith_spell.proofs.WrittenLemmas.{nothing_written, joined_written, written_as}
 use Rattle.smith_spell.proofs.WritingLoop.{Leads, leads_over, leads_as}
 
@@ -18,12 +18,12 @@ form_of true config types limit t piece on h = h
 form_of false config types limit t piece on h = cc
 
 -- a type by its parts, where there is garbage collection
-pub declared_written : (config : Config) (types : List SubType) (before : Before) (limit : ℕ) (t : SubType) {old asked final unshared new : List ℕ} → config.gc_enabled ≡ true → IsMemberType config limit t → IsSummary types before
+pub declared_written : (config : Config) (types : List SubType) (before : Before) (limit : ℕ) (t : SubType) {old asked final unshared new : List ℕ} → config.gc_enabled ≡ true → OverSome limit (λ before. IsMemberType config before t) → IsSummary types before
     → Writes (Where before.has_open (SpellsRefusal 32)) old asked → Writes (SpellsBool t.is_final) asked final → Writes (SpellsUnshared config) final unshared
     → Writes (SpellsInner config limit t.composite_type.inner) unshared new → Writes (SpellsSubType config types limit t) old new
 declared_written config types before limit t gc member summary refusal final unshared inner =
     let open_told = rw summary.open_told at refusal in
-    written_as (λ piece form. record { root = member.root; unshared = member.unshared; form = form_of config.gc_enabled config types limit t piece gc form }) (joined_written open_told (joined_written final (joined_written unshared inner)))
+    written_as (λ piece form. record { root = member.holds.root; unshared = member.holds.unshared; form = form_of config.gc_enabled config types limit t piece gc form }) (joined_written open_told (joined_written final (joined_written unshared inner)))
 
 next_before : (others types : List SubType) (i : ℕ) (t d : SubType) → i < length types → t ≡ get_or types i d → (others ++ take i types) ++ t ∷ [] ≡ others ++ take (i + 1) types
 next_before others types i t d inside read = rw (read, add-one, take-suc types i d inside) (append_assoc others (take i types) (get_or types i d ∷ []))

@@ -9,7 +9,7 @@ use Rattle.smith_types.specs.declared.value_type.ValType.TheVariants as vals
 use Rattle.smith_config.specs.declared.config.Config.{Config}
 use Rattle.smith_draw.specs.Choices.{enabled}
 use Rattle.smith_draw.specs.ValueTypes.{value_classes}
-use Rattle.smith_draw.specs.Spelling.{SpellsPlace, SpellsHeapType, SpellsBehindClass, SpellsValType, class_of}
+use Rattle.smith_draw.specs.Spelling.{SpellsPlace, SpellsHeapType, SpellsNullable, SpellsRefType, SpellsBehindClass, SpellsValType, class_of}
 use Rattle.smith_spell.specs.Written.{Writes}
 use Rattle.smith_spell.proofs.WrittenLemmas.{nothing_written, joined_written, written_as}
 
@@ -30,11 +30,16 @@ place_within items place item stands = omega (arith, slice_get_within items plac
 pub place_written : {A : Type 0} {items : List A} {item : A} {old new : List ℕ} (place : ℕ) → slice_get items place ≡ Some item → Writes (SpellsNumber place 0 (length items - 1)) old new → Writes (SpellsPlace items item) old new
 place_written place stands = written_as (λ piece number. record { place = place; stands = stands; number = number })
 
--- a reference: its class, then its heap type
-pub reference_written : (config : Config) (limit : ℕ) (reference : RefType) {old between new : List ℕ} → IsTrue reference.nullable → Writes (SpellsPlace (enabled (value_classes config)) (class_of (vals.Ref reference))) old between
-    → Writes (SpellsHeapType config limit reference.heap_type) between new → Writes (SpellsValType config limit (vals.Ref reference)) old new
+-- a reference: its heap type, then whether it is not nullable
+pub ref_type_written : (config : Config) (limit : ℕ) (reference : RefType) {old between new : List ℕ} → IsTrue config.reference_types_enabled → Writes (SpellsHeapType config limit reference.heap_type) old between
+    → Writes (SpellsNullable config.non_nullable_enabled reference.nullable) between new → Writes (SpellsRefType config limit reference) old new
+ref_type_written config limit reference on heap_type nullable = written_as (λ piece form. record { enabled = on; form = form }) (joined_written heap_type nullable)
+
+-- its class, then the reference
+pub reference_written : (config : Config) (limit : ℕ) (reference : RefType) {old between new : List ℕ} → Writes (SpellsPlace (enabled (value_classes config)) (class_of (vals.Ref reference))) old between → Writes (SpellsRefType config limit reference) between new
+    → Writes (SpellsValType config limit (vals.Ref reference)) old new
 unfolding SpellsValType
-reference_written config limit reference nullable class heap_type = joined_written class (written_as (λ piece h. (nullable, h)) heap_type)
+reference_written config limit reference class behind = joined_written class behind
 
 nothing_behind : (config : Config) (limit : ℕ) (value : ValType) → ((reference : RefType) → value ≡ vals.Ref reference → ⊥) → SpellsBehindClass config limit value []
 nothing_behind config limit vals.I32 other = refl

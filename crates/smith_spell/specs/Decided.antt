@@ -1,11 +1,15 @@
 -- Facts of a whole by its parts, as decisions meet them: proofs turn each into the rule of the family that it stands for.
-use Rattle.std.specs.Prelude.{◌≡◌, ℕ, ◌+◌, ◌<◌, ◌≤◌, false, IsTrue, List, [], ◌∷◌, length, All}
+use Rattle.std.specs.Prelude.{◌≡◌, ◌<◌, ◌≤◌, false, IsTrue, List, [], ◌∷◌, ◌++◌, length, All}
+use Rattle.std.specs.List.{list_any}
+use Rattle.smith_types.specs.Grounds.{is_ground_of}
 use Rattle.smith_types.specs.Groups.{space_of}
 use Rattle.smith_types.specs.declared.value_type.AbstractHeapType.{AbstractHeapType}
 use Rattle.smith_types.specs.declared.value_type.AbstractHeapType.TheVariants.{Func, Extern, Any, None, NoExtern, NoFunc, Eq, Struct, Array, I31, Exn, NoExn}
 use Rattle.smith_types.specs.declared.composite_type.SubType.{SubType}
 use Rattle.smith_config.specs.declared.config.Config.{Config}
 use Rattle.smith_config.specs.InUse.{HasNoShapes}
+use Rattle.smith_draw.specs.Spelling.{IsRoot}
+use Rattle.smith_spell.specs.declared.earlier.Known.{Known}
 use Rattle.smith_spell.specs.Family.{IsMemberType}
 use Rattle.smith_spell.specs.Minimums.{HasNoMinimums}
 
@@ -30,14 +34,21 @@ IsOffered config Struct = IsTrue config.gc_enabled
 IsOffered config Array = IsTrue config.gc_enabled
 IsOffered config I31 = IsTrue config.gc_enabled
 
--- types one behind another, from this index on, are members
-abbrev pub AreMembersFrom : Config → ℕ → List SubType → Type 0
-AreMembersFrom config index [] = Unit {0}
-AreMembersFrom config index (t ∷ types) = IsMemberType config index t × AreMembersFrom config (index + 1) types
+-- types after these are members, each after those before it
+abbrev pub AreMembersAfter : Config → List SubType → List SubType → Type 0
+AreMembersAfter config before [] = Unit {0}
+AreMembersAfter config before (t ∷ types) = IsMemberType config before t × AreMembersAfter config (before ++ t ∷ []) types
+
+-- what is known of types without supertypes: their number, and whether one is an unshared struct type whose fields all have
+-- defaults
+pub record IsKnown (types : List SubType) (known : Known) : Type 0 where
+  pub counted : known.count ≡ length types
+  pub grounds : known.has_ground ≡ list_any (is_ground_of false) types
+  pub roots : All IsRoot types
 
 -- groups that lists of the family may have
 pub record AreGroupsInFamily (config : Config) (groups : List (List SubType)) : Type 0 where
   pub filled : All (λ (group : List SubType). 0 < length group) groups
   pub single : config.gc_enabled ≡ false → All (λ (group : List SubType). length group ≡ 1) groups
   pub few_types : length (space_of groups).types ≤ config.max_types
-  pub members : AreMembersFrom config 0 (space_of groups).types
+  pub members : AreMembersAfter config [] (space_of groups).types

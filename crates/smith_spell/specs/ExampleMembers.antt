@@ -1,5 +1,6 @@
 -- Types, functions and configurations that the examples of families and spellings speak of.
 use Rattle.std.specs.Prelude.{ℕ, zero, suc, Bool, true, false, List, [], ◌∷◌, Option, None, replicate}
+use Rattle.smith_types.specs.declared.value_type.HeapType.{HeapType}
 use Rattle.smith_types.specs.declared.value_type.HeapType.TheVariants.{Concrete}
 use Rattle.smith_types.specs.declared.value_type.ValType.{ValType}
 use Rattle.smith_types.specs.declared.value_type.ValType.TheVariants.{I32, I64, F32, Ref}
@@ -8,7 +9,7 @@ use Rattle.smith_types.specs.declared.composite_type.FieldType.{FieldType}
 use Rattle.smith_types.specs.declared.composite_type.CompositeInnerType.{CompositeInnerType}
 use Rattle.smith_types.specs.declared.composite_type.CompositeInnerType.TheVariants.{Array, Func, Struct}
 use Rattle.smith_types.specs.declared.composite_type.SubType.{SubType}
-use Rattle.smith_types.specs.ExampleTypes.{constant, variable, nullable}
+use Rattle.smith_types.specs.ExampleTypes.{constant, variable, nullable, not_null}
 use Rattle.smith_config.specs.declared.config.Config.{Config}
 use Rattle.smith_config.specs.Config.{default_config}
 
@@ -92,6 +93,14 @@ taking param = Func (record { params = param ∷ []; results = [] })
 abbrev pub array_and_struct_together : List (List SubType)
 array_and_struct_together = (final bytes_array ∷ final (struct_of 0) ∷ []) ∷ []
 
+-- a struct of one constant reference to this, which is not nullable
+abbrev pub struct_with : HeapType → CompositeInnerType
+struct_with ty = Struct (record { fields = constant (Val (Ref (not_null ty))) ∷ [] })
+
+-- a struct without fields, and in a group of its own a struct of a reference to it that is not nullable
+abbrev pub struct_and_holder : List (List SubType)
+struct_and_holder = alone (struct_of_bytes 0) ∷ alone (struct_with (Concrete 0)) ∷ []
+
 -- no type and no import
 abbrev pub no_types_and_imports : Config
 no_types_and_imports = record default_config { max_types = 0; max_imports = 0 }
@@ -107,6 +116,10 @@ without_floats = record default_config { allow_floats = false }
 -- types that may be shared
 abbrev pub with_shared_types : Config
 with_shared_types = record default_config { shared_everything_threads_enabled = true }
+
+-- references that are not nullable
+abbrev pub with_non_nullable : Config
+with_non_nullable = record default_config { non_nullable_enabled = true }
 
 -- exact types
 abbrev pub with_exact_types : Config
@@ -143,6 +156,10 @@ full_bytes = 1 ∷ 1 ∷ 0 ∷ 0 ∷ 0 ∷ 0 ∷ 0 ∷ 0 ∷ 1 ∷ []
 -- an array and, in a group of its own, a struct that refers to it
 abbrev pub array_and_struct_bytes : List ℕ
 array_and_struct_bytes = 1 ∷ 1 ∷ 1 ∷ 0 ∷ 0 ∷ 0 ∷ 1 ∷ 1 ∷ 1 ∷ 1 ∷ 2 ∷ 1 ∷ 2 ∷ 5 ∷ 1 ∷ 0 ∷ 1 ∷ 0 ∷ 0 ∷ 0 ∷ []
+
+-- a struct without fields and, in a group of its own, a struct of a reference to it that is not nullable
+abbrev pub struct_and_holder_bytes : List ℕ
+struct_and_holder_bytes = 1 ∷ 1 ∷ 1 ∷ 2 ∷ 0 ∷ 1 ∷ 1 ∷ 1 ∷ 1 ∷ 2 ∷ 1 ∷ 2 ∷ 5 ∷ 1 ∷ 0 ∷ 1 ∷ 0 ∷ 0 ∷ 0 ∷ 0 ∷ []
 
 -- behind no types: a global of the number 7
 abbrev pub number_bytes : List ℕ

@@ -3,15 +3,16 @@ use Rattle.std.specs.Prelude.{◌≡◌, ℕ, false, List, [], ◌++◌}
 use Rattle.smith_types.specs.Expressions.{Context}
 use Rattle.smith_types.specs.declared.composite_type.SubType.{SubType}
 use Rattle.smith_config.specs.declared.config.Config.{Config}
+use Rattle.smith_config.specs.Features.{features_of}
 use Rattle.smith_config.specs.Sanitized.{IsSanitized}
 use Rattle.smith_config.specs.Shapes.{space_of}
 use Rattle.smith_draw.specs.RecGroups.{types_at}
 use Rattle.smith_draw.specs.Spelling.{SpellsGroups}
 use Rattle.smith_spell.specs.Family.{IsInFamily}
 
--- where no type is asked for and no reference is other than nullable, the groups of each member of the family are drawn from each piece that spells them, and what
--- follows is left, whatever functions stand
+-- where no type is asked for, the groups of each member of the family are drawn from each piece that spells them, and what
+-- follows is left, whatever functions exist
 abbrev pub GroupsAreRead : Type 0
 GroupsAreRead =
-    (config : Config) (functions : Context) (groups : List (List SubType)) (funcs : List ℕ) (piece after : List ℕ) → config.non_nullable_enabled ≡ false → IsSanitized config → config.min_types ≡ 0
+    (config : Config) (functions : Context) (groups : List (List SubType)) (funcs : List ℕ) (piece after : List ℕ) → functions.features ≡ features_of config → IsSanitized config → config.min_types ≡ 0
     → IsInFamily config groups funcs → SpellsGroups config [] false groups piece → types_at config functions (space_of []) (piece ++ after) ≡ (space_of groups, after)

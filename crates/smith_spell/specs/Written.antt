@@ -1,5 +1,5 @@
 -- What writing adds behind the bytes that stand.
-use Rattle.std.specs.Prelude.{◌≡◌, ℕ, ◌<◌, List, ◌++◌, Some, length, take, slice_get, slice_index_or}
+use Rattle.std.specs.Prelude.{◌≡◌, ℕ, ◌<◌, ◌≤◌, List, ◌++◌, Some, length, take, slice_get, slice_index_or}
 use Rattle.std.specs.List.{list_any}
 use Rattle.smith_bytes.specs.Draws.{big_endian, digit_count}
 use Rattle.smith_types.specs.declared.composite_type.SubType.{SubType}
@@ -25,9 +25,15 @@ pub record IsSummary (types : List SubType) (before : Before) : Type 0 where
   pub counted : before.count ≡ length types
   pub open_told : before.has_open ≡ list_any is_open types
 
--- each type may have its index
+-- this holds of some types, no more than the limit
+pub record OverSome (limit : ℕ) (Holds : List SubType → Type 0) : Type 0 where
+  pub types : List SubType
+  pub few : length types ≤ limit
+  pub holds : Holds types
+
+-- each type is a member after those before it
 abbrev pub AreMembers : Config → List SubType → Type 0
-AreMembers config types = (index : ℕ) (t : SubType) → slice_get types index ≡ Some t → IsMemberType config index t
+AreMembers config types = (index : ℕ) (t : SubType) → slice_get types index ≡ Some t → IsMemberType config (take index types) t
 
 -- for each type, how many types before it functions may have
 pub record ArePlaces (types : List SubType) (places : List ℕ) : Type 0 where

@@ -11,7 +11,7 @@ ghost use Rattle.smith_draw.specs.Spelling.{
   SpellsPlainFunction,
 };
 ghost use Rattle.smith_spell.specs.Family.{IsMemberStorage, IsMemberField, IsMemberFunction, IsMemberInner};
-ghost use Rattle.smith_spell.specs.Written.{Writes};
+ghost use Rattle.smith_spell.specs.Written.{Writes, OverSome};
 
 use crate::pieces::{write_bool, write_number};
 use crate::value_types::{write_val_type, write_val_types};
@@ -26,7 +26,7 @@ fn write_storage(
     storage: StorageType,
     bytes: &mut Items<u8>,
 ) -> Result<(), Error>
-    requires { IsMemberStorage config.now limit storage }
+    requires { OverSome limit (λ types. IsMemberStorage config.now types storage) }
     ensures writes { OnOk result (Writes (SpellsStorage config.now limit storage) bytes.old bytes.new) }
     ensures memory { IfErr result (λ e. e ≡ Memory) }
 {
@@ -47,7 +47,7 @@ fn write_field(
     field: FieldType,
     bytes: &mut Items<u8>,
 ) -> Result<(), Error>
-    requires { IsMemberField config.now limit field }
+    requires { OverSome limit (λ types. IsMemberField config.now types field) }
     ensures writes { OnOk result (Writes (SpellsField config.now limit field) bytes.old bytes.new) }
     ensures memory { IfErr result (λ e. e ≡ Memory) }
 {
@@ -62,7 +62,7 @@ fn write_fields(
     fields: &[FieldType],
     bytes: &mut Items<u8>,
 ) -> Result<(), Error>
-    requires { All (IsMemberField config.now limit) fields.now }
+    requires { OverSome limit (λ types. All (IsMemberField config.now types) fields.now) }
     ensures writes { OnOk result (Writes (Each (SpellsField config.now limit) fields.now) bytes.old bytes.new) }
     ensures memory { IfErr result (λ e. e ≡ Memory) }
 {
@@ -80,7 +80,7 @@ fn write_struct_type(
     bytes: &mut Items<u8>,
 ) -> Result<(), Error>
     requires few { length structure.now.fields ≤ 20 }
-    requires members { All (IsMemberField config.now limit) structure.now.fields }
+    requires members { OverSome limit (λ types. All (IsMemberField config.now types) structure.now.fields) }
     ensures writes { OnOk result (Writes (SpellsStructType config.now limit structure.now) bytes.old bytes.new) }
     ensures memory { IfErr result (λ e. e ≡ Memory) }
 {
@@ -102,7 +102,7 @@ fn write_func_type(
     function: &FuncType,
     bytes: &mut Items<u8>,
 ) -> Result<(), Error>
-    requires { IsMemberFunction config.now limit function.now }
+    requires { OverSome limit (λ types. IsMemberFunction config.now types function.now) }
     ensures writes { OnOk result (Writes (SpellsFuncType config.now limit function.now) bytes.old bytes.new) }
     ensures memory { IfErr result (λ e. e ≡ Memory) }
 {
@@ -118,7 +118,7 @@ pub(crate) fn write_inner(
     inner: &CompositeInnerType,
     bytes: &mut Items<u8>,
 ) -> Result<(), Error>
-    requires { IsMemberInner config.now limit inner.now }
+    requires { OverSome limit (λ types. IsMemberInner config.now types inner.now) }
     ensures writes { OnOk result (Writes (SpellsInner config.now limit inner.now) bytes.old bytes.new) }
     ensures memory { IfErr result (λ e. e ≡ Memory) }
 {
@@ -146,7 +146,7 @@ pub(crate) fn write_plain_function(
     bytes: &mut Items<u8>,
 ) -> Result<(), Error>
     requires plain { config.now.gc_enabled ≡ false }
-    requires member { IsMemberInner config.now limit inner.now }
+    requires member { OverSome limit (λ types. IsMemberInner config.now types inner.now) }
     ensures writes { OnOk result (Writes (SpellsPlainFunction config.now limit inner.now) bytes.old bytes.new) }
     ensures memory { IfErr result (λ e. e ≡ Memory) }
 {

@@ -1,10 +1,11 @@
-ghost use Rattle.std.specs.Prelude.{◌≡◌, ◌↔◌, ◌<◌, ◌≤◌, ◌+◌, ◌^◌, false, List, [], IsTrue, IfOk, IfErr, OnErr, MatchOption, All, length};
+ghost use Rattle.std.specs.Prelude.{◌≡◌, ◌↔◌, ◌<◌, ◌≤◌, ◌+◌, ◌++◌, ◌^◌, false, List, [], IsTrue, IfOk, IfErr, OnErr, MatchOption, All, length};
 ghost use Rattle.std.specs.List.{flat_map};
 ghost use Rattle.smith_types.specs.Groups.{space_of};
 ghost use Rattle.smith_types.specs.declared.composite_type.SubType.{SubType as Sub};
 ghost use Rattle.smith_spell.specs.Family.{IsInFamily};
-ghost use Rattle.smith_spell.specs.Decided.{AreMembersFrom, AreGroupsInFamily};
+ghost use Rattle.smith_spell.specs.Decided.{AreMembersAfter, IsKnown, AreGroupsInFamily};
 
+use crate::earlier::{Earlier, Known};
 use crate::member_type::is_member_type;
 use smith_bytes::Error;
 use smith_config::Config;
@@ -83,28 +84,38 @@ fn are_types_few(most: usize, groups: &[Items<SubType>]) -> bool
 
 fn are_members(config: &Config, groups: &[Items<SubType>]) -> bool
     requires { length (flat_map (λ (group : List Sub). group) groups.now) < 2 ^ 64 }
-    ensures { IsTrue result ↔ AreMembersFrom config.now 0 (flat_map (λ (group : List Sub). group) groups.now) }
+    ensures { IsTrue result ↔ AreMembersAfter config.now [] (flat_map (λ (group : List Sub). group) groups.now) }
 {
-    let mut index = 0;
-    for group in groups {
-        if !are_members_from(config, index, group.as_slice()) {
+    let mut known = Known::none();
+    for place in 0..groups.len() {
+        let group = groups[place].as_slice();
+        let Some(after) = known_after(config, &groups[..place], known, group) else {
             return false;
-        }
-        index += group.len();
+        };
+        known = after;
     }
     true
 }
 
-// Whether `types` may stand one behind another, the first at `index`.
-fn are_members_from(config: &Config, mut index: usize, types: &[SubType]) -> bool
-    requires { index + length types.now < 2 ^ 64 }
-    ensures { IsTrue result ↔ AreMembersFrom config.now index types.now }
+// What is known of the types of `groups` and of `group`, the group after them, if the types of `group` are members there. `known`
+// is known of the types of `groups`.
+fn known_after(
+    config: &Config,
+    groups: &[Items<SubType>],
+    mut known: Known,
+    group: &[SubType],
+) -> Option<Known>
+    requires known { IsKnown (flat_map (λ (group : List Sub). group) groups.now) known }
+    requires room { known.count + length group.now < 2 ^ 64 }
+    ensures { let before : List Sub = flat_map (λ (group : List Sub). group) groups.now in
+        MatchOption result (¬ AreMembersAfter config.now before group.now) (λ after. AreMembersAfter config.now before group.now × IsKnown (before ++ group.now) after) }
 {
-    for ty in types {
-        if !is_member_type(config, index, ty) {
-            return false;
+    for place in 0..group.len() {
+        let earlier = Earlier::new(groups, &group[..place], known);
+        if !is_member_type(config, &earlier, &group[place]) {
+            return None;
         }
-        index += 1;
+        known = known.with(&group[place]);
     }
-    true
+    Some(known)
 }

@@ -4,7 +4,7 @@ ghost use Rattle.smith_types.specs.declared.composite_type.SubType.{SubType as S
 ghost use Rattle.smith_types.specs.Groups.{space_of};
 ghost use Rattle.smith_draw.specs.Spelling.{SpellsSize, SpellsGroup, SpellsGroups};
 ghost use Rattle.smith_spell.specs.Family.{IsMemberType};
-ghost use Rattle.smith_spell.specs.Written.{Writes, IsSummary, AreMembers};
+ghost use Rattle.smith_spell.specs.Written.{Writes, IsSummary, OverSome, AreMembers};
 
 use crate::pieces::{write_bool, write_end, write_number, write_refusal};
 use crate::sub_types::{Before, write_sub_types};
@@ -43,7 +43,7 @@ fn write_group(
 ) -> Result<Before, Error>
     requires room { before.count + length group.now ≤ config.now.max_types }
     requires single { config.now.gc_enabled ≡ false → length group.now ≡ 1 }
-    requires members { All (IsMemberType config.now (before.count + length group.now)) group.now }
+    requires members { All (λ (t : Sub). OverSome (before.count + length group.now) (λ types. IsMemberType config.now types t)) group.now }
     ensures writes { OnOk result ((types : List Sub) → IsSummary types before → Writes (SpellsGroup config.now types stands group.now) bytes.old bytes.new) }
     ensures after { IfOk result (λ after. (types : List Sub) → IsSummary types before → IsSummary (types ++ group.now) after) }
     ensures memory { IfErr result (λ e. e ≡ Memory) }

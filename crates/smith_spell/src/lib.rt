@@ -4,6 +4,7 @@
 
 mod asked;
 mod composite_types;
+mod earlier;
 mod examples;
 mod family;
 mod funcs;

@@ -1,10 +1,12 @@
 ghost use Rattle.std.specs.Prelude.{◌≡◌, ◌↔◌, IsTrue, All};
 ghost use Rattle.std.specs.List.{Contains};
+ghost use Rattle.smith_types.specs.declared.value_type.ValType.TheVariants.{Ref};
 ghost use Rattle.smith_draw.specs.Choices.{enabled};
 ghost use Rattle.smith_draw.specs.ValueTypes.{abstract_heap_types};
 ghost use Rattle.smith_draw.specs.CompositeTypes.{most_results};
 ghost use Rattle.smith_spell.specs.Family.{
   IsMemberHeapType,
+  IsMemberNullability,
   IsMemberValType,
   IsMemberStorage,
   IsMemberField,
@@ -14,6 +16,7 @@ ghost use Rattle.smith_spell.specs.Family.{
 };
 ghost use Rattle.smith_spell.specs.Decided.{IsOffered};
 
+use crate::earlier::Earlier;
 use smith_config::Config;
 use smith_types::{
     AbstractHeapType, CompositeInnerType, FieldType, FuncType, HeapType, RefType, StorageType,
@@ -23,39 +26,39 @@ use smith_types::{
 /// The greatest number of parameters, of results and of fields.
 const MOST: usize = 20;
 
-/// Whether `ty` may be the type at `index` of lists in the family of `config`.
-pub(crate) fn is_member_type(config: &Config, index: usize, ty: &SubType) -> bool
-    ensures { IsTrue result ↔ IsMemberType config.now index ty.now }
+/// Whether `ty` may be the type after `earlier` in lists of the family of `config`.
+pub(crate) fn is_member_type(config: &Config, earlier: &Earlier<'_>, ty: &SubType) -> bool
+    ensures { IsTrue result ↔ IsMemberType config.now earlier.now ty.now }
 {
     !ty.composite_type.shared
         && ty.supertype.is_none()
         && (config.gc_enabled || ty.is_final)
-        && is_member_inner(config, index, &ty.composite_type.inner)
+        && is_member_inner(config, earlier, &ty.composite_type.inner)
 }
 
-fn is_member_inner(config: &Config, index: usize, inner: &CompositeInnerType) -> bool
-    ensures { IsTrue result ↔ IsMemberInner config.now index inner.now }
+fn is_member_inner(config: &Config, earlier: &Earlier<'_>, inner: &CompositeInnerType) -> bool
+    ensures { IsTrue result ↔ IsMemberInner config.now earlier.now inner.now }
 {
     match inner {
         CompositeInnerType::Array(array) => {
-            config.gc_enabled && is_member_field(config, index, array.0)
+            config.gc_enabled && is_member_field(config, earlier, array.0)
         }
-        CompositeInnerType::Func(function) => is_member_function(config, index, function),
+        CompositeInnerType::Func(function) => is_member_function(config, earlier, function),
         CompositeInnerType::Struct(structure) => {
             config.gc_enabled
                 && structure.fields.len() <= MOST
-                && are_member_fields(config, index, structure.fields.as_slice())
+                && are_member_fields(config, earlier, structure.fields.as_slice())
         }
     }
 }
 
-fn is_member_function(config: &Config, index: usize, function: &FuncType) -> bool
-    ensures { IsTrue result ↔ IsMemberFunction config.now index function.now }
+fn is_member_function(config: &Config, earlier: &Earlier<'_>, function: &FuncType) -> bool
+    ensures { IsTrue result ↔ IsMemberFunction config.now earlier.now function.now }
 {
     function.params.len() <= MOST
         && function.results.len() <= most_results(config)
-        && are_member_values(config, index, function.params.as_slice())
-        && are_member_values(config, index, function.results.as_slice())
+        && are_member_values(config, earlier, function.params.as_slice())
+        && are_member_values(config, earlier, function.results.as_slice())
 }
 
 fn most_results(config: &Config) -> usize
@@ -64,58 +67,73 @@ fn most_results(config: &Config) -> usize
     if config.multi_value_enabled { MOST } else { 1 }
 }
 
-fn are_member_values(config: &Config, index: usize, values: &[ValType]) -> bool
-    ensures { IsTrue result ↔ All (IsMemberValType config.now index) values.now }
+fn are_member_values(config: &Config, earlier: &Earlier<'_>, values: &[ValType]) -> bool
+    ensures { IsTrue result ↔ All (IsMemberValType config.now earlier.now) values.now }
 {
     values
         .iter()
-        .all(|value| is_member_value(config, index, *value))
+        .all(|value| is_member_value(config, earlier, *value))
 }
 
-fn are_member_fields(config: &Config, index: usize, fields: &[FieldType]) -> bool
-    ensures { IsTrue result ↔ All (IsMemberField config.now index) fields.now }
+fn are_member_fields(config: &Config, earlier: &Earlier<'_>, fields: &[FieldType]) -> bool
+    ensures { IsTrue result ↔ All (IsMemberField config.now earlier.now) fields.now }
 {
     fields
         .iter()
-        .all(|field| is_member_field(config, index, *field))
+        .all(|field| is_member_field(config, earlier, *field))
 }
 
-fn is_member_field(config: &Config, index: usize, field: FieldType) -> bool
-    ensures { IsTrue result ↔ IsMemberField config.now index field }
+fn is_member_field(config: &Config, earlier: &Earlier<'_>, field: FieldType) -> bool
+    ensures { IsTrue result ↔ IsMemberField config.now earlier.now field }
 {
-    is_member_storage(config, index, field.element_type)
+    is_member_storage(config, earlier, field.element_type)
 }
 
-fn is_member_storage(config: &Config, index: usize, storage: StorageType) -> bool
-    ensures { IsTrue result ↔ IsMemberStorage config.now index storage }
+fn is_member_storage(config: &Config, earlier: &Earlier<'_>, storage: StorageType) -> bool
+    ensures { IsTrue result ↔ IsMemberStorage config.now earlier.now storage }
 {
     match storage {
-        StorageType::Val(value) => is_member_value(config, index, value),
+        StorageType::Val(value) => is_member_value(config, earlier, value),
         _ => true,
     }
 }
 
-fn is_member_value(config: &Config, index: usize, value: ValType) -> bool
-    ensures { IsTrue result ↔ IsMemberValType config.now index value }
+fn is_member_value(config: &Config, earlier: &Earlier<'_>, value: ValType) -> bool
+    ensures { IsTrue result ↔ IsMemberValType config.now earlier.now value }
 {
     match value {
         ValType::I32 | ValType::I64 => true,
         ValType::F32 | ValType::F64 => config.allow_floats,
         ValType::V128 => config.simd_enabled,
-        ValType::Ref(reference) => {
-            config.reference_types_enabled
-                && reference.nullable
-                && is_member_heap_type(config, index, reference.heap_type)
-        }
+        ValType::Ref(reference) => is_member_reference(config, earlier, reference),
     }
 }
 
-fn is_member_heap_type(config: &Config, index: usize, heap_type: HeapType) -> bool
-    ensures { IsTrue result ↔ IsMemberHeapType config.now index heap_type }
+fn is_member_reference(config: &Config, earlier: &Earlier<'_>, reference: RefType) -> bool
+    ensures { IsTrue result ↔ IsMemberValType config.now earlier.now (Ref reference) }
+{
+    config.reference_types_enabled
+        && is_member_heap_type(config, earlier, reference.heap_type)
+        && is_member_nullability(config, earlier, reference)
+}
+
+// Whether `reference` may be as nullable as it is.
+fn is_member_nullability(config: &Config, earlier: &Earlier<'_>, reference: RefType) -> bool
+    requires { IsMemberHeapType config.now earlier.now reference.heap_type }
+    ensures { IsTrue result ↔ IsMemberNullability config.now earlier.now reference }
+{
+    if reference.nullable {
+        return true;
+    }
+    config.non_nullable_enabled && earlier.is_grounded(config, reference.heap_type)
+}
+
+fn is_member_heap_type(config: &Config, earlier: &Earlier<'_>, heap_type: HeapType) -> bool
+    ensures { IsTrue result ↔ IsMemberHeapType config.now earlier.now heap_type }
 {
     match heap_type {
         HeapType::Abstract { shared, ty } => !shared && is_listed(config, ty),
-        HeapType::Concrete(other) => config.gc_enabled && (other as usize) < index,
+        HeapType::Concrete(index) => config.gc_enabled && (index as usize) < earlier.count(),
         HeapType::Exact(_) => false,
     }
 }

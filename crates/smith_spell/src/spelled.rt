@@ -52,7 +52,9 @@ fn spell_in_family(
 ///
 /// None is given where no bytes are sure to do so: `config`, as [`Config::sanitize`] leaves it, fails its check, sets a minimum,
 /// holds a shape or has everything exported, or `groups` and `funcs` are outside the family of lists that draws reach. Types of
-/// the family are unshared, have no supertype, and refer only to types before them, by nullable references.
+/// the family are unshared, have no supertype, and refer only to types before them. Their references are nullable, but where
+/// `config` has references that aren't nullable, and a struct type before the type that holds one is below what it refers to and
+/// has only fields with defaults.
 ///
 /// Memory is taken only where `config` and `groups` allow an answer and `funcs` are no more than `config` allows.
 ///

@@ -3,7 +3,7 @@ ghost use Rattle.smith_bytes.specs.declared.error.Error.TheVariants.{Memory};
 ghost use Rattle.smith_types.specs.declared.composite_type.SubType.{SubType as Sub};
 ghost use Rattle.smith_draw.specs.Spelling.{SpellsSubType, SpellsSubTypes};
 ghost use Rattle.smith_spell.specs.Family.{IsMemberType};
-ghost use Rattle.smith_spell.specs.Written.{Writes, IsSummary};
+ghost use Rattle.smith_spell.specs.Written.{Writes, IsSummary, OverSome};
 
 use crate::composite_types::{write_inner, write_plain_function};
 use crate::pieces::{write_bool, write_refusal};
@@ -41,7 +41,7 @@ fn write_sub_type(
     t: &SubType,
     bytes: &mut Items<u8>,
 ) -> Result<(), Error>
-    requires { IsMemberType config.now limit t.now }
+    requires { OverSome limit (λ types. IsMemberType config.now types t.now) }
     ensures writes { OnOk result ((types : List Sub) → IsSummary types before → Writes (SpellsSubType config.now types limit t.now) bytes.old bytes.new) }
     ensures memory { IfErr result (λ e. e ≡ Memory) }
 {
@@ -63,7 +63,7 @@ pub(crate) fn write_sub_types(
     types: &[SubType],
     bytes: &mut Items<u8>,
 ) -> Result<Before, Error>
-    requires members { All (IsMemberType config.now limit) types.now }
+    requires members { All (λ (t : Sub). OverSome limit (λ before. IsMemberType config.now before t)) types.now }
     requires few { before.count + length types.now < 2 ^ 64 }
     ensures writes { OnOk result ((others : List Sub) → IsSummary others before → Writes (SpellsSubTypes config.now others limit types.now) bytes.old bytes.new) }
     ensures after { IfOk result (λ after. (others : List Sub) → IsSummary others before → IsSummary (others ++ types.now) after) }

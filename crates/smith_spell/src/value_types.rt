@@ -1,17 +1,28 @@
-ghost use Rattle.std.specs.Prelude.{◌≡◌, ℕ, ◌<◌, ◌≤◌, ◌&&◌, nat_lt, true, IsTrue, Some, OnOk, IfErr, length, slice_get, All};
+ghost use Rattle.std.specs.Prelude.{◌≡◌, ◌<◌, ◌≤◌, ◌&&◌, nat_lt, true, false, List, IsTrue, Some, OnOk, IfErr, length, slice_get, All};
 ghost use Rattle.std.specs.List.{Contains};
 ghost use Rattle.smith_bytes.specs.declared.error.Error.TheVariants.{Memory};
 ghost use Rattle.smith_bytes.specs.Spelling.{Where, Listed, SpellsBool};
+ghost use Rattle.smith_types.specs.declared.value_type.ValType.TheVariants.{Ref};
+ghost use Rattle.smith_types.specs.declared.composite_type.SubType.{SubType as Sub};
 ghost use Rattle.smith_draw.specs.Choices.{enabled};
 ghost use Rattle.smith_draw.specs.ValueTypes.{value_classes, abstract_heap_types};
-ghost use Rattle.smith_draw.specs.Spelling.{class_of, SpellsUnshared, SpellsConcrete, SpellsHeapType, SpellsPlace, SpellsValType};
+ghost use Rattle.smith_draw.specs.Spelling.{
+  class_of,
+  SpellsUnshared,
+  SpellsConcrete,
+  SpellsHeapType,
+  SpellsNullable,
+  SpellsRefType,
+  SpellsPlace,
+  SpellsValType,
+};
 ghost use Rattle.smith_spell.specs.Family.{IsMemberHeapType, IsMemberValType};
-ghost use Rattle.smith_spell.specs.Written.{Writes};
+ghost use Rattle.smith_spell.specs.Written.{Writes, OverSome};
 
 use crate::pieces::{write_bool, write_end, write_number, write_refusal};
 use smith_bytes::Error;
 use smith_config::Config;
-use smith_types::{AbstractHeapType, HeapType, Items, ValType};
+use smith_types::{AbstractHeapType, HeapType, Items, RefType, ValType};
 
 /// The number of classes of value types that `config` enables.
 fn count_classes(config: &Config) -> usize
@@ -23,7 +34,7 @@ fn count_classes(config: &Config) -> usize
 
 /// The place of the class of `value` among those that `config` enables.
 fn class_place(config: &Config, value: ValType) -> usize
-    ensures { (limit : ℕ) → IsMemberValType config.now limit value → slice_get (enabled (value_classes config.now)) result ≡ Some (class_of value) }
+    ensures { (types : List Sub) → IsMemberValType config.now types value → slice_get (enabled (value_classes config.now)) result ≡ Some (class_of value) }
 {
     match value {
         ValType::I32 => 0,
@@ -108,7 +119,7 @@ fn write_heap_type(
     ty: HeapType,
     bytes: &mut Items<u8>,
 ) -> Result<(), Error>
-    requires { IsMemberHeapType config.now limit ty }
+    requires { OverSome limit (λ types. IsMemberHeapType config.now types ty) }
     ensures writes { OnOk result (Writes (SpellsHeapType config.now limit ty) bytes.old bytes.new) }
     ensures memory { IfErr result (λ e. e ≡ Memory) }
 {
@@ -126,6 +137,34 @@ fn write_heap_type(
     }
 }
 
+/// Writes whether a reference is not nullable, where there are such references. `nullable` says whether it is.
+fn write_nullable(config: &Config, nullable: bool, bytes: &mut Items<u8>) -> Result<(), Error>
+    requires { config.now.non_nullable_enabled ≡ false → IsTrue nullable }
+    ensures writes { OnOk result (Writes (SpellsNullable config.now.non_nullable_enabled nullable) bytes.old bytes.new) }
+    ensures memory { IfErr result (λ e. e ≡ Memory) }
+{
+    if config.non_nullable_enabled {
+        return write_bool(!nullable, bytes);
+    }
+    Ok(())
+}
+
+/// Writes `reference`, a reference type that a type of the family may name.
+fn write_ref_type(
+    config: &Config,
+    limit: usize,
+    reference: RefType,
+    bytes: &mut Items<u8>,
+) -> Result<(), Error>
+    requires { OverSome limit (λ types. IsMemberValType config.now types (Ref reference)) }
+    ensures writes { OnOk result (Writes (SpellsRefType config.now limit reference) bytes.old bytes.new) }
+    ensures memory { IfErr result (λ e. e ≡ Memory) }
+{
+    write_heap_type(config, limit, reference.heap_type, bytes)?;
+    write_nullable(config, reference.nullable, bytes)?;
+    Ok(())
+}
+
 /// Writes the place of the class of `value`.
 fn write_class(
     config: &Config,
@@ -133,7 +172,7 @@ fn write_class(
     value: ValType,
     bytes: &mut Items<u8>,
 ) -> Result<(), Error>
-    requires { IsMemberValType config.now limit value }
+    requires { OverSome limit (λ types. IsMemberValType config.now types value) }
     ensures writes { OnOk result (Writes (SpellsPlace (enabled (value_classes config.now)) (class_of value)) bytes.old bytes.new) }
     ensures memory { IfErr result (λ e. e ≡ Memory) }
 {
@@ -147,13 +186,13 @@ pub(crate) fn write_val_type(
     value: ValType,
     bytes: &mut Items<u8>,
 ) -> Result<(), Error>
-    requires { IsMemberValType config.now limit value }
+    requires { OverSome limit (λ types. IsMemberValType config.now types value) }
     ensures writes { OnOk result (Writes (SpellsValType config.now limit value) bytes.old bytes.new) }
     ensures memory { IfErr result (λ e. e ≡ Memory) }
 {
     write_class(config, limit, value, bytes)?;
     match value {
-        ValType::Ref(reference) => write_heap_type(config, limit, reference.heap_type, bytes),
+        ValType::Ref(reference) => write_ref_type(config, limit, reference, bytes),
         _ => Ok(()),
     }
 }
@@ -166,7 +205,7 @@ pub(crate) fn write_val_types(
     values: &[ValType],
     bytes: &mut Items<u8>,
 ) -> Result<(), Error>
-    requires members { All (IsMemberValType config.now limit) values.now }
+    requires members { OverSome limit (λ types. All (IsMemberValType config.now types) values.now) }
     requires few { length values.now ≤ most }
     ensures writes { OnOk result (Writes (Listed (SpellsValType config.now limit) most values.now) bytes.old bytes.new) }
     ensures memory { IfErr result (λ e. e ≡ Memory) }

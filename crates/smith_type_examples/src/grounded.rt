@@ -41,6 +41,7 @@ fn exact_types()
 fn shared_types()
     ensures shared { IsGrounded (context_of usual_features (shared_type empty_struct ∷ []) [] 0) (Abstract true heap.Any) }
     ensures not_shared { ¬ IsGrounded (context_of usual_features (shared_type empty_struct ∷ []) [] 0) (plain heap.Any) }
+    ensures by_one_that_is_not { ¬ IsGrounded (context_of usual_features (final_type empty_struct ∷ []) [] 0) (Abstract true heap.Any) }
 {}
 
 fn functions()
@@ -48,5 +49,6 @@ fn functions()
     ensures its_kind { IsGrounded (context_of usual_features (final_type plain_func ∷ []) (0 ∷ []) 1) (plain heap.Func) }
     ensures type_alone { ¬ IsGrounded (context_of usual_features (final_type plain_func ∷ []) [] 0) (plain heap.Func) }
     ensures defined_and_exact { IsGrounded (context_of every_feature (final_type plain_func ∷ []) (0 ∷ []) 0) (Exact 0) }
+    ensures imported_with_descriptors { IsGrounded (context_of every_feature (final_type plain_func ∷ []) (0 ∷ []) 1) (Concrete 0) }
     ensures imported_and_exact { ¬ IsGrounded (context_of every_feature (final_type plain_func ∷ []) (0 ∷ []) 1) (Exact 0) }
 {}

@@ -1,6 +1,6 @@
 -- What a type space keeps of types that ground others, as types are added.
 use Rattle.std.proofs.Common.{◌≡◌, ℕ, ◌+◌, ◌<◌, Bool, true, false, List, [], ◌∷◌, ◌++◌, Option, Some, None, IsTrue, length, refl, sym, ◌∙◌, ap, subst, inl, inr, arith}
-use Rattle.std.specs.Prelude.{slice_get, ◌||◌, if◌then◌else◌}
+use Rattle.std.specs.Prelude.{◌&&◌, slice_get, ◌||◌, if◌then◌else◌}
 use Rattle.std.specs.List.{list_any}
 use Rattle.std.proofs.lemmas.Bool.{cases_eq, cases_lt}
 use Rattle.std.proofs.lemmas.List.Folds.{list_any-append}
@@ -132,11 +132,16 @@ either_none true = refl
 either_none false = refl
 
 -- the kinds with a type more
-pub kinds_more : (types : List SubType) (t : SubType) (kinds : GroundKinds) → AreGroundKinds types kinds → AreGroundKinds (types ++ t ∷ []) (kinds_with t kinds)
-kinds_more types t kinds h = record { each = λ is_shared. kind_more is_shared } where
+pub kinds_more : (types : List SubType) (t : SubType) (own : Bool) (kinds : GroundKinds) → own ≡ is_ground t → AreGroundKinds types kinds
+    → AreGroundKinds (types ++ t ∷ []) (kinds_with own t.composite_type.shared kinds)
+kinds_more types t own kinds is h = rw is (record { each = λ is_shared. kind_more is_shared }) where
   turn : (is_shared : Bool) → (kind_at kinds is_shared || is_ground_of is_shared t) ≡ list_any (is_ground_of is_shared) (types ++ t ∷ [])
   turn is_shared = ap (λ (b : Bool). b || is_ground_of is_shared t) (h.each is_shared) ∙ ap (λ (b : Bool). list_any (is_ground_of is_shared) types || b) (sym (either_none (is_ground_of is_shared t))) ∙ sym (list_any-append (is_ground_of is_shared) types (t ∷ []))
 
-  kind_more : (is_shared : Bool) → kind_at (kinds_with t kinds) is_shared ≡ list_any (is_ground_of is_shared) (types ++ t ∷ [])
+  kind_more : (is_shared : Bool) → kind_at (kinds_with (is_ground t) t.composite_type.shared kinds) is_shared ≡ list_any (is_ground_of is_shared) (types ++ t ∷ [])
   kind_more true = turn true
   kind_more false = turn false
+
+-- what is kept
+pub kept_own : (kept own : Bool) (t : SubType) → own ≡ (kept && is_ground t) → kept ≡ true → own ≡ is_ground t
+kept_own kept own t is on = is ∙ ap (λ (b : Bool). b && is_ground t) on

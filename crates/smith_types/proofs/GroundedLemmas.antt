@@ -1,9 +1,9 @@
 -- What is kept of types that ground others says which heap types structs ground.
-use Rattle.std.proofs.Common.{◌≡◌, ◌↔◌, ℕ, zero, suc, ◌<◌, Bool, true, false, List, [], ◌∷◌, Some, IsTrue, get_or, length, refl, sym, ◌∙◌, ap, subst, arith}
+use Rattle.std.proofs.Common.{◌≡◌, ◌↔◌, ℕ, zero, suc, ◌<◌, ◌≤◌, Bool, true, false, List, [], ◌∷◌, Some, IsTrue, get_or, length, refl, sym, ◌∙◌, ap, subst, arith}
 use Rattle.std.specs.Prelude.{slice_get, All, not, ◌&&◌, ◌||◌, if◌then◌else◌}
 use Rattle.std.specs.List.{list_any, AllByRecursion as Each}
 use Rattle.std.proofs.lemmas.List.Elements.{All-from_recursion, recursion_from_All}
-use Rattle.std.proofs.lemmas.Option.{same_Some}
+use Rattle.std.proofs.lemmas.Option.{same_Some, slice_get-get_or, slice_get_within}
 use Rattle.smith_types.specs.declared.value_type.AbstractHeapType.{AbstractHeapType}
 use Rattle.smith_types.specs.declared.value_type.AbstractHeapType.TheVariants as heap
 use Rattle.smith_types.specs.declared.value_type.HeapType.{HeapType}
@@ -219,3 +219,37 @@ pub exact_off : (now : List SubType) (descriptors : Bool) (j : ℕ) (h : HeapTyp
 exact_off now descriptors j h is off =
     subst (λ v. IsTrue descriptors ↔ IsGroundedByStructs now descriptors v) (sym is)
     (subst (λ v. IsTrue v ↔ IsGroundedByStructs now v (Exact j)) (sym off) (exact_ungrounded now j))
+
+entry_at : (types now : List SubType) (i : ℕ) (t d : SubType) → types ≡ now → i < length now → t ≡ get_or types i d → slice_get now i ≡ Some t
+entry_at types now i t d view inside read =
+    let same : length types ≡ length now = ap length view in
+    subst (λ xs. slice_get xs i ≡ Some t) view (slice_get-get_or types i d (omega (arith, same, inside)) ∙ ap Some (sym read))
+
+-- a struct type whose fields all have defaults grounds what its creation is below
+pub grounds_where_below : (types now : List SubType) (descriptors r : Bool) (h : HeapType) (i : ℕ) (t d : SubType) → types ≡ now → i < length now → t ≡ get_or types i d → is_ground t ≡ true
+    → IsTrue r ↔ IsBelow now (if descriptors then Exact i else Concrete i) h → IsTrue r ↔ IsGroundedBy now descriptors h i
+grounds_where_below types now descriptors r h i t d view inside read on below =
+    (λ holds. grounded_at now descriptors h i t (entry_at types now i t d view inside read) on (below.0 holds), λ g. below.1 g.below)
+
+-- any other grounds nothing
+pub grounds_nothing : (types now : List SubType) (descriptors : Bool) (h : HeapType) (i : ℕ) (t d : SubType) → types ≡ now → i < length now → t ≡ get_or types i d → is_ground t ≡ false
+    → IsTrue false ↔ IsGroundedBy now descriptors h i
+grounds_nothing types now descriptors h i t d view inside read off = (
+  λ never. cc,
+  λ g.
+      let (u, at, on) = grounded_is now descriptors h i g in
+      let same : t ≡ u = same_Some t u (sym (entry_at types now i t d view inside read) ∙ at) in
+      sym off ∙ ap is_ground same ∙ on,
+)
+
+-- what none of the types grounds, structs don't ground
+pub grounded_by_none : (types now : List SubType) (descriptors : Bool) (h : HeapType) (count : ℕ) → types ≡ now → length types ≤ count → ((i : ℕ) → i < count → IsGroundedBy now descriptors h i → ⊥)
+    → IsTrue false ↔ IsGroundedByStructs now descriptors h
+grounded_by_none types now descriptors h count view all none = (
+  λ never. cc,
+  λ (i, g).
+      let (u, at, on) = grounded_is now descriptors h i g in
+      let same : length types ≡ length now = ap length view in
+      let inside : i < length now = slice_get_within now i u at in
+      absurd (none i (omega (arith, same, all, inside)) g),
+)

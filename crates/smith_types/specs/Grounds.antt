@@ -69,9 +69,9 @@ abbrev pub kind_at : GroundKinds → Bool → Bool
 kind_at kinds false = kinds.plain
 kind_at kinds true = kinds.shared
 
--- what is kept with one type more
-abbrev pub kinds_with : SubType → GroundKinds → GroundKinds
-kinds_with t kinds = record { plain = kinds.plain || is_ground_of false t; shared = kinds.shared || is_ground_of true t }
+-- what is kept with a type more that is such a struct type, or not, of a sharedness
+abbrev pub kinds_with : Bool → Bool → GroundKinds → GroundKinds
+kinds_with ground is_shared kinds = record { plain = kinds.plain || (ground && not is_shared); shared = kinds.shared || (ground && is_shared) }
 
 -- what is kept of all types: of which sharedness there is such a struct type
 pub record AreGroundKinds (types : List SubType) (kinds : GroundKinds) : Type 0 where

@@ -105,10 +105,10 @@ AreBytesInside memories data_kind.Passive count = Unit {0}
 AreBytesInside memories (data_kind.Active index offset) count =
     (memory : MemoryType) × (slice_get memories index ≡ Some memory) × IsOffsetInside offset count (memory.minimum * 2 ^ page_log2 memory.page_size_log2)
 
--- an element segment that is copied lies within the least elements of its table (own rule: so that nothing traps)
+-- an element segment that is copied lies within the least elements of its table (own rule: so that it does not trap)
 abbrev pub IsElementInside : List TableType → ElementSegment → Type 0
 IsElementInside tables segment = AreElementsInside tables segment.kind (item_count segment.items)
 
--- a data segment that is copied lies within the least bytes of its memory (own rule: so that nothing traps)
+-- a data segment that is copied lies within the least bytes of its memory (own rule: so that it does not trap)
 abbrev pub IsDataInside : List MemoryType → DataSegment → Type 0
 IsDataInside memories segment = AreBytesInside memories segment.kind (length segment.init)

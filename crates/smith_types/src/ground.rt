@@ -1,4 +1,4 @@
-ghost use Rattle.std.specs.Prelude.{◌≡◌, ◌+◌, ◌++◌, ◌<◌, ℕ, [], ◌∷◌, None, Some, length, false, vec_len, vec_capacity, if◌then◌else◌};
+ghost use Rattle.std.specs.Prelude.{◌≡◌, ◌&&◌, ◌+◌, ◌++◌, ◌<◌, ℕ, [], ◌∷◌, None, Some, length, false, vec_len, vec_capacity, if◌then◌else◌};
 ghost use Rattle.smith_types.specs.Types.{IsOrderly};
 ghost use Rattle.smith_types.specs.Space.{MayFollow};
 ghost use Rattle.smith_types.specs.Expressions.{unpacked};
@@ -25,12 +25,10 @@ pub(crate) struct GroundKinds {
 }
 
 impl GroundKinds {
-    // What there is with the type `added` too.
-    pub(crate) fn with(self, added: &SubType) -> GroundKinds
-        ensures { result ≡ kinds_with added.now self }
+    // What there is with a type too that is such a struct type if `ground` is set, and shared if `shared` is.
+    pub(crate) fn with(self, ground: bool, shared: bool) -> GroundKinds
+        ensures { result ≡ kinds_with ground shared self }
     {
-        let ground = is_ground(added);
-        let shared = added.composite_type.shared;
         GroundKinds {
             plain: self.plain || (ground && !shared),
             shared: self.shared || (ground && shared),
@@ -55,18 +53,17 @@ pub(crate) fn no_grounds() -> GroundKinds
     }
 }
 
-// Adds to `grounds`, which has room, what the type `added` grounds, the next one after `types`, and marks the types above it where it
-// grounds.
-pub(crate) fn join_grounds(types: &[SubType], added: &SubType, grounds: &mut Vec<Ground>)
+// Adds to `grounds`, which has room, an entry for the type `added`, the next one after `types`, and marks the types above it. Where
+// `own` isn't set it says that the type grounds nothing.
+pub(crate) fn join_grounds(types: &[SubType], added: &SubType, own: bool, grounds: &mut Vec<Ground>)
     requires orderly { IsOrderly types.now }
     requires follows { MayFollow types.now added.now }
-    requires grounds { AreGrounds types.now grounds.old.items }
+    requires long { vec_len grounds.old ≡ length types.now }
     requires room { vec_len grounds.old < vec_capacity grounds.old }
-    ensures grounds { AreGrounds (types.now ++ added.now ∷ []) grounds.new.items }
+    ensures grounds { own ≡ is_ground added.now → AreGrounds types.now grounds.old.items → AreGrounds (types.now ++ added.now ∷ []) grounds.new.items }
     ensures len { vec_len grounds.new ≡ vec_len grounds.old + 1 }
     ensures capacity { vec_capacity grounds.new ≡ vec_capacity grounds.old }
 {
-    let own = is_ground(added);
     mark_above(types, supertype_if(own, added), grounds);
     grounds.push_reserved(Ground { own, below: own });
 }
@@ -101,8 +98,15 @@ pub(crate) fn mark_above(types: &[SubType], from: Option<u32>, grounds: &mut Vec
     }
 }
 
+// Whether `ty` is such a struct type, where `kept` is set.
+pub(crate) fn is_kept_ground(kept: bool, ty: &SubType) -> bool
+    ensures { result ≡ (kept && is_ground ty.now) }
+{
+    kept && is_ground(ty)
+}
+
 // Whether `ty` is a struct type whose fields all have defaults.
-fn is_ground(ty: &SubType) -> bool
+pub(crate) fn is_ground(ty: &SubType) -> bool
     ensures { result ≡ is_ground ty.now }
 {
     match &ty.composite_type.inner {

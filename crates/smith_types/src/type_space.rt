@@ -29,7 +29,7 @@ ghost use Rattle.smith_types.specs.Types.{IsAlike, IsOrderly, next_start, next_g
 ghost use Rattle.smith_types.specs.Space.{AreExtensible, HasDepth, MayFollow, extensible_from};
 ghost use Rattle.smith_types.specs.Places.{IsPlace, ArePlaces, AreBeside, IsLonger, depths_in};
 ghost use Rattle.smith_types.specs.Families.{direct_subtypes, AreFamilies};
-ghost use Rattle.smith_types.specs.Grounded.{IsGroundedByStructs};
+ghost use Rattle.smith_types.specs.Grounded.{IsGroundedBy, IsGroundedByStructs};
 ghost use Rattle.smith_types.specs.KindCounts.{indices_of_kind};
 ghost use Rattle.smith_types.specs.Sizes.{value_count};
 ghost use Rattle.smith_types.specs.Matching.{IsCompositeMatch, IsInnerInRange};
@@ -39,7 +39,7 @@ ghost use Rattle.smith_types.specs.Subtyping.{IsBelow, IsRefBelow, IsValBelow, I
 use crate::composite_type::{CompositeInnerType, CompositeType, SubType};
 use crate::entity_type::EntityType;
 use crate::family::{Family, extend_families, join_family};
-use crate::ground::{Ground, GroundKinds, join_grounds, no_grounds};
+use crate::ground::{Ground, GroundKinds, is_ground, is_kept_ground, join_grounds, no_grounds};
 use crate::matching::composite_type_is_match;
 use crate::place::{Place, last_counts, push_row};
 use crate::subtyping::{
@@ -69,14 +69,16 @@ pub struct TypeSpace {
     // The families of the first types: at least up to the last type that has a supertype.
     families: Vec<Family>,
     extensible: Vec<u32>,
-    // What the types ground.
+    // Whether what the types ground is kept.
+    keeps_grounds: bool,
+    // What the types ground, where it is kept.
     grounds: Vec<Ground>,
     ground_kinds: GroundKinds,
     groups: Vec<Range<usize>>,
 }
 
 impl Model for TypeSpace {
-    ghost use Rattle.std.specs.Prelude.{◌≡◌};
+    ghost use Rattle.std.specs.Prelude.{◌≡◌, true};
     ghost use Rattle.smith_types.specs.Space.{Space, IsSound, extensible_from};
     ghost use Rattle.smith_types.specs.Places.{ArePlaces, AreBeside, depths_in};
     ghost use Rattle.smith_types.specs.Families.{AreFamilies};
@@ -90,8 +92,8 @@ impl Model for TypeSpace {
         × ArePlaces a.types.items a.rows.items a.places.items
         × (a.extensible.items ≡ extensible_from 0 a.types.items (depths_in a.places.items))
         × AreFamilies a.types.items a.families.items
-        × AreGrounds a.types.items a.grounds.items
-        × AreGroundKinds a.types.items a.ground_kinds
+        × (a.keeps_grounds ≡ true → AreGrounds a.types.items a.grounds.items)
+        × (a.keeps_grounds ≡ true → AreGroundKinds a.types.items a.ground_kinds)
         × AreBeside a.types a.places a.grounds };
 }
 
@@ -121,6 +123,7 @@ impl TypeSpace {
             rows: Vec::new(alloc),
             families: Vec::new(alloc),
             extensible: Vec::new(alloc),
+            keeps_grounds: true,
             grounds: Vec::new(alloc),
             ground_kinds: no_grounds(),
             groups: Vec::new(alloc),
@@ -139,10 +142,20 @@ impl TypeSpace {
             rows: Vec::new(alloc),
             families: Vec::new(alloc),
             extensible: Vec::new(alloc),
+            keeps_grounds: true,
             grounds: Vec::with_capacity(alloc, types)?,
             ground_kinds: no_grounds(),
             groups: Vec::with_capacity(alloc, types)?,
         })
+    }
+
+    /// Stops keeping what the types ground, which takes a look at the fields of each struct type that is added.
+    ///
+    /// [`TypeSpace::is_grounded_by_structs`] then looks for a type that grounds among all of them.
+    pub fn keep_no_grounds(&mut self)
+        ensures { self.new ≡ self.old }
+    {
+        self.keeps_grounds = false;
     }
 
     /// The types, in the order of their indices.
@@ -248,6 +261,9 @@ impl TypeSpace {
         requires { IsInRange self.now.types ty }
         ensures { IsTrue result ↔ IsGroundedByStructs self.now.types descriptors ty }
     {
+        if !self.keeps_grounds {
+            return self.finds_ground(ty, descriptors);
+        }
         match ty {
             HeapType::Abstract { shared, ty } => {
                 self.ground_kinds.has(shared)
@@ -256,6 +272,36 @@ impl TypeSpace {
             HeapType::Concrete(index) => self.grounds[index as usize].below,
             HeapType::Exact(index) => descriptors && self.grounds[index as usize].own,
         }
+    }
+
+    // Looks for a type that grounds the heap type `ty`.
+    fn finds_ground(&self, ty: HeapType, descriptors: bool) -> bool
+        requires { IsInRange self.now.types ty }
+        ensures { IsTrue result ↔ IsGroundedByStructs self.now.types descriptors ty }
+    {
+        for index in 0..self.types.len() {
+            let grounds = self.is_grounded_by(index, ty, descriptors);
+            if grounds {
+                return true;
+            }
+        }
+        false
+    }
+
+    // Whether the type of the index `index`, which exists, grounds the heap type `ty`.
+    fn is_grounded_by(&self, index: usize, ty: HeapType, descriptors: bool) -> bool
+        requires stands { index < length self.now.types }
+        requires range { IsInRange self.now.types ty }
+        ensures { IsTrue result ↔ IsGroundedBy self.now.types descriptors ty index }
+    {
+        if !is_ground(&self.types[index]) {
+            return false;
+        }
+        let index = index as u32;
+        if descriptors {
+            return self.heap_type_is_sub_type(HeapType::Exact(index), ty);
+        }
+        self.heap_type_is_sub_type(HeapType::Concrete(index), ty)
     }
 
     // Whether the type `from` is the type `to`, or `to` is on the way up from `from`: then `to` is in the row of `from` at its depth.
@@ -315,8 +361,9 @@ impl TypeSpace {
         )?;
         self.places.push_reserved(place);
         join_family(types, &added, &mut self.families);
-        join_grounds(types, &added, &mut self.grounds);
-        self.ground_kinds = self.ground_kinds.with(&added);
+        let own = is_kept_ground(self.keeps_grounds, &added);
+        join_grounds(types, &added, own, &mut self.grounds);
+        self.ground_kinds = self.ground_kinds.with(own, added.composite_type.shared);
         self.types.push_reserved(added);
         Ok(index)
     }

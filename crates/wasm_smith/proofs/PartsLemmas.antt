@@ -1,6 +1,8 @@
 -- The steps of drawing a module, one behind another, give the module that the bytes do, and parts that hold what each step left.
-use Rattle.std.proofs.Common.{◌≡◌, ◌∙◌, ℕ, ◌<◌, Bool, false, List, length, refl, subst}
-use Rattle.std.specs.Prelude.{IsTrue, Ok}
+use Rattle.std.proofs.Common.{◌≡◌, ◌∙◌, ℕ, ◌<◌, Bool, false, List, length, refl, sym, subst}
+use Rattle.std.specs.Prelude.{IsTrue, Result, Ok, Err, IsErrAnd}
+use Rattle.smith_bytes.specs.declared.error.Error.{Error}
+use Rattle.smith_bytes.specs.declared.error.Error.TheVariants as errors
 use Rattle.smith_types.specs.Imports.{flattened, imported_spaces}
 use Rattle.smith_types.specs.IndexSpaces.{spaces_in}
 use Rattle.smith_config.specs.declared.config.Config.{Config}
@@ -9,10 +11,11 @@ use Rattle.smith_imports.specs.Steps.{section_flag_at}
 use Rattle.smith_imports.specs.declared.imported.Imported.{Imported}
 use Rattle.smith_contents.specs.declared.exported.Exports.{Exports}
 use Rattle.wasm_smith.specs.Begun.{Begun, StandsWhole}
-use Rattle.wasm_smith.specs.Build.{begun_typed_at, defined_at, exported_at, exports_of, imported_at, in_full, module_at, module_of}
+use Rattle.wasm_smith.specs.Build.{GivesOrLacks, begun_typed_at, defined_at, exported_at, exports_of, imported_at, in_full, module_at, module_of}
 use Rattle.wasm_smith.specs.DrawnContents.{AreContents, HasNoFloatContents, behind_exports_at, imported_in}
 use Rattle.wasm_smith.specs.DrawnParts.{IsDrawnFor}
 use Rattle.wasm_smith.specs.DrawnSteps.{AreExportsDrawn, AreFreeImports, HasSameImports}
+use Rattle.smith_definitions.specs.Module.{Parts}
 use Rattle.smith_definitions.specs.InterestingValues.{AreAll, IsInteresting32, IsInteresting64}
 use Rattle.wasm_smith.specs.declared.build.contents.Contents.{Contents}
 use Rattle.wasm_smith.specs.declared.build.drawn.Drawn.{Drawn}
@@ -27,6 +30,25 @@ unfolding module_at
 module_read distinct config bytes typed imported defined whole flag made contents count first second third fourth fifth last begins imports flags defines exports size behind counted =
     let behind_own = subst (λ (own : Exports). in_full (behind_exports_at config whole.types.types (imported_spaces (flattened whole.groups)) whole.spaces own fifth) ≡ Ok (contents, last)) size behind in
     rw (begins, imports, flags, defines, exports, behind_own, counted) refl
+
+lacks_so : {X Z : Type 0} (view : X → Parts × List ℕ) (own : Z → Contents × List ℕ) (e : Error) (read : Result (Contents × List ℕ) Error) (whole : Result (Parts × List ℕ) Error) → (read ≡ Err e → whole ≡ Err e) → GivesOrLacks own (Err e) read
+    → GivesOrLacks view (Err e) whole
+lacks_so view own errors.Memory read whole both h = tt
+lacks_so view own errors.EmptyChoose read whole both h = tt
+lacks_so view own e read whole both h = both h
+
+-- where contents are refused, so is the module
+pub module_refused : {X Z : Type 0} (view : X → Parts × List ℕ) (own : Z → Contents × List ℕ) (result : Result X Error) (e : Error) (distinct : Bool) (config : Config) (bytes : List ℕ) (typed imported defined whole : Begun) (flag : Bool) (made : Exports)
+    (first second third fourth fifth : List ℕ) → begun_typed_at config bytes ≡ Ok (typed, first) → imported_at distinct config typed first ≡ Ok (imported, second) → section_flag_at (length imported.groups) second ≡ (flag, third)
+    → defined_at config imported third ≡ Ok (defined, fourth) → exported_at config defined fourth ≡ Ok (whole, fifth) → made ≡ exports_of config whole
+    → GivesOrLacks own (Err e) (in_full (behind_exports_at config whole.types.types (imported_spaces (flattened whole.groups)) whole.spaces made fifth)) → IsErrAnd result (λ y. y ≡ e) → GivesOrLacks view result (module_at distinct config bytes)
+unfolding module_at
+module_refused view own (Ok x) e distinct config bytes typed imported defined whole flag made first second third fourth fifth begins imports flags defines exports size refused passed = absurd passed
+module_refused view own (Err y) e distinct config bytes typed imported defined whole flag made first second third fourth fifth begins imports flags defines exports size refused passed =
+    let behind_exports = λ (given : Exports). in_full (behind_exports_at config whole.types.types (imported_spaces (flattened whole.groups)) whole.spaces given fifth) in
+    let refused_own = subst (λ (given : Exports). GivesOrLacks own (Err e) (behind_exports given)) size refused in
+    subst (λ (one : Error). GivesOrLacks view (Err one) (module_at distinct config bytes)) (sym passed)
+    (lacks_so view own e (behind_exports (exports_of config whole)) (module_at distinct config bytes) (λ fails. rw (begins, imports, flags, defines, exports, fails) refl) refused_own)
 
 -- what stands whole still does beside contents
 whole_with : {config : Config} {drawn : Drawn} (later : Drawn) → later.types ≡ drawn.types → later.imported ≡ drawn.imported → later.definitions ≡ drawn.definitions → StandsWhole config drawn → StandsWhole config later

@@ -124,10 +124,10 @@ entities_defined : (config : Config) (groups : List (List SubType)) (funcs piece
 unfolding defined_at
 entities_defined config groups funcs piece after least h = rw (definitions_read config (space_of groups).types funcs piece after least h) refl
 
-member_read : (distinct : Bool) (config : Config) (off : config.non_nullable_enabled ≡ false) (groups : List (List SubType)) (funcs piece after : List ℕ) → IsSanitized config → HasNoShapes config → HasNoMinimums config → IsInFamily config groups funcs → SpellsMember config groups funcs piece
+member_read : (distinct : Bool) (config : Config) (groups : List (List SubType)) (funcs piece after : List ℕ) → IsSanitized config → HasNoShapes config → HasNoMinimums config → IsInFamily config groups funcs → SpellsMember config groups funcs piece
     → (let drawn = behind_funcs_at config (space_of groups).types funcs after in (flag : Bool) × (module_at distinct config (piece ++ after) ≡ ending_at config flag (with_entities groups drawn.0) drawn.1))
 unfolding module_at SpellsMember
-member_read distinct config off groups funcs piece after sanitized none least member h =
+member_read distinct config groups funcs piece after sanitized none least member h =
     let imports = h.is_second in
     let flag = imports.is_second in
     let types = (space_of groups).types in
@@ -136,7 +136,7 @@ member_read distinct config off groups funcs piece after sanitized none least me
       rw (
         types_alone config (piece ++ after) none,
         joined_parts h after,
-        types_read config off (functions_begun config nothing_begun) groups h.first (h.second ++ after) sanitized (least counts.Types) (family_fits config groups funcs member) h.is_first,
+        types_read config (functions_begun config nothing_begun) refl groups h.first (h.second ++ after) sanitized (least counts.Types) (family_fits config groups funcs member) h.is_first,
         freely_imported distinct config (with_entities groups (nothing, nothing_defined)) (h.second ++ after) none,
         joined_parts imports after,
         no_import_read config types distinct imports.first (imports.second ++ after) (least counts.Imports) imports.is_first,
@@ -159,10 +159,10 @@ member_ended config groups made flag (Ok drawn) =
     whole_ended config groups whole flag (behind_exports_at config whole.types.types (imported_spaces (flattened whole.groups)) whole.spaces (exports_of config whole) drawn.1) refl
 member_ended config groups made flag (Err why) = tt
 
-member_reached : (distinct : Bool) (config : Config) (off : config.non_nullable_enabled ≡ false) (groups : List (List SubType)) (funcs piece after : List ℕ) → IsSanitized config → HasNoShapes config → HasNoMinimums config → IsInFamily config groups funcs → SpellsMember config groups funcs piece
+member_reached : (distinct : Bool) (config : Config) (groups : List (List SubType)) (funcs piece after : List ℕ) → IsSanitized config → HasNoShapes config → HasNoMinimums config → IsInFamily config groups funcs → SpellsMember config groups funcs piece
     → IfOk (module_at distinct config (piece ++ after)) (λ drawn. HasMember groups funcs drawn.0)
-member_reached distinct config off groups funcs piece after sanitized none least member h =
-    let read = member_read distinct config off groups funcs piece after sanitized none least member h in
+member_reached distinct config groups funcs piece after sanitized none least member h =
+    let read = member_read distinct config groups funcs piece after sanitized none least member h in
     let drawn = behind_funcs_at config (space_of groups).types funcs after in
     let begun = with_entities groups drawn.0 in
     rw (read.1, freely_exported config begun drawn.1 none) (member_ended config groups drawn.0 read.0 (exports_at config begun.types.types begun.spaces (begun_size config begun) drawn.1))
@@ -257,17 +257,17 @@ rest_ended config groups numbers passive drawn after flag (Ok made) numbered bar
 }
 rest_ended config groups numbers passive drawn after flag (Err why) numbered bare = tt
 
-rest_reached : (distinct : Bool) (config : Config) (off : config.non_nullable_enabled ≡ false) (groups : List (List SubType)) (funcs : List ℕ) (numbers : List ℤ) (passive : List (List ℕ)) (piece rest after : List ℕ) → IsSanitized config → HasNoShapes config → HasNoMinimums config → config.export_everything ≡ false
+rest_reached : (distinct : Bool) (config : Config) (groups : List (List SubType)) (funcs : List ℕ) (numbers : List ℤ) (passive : List (List ℕ)) (piece rest after : List ℕ) → IsSanitized config → HasNoShapes config → HasNoMinimums config → config.export_everything ≡ false
     → IsInFamily config groups funcs → SpellsMember config groups funcs piece → SpellsRest config groups funcs numbers passive rest → IfOk (module_at distinct config (piece ++ (rest ++ after))) (λ drawn. HasRest numbers passive drawn.0)
 unfolding SpellsRest
-rest_reached distinct config off groups funcs numbers passive piece rest after sanitized none least some member spelled h =
+rest_reached distinct config groups funcs numbers passive piece rest after sanitized none least some member spelled h =
     let types = (space_of groups).types in
     let memories = h.is_second in
     let globals = memories.is_second in
     let exports = globals.is_second in
     let behind_exports = exports.second ++ after in
     let later = exports.first ++ behind_exports in
-    let read = member_read distinct config off groups funcs piece (rest ++ after) sanitized none least member spelled in
+    let read = member_read distinct config groups funcs piece (rest ++ after) sanitized none least member spelled in
     let parts : rest ++ after ≡ h.first ++ (memories.first ++ (globals.first ++ later)) = rw (joined_parts h after, joined_parts memories after, joined_parts globals after, joined_parts exports after) refl in
     let drawn = behind_funcs_at config types funcs (h.first ++ (memories.first ++ (globals.first ++ later))) in
     let begun = with_entities groups drawn.0 in
@@ -305,14 +305,14 @@ module _ {distinct : Bool} {config : Config} {bytes left : List ℕ} {answer : R
   members_reached = λ groups funcs behind h.
       let fit = h.spellable in
       let asks = spellable_asks config groups funcs fit in
-      let held = member_reached distinct config h.nullable groups funcs h.piece behind sanitized fit.no_shapes fit.no_minimums fit.member h.spelled in
+      let held = member_reached distinct config groups funcs h.piece behind sanitized fit.no_shapes fit.no_minimums fit.member h.spelled in
       answered (HasMember groups funcs) distinct config bytes left answer (λ m has. record { types = has.types; groups_are = has.groups_are; funcs_are = has.funcs_are }) (given.exact asks.may_give) (needless asks) (rw h.parts held)
 
   pub rests_reached : ReachesRests config bytes answer
   rests_reached = λ groups funcs behind numbers passive h r.
       let fit = h.spellable in
       let asks = spellable_asks config groups funcs fit in
-      let held = rest_reached distinct config h.nullable groups funcs numbers passive h.piece r.piece r.after sanitized fit.no_shapes fit.no_minimums fit.not_everything fit.member h.spelled r.spelled in
+      let held = rest_reached distinct config groups funcs numbers passive h.piece r.piece r.after sanitized fit.no_shapes fit.no_minimums fit.not_everything fit.member h.spelled r.spelled in
       answered (HasRest numbers passive) distinct config bytes left answer (λ m has. record {
         tables = has.tables;
         memories = has.memories;

@@ -84,7 +84,7 @@ pub record AreExportsMade (config : Config) (types : List SubType) (spaces : Ind
   pub fixed_size : FixesExports config → made.type_size ≡ imports_size
   pub within : made.type_size ≤ config.max_type_size
 
--- segments are valid, as many as are asked for and no more than may be, and where nothing may trap, what is copied fits
+-- segments are valid, as many as are asked for and no more than may be, and with `disallow_traps` what is copied fits
 pub record AreSegmentsFit (config : Config) (types : List SubType) (imported spaces : IndexSpaces) (segments : Segments) : Type 0 where
   pub elements : All (IsElementValid (segment_scope config types imported spaces) spaces.tables) segments.elements
   pub most_elements : length segments.elements ≤ config.max_element_segments

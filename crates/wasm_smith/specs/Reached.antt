@@ -1,6 +1,6 @@
 -- Which modules are reached: those whose types and functions, and what may stand behind these, are spelled where the source begins.
 -- Rules of this project, for a sanitised configuration.
-use Rattle.std.specs.Prelude.{◌≡◌, false, ℕ, ℤ, List, ◌++◌, Result, MatchResult}
+use Rattle.std.specs.Prelude.{◌≡◌, ℕ, ℤ, List, ◌++◌, Result, MatchResult}
 use Rattle.smith_bytes.specs.declared.error.Error.{Error}
 use Rattle.smith_bytes.specs.declared.error.Error.TheVariants.{Memory}
 use Rattle.smith_types.specs.declared.composite_type.SubType.{SubType}
@@ -10,9 +10,8 @@ use Rattle.smith_spell.specs.Spelling.{SpellsMember, SpellsRest, IsRest}
 use Rattle.wasm_smith.specs.Members.{HasMember, HasRest}
 use Rattle.smith_definitions.specs.Module.{Parts}
 
--- a source is bytes that spell these lists, which can be spelled, with this behind them, where all references are nullable
+-- a source is bytes that spell these lists, which can be spelled, with this behind them
 pub record BeginsWithMember (config : Config) (groups : List (List SubType)) (funcs bytes behind : List ℕ) : Type 0 where
-  pub nullable : config.non_nullable_enabled ≡ false
   pub spellable : IsSpellable config groups funcs
   pub piece : List ℕ
   pub spelled : SpellsMember config groups funcs piece

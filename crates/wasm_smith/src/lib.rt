@@ -1,5 +1,5 @@
 //! Modules of WebAssembly from bytes: whatever the bytes are, the module is valid by the Core Specification 3.0 and, for the proposals
-//! beyond it that the configuration enables (by default shared memories and compact imports), by rules of this project, raw bodies
+//! beyond it that the configuration turns on (by default shared memories and compact imports), by rules of this project, raw bodies
 //! aside.
 #![tactic(auto)]
 

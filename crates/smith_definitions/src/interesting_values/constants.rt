@@ -1,5 +1,6 @@
 //! The values that are interesting in each module: near powers of two, patterns of bits, and edges of floats.
 
+ghost use Rattle.std.specs.List.Sorted.{IsStrictlyIncreasing};
 ghost use Rattle.smith_definitions.specs.CollectedValues.{AreExactly, IsConstant, Narrow, Wide};
 
 static WIDE: [u64; 270] = [
@@ -295,14 +296,16 @@ static NARROW: [u32; 135] = [
 
 /// The values of 64 bits, in ascending order.
 pub(super) fn wide_constants() -> &'static [u64]
-    ensures { AreExactly (Wide IsConstant) result.now }
+    ensures exactly { AreExactly (Wide IsConstant) result.now }
+    ensures ascending { IsStrictlyIncreasing result.now }
 {
     &WIDE
 }
 
 /// The low halves of the values of 64 bits, in ascending order, each once.
 pub(super) fn narrow_constants() -> &'static [u32]
-    ensures { AreExactly (Narrow IsConstant) result.now }
+    ensures exactly { AreExactly (Narrow IsConstant) result.now }
+    ensures ascending { IsStrictlyIncreasing result.now }
 {
     &NARROW
 }

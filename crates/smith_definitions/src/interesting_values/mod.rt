@@ -9,30 +9,31 @@ ghost use Rattle.smith_definitions.specs.CollectedValues.{AreExactly, Wide, IsNe
 
 mod constants;
 mod limits;
+mod merged;
 
 use constants::{narrow_constants, wide_constants};
 use limits::near_limits;
+use merged::{merged32, merged64};
 use smith_bytes::Error;
 use smith_types::{Items, MemoryType, TableType};
 use std::alloc::Global;
 
-// The sort keeps runs that are in order already, so that it merges the constants with what is behind them.
-fn in_order64(mut wide: Vec<u64>) -> Result<Items<u64>, Error>
-    ensures order { IfOk result (IsInOrder wide.items) }
+fn in_order64(mut wide: Vec<u64>) -> Result<Vec<u64>, Error>
+    ensures order { IfOk result (λ made. IsInOrder wide.items made.items) }
     ensures memory { IfErr result (λ e. e ≡ Error.Memory) }
 {
     wide.sort()?;
     wide.dedup();
-    Ok(Items::from_vec(wide))
+    Ok(wide)
 }
 
-fn in_order32(mut narrow: Vec<u32>) -> Result<Items<u32>, Error>
-    ensures order { IfOk result (IsInOrder narrow.items) }
+fn in_order32(mut narrow: Vec<u32>) -> Result<Vec<u32>, Error>
+    ensures order { IfOk result (λ made. IsInOrder narrow.items made.items) }
     ensures memory { IfErr result (λ e. e ≡ Error.Memory) }
 {
     narrow.sort()?;
     narrow.dedup();
-    Ok(Items::from_vec(narrow))
+    Ok(narrow)
 }
 
 // The values of 64 bits of a module that has the numbers `near` near its limits.
@@ -41,9 +42,8 @@ fn wide_values(alloc: Global, near: &[u64]) -> Result<Items<u64>, Error>
         → IfOk result (AreAll (IsInteresting64 tables memories)) }
     ensures memory { IfErr result (λ e. e ≡ Error.Memory) }
 {
-    let mut numbers = Vec::from_slice(alloc, wide_constants())?;
-    numbers.extend_from_slice(near)?;
-    in_order64(numbers)
+    let numbers = in_order64(Vec::from_slice(alloc, near)?)?;
+    merged64(alloc, wide_constants(), &numbers)
 }
 
 // The values of 32 bits of such a module: the low halves of those of 64 bits.
@@ -52,11 +52,12 @@ fn narrow_values(alloc: Global, near: &[u64]) -> Result<Items<u32>, Error>
         → IfOk result (AreAll (IsInteresting32 tables memories)) }
     ensures memory { IfErr result (λ e. e ≡ Error.Memory) }
 {
-    let mut numbers = Vec::from_slice(alloc, narrow_constants())?;
+    let mut halves = Vec::with_capacity(alloc, near.len())?;
     for number in near {
-        numbers.push((*number % (1 << 32)) as u32)?;
+        halves.push((*number % (1 << 32)) as u32)?;
     }
-    in_order32(numbers)
+    let numbers = in_order32(halves)?;
+    merged32(alloc, narrow_constants(), &numbers)
 }
 
 /// Collects the interesting values of a module with `tables` and `memories`: first the values of 32 bits, then the values of 64

@@ -5,12 +5,15 @@ ghost use Rattle.smith_spell.specs.ExampleMembers.{
   alone,
   one_function_type,
   array_and_struct,
+  struct_and_holder,
   taking_a_number,
   one_of_each_without_gc,
   no_types_and_imports,
+  with_non_nullable,
   function_bytes,
   full_bytes,
   array_and_struct_bytes,
+  struct_and_holder_bytes,
   number_bytes,
   data_bytes,
   EachChangeCounts,
@@ -23,6 +26,7 @@ fn types()
         ((0, 0) ∷ (1, 0) ∷ (2, 1) ∷ (3, 1) ∷ (4, 1) ∷ (5, 1) ∷ (7, 1) ∷ (8, 0) ∷ []) }
     ensures array_and_struct { EachChangeCounts (SpellsMember default_config array_and_struct []) array_and_struct_bytes
         ((0, 0) ∷ (1, 2) ∷ (2, 0) ∷ (3, 1) ∷ (4, 1) ∷ (5, 1) ∷ (6, 0) ∷ (7, 0) ∷ (8, 2) ∷ (9, 0) ∷ (10, 1) ∷ (11, 2) ∷ (12, 1) ∷ (13, 4) ∷ (14, 0) ∷ (15, 1) ∷ (16, 0) ∷ (17, 1) ∷ (18, 1) ∷ []) }
+    ensures a_struct_of_a_reference_that_is_not_null { EachChangeCounts (SpellsMember with_non_nullable struct_and_holder []) struct_and_holder_bytes ((14, 1) ∷ (15, 0) ∷ []) }
     ensures nothing { EachChangeCounts (SpellsMember default_config [] []) (0 ∷ 0 ∷ 0 ∷ []) ((0, 1) ∷ (1, 1) ∷ []) }
     ensures a_byte_less { ¬ SpellsMember no_types_and_imports [] [] [] }
     ensures a_byte_more { ¬ SpellsMember no_types_and_imports [] [] (0 ∷ 0 ∷ []) }

@@ -1,7 +1,7 @@
 ghost use Rattle.std.specs.Prelude.{ℕ, [], ◌∷◌, true, false, Some, None};
 ghost use Rattle.smith_types.specs.declared.value_type.AbstractHeapType.TheVariants as heap;
 ghost use Rattle.smith_types.specs.declared.value_type.HeapType.TheVariants.{Concrete};
-ghost use Rattle.smith_types.specs.declared.value_type.ValType.TheVariants.{I32, I64, F32};
+ghost use Rattle.smith_types.specs.declared.value_type.ValType.TheVariants.{I32, I64, F32, Ref};
 ghost use Rattle.smith_types.specs.declared.composite_type.StorageType.TheVariants.{I8};
 ghost use Rattle.smith_types.specs.ExampleTypes.{plain, constant, variable, nullable, not_null};
 ghost use Rattle.smith_config.specs.Config.{default_config};
@@ -22,7 +22,7 @@ ghost use Rattle.smith_draw.specs.Spelling.{
   SpellsAdded,
   SpellsSpace,
 };
-ghost use Rattle.smith_spell.specs.ExampleMembers.{final, alone, one_function_type, array_and_struct, struct_of, single_results, without_gc, without_floats, with_shared_types, a_type, bytes_array, plain_function};
+ghost use Rattle.smith_spell.specs.ExampleMembers.{final, alone, one_function_type, array_and_struct, struct_of, struct_of_bytes, struct_with, struct_and_holder, single_results, without_gc, without_floats, with_shared_types, with_non_nullable, a_type, bytes_array, plain_function};
 
 fn places()
     ensures a_place { SpellsPlace {A = ℕ} (7 ∷ 8 ∷ []) 8 (3 ∷ []) }
@@ -39,6 +39,7 @@ fn values()
     ensures a_reference_of_two { SpellsRefType default_config 2 (nullable (Concrete 1)) (1 ∷ 1 ∷ []) }
     ensures a_reference_to_another { ¬ SpellsRefType default_config 2 (nullable (Concrete 1)) (1 ∷ 0 ∷ []) }
     ensures a_reference_that_is_not_null { ¬ SpellsRefType default_config 1 (not_null (Concrete 0)) (1 ∷ []) }
+    ensures a_reference_and_a_bool { ¬ SpellsRefType default_config 1 (nullable (Concrete 0)) (1 ∷ 0 ∷ []) }
     ensures a_reference_without_its_feature { ¬ SpellsRefType (record without_gc { reference_types_enabled = false }) 0 (nullable (plain heap.Func)) (0 ∷ []) }
     ensures a_number { SpellsValType default_config 0 I64 (7 ∷ []) }
     ensures another_number { ¬ SpellsValType default_config 0 I64 (0 ∷ []) }
@@ -50,6 +51,19 @@ fn values()
     ensures one_field { SpellsStructType default_config 0 (record { fields = constant I8 ∷ [] }) (1 ∷ 0 ∷ 0 ∷ []) }
     ensures two_fields { ¬ SpellsStructType default_config 0 (record { fields = constant I8 ∷ [] }) (2 ∷ 0 ∷ 0 ∷ []) }
     ensures no_field_once_round { SpellsStructType default_config 0 (record { fields = [] }) (21 ∷ []) }
+{}
+
+fn nullability()
+    ensures nullable { SpellsRefType with_non_nullable 1 (nullable (Concrete 0)) (1 ∷ 0 ∷ []) }
+    ensures not_nullable { SpellsRefType with_non_nullable 1 (not_null (Concrete 0)) (1 ∷ 1 ∷ []) }
+    ensures not_nullable_of_two { SpellsRefType with_non_nullable 2 (not_null (Concrete 0)) (1 ∷ 0 ∷ 1 ∷ []) }
+    ensures not_nullable_and_abstract { SpellsRefType with_non_nullable 0 (not_null (plain heap.Any)) (3 ∷ 1 ∷ []) }
+    ensures nullable_by_another_bool { ¬ SpellsRefType with_non_nullable 1 (nullable (Concrete 0)) (1 ∷ 1 ∷ []) }
+    ensures not_nullable_by_another_bool { ¬ SpellsRefType with_non_nullable 1 (not_null (Concrete 0)) (1 ∷ 0 ∷ []) }
+    ensures no_bool { ¬ SpellsRefType with_non_nullable 1 (nullable (Concrete 0)) (1 ∷ []) }
+    ensures a_bool_before_the_heap_type { ¬ SpellsRefType with_non_nullable 0 (not_null (plain heap.Func)) (1 ∷ 0 ∷ []) }
+    ensures a_value_type { SpellsValType with_non_nullable 1 (Ref (not_null (Concrete 0))) (5 ∷ 1 ∷ 1 ∷ []) }
+    ensures a_value_type_without_a_bool { ¬ SpellsValType with_non_nullable 1 (Ref (not_null (Concrete 0))) (5 ∷ 1 ∷ []) }
 {}
 
 fn types()
@@ -69,12 +83,17 @@ fn types()
 {}
 
 fn spaces()
-    ensures back_to_an_array { ReferBack [] (final bytes_array ∷ final (struct_of 0) ∷ []) }
-    ensures to_itself { ¬ ReferBack [] (final (struct_of 0) ∷ []) }
-    ensures two_types { GroupsFit 2 [] array_and_struct }
-    ensures no_room_for_two { ¬ GroupsFit 1 [] array_and_struct }
-    ensures an_empty_group { ¬ GroupsFit 1 [] ([] ∷ []) }
-    ensures a_group_that_refers_to_itself { ¬ GroupsFit 1 [] (alone (struct_of 0) ∷ []) }
+    ensures back_to_an_array { ReferBack default_config [] (final bytes_array ∷ final (struct_of 0) ∷ []) }
+    ensures to_itself { ¬ ReferBack default_config [] (final (struct_of 0) ∷ []) }
+    ensures back_to_a_struct_that_is_not_null { ReferBack with_non_nullable [] (final (struct_of_bytes 0) ∷ final (struct_with (Concrete 0)) ∷ []) }
+    ensures back_to_no_struct { ¬ ReferBack with_non_nullable [] (final bytes_array ∷ final (struct_with (Concrete 0)) ∷ []) }
+    ensures to_a_later_struct { ¬ ReferBack with_non_nullable [] (final (struct_with (plain heap.Any)) ∷ final (struct_of_bytes 0) ∷ []) }
+    ensures two_types { GroupsFit (record default_config { max_types = 2 }) [] array_and_struct }
+    ensures no_room_for_two { ¬ GroupsFit (record default_config { max_types = 1 }) [] array_and_struct }
+    ensures an_empty_group { ¬ GroupsFit default_config [] ([] ∷ []) }
+    ensures a_group_that_refers_to_itself { ¬ GroupsFit default_config [] (alone (struct_of 0) ∷ []) }
+    ensures groups_of_a_struct_that_is_not_null { GroupsFit with_non_nullable [] struct_and_holder }
+    ensures groups_of_a_struct_without_another { ¬ GroupsFit with_non_nullable [] (alone (struct_with (plain heap.Any)) ∷ []) }
     ensures one_group_more { SpellsAdded default_config (space_of []) (space_of one_function_type) (1 ∷ 1 ∷ 1 ∷ 0 ∷ 0 ∷ []) }
     ensures no_group_more { ¬ SpellsAdded default_config (space_of []) (space_of []) (0 ∷ []) }
     ensures one_group_that_refers_to_itself { ¬ SpellsAdded default_config (space_of []) (space_of (alone (struct_of 0) ∷ [])) (1 ∷ 1 ∷ 2 ∷ 1 ∷ 2 ∷ 5 ∷ 1 ∷ 1 ∷ []) }

@@ -8,13 +8,14 @@ ghost use Rattle.smith_types.specs.ExampleTypes.{plain, not_null};
 ghost use Rattle.smith_draw.specs.Spelling.{SpellsGroups, SpellsStorage, SpellsHeapType, SpellsUnshared, SpellsSize, SpellsBehindClass};
 ghost use Rattle.smith_bytes.specs.Spelling.{SpellsNone};
 ghost use Rattle.smith_spell.specs.Spelling.{SpellsMember, SpellsRest, SpellsNoTag, SpellsFuncs, SpellsGlobal, SpellsBytes, SpellsNoStart, SpellsSegments, IsRest};
-ghost use Rattle.smith_spell.specs.ExampleMembers.{final, one_function_type, array_and_struct, taking_a_number, giving_two, alone, one_of_each_without_gc, no_types_and_imports, nothing_may_be, with_shared_types, function_bytes, full_bytes, array_and_struct_bytes, number_bytes, data_bytes, bytes_array, plain_function};
+ghost use Rattle.smith_spell.specs.ExampleMembers.{final, one_function_type, array_and_struct, struct_and_holder, taking_a_number, giving_two, alone, one_of_each_without_gc, no_types_and_imports, nothing_may_be, with_shared_types, with_non_nullable, function_bytes, full_bytes, array_and_struct_bytes, struct_and_holder_bytes, number_bytes, data_bytes, bytes_array, plain_function};
 
 fn members()
     ensures a_function { SpellsMember default_config one_function_type (0 ∷ []) function_bytes }
     ensures in_other_bytes { SpellsMember default_config one_function_type (0 ∷ []) (3 ∷ 102 ∷ 255 ∷ 4 ∷ 2 ∷ 4 ∷ 8 ∷ 6 ∷ 9 ∷ 2 ∷ 5 ∷ 200 ∷ []) }
     ensures full_without_gc { SpellsMember one_of_each_without_gc (alone taking_a_number ∷ []) (0 ∷ []) full_bytes }
     ensures array_and_struct { SpellsMember default_config array_and_struct [] array_and_struct_bytes }
+    ensures a_struct_of_a_reference_that_is_not_null { SpellsMember with_non_nullable struct_and_holder [] struct_and_holder_bytes }
     ensures nothing { SpellsMember default_config [] [] (0 ∷ 0 ∷ 0 ∷ []) }
     ensures nothing_where_nothing_may_be { SpellsMember no_types_and_imports [] [] (0 ∷ []) }
 {}

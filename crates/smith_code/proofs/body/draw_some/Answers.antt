@@ -1,4 +1,6 @@
 use Rattle.std.proofs.Common.{refl}
+use Rattle.smith_code.specs.Scopes.{bare}
+use Rattle.smith_code.proofs.ExactLemmas.{body_exact}
 use Rattle.smith_code.proofs.DrawnLemmas.{body_typed, body_allowed, body_short}
 use Rattle.smith_code.proofs.body.draw_some.Goals as goal
 
@@ -12,3 +14,11 @@ returns-clause-allowed c = body_allowed c.in_ok-draw_whole.ensures.drawn c.new.e
 
 pub returns-clause-short : goal.returns-clause-short
 returns-clause-short c = body_short c.in_ok-draw_whole.ensures.drawn c.new.ensures
+
+pub returns-clause-exact : goal.returns-clause-exact
+returns-clause-exact c = record {
+  exact = body_exact c.args.scope.now.kinds (bare c.args.scope.now) c.args.fuel c.args.u.now _ _ c.requires.some c.in_ok-draw_whole.ensures.exact
+      (rw (c.new.ensures, c.new-2.ensures.items, c.in_ok-push.ensures.items, c.new-labels.ensures.items, c.in_ok-from_slice.ensures.ok) refl);
+  memory = tt;
+  left = c.draw_whole.ensures.left;
+}

@@ -1,7 +1,11 @@
 use Rattle.smith_code.specs.Scopes.{where_stands}
 use Rattle.smith_code.proofs.ResultLemmas.{ok_like}
 use Rattle.smith_code.proofs.NodeLemmas.{drop_node}
+use Rattle.smith_code.proofs.ChoiceLemmas.{as_node, drop_by}
 use Rattle.smith_code.proofs.choices.choose_drop.Goals as goal
 
 pub returns-clause-node : goal.returns-clause-node
 returns-clause-node c = ok_like _ c.plain.result (drop_node (where_stands c.args.scope.now c.args.draft.now) c.args.draft.now.set.items c.draw_dropped-value.result c.draw_dropped-value.ensures.valid) c.plain.ensures.exact
+
+pub returns-clause-exact : goal.returns-clause-exact
+returns-clause-exact c = ok_like _ c.plain.result (as_node _ _ _ (drop_by (where_stands c.args.scope.now c.args.draft.now) c.args.u.now _ c.draw_dropped-value.result c.draw_dropped-value.ensures.exact)) c.plain.ensures.exact

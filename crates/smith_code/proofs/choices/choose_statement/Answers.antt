@@ -1,10 +1,45 @@
 use Rattle.smith_code.specs.Scopes.{where_stands}
+use Rattle.smith_code.specs.declared.families.StatementFamily.TheVariants as statement
 use Rattle.smith_code.proofs.ResultLemmas.{ok_like}
 use Rattle.smith_code.proofs.NodeLemmas.{nop_node, stop_node}
+use Rattle.smith_code.proofs.ChoiceLemmas.{ok_by, ok_node, statement_by}
 use Rattle.smith_code.proofs.choices.choose_statement.Goals as goal
 
-pub returns-in-0-clause-node : goal.returns-in-0-clause-node
-returns-in-0-clause-node c = ok_like _ c.plain.result (nop_node (where_stands c.args.scope.now c.args.draft.now) c.args.draft.now.set.items) c.plain.ensures.exact
+pub returns-in-Nop-clause-node : goal.returns-in-Nop-clause-node
+returns-in-Nop-clause-node c = ok_like _ c.plain.result (nop_node (where_stands c.args.scope.now c.args.draft.now) c.args.draft.now.set.items) c.plain.ensures.exact
 
-pub returns-in-14-clause-node : goal.returns-in-14-clause-node
-returns-in-14-clause-node c = ok_like _ c.plain-in-14.result (stop_node (where_stands c.args.scope.now c.args.draft.now) c.args.draft.now.set.items) c.plain-in-14.ensures.exact
+pub returns-in-Unreachable-clause-node : goal.returns-in-Unreachable-clause-node
+returns-in-Unreachable-clause-node c = ok_like _ c.plain-in-Unreachable.result (stop_node (where_stands c.args.scope.now c.args.draft.now) c.args.draft.now.set.items) c.plain-in-Unreachable.ensures.exact
+
+pub returns-in-Nop-clause-exact : goal.returns-in-Nop-clause-exact
+returns-in-Nop-clause-exact c = ok_like _ c.plain.result (statement_by (where_stands c.args.scope.now c.args.draft.now) c.args.u.now _ c.statement_families.result.now c.choose.result statement.Nop c.statement_families.ensures (c.choose.ensures.exact statement.Nop) c.in-Nop.is) c.plain.ensures.exact
+
+pub returns-in-Unreachable-clause-exact : goal.returns-in-Unreachable-clause-exact
+returns-in-Unreachable-clause-exact c = ok_like _ c.plain-in-Unreachable.result (statement_by (where_stands c.args.scope.now c.args.draft.now) c.args.u.now _ c.statement_families.result.now c.choose.result statement.Unreachable c.statement_families.ensures (c.choose.ensures.exact statement.Nop) c.in-Unreachable.is) c.plain-in-Unreachable.ensures.exact
+
+pub returns-in-Drop-clause-exact : goal.returns-in-Drop-clause-exact
+returns-in-Drop-clause-exact c = ok_by c.choose_drop.result _ _ _ (statement_by (where_stands c.args.scope.now c.args.draft.now) c.args.u.now _ c.statement_families.result.now c.choose.result statement.Drop c.statement_families.ensures (c.choose.ensures.exact statement.Nop) c.in-Drop.is) c.choose_drop.ensures.exact
+
+pub returns-in-GlobalSet-clause-exact : goal.returns-in-GlobalSet-clause-exact
+returns-in-GlobalSet-clause-exact c = ok_by c.choose_global_set.result _ _ _ (statement_by (where_stands c.args.scope.now c.args.draft.now) c.args.u.now _ c.statement_families.result.now c.choose.result statement.GlobalSet c.statement_families.ensures (c.choose.ensures.exact statement.Nop) c.in-GlobalSet.is) c.choose_global_set.ensures.exact
+
+pub returns-in-Call-clause-exact : goal.returns-in-Call-clause-exact
+returns-in-Call-clause-exact c = ok_by c.choose_any_call.result _ _ _ (statement_by (where_stands c.args.scope.now c.args.draft.now) c.args.u.now _ c.statement_families.result.now c.choose.result statement.Call c.statement_families.ensures (c.choose.ensures.exact statement.Nop) c.in-Call.is) c.choose_any_call.ensures.exact
+
+pub returns-in-Block-clause-exact : goal.returns-in-Block-clause-exact
+returns-in-Block-clause-exact c = ok_by c.choose_any_block.result _ _ _ (statement_by (where_stands c.args.scope.now c.args.draft.now) c.args.u.now _ c.statement_families.result.now c.choose.result statement.Block c.statement_families.ensures (c.choose.ensures.exact statement.Nop) c.in-Block.is) c.choose_any_block.ensures.exact
+
+pub returns-in-Branch-clause-exact : goal.returns-in-Branch-clause-exact
+returns-in-Branch-clause-exact c = ok_by c.choose_branch.result _ _ _ (statement_by (where_stands c.args.scope.now c.args.draft.now) c.args.u.now _ c.statement_families.result.now c.choose.result statement.Branch c.statement_families.ensures (c.choose.ensures.exact statement.Nop) c.in-Branch.is) c.choose_branch.ensures.exact
+
+pub returns-in-Store-clause-exact : goal.returns-in-Store-clause-exact
+returns-in-Store-clause-exact c = ok_by c.choose_store.result _ _ _ (statement_by (where_stands c.args.scope.now c.args.draft.now) c.args.u.now _ c.statement_families.result.now c.choose.result statement.Store c.statement_families.ensures (c.choose.ensures.exact statement.Nop) c.in-Store.is) c.choose_store.ensures.exact
+
+pub returns-in-LocalSet-clause-exact : goal.returns-in-LocalSet-clause-exact
+returns-in-LocalSet-clause-exact c = ok_by c.choose_set.result _ _ _ (statement_by (where_stands c.args.scope.now c.args.draft.now) c.args.u.now _ c.statement_families.result.now c.choose.result statement.LocalSet c.statement_families.ensures (c.choose.ensures.exact statement.Nop) c.in-LocalSet.is) c.choose_set.ensures.exact
+
+pub returns-in-Leaving-clause-exact : goal.returns-in-Leaving-clause-exact
+returns-in-Leaving-clause-exact c = ok_by c.choose_leaving.result _ _ _ (statement_by (where_stands c.args.scope.now c.args.draft.now) c.args.u.now _ c.statement_families.result.now c.choose.result statement.Leaving c.statement_families.ensures (c.choose.ensures.exact statement.Nop) c.in-Leaving.is) (ok_node c.choose_leaving.result _ _ c.choose_leaving.ensures.exact)
+
+pub returns-in-Table-clause-exact : goal.returns-in-Table-clause-exact
+returns-in-Table-clause-exact c = ok_by c.choose_table.result _ _ _ (statement_by (where_stands c.args.scope.now c.args.draft.now) c.args.u.now _ c.statement_families.result.now c.choose.result statement.Table c.statement_families.ensures (c.choose.ensures.exact statement.Nop) c.in-Table.is) (ok_node c.choose_table.result _ _ c.choose_table.ensures.exact)

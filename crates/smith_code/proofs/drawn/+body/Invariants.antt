@@ -1,7 +1,9 @@
-use Rattle.std.proofs.Common.{◌+◌, ◌*◌, [], length, take}
+use Rattle.std.proofs.Common.{◌≡◌, ◌+◌, ◌-◌, ◌*◌, [], length, take, drop}
 use Rattle.smith_bytes.specs.Source.{KeepsPieces}
-use Rattle.smith_code.specs.Drawn.{IsDrawn}
+use Rattle.smith_code.specs.Bodies.{drawing_at, statement_at, statements_within, values_at}
+use Rattle.smith_code.specs.Drawn.{IsDrawn, state_of}
 use Rattle.smith_code.specs.Scopes.{AreLabels}
+use Rattle.smith_code.proofs.ExactLemmas.{AreLeft}
 use Rattle.smith_code.proofs.drawn.+body.Given as goal
 
 abbrev pub decreases-draw_value : goal.decreases-draw_value
@@ -34,6 +36,7 @@ decreases-draw_node l = 8 * l.depth + 5
 abbrev pub invariant-draw_values-loop-value : goal.invariant-draw_values-loop-value
 invariant-draw_values-loop-value l = record {
   drawn : IsDrawn l.scope [] (take l.value-index l.wanted) (length (take l.value-index l.wanted)) l.fn.draft l.draft;
+  exact : values_at (drawing_at l.scope.kinds l.depth) l.wanted (state_of l.scope l.fn.draft l.fn.u) ≡ values_at (drawing_at l.scope.kinds l.depth) (drop l.value-index l.wanted) (state_of l.scope l.draft l.u);
   labels : AreLabels l.scope l.draft.labels.items;
   kept : KeepsPieces l.fn.u l.u;
 }
@@ -44,6 +47,7 @@ decreases-draw_statements-loop-draft l = l.draft.fuel
 abbrev pub invariant-draw_statements-loop-draft : goal.invariant-draw_statements-loop-draft
 invariant-draw_statements-loop-draft l = record {
   drawn : IsDrawn l.scope [] [] 0 l.fn.draft l.draft;
+  rest : AreLeft (statement_at l.scope.kinds (drawing_at l.scope.kinds (l.depth - 1))) (statements_within (statement_at l.scope.kinds (drawing_at l.scope.kinds (l.depth - 1))) l.fn.draft.fuel (state_of l.scope l.fn.draft l.fn.u)) (state_of l.scope l.draft l.u);
   labels : AreLabels l.scope l.draft.labels.items;
   kept : KeepsPieces l.fn.u l.u;
 }

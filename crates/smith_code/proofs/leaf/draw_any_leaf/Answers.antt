@@ -1,9 +1,9 @@
 use Rattle.smith_code.specs.Scopes.{where_stands}
-use Rattle.smith_code.proofs.LeafLemmas.{local_leaf, global_leaf}
+use Rattle.smith_code.proofs.LeafChoiceLemmas.{leaf_chosen, leaf_constant}
 use Rattle.smith_code.proofs.leaf.draw_any_leaf.Goals as goal
 
-pub returns-in-Some-clause-typed : goal.returns-in-Some-clause-typed
-returns-in-Some-clause-typed c = global_leaf (where_stands c.args.scope.now c.args.draft.now) c.args.draft.now.set.items c.args.wanted c.in-Some.index c.requires.scope.orderly c.in-Some.ensures.offered
+pub returns-in-Some-clause-exact : goal.returns-in-Some-clause-exact
+returns-in-Some-clause-exact c = leaf_chosen (where_stands c.args.scope.now c.args.draft.now) c.args.draft.now.set.items c.args.wanted c.args.u.now _ c.in-Some.instruction c.in-Some.ensures.exact
 
-pub returns-in-Some-choose_set_local-clause-typed : goal.returns-in-Some-choose_set_local-clause-typed
-returns-in-Some-choose_set_local-clause-typed c = local_leaf (where_stands c.args.scope.now c.args.draft.now) c.args.draft.now.set.items c.args.wanted c.in-Some-choose_set_local.index c.requires.scope.orderly c.in-Some-choose_set_local.ensures.offered
+pub returns-in-None-clause-exact : goal.returns-in-None-clause-exact
+returns-in-None-clause-exact c = leaf_constant (where_stands c.args.scope.now c.args.draft.now) c.args.draft.now.set.items c.args.wanted c.args.u.now _ _ c.draw_constant.result c.in-None.ensures.exact c.draw_constant.ensures.exact

@@ -1,7 +1,6 @@
-use Rattle.std.proofs.Common.{◌∙◌}
 use Rattle.std.proofs.lemmas.List.Filters.{dedup_is}
 use Rattle.smith_definitions.proofs.CollectedValueLemmas.{in_order}
 use Rattle.smith_definitions.proofs.interesting_values.in_order64.Goals as goal
 
 pub returns-clause-order : goal.returns-clause-order
-returns-clause-order c = in_order _ _ _ c.in_ok-sort.ensures.permutation c.in_ok-sort.ensures.sorted (c.from_vec.ensures ∙ dedup_is _ _ _ c.dedup.ensures.filtered)
+returns-clause-order c = in_order _ _ _ c.in_ok-sort.ensures.permutation c.in_ok-sort.ensures.sorted (dedup_is _ _ _ c.dedup.ensures.filtered)

@@ -1,3 +1,4 @@
+use Rattle.std.proofs.Common.{refl}
 use Rattle.std.proofs.lemmas.Result.{IfOk-weaker}
 use Rattle.smith_draw.specs.Grounding.{standing_in}
 use Rattle.smith_draw.proofs.ValueTypeLemmas.{values_valid, values_shared}
@@ -17,5 +18,5 @@ returns c =
       valid = of_drawn _ draws (values_valid _ _ _ _ _ drawn.inner.values);
       stands = of_drawn _ draws drawn.inner.stands;
       shared = of_drawn _ draws (λ must. values_shared _ _ _ _ _ must drawn.inner.values);
-      reach = λ off. IfOk-weaker c.draw_composite_type.result _ _ (λ _ e. composite_type_taken _ off _ _ _ _ _ e) draws.exact;
+      reach = IfOk-weaker c.draw_composite_type.result _ _ (λ _ e. composite_type_taken c.args.config.now (standing_in c.args.config.now c.args.spaces.now) refl _ _ _ _ c.orderly.ensures e) draws.exact;
     }

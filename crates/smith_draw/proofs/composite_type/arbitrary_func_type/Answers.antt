@@ -1,3 +1,4 @@
+use Rattle.std.proofs.Common.{refl}
 use Rattle.std.proofs.lemmas.Result.{IfOk-weaker}
 use Rattle.smith_draw.specs.Grounding.{standing_in}
 use Rattle.smith_draw.proofs.ValueTypeLemmas.{values_shared}
@@ -16,5 +17,5 @@ returns c =
       valid = of_drawn _ draws (func_type_valid _ _ _ _ _ drawn);
       stands = of_drawn _ draws inner.stands;
       shared = λ must. of_drawn _ draws (values_shared _ _ _ _ _ must inner.values);
-      reach = λ off no. IfOk-weaker c.draw_func_type.result _ _ (λ _ e. func_type_taken _ off _ _ _ _ _ _ no e) draws.exact;
+      reach = λ no. IfOk-weaker c.draw_func_type.result _ _ (λ _ e. func_type_taken c.args.config.now (standing_in c.args.config.now c.args.spaces.now) refl _ _ _ _ _ c.orderly.ensures no e) draws.exact;
     }

@@ -1,3 +1,4 @@
+use Rattle.std.proofs.Common.{refl}
 use Rattle.std.proofs.lemmas.Result.{IfOk-weaker}
 use Rattle.std.proofs.lemmas.List.Elements.{All-weaker}
 use Rattle.smith_types.specs.Matching.{IsFieldInRange}
@@ -22,5 +23,5 @@ returns c =
       valid = of_drawn _ draws (values_valid _ _ _ _ _ values);
       stands = of_drawn _ draws (All-weaker (IsFieldDrawn config types c.args.must_share c.args.limit) (IsFieldInRange types) (λ field d. d.stands) _ drawn.fields);
       shared = λ must. of_drawn _ draws (values_shared _ _ _ _ _ must values);
-      reach = λ off no. IfOk-weaker c.draw_struct_type.result _ _ (λ _ e. struct_type_taken _ off _ _ _ _ _ _ no e) draws.exact;
+      reach = λ no. IfOk-weaker c.draw_struct_type.result _ _ (λ _ e. struct_type_taken c.args.config.now (standing_in c.args.config.now c.args.spaces.now) refl _ _ _ _ _ c.orderly.ensures no e) draws.exact;
     }

@@ -1,6 +1,7 @@
 use Rattle.std.proofs.Common.{refl}
 use Rattle.smith_types.specs.ValidTypes.{values_of_storage}
 use Rattle.smith_types.specs.declared.composite_type.FieldType.{FieldType}
+use Rattle.smith_draw.specs.Grounding.{standing_in}
 use Rattle.smith_draw.proofs.ValueTypeLemmas.{drawn_is, values_valid, values_shared}
 use Rattle.smith_draw.proofs.FieldTypeLemmas.{IsFieldDrawn, field_type_drawn}
 use Rattle.smith_draw.proofs.TakenLemmas.{field_type_taken}
@@ -19,5 +20,5 @@ returns c =
       valid = values_valid config types c.args.must_share c.args.limit values drawn.values;
       stands = drawn.stands;
       shared = λ must. values_shared config types c.args.must_share c.args.limit values must drawn.values;
-      reach = λ off no. field_type_taken _ off _ _ _ _ _ _ no exact;
+      reach = λ no. field_type_taken c.args.config.now (standing_in c.args.config.now c.args.spaces.now) refl _ _ _ _ _ c.orderly.ensures no exact;
     }

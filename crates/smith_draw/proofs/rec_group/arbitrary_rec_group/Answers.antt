@@ -1,9 +1,10 @@
-use Rattle.std.proofs.Common.{◌≡◌, ◌≤◌, ◌<◌, false, length}
+use Rattle.std.proofs.Common.{◌≡◌, ◌≤◌, ◌<◌, false, length, refl}
 use Rattle.std.proofs.lemmas.Result.{on_ok_weaker}
 use Rattle.smith_bytes.specs.declared.error.Count.TheVariants.{Types}
 use Rattle.smith_types.specs.Space.{Space}
 use Rattle.smith_types.specs.ValidTypes.{AreTypesValid}
 use Rattle.smith_config.specs.Features.{features_of}
+use Rattle.smith_draw.specs.Grounding.{functions_in}
 use Rattle.smith_draw.proofs.DrawingLemmas.{of_state}
 use Rattle.smith_draw.proofs.GroupSizeLemmas.{rec_group_more}
 use Rattle.smith_draw.proofs.RecGroupLemmas.{sound_within, rec_group_valid}
@@ -25,4 +26,4 @@ returns-clause-some c =
     of_state (λ (space : Space). c.args.allow_empty ≡ false → length c.args.types.now.types < length space.types) c.add_rec_group.ensures (rec_group_more _ _ _ _ _ (sound_within _ c.types-groups.ensures.sound) c.requires.room).some
 
 pub returns-clause-reach : goal.returns-clause-reach
-returns-clause-reach c = λ off may roots. on_ok_weaker c.add_rec_group.result (rec_group_taken _ off _ _ _ _ _ _ c.requires.sanitized may roots) c.add_rec_group.ensures.exact
+returns-clause-reach c = λ may roots. on_ok_weaker c.add_rec_group.result (rec_group_taken c.args.config.now (functions_in c.args.config.now c.args.entities.now) refl _ _ _ _ _ c.requires.sanitized may roots) c.add_rec_group.ensures.exact

@@ -1,4 +1,4 @@
-use Rattle.std.proofs.Common.{◌≤◌, length}
+use Rattle.std.proofs.Common.{◌≤◌, length, refl}
 use Rattle.std.proofs.lemmas.Result.{on_ok_weaker}
 use Rattle.smith_bytes.specs.declared.error.Count.TheVariants.{Types}
 use Rattle.std.specs.Prelude.{All}
@@ -36,7 +36,7 @@ returns-clause-least c = λ valid.
     of_state (λ (space : Space). c.args.config.now.min_types ≤ length space.types) c.add_all_types.ensures (types_least _ _ _ _ c.requires.sanitized (c.requires.passes.1.ordered Types tt) valid)
 
 pub returns-clause-reach : goal.returns-clause-reach
-returns-clause-reach c = λ off least empty. on_ok_weaker c.add_all_types.result (types_taken _ off _ _ _ _ _ c.requires.sanitized least empty) c.add_all_types.ensures.exact
+returns-clause-reach c = λ least empty. on_ok_weaker c.add_all_types.result (types_taken c.args.config.now (functions_in c.args.config.now c.args.entities.now) refl _ _ _ _ c.requires.sanitized least empty) c.add_all_types.ensures.exact
 
 pub returns-clause-floats : goal.returns-clause-floats
 returns-clause-floats c = λ off all. of_state (λ (space : Space). All HasNoFloat space.types) c.add_all_types.ensures (types_no_float _ off _ _ _ all)

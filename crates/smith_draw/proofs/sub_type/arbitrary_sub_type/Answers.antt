@@ -1,5 +1,6 @@
+use Rattle.std.proofs.Common.{refl}
 use Rattle.std.proofs.lemmas.Result.{IfOk-weaker}
-use Rattle.smith_draw.specs.Grounding.{functions_in}
+use Rattle.smith_draw.specs.Grounding.{functions_in, standing_in}
 use Rattle.smith_draw.proofs.SubTypeLemmas.{sub_type_valid, sub_type_follows}
 use Rattle.smith_draw.proofs.TakenLemmas.{sub_type_taken}
 use Rattle.smith_draw.proofs.DrawingLemmas.{of_drawn}
@@ -12,4 +13,4 @@ pub returns-clause-follows : goal.returns-clause-follows
 returns-clause-follows c = of_drawn _ (rw c.over-standing.ensures at c.draw_sub_type.ensures) (sub_type_follows _ _ _ _)
 
 pub returns-clause-reach : goal.returns-clause-reach
-returns-clause-reach c = λ off roots. IfOk-weaker c.draw_sub_type.result _ _ (λ _ e. sub_type_taken _ off _ _ _ _ _ c.requires.sanitized roots e) (rw c.over-standing.ensures at c.draw_sub_type.ensures.exact)
+returns-clause-reach c = λ roots. IfOk-weaker c.draw_sub_type.result _ _ (λ _ e. sub_type_taken c.args.config.now (standing_in c.args.config.now c.args.spaces.now) refl _ _ _ _ c.requires.sanitized roots e) (rw c.over-standing.ensures at c.draw_sub_type.ensures.exact)

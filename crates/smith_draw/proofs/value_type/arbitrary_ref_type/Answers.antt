@@ -13,4 +13,4 @@ returns c =
     let drawn = drawn_is (λ (ty : RefType). IsRefTypeDrawn c.args.config.now c.args.spaces.now.types.now.types c.args.must_share c.args.limit ty) _ (ref_type_drawn _ _ _ _ _ c.requires.sanitized c.requires.may_share) exact in
     let granted = drawn_is (λ (ty : RefType). ty.nullable ≡ false → IsGrounded (standing_in c.args.config.now c.args.spaces.now) ty.heap_type) _
     (λ e. grounded_if (standing_in c.args.config.now c.args.spaces.now) _ c.orderly.ensures (ref_type_granted _ _ _ _ _ e).1) exact in
-    record { ok = refl; draws = record { exact = exact; memory = tt; left = c.draw_ref_type.ensures.left }; granted = granted; valid = drawn.valid; stands = drawn.stands; shared = drawn.shared; reach = λ off no. ref_type_taken _ off _ _ _ _ _ _ no exact }
+    record { ok = refl; draws = record { exact = exact; memory = tt; left = c.draw_ref_type.ensures.left }; granted = granted; valid = drawn.valid; stands = drawn.stands; shared = drawn.shared; reach = λ no. ref_type_taken c.args.config.now (standing_in c.args.config.now c.args.spaces.now) refl _ _ _ _ _ c.orderly.ensures no exact }

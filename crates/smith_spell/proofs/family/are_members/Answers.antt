@@ -1,21 +1,31 @@
-use Rattle.std.proofs.Common.{rules}
-use Rattle.smith_spell.proofs.MemberLemmas.{room_behind, groups_turn, group_among}
+use Rattle.std.proofs.Common.{◌↔◌, ◌∙◌, ◌+◌, List, [], drop, subst, arith}
+use Rattle.std.proofs.lemmas.List.Folds.{length-flat_map-take}
+use Rattle.smith_types.specs.declared.composite_type.SubType.{SubType}
+use Rattle.smith_spell.specs.Decided.{AreMembersAfter, IsKnown}
+use Rattle.smith_spell.proofs.GroupsWrittenLoop.{types_turn}
+use Rattle.smith_spell.proofs.MemberLemmas.{all_types, groups_turn, group_among}
 use Rattle.smith_spell.proofs.family.are_members.Goals as goal
 
-pub returns-then-not-are_members_from : goal.returns-then-not-are_members_from
-returns-then-not-are_members_from c = (
-  λ never. cc,
-  λ whole.
-      let here = group_among c.args.config.now c.args.groups.now _ _ _ _ c.loop-group-test.true c.group-item.is (c.loop-group.invariant.same.1 whole) in
-      let yes = (rw c.as_slice.ensures at c.are_members_from.ensures).1 here in
-      let no = c.if-not-are_members_from.true in
-      search rules,
-)
+pub known_after-requires-clause-room : goal.known_after-requires-clause-room
+known_after-requires-clause-room c =
+    let read = c.as_slice-group.ensures ∙ c.index-groups-place.is in
+    let few = length-flat_map-take (λ (group : List SubType). group) c.args.groups.now c.loop-place.place c.index-groups-place.result c.loop-place-test.true in
+    rw read (omega (arith, few, c.loop-place.invariant.known.counted, c.requires))
 
-pub loop-group-preserved : goal.loop-group-preserved
-loop-group-preserved c = record {
-  room = room_behind c.args.groups.now _ _ _ _ _ _ c.loop-group-test.true c.group-item.is c.len-index.ensures c.loop-group.invariant.room;
-  same =
-      groups_turn c.args.config.now c.args.groups.now _ _ _ _ _ _ c.loop-group-test.true c.group-item.is c.len-index.ensures
-      ((rw c.as_slice.ensures at c.are_members_from.ensures).0 c.if-not-are_members_from.false) c.loop-group.invariant.same;
-}
+pub returns-in_default : goal.returns-in_default
+returns-in_default c =
+    let read = c.as_slice-group.ensures ∙ c.index-groups-place.is in
+    (λ never. cc, λ whole. absurd (c.in_default.ensures (group_among c.args.config.now c.args.groups.now c.loop-place.place _ _ c.loop-place-test.true read (c.loop-place.invariant.same.1 whole))))
+
+pub loop-place-preserved : goal.loop-place-preserved
+loop-place-preserved c =
+    let groups = c.args.groups.now in
+    let place = c.loop-place.place in
+    let read = c.as_slice-group.ensures ∙ c.index-groups-place.is in
+    let next = types_turn groups place _ _ c.loop-place-test.true read in
+    let some = c.in-Some.ensures in
+    let more = groups_turn c.args.config.now groups place _ _ _ c.loop-place-test.true read some.0 c.loop-place.invariant.same in
+    record {
+      known = subst (λ (types : List SubType). IsKnown types c.in-Some.after) next some.1;
+      same = subst (λ (types : List SubType). AreMembersAfter c.args.config.now types (all_types (drop (place + 1) groups)) ↔ AreMembersAfter c.args.config.now [] (all_types groups)) next more;
+    }

@@ -1,11 +1,10 @@
-use Rattle.std.proofs.Common.{◌+◌, ◌<◌, ◌^◌, ◌↔◌, List, length, drop}
-use Rattle.std.specs.List.{flat_map}
-use Rattle.smith_types.specs.declared.composite_type.SubType.{SubType}
-use Rattle.smith_spell.specs.Decided.{AreMembersFrom}
+use Rattle.std.proofs.Common.{◌↔◌, [], take, drop}
+use Rattle.smith_spell.specs.Decided.{AreMembersAfter, IsKnown}
+use Rattle.smith_spell.proofs.MemberLemmas.{all_types}
 use Rattle.smith_spell.proofs.family.are_members.Given as goal
 
-abbrev pub invariant-loop-group : goal.invariant-loop-group
-invariant-loop-group l = record {
-  room : l.index + length (flat_map (λ (group : List SubType). group) (drop l.group-index l.groups)) < 2 ^ 64;
-  same : AreMembersFrom l.config l.index (flat_map (λ (group : List SubType). group) (drop l.group-index l.groups)) ↔ AreMembersFrom l.config 0 (flat_map (λ (group : List SubType). group) l.groups);
+abbrev pub invariant-loop-place : goal.invariant-loop-place
+invariant-loop-place l = record {
+  known : IsKnown (all_types (take l.place l.groups)) l.known;
+  same : AreMembersAfter l.config (all_types (take l.place l.groups)) (all_types (drop l.place l.groups)) ↔ AreMembersAfter l.config [] (all_types l.groups);
 }

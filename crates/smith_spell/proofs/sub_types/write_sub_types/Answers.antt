@@ -1,6 +1,12 @@
-use Rattle.std.proofs.Common.{arith}
+use Rattle.std.proofs.Common.{sym, subst, arith}
+use Rattle.smith_types.specs.declared.composite_type.SubType.{SubType}
+use Rattle.smith_spell.specs.Family.{IsMemberType}
+use Rattle.smith_spell.specs.Written.{OverSome}
 use Rattle.smith_spell.proofs.SubTypesLoop.{leads_sub_types, summary_more, sub_types_written}
 use Rattle.smith_spell.proofs.sub_types.write_sub_types.Goals as goal
+
+pub write_sub_type-requires : goal.write_sub_type-requires
+write_sub_type-requires c = subst (λ (t : SubType). OverSome c.args.limit (λ types. IsMemberType c.args.config.now types t)) (sym c.t-item.is) (c.requires.members _ _ c.loop-t-test.true)
 
 pub loop-t-preserved : goal.loop-t-preserved
 loop-t-preserved c =

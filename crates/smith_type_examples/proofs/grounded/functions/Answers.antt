@@ -12,3 +12,6 @@ returns-clause-its_kind c = inr (0, 0, refl, record { heap = below_kind (final_t
 
 pub returns-clause-defined_and_exact : goal.returns-clause-defined_and_exact
 returns-clause-defined_and_exact c = inr (0, 0, refl, record { heap = itself; nullable = λ never. never })
+
+pub returns-clause-imported_with_descriptors : goal.returns-clause-imported_with_descriptors
+returns-clause-imported_with_descriptors c = inr (0, 0, refl, record { heap = itself; nullable = λ never. never })

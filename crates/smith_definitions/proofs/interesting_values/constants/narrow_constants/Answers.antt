@@ -2,8 +2,11 @@ use Rattle.std.proofs.Common.{refl}
 use Rattle.std.specs.Prelude.{map}
 use Rattle.smith_definitions.specs.declared.interesting_values.constants.TheConstants.{NARROW}
 use Rattle.smith_definitions.proofs.CollectedValueLemmas.{low_half, low_halves}
-use Rattle.smith_definitions.proofs.ConstantValueLemmas.{constants, constants_exactly, same_members}
+use Rattle.smith_definitions.proofs.ConstantValueLemmas.{constants, constants_exactly, rises, same_members}
 use Rattle.smith_definitions.proofs.interesting_values.constants.narrow_constants.Goals as goal
 
-pub returns : goal.returns
-returns c = same_members (map low_half constants) NARROW (low_halves constants constants_exactly) refl refl
+pub returns-clause-exactly : goal.returns-clause-exactly
+returns-clause-exactly c = same_members (map low_half constants) NARROW (low_halves constants constants_exactly) refl refl
+
+pub returns-clause-ascending : goal.returns-clause-ascending
+returns-clause-ascending c = rises NARROW refl

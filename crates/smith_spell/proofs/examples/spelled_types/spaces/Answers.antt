@@ -1,20 +1,55 @@
-use Rattle.std.proofs.Common.{rules, arith, ◌≡◌, ◌<◌, false, List, [], ◌∷◌, ap, sym, subst, ◌∙◌, refl}
+use Rattle.std.proofs.Common.{rules, arith, ◌≡◌, ◌<◌, true, false, List, [], ◌∷◌, ap, sym, subst, ◌∙◌, refl, inl, inr}
 use Rattle.std.proofs.lemmas.List.{append-nil}
-use Rattle.std.proofs.lemmas.List.Elements.{All-head}
+use Rattle.std.proofs.lemmas.List.Elements.{All-head, All-nil, All-from_recursion}
 use Rattle.smith_bytes.specs.Draws.{digit_count}
 use Rattle.smith_bytes.specs.Spelling.{SpellsNothing, SpellsNumber, Listed}
 use Rattle.smith_types.specs.Space.{Space}
-use Rattle.smith_types.specs.Matching.{IsFieldInRange}
+use Rattle.smith_types.specs.declared.value_type.AbstractHeapType.TheVariants as heap
+use Rattle.smith_types.specs.declared.value_type.HeapType.TheVariants.{Concrete}
+use Rattle.smith_types.specs.declared.value_type.ValType.TheVariants.{Ref}
+use Rattle.smith_types.specs.ExampleTypes.{plain, nullable, not_null}
 use Rattle.smith_types.specs.declared.composite_type.SubType.{SubType}
 use Rattle.smith_config.specs.Config.{default_config}
 use Rattle.smith_config.specs.Shapes.{space_of}
-use Rattle.smith_draw.specs.Spelling.{ReferBack, GroupsFit, SpellsGroup, SpellsGroups, SpellsSubTypes, SpellsFuncType}
-use Rattle.smith_spell.specs.ExampleMembers.{final, alone, one_function_type, struct_of, field_of, plain_function}
+use Rattle.smith_draw.specs.Spelling.{RefersTo, ReferBack, GroupsFit, SpellsGroup, SpellsGroups, SpellsSubTypes, SpellsFuncType}
+use Rattle.smith_spell.specs.ExampleMembers.{final, alone, one_function_type, struct_of, struct_of_bytes, struct_with, bytes_array, plain_function, with_non_nullable}
+use Rattle.smith_spell.proofs.GroundedExamples.{grounds_itself, none_grounded}
 use Rattle.smith_spell.proofs.SpelledExamples.{joined, go, stop, bool_first, digit_first, without_nothing, opened}
 use Rattle.smith_spell.proofs.examples.spelled_types.spaces.Goals as goal
 
-refers_to_itself : ReferBack [] (alone (struct_of 0)) → ⊥
-refers_to_itself back = let below : 0 < 0 = All-head (IsFieldInRange []) (field_of 0) [] back.0 in omega (arith, below)
+refers_to_itself : ReferBack default_config [] (alone (struct_of 0)) → ⊥
+refers_to_itself back = let below : 0 < 0 = (All-head (RefersTo default_config []) (Ref (nullable (Concrete 0))) [] back.0).0 in omega (arith, below)
+
+-- a struct without fields, and one that refers to it
+struct_back : ReferBack with_non_nullable [] (alone (struct_of_bytes 0))
+struct_back = (All-nil (RefersTo with_non_nullable []), tt)
+
+holder_back : ReferBack with_non_nullable (alone (struct_of_bytes 0)) (alone (struct_with (Concrete 0)))
+holder_back =
+    (All-from_recursion (RefersTo with_non_nullable (alone (struct_of_bytes 0))) (Ref (not_null (Concrete 0)) ∷ []) ((omega arith, inr ((grounds_itself (struct_of_bytes 0) false).0 refl)), tt), tt)
+
+-- where there is no struct, none grounds
+without_struct : (types : List SubType) → ReferBack with_non_nullable [] (final (struct_with (plain heap.Any)) ∷ types) → ⊥
+without_struct types back = elim (All-head (RefersTo with_non_nullable []) (Ref (not_null (plain heap.Any))) [] back.0).1 [ inl never ↦ cc | inr grounded ↦ none_grounded false (plain heap.Any) grounded ]
+
+pub returns-clause-back_to_a_struct_that_is_not_null : goal.returns-clause-back_to_a_struct_that_is_not_null
+returns-clause-back_to_a_struct_that_is_not_null c = (struct_back.0, holder_back)
+
+pub returns-clause-back_to_no_struct : goal.returns-clause-back_to_no_struct
+returns-clause-back_to_no_struct c = λ back.
+    elim (All-head (RefersTo with_non_nullable (alone bytes_array)) (Ref (not_null (Concrete 0))) [] back.1.0).1 [
+      | inl never ↦ cc
+      | inr grounded ↦ let never : false ≡ true = (grounds_itself bytes_array false).1 grounded in cc
+    ]
+
+pub returns-clause-to_a_later_struct : goal.returns-clause-to_a_later_struct
+returns-clause-to_a_later_struct c = without_struct (alone (struct_of_bytes 0))
+
+pub returns-clause-groups_of_a_struct_that_is_not_null : goal.returns-clause-groups_of_a_struct_that_is_not_null
+returns-clause-groups_of_a_struct_that_is_not_null c = (omega arith, omega arith, struct_back, (omega arith, omega arith, holder_back, tt))
+
+pub returns-clause-groups_of_a_struct_without_another : goal.returns-clause-groups_of_a_struct_without_another
+returns-clause-groups_of_a_struct_without_another c = λ fit. let (filled, room, back, more) = fit in without_struct [] back
 
 pub returns-clause-to_itself : goal.returns-clause-to_itself
 returns-clause-to_itself c = refers_to_itself
@@ -52,7 +87,7 @@ one_part t (part ∷ other ∷ parts) same = cc (ap (λ (space : Space). space.g
 pub returns-clause-one_group_that_refers_to_itself : goal.returns-clause-one_group_that_refers_to_itself
 returns-clause-one_group_that_refers_to_itself c = λ spelled.
     let same : alone (struct_of 0) ≡ spelled.added = ap (λ (space : Space). space.types) spelled.is_behind in
-    refers_to_itself (subst (ReferBack []) (sym same) spelled.back)
+    refers_to_itself (subst (ReferBack default_config []) (sym same) spelled.back)
 
 pub returns-clause-one_group_of_other_bytes : goal.returns-clause-one_group_of_other_bytes
 unfolding SpellsGroup digit_count
@@ -63,7 +98,7 @@ returns-clause-one_group_of_other_bytes c = λ spelled.
 
 pub returns-clause-a_space_that_refers_to_itself : goal.returns-clause-a_space_that_refers_to_itself
 returns-clause-a_space_that_refers_to_itself c = λ spelled.
-    let fit : GroupsFit 100 [] (alone (struct_of 0) ∷ []) = subst (GroupsFit 100 []) (one_part (final (struct_of 0)) spelled.parts spelled.is_of) spelled.fit in
+    let fit : GroupsFit default_config [] (alone (struct_of 0) ∷ []) = subst (GroupsFit default_config []) (one_part (final (struct_of 0)) spelled.parts spelled.is_of) spelled.fit in
     let (filled, room, back, more) = fit in
     refers_to_itself back
 

@@ -1,21 +1,21 @@
-use Rattle.std.proofs.Common.{[], ◌∷◌, refl}
+use Rattle.std.proofs.Common.{true, false, [], ◌∷◌, refl}
 use Rattle.smith_bytes.specs.Draws.{digit_count}
-use Rattle.smith_bytes.specs.Spelling.{SpellsNothing, Listed, Each}
+use Rattle.smith_bytes.specs.Spelling.{SpellsBool, SpellsNumber, SpellsNothing, Listed, Each}
 use Rattle.smith_draw.specs.Spelling.{class_of, SpellsPlace, SpellsField, SpellsValType, SpellsFuncType, SpellsStructType}
 use Rattle.smith_types.specs.declared.value_type.ValType.TheVariants.{I32}
 use Rattle.smith_draw.specs.Choices.{enabled}
 use Rattle.smith_draw.specs.ValueTypes.{value_classes}
 use Rattle.smith_spell.specs.ExampleMembers.{single_results}
-use Rattle.smith_spell.proofs.SpelledExamples.{joined, go, stop, one_odd, bool_first, digit_first, place_first, without_nothing, opened}
+use Rattle.smith_spell.proofs.SpelledExamples.{joined, go, stop, one_odd, bool_first, digit_first, place_first, without_nothing, opened, after_reference}
 use Rattle.smith_spell.proofs.examples.spelled_types.values.Goals as goal
 
 pub returns-clause-a_reference : goal.returns-clause-a_reference
 unfolding digit_count
-returns-clause-a_reference c = record { enabled = refl; nullable = refl; heap_type = (refl, joined (1 ∷ []) [] go (record { digits = refl; read = refl })) }
+returns-clause-a_reference c = record { enabled = refl; form = joined (1 ∷ []) [] (refl, joined (1 ∷ []) [] go (record { digits = refl; read = refl })) (refl, refl) }
 
 pub returns-clause-a_reference_of_two : goal.returns-clause-a_reference_of_two
 unfolding digit_count
-returns-clause-a_reference_of_two c = record { enabled = refl; nullable = refl; heap_type = (refl, joined (1 ∷ []) (1 ∷ []) go (record { digits = refl; read = refl })) }
+returns-clause-a_reference_of_two c = record { enabled = refl; form = joined (1 ∷ 1 ∷ []) [] (refl, joined (1 ∷ []) (1 ∷ []) go (record { digits = refl; read = refl })) (refl, refl) }
 
 pub returns-clause-a_number : goal.returns-clause-a_number
 unfolding SpellsValType digit_count
@@ -63,3 +63,13 @@ returns-clause-two_fields c = λ h. cc (digit_first refl h).0
 pub returns-clause-no_field_once_round : goal.returns-clause-no_field_once_round
 unfolding SpellsStructType Each digit_count
 returns-clause-no_field_once_round c = joined (21 ∷ []) [] (record { digits = refl; read = refl }) refl
+
+pub returns-clause-a_reference_to_another : goal.returns-clause-a_reference_to_another
+unfolding digit_count
+returns-clause-a_reference_to_another c = λ h. cc (digit_first refl (bool_first (opened (SpellsBool true) (SpellsNumber 1 0 1) h.form (λ part stands. stands.1))).1).0
+
+pub returns-clause-a_reference_that_is_not_null : goal.returns-clause-a_reference_that_is_not_null
+returns-clause-a_reference_that_is_not_null c = λ h. cc (after_reference false false [] h).0
+
+pub returns-clause-a_reference_and_a_bool : goal.returns-clause-a_reference_and_a_bool
+returns-clause-a_reference_and_a_bool c = λ h. cc (after_reference false true (0 ∷ []) h).1

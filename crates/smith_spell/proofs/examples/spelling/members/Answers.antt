@@ -41,8 +41,8 @@ returns-clause-array_and_struct c =
     let array = joined [] (1 ∷ 0 ∷ 0 ∷ 0 ∷ []) refl (joined (1 ∷ []) (0 ∷ 0 ∷ 0 ∷ []) go (joined [] (0 ∷ 0 ∷ 0 ∷ []) refl
     (joined (0 ∷ []) (0 ∷ 0 ∷ []) (record { digits = refl; read = refl }) (joined (0 ∷ []) (0 ∷ []) (record { digits = refl; read = refl }) stop)))) in
     let arrays = joined (1 ∷ 0 ∷ 0 ∷ 0 ∷ []) [] (record { root = refl; unshared = refl; form = array }) refl in
-    let reference = joined (1 ∷ []) (0 ∷ []) go (record { digits = refl; read = refl }) in
-    let value = joined (5 ∷ []) (1 ∷ 0 ∷ []) (record { place = 5; stands = refl; number = record { digits = refl; read = refl } }) (refl, (refl, reference)) in
+    let reference = joined (1 ∷ 0 ∷ []) [] (refl, joined (1 ∷ []) (0 ∷ []) go (record { digits = refl; read = refl })) (refl, refl) in
+    let value = joined (5 ∷ []) (1 ∷ 0 ∷ []) (record { place = 5; stands = refl; number = record { digits = refl; read = refl } }) (record { enabled = refl; form = reference }) in
     let field = joined (2 ∷ 5 ∷ 1 ∷ 0 ∷ []) (1 ∷ []) (joined (2 ∷ []) (5 ∷ 1 ∷ 0 ∷ []) (record { digits = refl; read = refl }) value) go in
     let fields = joined (1 ∷ []) (2 ∷ 5 ∷ 1 ∷ 0 ∷ 1 ∷ []) (record { digits = refl; read = refl }) (joined (2 ∷ 5 ∷ 1 ∷ 0 ∷ 1 ∷ []) [] field refl) in
     let structure = joined [] (1 ∷ 2 ∷ 1 ∷ 2 ∷ 5 ∷ 1 ∷ 0 ∷ 1 ∷ []) refl (joined (1 ∷ []) (2 ∷ 1 ∷ 2 ∷ 5 ∷ 1 ∷ 0 ∷ 1 ∷ []) go (joined [] (2 ∷ 1 ∷ 2 ∷ 5 ∷ 1 ∷ 0 ∷ 1 ∷ []) refl
@@ -55,3 +55,21 @@ returns-clause-array_and_struct c =
     (joined (1 ∷ 1 ∷ 0 ∷ 0 ∷ 0 ∷ []) (1 ∷ 1 ∷ 1 ∷ 1 ∷ 2 ∷ 1 ∷ 2 ∷ 5 ∷ 1 ∷ 0 ∷ 1 ∷ 0 ∷ []) first more) in
     joined (1 ∷ 1 ∷ 1 ∷ 0 ∷ 0 ∷ 0 ∷ 1 ∷ 1 ∷ 1 ∷ 1 ∷ 2 ∷ 1 ∷ 2 ∷ 5 ∷ 1 ∷ 0 ∷ 1 ∷ 0 ∷ []) (0 ∷ 0 ∷ []) groups
     (joined (0 ∷ []) (0 ∷ []) stop (joined (0 ∷ []) [] (any_byte 0) (joined [] [] refl refl)))
+
+pub returns-clause-a_struct_of_a_reference_that_is_not_null : goal.returns-clause-a_struct_of_a_reference_that_is_not_null
+unfolding SpellsMember SpellsGroups SpellsGroup SpellsSubTypes SpellsValType SpellsField SpellsStructType Each Listed digit_count is_tag_type is_unshared_function
+returns-clause-a_struct_of_a_reference_that_is_not_null c =
+    let empty = joined [] (1 ∷ 2 ∷ 0 ∷ []) refl (joined (1 ∷ []) (2 ∷ 0 ∷ []) go (joined [] (2 ∷ 0 ∷ []) refl (joined (2 ∷ []) (0 ∷ []) (record { digits = refl; read = refl }) (joined (0 ∷ []) [] (record { digits = refl; read = refl }) refl)))) in
+    let empties = joined (1 ∷ 2 ∷ 0 ∷ []) [] (record { root = refl; unshared = refl; form = empty }) refl in
+    let reference = joined (1 ∷ 0 ∷ []) (1 ∷ []) (refl, joined (1 ∷ []) (0 ∷ []) go (record { digits = refl; read = refl })) go in
+    let value = joined (5 ∷ []) (1 ∷ 0 ∷ 1 ∷ []) (record { place = 5; stands = refl; number = record { digits = refl; read = refl } }) (record { enabled = refl; form = reference }) in
+    let field = joined (2 ∷ 5 ∷ 1 ∷ 0 ∷ 1 ∷ []) (0 ∷ []) (joined (2 ∷ []) (5 ∷ 1 ∷ 0 ∷ 1 ∷ []) (record { digits = refl; read = refl }) value) stop in
+    let fields = joined (1 ∷ []) (2 ∷ 5 ∷ 1 ∷ 0 ∷ 1 ∷ 0 ∷ []) (record { digits = refl; read = refl }) (joined (2 ∷ 5 ∷ 1 ∷ 0 ∷ 1 ∷ 0 ∷ []) [] field refl) in
+    let structure = joined [] (1 ∷ 2 ∷ 1 ∷ 2 ∷ 5 ∷ 1 ∷ 0 ∷ 1 ∷ 0 ∷ []) refl (joined (1 ∷ []) (2 ∷ 1 ∷ 2 ∷ 5 ∷ 1 ∷ 0 ∷ 1 ∷ 0 ∷ []) go (joined [] (2 ∷ 1 ∷ 2 ∷ 5 ∷ 1 ∷ 0 ∷ 1 ∷ 0 ∷ []) refl
+    (joined (2 ∷ []) (1 ∷ 2 ∷ 5 ∷ 1 ∷ 0 ∷ 1 ∷ 0 ∷ []) (record { digits = refl; read = refl }) fields))) in
+    let structures = joined (1 ∷ 2 ∷ 1 ∷ 2 ∷ 5 ∷ 1 ∷ 0 ∷ 1 ∷ 0 ∷ []) [] (record { root = refl; unshared = refl; form = structure }) refl in
+    let second = joined (1 ∷ 1 ∷ []) (1 ∷ 2 ∷ 1 ∷ 2 ∷ 5 ∷ 1 ∷ 0 ∷ 1 ∷ 0 ∷ []) (joined (1 ∷ []) (1 ∷ []) no_clone (record { digits = refl; read = refl })) structures in
+    let first = joined (1 ∷ []) (1 ∷ 2 ∷ 0 ∷ []) (joined [] (1 ∷ []) refl (record { digits = refl; read = refl })) empties in
+    let more = joined (1 ∷ []) (1 ∷ 1 ∷ 1 ∷ 2 ∷ 1 ∷ 2 ∷ 5 ∷ 1 ∷ 0 ∷ 1 ∷ 0 ∷ 0 ∷ []) go (joined (1 ∷ 1 ∷ 1 ∷ 2 ∷ 1 ∷ 2 ∷ 5 ∷ 1 ∷ 0 ∷ 1 ∷ 0 ∷ []) (0 ∷ []) second stop) in
+    let groups = joined (1 ∷ []) (1 ∷ 1 ∷ 2 ∷ 0 ∷ 1 ∷ 1 ∷ 1 ∷ 1 ∷ 2 ∷ 1 ∷ 2 ∷ 5 ∷ 1 ∷ 0 ∷ 1 ∷ 0 ∷ 0 ∷ []) go (joined (1 ∷ 1 ∷ 2 ∷ 0 ∷ []) (1 ∷ 1 ∷ 1 ∷ 1 ∷ 2 ∷ 1 ∷ 2 ∷ 5 ∷ 1 ∷ 0 ∷ 1 ∷ 0 ∷ 0 ∷ []) first more) in
+    joined (1 ∷ 1 ∷ 1 ∷ 2 ∷ 0 ∷ 1 ∷ 1 ∷ 1 ∷ 1 ∷ 2 ∷ 1 ∷ 2 ∷ 5 ∷ 1 ∷ 0 ∷ 1 ∷ 0 ∷ 0 ∷ []) (0 ∷ 0 ∷ []) groups (joined (0 ∷ []) (0 ∷ []) stop (joined (0 ∷ []) [] (any_byte 0) (joined [] [] refl refl)))

@@ -21,3 +21,6 @@ returns-clause-a_group_behind_another c = joined (1 ∷ []) (1 ∷ []) no_clone 
 pub returns-clause-a_group_that_is_cloned : goal.returns-clause-a_group_that_is_cloned
 unfolding digit_count
 returns-clause-a_group_that_is_cloned c = λ both. let (later, rest) = refused_first refl both in let never : 1 < 1 = later in omega (arith, never)
+
+pub returns-clause-not_null : goal.returns-clause-not_null
+returns-clause-not_null c = λ reference. let never = reference.form.is_second.0 in cc never

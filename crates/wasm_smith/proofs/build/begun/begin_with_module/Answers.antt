@@ -1,6 +1,7 @@
 use Rattle.std.proofs.Common.{◌≡◌, ◌∙◌, ◌+◌, List, ap}
 use Rattle.smith_types.specs.Imports.{IndexSpaces, imported_spaces}
 use Rattle.smith_types.specs.IndexSpaces.{spaces_in}
+use Rattle.smith_types.specs.Space.{Space}
 use Rattle.smith_types.proofs.GroupsAddedLemmas.{valid_following}
 use Rattle.smith_config.specs.Features.{features_of}
 use Rattle.smith_config.specs.Shapes.{shape_imports, space_of}
@@ -10,6 +11,7 @@ use Rattle.smith_imports.specs.ShapeImports.{count_in, kept_groups}
 use Rattle.wasm_smith.specs.Begun.{Begun, begun_by_module_at}
 use Rattle.smith_definitions.specs.Defined.{nothing_defined}
 use Rattle.smith_definitions.specs.Bounds.{exported_of}
+use Rattle.smith_definitions.specs.declared.definitions.Definitions.{Definitions}
 use Rattle.smith_definitions.specs.RequiredExports.{Required, standing_with, then_with}
 use Rattle.wasm_smith.proofs.BegunLemmas.{stands_alone, may_begin, brought_so, tables_of_shape, memories_of_shape, refused_with}
 use Rattle.wasm_smith.proofs.build.begun.begin_with_module.Goals as goal
@@ -38,7 +40,10 @@ pub returns-in_err-drawn-3-clause-refusal : goal.returns-in_err-drawn-3-clause-r
 returns-in_err-drawn-3-clause-refusal c =
     let kept = c.in_ok-drawn-2.ensures.kept in
     let nothing : c.args.drawn.now.definitions ≡ nothing_defined = ap (λ (begun : Begun). begun.defined) c.requires.nothing.begun in
-    passed_on _ c.from_residual-in_err-drawn-3.result c.in_err-drawn-3.field-0.0 c.from_residual-in_err-drawn-3.ensures.1 (rw (c.in_ok-drawn.ensures.types, kept.spaces, nothing) at c.in_err-drawn-3.ensures.refusal)
+    let types = ap (λ (space : Space). space.types) c.in_ok-drawn.ensures.types in
+    let funcs = ap (λ (spaces : IndexSpaces). spaces.funcs) kept.spaces in
+    let defined = ap (λ (made : Definitions). made.num_funcs) nothing in
+    passed_on _ c.from_residual-in_err-drawn-3.result c.in_err-drawn-3.field-0.0 c.from_residual-in_err-drawn-3.ensures.1 (rw (types, funcs, defined) at c.in_err-drawn-3.ensures.refusal)
 
 pub returns-clause-exact : goal.returns-clause-exact
 unfolding begun_by_module_at

@@ -1,9 +1,20 @@
+use Rattle.wasm_smith.specs.declared.build.contents.Contents.{Contents}
 use Rattle.wasm_smith.specs.declared.build.drawn.Drawn.{Drawn}
 use Rattle.wasm_smith.proofs.ContentsLemmas.{pages_small}
 use Rattle.wasm_smith.proofs.KeptShapeLemmas.{kept_beyond, shapes_kept}
 use Rattle.wasm_smith.proofs.MadeExportsLemmas.{may_hold_contents}
-use Rattle.wasm_smith.proofs.PartsLemmas.{drawn_for, module_read, same_imports}
+use Rattle.wasm_smith.proofs.PartsLemmas.{drawn_for, module_read, module_refused, same_imports}
 use Rattle.wasm_smith.proofs.build.drawn.draw_parts.Goals as goal
+
+pub returns-in_err-made-clause-left : goal.returns-in_err-made-clause-left
+returns-in_err-made-clause-left c = λ whole h.
+    c.make_exports.ensures.left whole (c.add_definitions.ensures.left whole (c.draw_section_flag-encodes_imports.ensures.draws.left whole (c.add_imports.ensures.left whole (c.begin_with_types.ensures.left whole h))))
+
+pub returns-in_err-drawn-clause-exact : goal.returns-in_err-drawn-clause-exact
+returns-in_err-drawn-clause-exact c =
+    let made = c.in_ok-made.ensures in
+    module_refused _ (λ (contents : Contents). (contents, c.draw_contents.new.u)) c.from_residual-in_err-drawn.result c.in_err-drawn.field-0.0 c.args.distinct c.args.config.now c.args.u.now _ _ _ _ _ _ _ _ _ _ _ c.in_ok-begin_with_types.ensures.exact
+    c.in_ok-add_imports.ensures.exact (rw c.len.ensures at c.draw_section_flag-encodes_imports.ensures.draws.exact) c.in_ok-add_definitions.ensures.exact made.exact made.size c.in_err-drawn.ensures.exact c.from_residual-in_err-drawn.ensures.1
 
 pub returns-in_err-drawn-clause-left : goal.returns-in_err-drawn-clause-left
 returns-in_err-drawn-clause-left c = λ whole h.

@@ -1,0 +1,51 @@
+-- Which instruction without operands is chosen.
+use Rattle.std.proofs.Common.{◌≡◌, ℕ, ◌<◌, Bool, List, Option, Some, None, length, get_or, refl, ap, ◌∙◌}
+use Rattle.std.specs.Prelude.{slice_get, if◌then◌else◌}
+use Rattle.std.proofs.lemmas.Option.{slice_get-get_or}
+use Rattle.smith_bytes.specs.Draws.{choose_at}
+use Rattle.smith_types.specs.declared.instruction_kind.InstructionKinds.{InstructionKinds}
+use Rattle.smith_types.specs.declared.value_type.ValType.{ValType}
+use Rattle.smith_draw.specs.Choices.{chosen_at}
+use Rattle.smith_instr.specs.Contexts.{BodyContext}
+use Rattle.smith_instr.specs.Enabled.{is_enabled}
+use Rattle.smith_instr.specs.declared.instr.Instr.{Instr}
+use Rattle.smith_instr.specs.declared.instr.Instr.TheVariants as instr
+use Rattle.smith_code.specs.Choices.{giving}
+use Rattle.smith_code.specs.Leaves.{any_leaf_at, constant_at, leaf_at, leaf_choice_at, leaf_families, leaf_of, named_at, or_constant}
+use Rattle.smith_code.specs.Offered.{is_reference, offered}
+use Rattle.smith_code.specs.declared.families.LeafFamily.{LeafFamily}
+use Rattle.smith_code.specs.declared.families.LeafFamily.TheVariants as leaf
+
+-- a function that may be named, by its place among those
+pub named_none : (context : BodyContext) (wanted : ValType) (bytes left : List ℕ) → choose_at (offered (is_reference context wanted) (length context.references)) bytes ≡ (None, left) → named_at context wanted bytes ≡ (None, left)
+unfolding named_at
+named_none context wanted bytes left drawn = ap (λ (d : Option ℕ × List ℕ). giving (λ place. slice_get context.references place) d) drawn
+
+pub named_there : (context : BodyContext) (wanted : ValType) (bytes left : List ℕ) (place d : ℕ) → choose_at (offered (is_reference context wanted) (length context.references)) bytes ≡ (Some place, left) → place < length context.references
+    → named_at context wanted bytes ≡ (Some (get_or context.references place d), left)
+unfolding named_at
+named_there context wanted bytes left place d drawn inside =
+    ap (λ (d : Option ℕ × List ℕ). giving (λ place. slice_get context.references place) d) drawn ∙ ap (λ (o : Option ℕ). (o, left)) (slice_get-get_or context.references place d inside)
+
+-- what is chosen by its family
+pub leaf_by : (context : BodyContext) (set : List ℕ) (wanted : ValType) (bytes left : List ℕ) (families : List LeafFamily) (drawn_family family : LeafFamily) → families ≡ leaf_families → chosen_at leaf.Constant families bytes ≡ (drawn_family, left)
+    → drawn_family ≡ family → leaf_choice_at context set wanted bytes ≡ leaf_of context set wanted family left
+unfolding leaf_choice_at
+leaf_by context set wanted bytes left families drawn_family family are drawn is =
+    let drawn' : chosen_at leaf.Constant leaf_families bytes ≡ (family, left) = rw (are, is) at drawn in
+    ap (λ (r : LeafFamily × List ℕ). leaf_of context set wanted r.0 r.1) drawn'
+
+pub leaf_chosen : (context : BodyContext) (set : List ℕ) (wanted : ValType) (bytes left : List ℕ) (instruction : Instr) → leaf_choice_at context set wanted bytes ≡ (Some instruction, left) → any_leaf_at context set wanted bytes ≡ (instruction, left)
+unfolding any_leaf_at
+leaf_chosen context set wanted bytes left instruction drawn = ap (λ (d : Option Instr × List ℕ). or_constant wanted d.0 d.1) drawn
+
+pub leaf_constant : (context : BodyContext) (set : List ℕ) (wanted : ValType) (bytes middle left : List ℕ) (instruction : Instr) → leaf_choice_at context set wanted bytes ≡ (None, middle) → constant_at wanted middle ≡ (instruction, left)
+    → any_leaf_at context set wanted bytes ≡ (instruction, left)
+unfolding any_leaf_at
+leaf_constant context set wanted bytes middle left instruction drawn is = ap (λ (d : Option Instr × List ℕ). or_constant wanted d.0 d.1) drawn ∙ is
+
+-- the instruction where it is enabled, or `unreachable`
+pub leaf_enabled : (kinds : InstructionKinds) (context : BodyContext) (set : List ℕ) (wanted : ValType) (bytes left : List ℕ) (instruction : Instr) (enabled : Bool) → any_leaf_at context set wanted bytes ≡ (instruction, left) → is_enabled context.features kinds instruction ≡ enabled
+    → leaf_at kinds context set wanted bytes ≡ (if enabled then instruction else instr.Unreachable, left)
+unfolding leaf_at
+leaf_enabled kinds context set wanted bytes left instruction enabled drawn is = rw (drawn, is) refl

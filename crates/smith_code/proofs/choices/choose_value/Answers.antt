@@ -1,0 +1,32 @@
+use Rattle.smith_code.specs.Scopes.{where_stands}
+use Rattle.smith_code.specs.declared.families.ValueFamily.TheVariants as value
+use Rattle.smith_code.proofs.ResultLemmas.{ok_like}
+use Rattle.smith_code.proofs.ChoiceLemmas.{ok_by, value_by}
+use Rattle.smith_code.proofs.choices.choose_value.Goals as goal
+
+pub returns-in-Leaf-clause-exact : goal.returns-in-Leaf-clause-exact
+returns-in-Leaf-clause-exact c = value_by (where_stands c.args.scope.now c.args.draft.now) c.args.wanted c.args.u.now _ c.value_families.result.now c.choose.result value.Leaf c.value_families.ensures (c.choose.ensures.exact value.Leaf) c.in-Leaf.is
+
+pub returns-in-Select-clause-exact : goal.returns-in-Select-clause-exact
+returns-in-Select-clause-exact c = ok_like _ c.choose_select.result (value_by (where_stands c.args.scope.now c.args.draft.now) c.args.wanted c.args.u.now _ c.value_families.result.now c.choose.result value.Select c.value_families.ensures (c.choose.ensures.exact value.Leaf) c.in-Select.is) c.choose_select.ensures.exact
+
+pub returns-in-Numeric-clause-exact : goal.returns-in-Numeric-clause-exact
+returns-in-Numeric-clause-exact c = ok_by c.choose_numeric.result _ _ _ (value_by (where_stands c.args.scope.now c.args.draft.now) c.args.wanted c.args.u.now _ c.value_families.result.now c.choose.result value.Numeric c.value_families.ensures (c.choose.ensures.exact value.Leaf) c.in-Numeric.is) c.choose_numeric.ensures.exact
+
+pub returns-in-Tee-clause-exact : goal.returns-in-Tee-clause-exact
+returns-in-Tee-clause-exact c = ok_by c.choose_tee.result _ _ _ (value_by (where_stands c.args.scope.now c.args.draft.now) c.args.wanted c.args.u.now _ c.value_families.result.now c.choose.result value.Tee c.value_families.ensures (c.choose.ensures.exact value.Leaf) c.in-Tee.is) c.choose_tee.ensures.exact
+
+pub returns-in-Call-clause-exact : goal.returns-in-Call-clause-exact
+returns-in-Call-clause-exact c = ok_by c.choose_call.result _ _ _ (value_by (where_stands c.args.scope.now c.args.draft.now) c.args.wanted c.args.u.now _ c.value_families.result.now c.choose.result value.Call c.value_families.ensures (c.choose.ensures.exact value.Leaf) c.in-Call.is) c.choose_call.ensures.exact
+
+pub returns-in-Block-clause-exact : goal.returns-in-Block-clause-exact
+returns-in-Block-clause-exact c = ok_by c.choose_block.result _ _ _ (value_by (where_stands c.args.scope.now c.args.draft.now) c.args.wanted c.args.u.now _ c.value_families.result.now c.choose.result value.Block c.value_families.ensures (c.choose.ensures.exact value.Leaf) c.in-Block.is) c.choose_block.ensures.exact
+
+pub returns-in-Leaving-clause-exact : goal.returns-in-Leaving-clause-exact
+returns-in-Leaving-clause-exact c = ok_by c.choose_leaving_for.result _ _ _ (value_by (where_stands c.args.scope.now c.args.draft.now) c.args.wanted c.args.u.now _ c.value_families.result.now c.choose.result value.Leaving c.value_families.ensures (c.choose.ensures.exact value.Leaf) c.in-Leaving.is) c.choose_leaving_for.ensures.exact
+
+pub returns-in-Load-clause-exact : goal.returns-in-Load-clause-exact
+returns-in-Load-clause-exact c = ok_by c.choose_load.result _ _ _ (value_by (where_stands c.args.scope.now c.args.draft.now) c.args.wanted c.args.u.now _ c.value_families.result.now c.choose.result value.Load c.value_families.ensures (c.choose.ensures.exact value.Leaf) c.in-Load.is) c.choose_load.ensures.exact
+
+pub returns-in-Memory-clause-exact : goal.returns-in-Memory-clause-exact
+returns-in-Memory-clause-exact c = ok_by c.choose_memory.result _ _ _ (value_by (where_stands c.args.scope.now c.args.draft.now) c.args.wanted c.args.u.now _ c.value_families.result.now c.choose.result value.Memory c.value_families.ensures (c.choose.ensures.exact value.Leaf) c.in-Memory.is) c.choose_memory.ensures.exact

@@ -1,0 +1,123 @@
+-- Which body the bytes give. Rules of this project.
+use Rattle.std.specs.Prelude.{ℕ, zero, suc, ◌-◌, ◌==◌, Option, Some, None, option_to_list, List, [], ◌∷◌, ◌++◌, length, replicate, if◌then◌else◌}
+use Rattle.smith_bytes.specs.Draws.{range_at}
+use Rattle.smith_types.specs.declared.instruction_kind.InstructionKinds.{InstructionKinds}
+use Rattle.smith_types.specs.declared.value_type.ValType.{ValType}
+use Rattle.smith_instr.specs.Contexts.{BodyContext, labelled}
+use Rattle.smith_instr.specs.declared.instr.Instr.{Instr}
+use Rattle.smith_instr.specs.declared.instr.Instr.TheVariants as instr
+use Rattle.smith_code.specs.Choices.{allowed_choice_at, statement_choice_at}
+use Rattle.smith_code.specs.Leaves.{leaf_at}
+use Rattle.smith_code.specs.Nodes.{is_node_allowed, label_of, opened}
+use Rattle.smith_code.specs.declared.node.Head.{Head}
+use Rattle.smith_code.specs.declared.node.Head.TheVariants as head
+use Rattle.smith_code.specs.declared.node.Node.{Node}
+use Rattle.smith_code.specs.declared.node.Sides.{Sides}
+
+-- a body that is being drawn: what the next instruction may refer to, the instructions so far, the locals that were set, the fuel,
+-- and the bytes that are left
+pub record State : Type 0 where
+  pub context : BodyContext
+  pub out : List Instr
+  pub set : List ℕ
+  pub fuel : ℕ
+  pub bytes : List ℕ
+
+-- how a value of a type is drawn, and how statements are
+pub record Drawing : Type 0 where
+  pub value : ValType → State → State
+  pub statements : State → State
+
+abbrev pub written : Instr → State → State
+written instruction s = record s { out = s.out ++ instruction ∷ [] }
+
+abbrev pub dropped : ℕ → State → State
+dropped count s = record s { out = s.out ++ replicate count instr.Drop }
+
+-- values of these types, in order
+abbrev pub values_at : Drawing → List ValType → State → State
+values_at draw [] s = s
+values_at draw (wanted ∷ more) s = values_at draw more (draw.value wanted s)
+
+-- the inside of a block: its parameters are dropped, then there are statements, then its results
+unfoldable pub inside_at : Drawing → Sides → State → State
+inside_at draw sides s = values_at draw sides.results (draw.statements (dropped (length sides.params) s))
+
+-- the inside of a block with its label. Locals that are set in a block are not after it
+unfoldable pub enclosed_at : Drawing → List ValType → Sides → State → State
+enclosed_at draw label sides s =
+    record (inside_at draw sides (record s { context = labelled s.context label })) { context = s.context; set = s.set }
+
+-- what comes after operands, and the local that it sets
+unfoldable pub head_at : Drawing → Head → Option ℕ → State → State
+head_at draw (head.Plain instruction) sets s = record s { out = s.out ++ instruction ∷ []; set = s.set ++ option_to_list sets }
+head_at draw (head.Enclosed opening ty sides) sets s =
+    written instr.End (enclosed_at draw (label_of opening sides.params sides.results) sides (written (opened opening ty) s))
+head_at draw (head.If ty sides) sets s =
+    written instr.End (enclosed_at draw sides.results sides
+    (written instr.Else (enclosed_at draw sides.results sides
+    (written (instr.If ty) s))))
+
+-- a node takes one unit of fuel: its operands are drawn, then the rest of it
+unfoldable pub node_at : Drawing → Node → State → State
+node_at draw node s = dropped node.drops (head_at draw node.head node.sets (values_at draw node.operands (record s { fuel = s.fuel - 1 })))
+
+-- an instruction without operands
+unfoldable pub leaf_in : InstructionKinds → ValType → State → State
+leaf_in kinds wanted s =
+    let leaf = leaf_at kinds s.context s.set wanted s.bytes in
+    record s { out = s.out ++ leaf.0 ∷ []; bytes = leaf.1 }
+
+-- the node that was chosen, or an instruction without operands
+abbrev pub node_or_leaf_at : InstructionKinds → Drawing → ValType → Option Node → State → State
+node_or_leaf_at kinds below wanted (Some node) s = node_at below node s
+node_or_leaf_at kinds below wanted None s = leaf_in kinds wanted s
+
+-- a value, by what is drawn one level deeper: without fuel an instruction without operands
+unfoldable pub value_at : InstructionKinds → Drawing → ValType → State → State
+value_at kinds below wanted s =
+    let chosen = allowed_choice_at kinds s.context wanted s.bytes in
+    if s.fuel == 0 then leaf_in kinds wanted s else node_or_leaf_at kinds below wanted chosen.0 (record s { bytes = chosen.1 })
+
+-- a node where it is allowed: where it isn't, fuel is taken all the same
+abbrev pub allowed_at : InstructionKinds → Drawing → Node → State → State
+allowed_at kinds below node s =
+    if is_node_allowed s.context.features kinds node then node_at below node s else record s { fuel = s.fuel - 1 }
+
+-- a statement, by what is drawn one level deeper
+unfoldable pub statement_at : InstructionKinds → Drawing → State → State
+statement_at kinds below s =
+    let chosen = statement_choice_at s.context s.bytes in
+    allowed_at kinds below chosen.0 (record s { bytes = chosen.1 })
+
+-- at most so many statements, while there is fuel and the bytes want one more
+abbrev pub statements_within : (State → State) → ℕ → State → State
+statements_within statement zero s = s
+statements_within statement (suc most) s =
+    let more = range_at 0 3 s.bytes in
+    let next = record s { bytes = more.1 } in
+    if s.fuel == 0 then s else if more.0 == 0 then next else statements_within statement most (statement next)
+
+-- what is drawn at a depth, by what is drawn one level deeper: at the last there are no statements, and values have no operands
+unfoldable pub drawing_at : InstructionKinds → ℕ → Drawing
+drawing_at kinds zero = record { value = leaf_in kinds; statements = λ s. s }
+drawing_at kinds (suc depth) = record {
+  value = λ wanted s. value_at kinds (drawing_at kinds depth) wanted s;
+  statements = λ s. statements_within (statement_at kinds (drawing_at kinds depth)) s.fuel s;
+}
+
+-- the inside of a body: statements, then the results
+unfoldable pub whole_at : Drawing → List ValType → State → State
+whole_at draw results s = values_at draw results (draw.statements s)
+
+-- the state in which a body begins, and what it is in the end
+abbrev pub begun : BodyContext → ℕ → List ℕ → State
+begun context fuel bytes = record { context = labelled context context.results; out = []; set = []; fuel = fuel; bytes = bytes }
+
+abbrev pub ended : State → List Instr × List ℕ
+ended s = (s.out, s.bytes)
+
+-- a body of at most 40 levels, its last `end` aside, and the bytes that are left: without fuel `unreachable`
+unfoldable pub body_at : InstructionKinds → BodyContext → ℕ → List ℕ → List Instr × List ℕ
+body_at kinds context fuel bytes =
+    if fuel == 0 then (instr.Unreachable ∷ [], bytes) else ended (whole_at (drawing_at kinds 40) context.results (begun context fuel bytes))

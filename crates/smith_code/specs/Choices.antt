@@ -1,0 +1,313 @@
+-- Which node the bytes choose. The choices, their order and how often each comes are rules of this project.
+use Rattle.std.specs.Prelude.{ℕ, zero, suc, ◌-◌, ◌==◌, min, Bool, true, false, Option, Some, None, option_map, option_and_then, option_to_list, unwrap_or, List, [], ◌∷◌, ◌++◌, length, slice_get, if◌then◌else◌}
+use Rattle.smith_bytes.specs.Draws.{bool_at, range_at, choose_at, whole_at}
+use Rattle.smith_types.specs.Features.{Features}
+use Rattle.smith_types.specs.declared.instruction_kind.InstructionKinds.{InstructionKinds}
+use Rattle.smith_types.specs.declared.value_type.ValType.{ValType}
+use Rattle.smith_types.specs.declared.value_type.ValType.TheVariants.{I32, I64, F32, F64, Ref}
+use Rattle.smith_types.specs.declared.composite_type.FuncType.{FuncType}
+use Rattle.smith_types.specs.declared.entity_type.MemoryType.{MemoryType}
+use Rattle.smith_draw.specs.Choices.{chosen_at}
+use Rattle.smith_instr.specs.Contexts.{BodyContext, address}
+use Rattle.smith_instr.specs.MemoryTypes.{loaded, stored}
+use Rattle.smith_instr.specs.NumericTypes.{signature}
+use Rattle.smith_instr.specs.declared.control.BlockType.TheVariants as block
+use Rattle.smith_instr.specs.declared.instr.Instr.TheVariants as instr
+use Rattle.smith_instr.specs.declared.memory.Load.{Load}
+use Rattle.smith_instr.specs.declared.memory.Store.{Store}
+use Rattle.smith_instr.specs.declared.memory.Store.TheVariants as store
+use Rattle.smith_instr.specs.declared.memory.MemoryInstr.TheVariants as memory
+use Rattle.smith_instr.specs.declared.numeric.NumericInstr.{NumericInstr}
+use Rattle.smith_code.specs.Nodes.{blocked, is_node_allowed, node_of, setting}
+use Rattle.smith_code.specs.Offered.{func_in, function_at, is_addressed, is_callable, is_local_below, is_mutable, is_target, offered}
+use Rattle.smith_code.specs.Rows.{loads_of, numeric_rows, stores}
+use Rattle.smith_code.specs.Scopes.{indexed}
+use Rattle.smith_code.specs.declared.families.StatementFamily.{StatementFamily}
+use Rattle.smith_code.specs.declared.families.StatementFamily.TheVariants as statement
+use Rattle.smith_code.specs.declared.families.ValueFamily.{ValueFamily}
+use Rattle.smith_code.specs.declared.families.ValueFamily.TheVariants as value
+use Rattle.smith_code.specs.declared.memories.Access.{Access}
+use Rattle.smith_code.specs.declared.node.Node.{Node}
+use Rattle.smith_code.specs.declared.node.Opening.{Opening}
+use Rattle.smith_code.specs.declared.node.Opening.TheVariants as opening
+
+-- a node that is chosen, if one is, and the bytes that are left
+abbrev pub Chosen : Type 0
+Chosen = Option Node × List ℕ
+
+-- what an item that was drawn gives, if it gives anything
+abbrev pub giving : {A B : Type 0} → (A → Option B) → Option A × List ℕ → Option B × List ℕ
+giving give drawn = (option_and_then give drawn.0, drawn.1)
+
+-- a numeric instruction whose first result is of the wanted type; what it gives besides is dropped
+abbrev pub numeric_node : NumericInstr → Option Node
+numeric_node op = Some (node_of (signature op).operands (instr.Numeric op) (length (signature op).results - 1))
+
+unfoldable pub numeric_at : ValType → List ℕ → Chosen
+numeric_at wanted bytes = giving numeric_node (choose_at (numeric_rows wanted) bytes)
+
+-- a type of numbers or vectors
+abbrev pub is_numeric : ValType → Bool
+is_numeric (Ref reference) = false
+is_numeric _ = true
+
+-- `select` between numbers, or between vectors
+abbrev pub select_node : ValType → Option Node
+select_node wanted = if is_numeric wanted then Some (node_of (wanted ∷ wanted ∷ I32 ∷ []) instr.Select 0) else None
+
+-- a local of a type below the wanted type that is set and read again
+abbrev pub tee_node : BodyContext → ℕ → Option Node
+tee_node context index = option_map (λ value. setting index value (instr.LocalTee index)) (slice_get context.locals index)
+
+unfoldable pub tee_at : BodyContext → ValType → List ℕ → Chosen
+tee_at context wanted bytes = giving (tee_node context) (choose_at (offered (is_local_below context wanted) (indexed (length context.locals))) bytes)
+
+-- a call of a function whose first result is below the wanted type; the others are dropped
+abbrev pub call_node : BodyContext → ℕ → Option Node
+call_node context index =
+    option_map (λ (function : FuncType). node_of function.params (instr.Call index) (length function.results - 1)) (function_at context index)
+
+unfoldable pub call_at : BodyContext → ValType → List ℕ → Chosen
+call_at context wanted bytes = giving (call_node context) (choose_at (offered (is_callable context wanted) (indexed (length context.funcs))) bytes)
+
+-- a block, a loop, or neither: an `if`
+unfoldable pub opening_at : List ℕ → Option Opening × List ℕ
+opening_at bytes = let number = range_at 0 2 bytes in (slice_get (opening.Block ∷ opening.Loop ∷ []) number.0, number.1)
+
+-- a block that gives a value of the wanted type
+unfoldable pub block_at : ValType → List ℕ → Chosen
+block_at wanted bytes = let opening = opening_at bytes in (Some (blocked opening.0 (block.Value wanted) [] (wanted ∷ []) 0), opening.1)
+
+-- the innermost labels may be chosen
+abbrev pub label_count : BodyContext → ℕ
+label_count context = min (length context.labels) 64
+
+-- a label: 0 where there is none
+abbrev pub label_at : BodyContext → List ℕ → ℕ × List ℕ
+label_at context bytes = range_at 0 (label_count context - 1) bytes
+
+-- out of the function
+abbrev pub return_node : BodyContext → Node
+return_node context = node_of context.results instr.Return 0
+
+-- to a label
+abbrev pub br_node : BodyContext → ℕ → Option Node
+br_node context label = option_map (λ (taken : List ValType). node_of taken (instr.Br label) 0) (slice_get context.labels label)
+
+-- a branch that doesn't come back: out of the function, or to a label
+unfoldable pub leaving_at : BodyContext → List ℕ → Chosen
+leaving_at context bytes =
+    let out = bool_at bytes in
+    let label = label_at context out.1 in
+    if label_count context == 0 then (Some (return_node context), bytes)
+    else if out.0 then (Some (return_node context), out.1)
+    else (br_node context label.0, label.1)
+
+-- where a memory of a type is accessed, at an alignment up to one of this binary logarithm
+abbrev pub access_in : ℕ → ℕ → Option MemoryType → List ℕ → Option Access × List ℕ
+access_in log2_bytes index None bytes = (None, bytes)
+access_in log2_bytes index (Some memory) bytes =
+    let align = range_at 0 log2_bytes bytes in
+    let offset = whole_at (if memory.memory64 then 8 else 4) align.1 in
+    (Some (record { at = record { align = align.0; offset = offset.0; memory = index }; wide = memory.memory64 }), offset.1)
+
+unfoldable pub access_at : List MemoryType → ℕ → List ℕ → Option Access × List ℕ
+access_at memories log2_bytes bytes =
+    let index = range_at 0 (indexed (length memories) - 1) bytes in
+    access_in log2_bytes index.0 (slice_get memories index.0) index.1
+
+-- a load
+abbrev pub load_node : Load → Access → Option Node
+load_node op access = Some (node_of (address access.wide ∷ []) (instr.Load op access.at) 0)
+
+abbrev pub load_by : List MemoryType → Option Load → List ℕ → Chosen
+load_by memories None bytes = (None, bytes)
+load_by memories (Some op) bytes = giving (load_node op) (access_at memories (loaded op).1 bytes)
+
+-- a load that gives a value of the wanted type
+unfoldable pub load_at : BodyContext → ValType → List ℕ → Chosen
+load_at context wanted bytes = let op = choose_at (loads_of wanted) bytes in load_by context.memories op.0 op.1
+
+-- the growth of a memory, or its size
+abbrev pub growth_node : ValType → ℕ → Bool → Node
+growth_node wanted index grown =
+    if grown then node_of (wanted ∷ []) (instr.Memory (memory.Grow index)) 0 else node_of [] (instr.Memory (memory.Size index)) 0
+
+abbrev pub memory_by : ValType → Option ℕ → List ℕ → Chosen
+memory_by wanted None bytes = (None, bytes)
+memory_by wanted (Some index) bytes = let grown = bool_at bytes in (Some (growth_node wanted index grown.0), grown.1)
+
+-- that of a memory whose addresses are of the wanted type
+unfoldable pub memory_at : BodyContext → ValType → List ℕ → Chosen
+memory_at context wanted bytes =
+    let index = choose_at (offered (is_addressed context wanted) (indexed (length context.memories))) bytes in
+    memory_by wanted index.0 index.1
+
+-- what may give a value, each family in so many places as it is likely
+abbrev pub value_families : List ValueFamily
+value_families =
+    value.Leaf ∷
+    value.Numeric ∷
+    value.Numeric ∷
+    value.Numeric ∷
+    value.Numeric ∷
+    value.Numeric ∷
+    value.Select ∷
+    value.Tee ∷
+    value.Call ∷
+    value.Call ∷
+    value.Block ∷
+    value.Block ∷
+    value.Leaving ∷
+    value.Load ∷
+    value.Load ∷
+    value.Memory ∷
+    []
+
+-- a value of a family: none of a leaf
+abbrev pub value_of : BodyContext → ValType → ValueFamily → List ℕ → Chosen
+value_of context wanted value.Leaf bytes = (None, bytes)
+value_of context wanted value.Numeric bytes = numeric_at wanted bytes
+value_of context wanted value.Select bytes = (select_node wanted, bytes)
+value_of context wanted value.Tee bytes = tee_at context wanted bytes
+value_of context wanted value.Call bytes = call_at context wanted bytes
+value_of context wanted value.Block bytes = block_at wanted bytes
+value_of context wanted value.Leaving bytes = leaving_at context bytes
+value_of context wanted value.Load bytes = load_at context wanted bytes
+value_of context wanted value.Memory bytes = memory_at context wanted bytes
+
+unfoldable pub value_choice_at : BodyContext → ValType → List ℕ → Chosen
+value_choice_at context wanted bytes = let family = chosen_at value.Leaf value_families bytes in value_of context wanted family.0 family.1
+
+-- that node, if it is allowed
+abbrev pub if_allowed : Features → InstructionKinds → Option Node → Option Node
+if_allowed features kinds None = None
+if_allowed features kinds (Some node) = if is_node_allowed features kinds node then Some node else None
+
+unfoldable pub allowed_choice_at : InstructionKinds → BodyContext → ValType → List ℕ → Chosen
+allowed_choice_at kinds context wanted bytes =
+    let chosen = value_choice_at context wanted bytes in
+    (if_allowed context.features kinds chosen.0, chosen.1)
+
+-- a value that is dropped: of a type of numbers, or of the type of a local
+unfoldable pub dropped_at : List ValType → List ℕ → ValType × List ℕ
+dropped_at locals bytes = chosen_at I32 (I32 ∷ I64 ∷ F32 ∷ F64 ∷ locals) bytes
+
+unfoldable pub drop_at : BodyContext → List ℕ → Chosen
+drop_at context bytes = let value = dropped_at context.locals bytes in (Some (node_of (value.0 ∷ []) instr.Drop 0), value.1)
+
+-- a local that is set
+abbrev pub set_node : BodyContext → ℕ → Option Node
+set_node context index = option_map (λ value. setting index value (instr.LocalSet index)) (slice_get context.locals index)
+
+unfoldable pub set_at : BodyContext → List ℕ → Chosen
+set_at context bytes = let index = range_at 0 (indexed (length context.locals) - 1) bytes in (set_node context index.0, index.1)
+
+-- a global that is set
+abbrev pub global_set_node : BodyContext → ℕ → Option Node
+global_set_node context index = option_map (λ global. node_of (global.val_type ∷ []) (instr.GlobalSet index) 0) (slice_get context.globals index)
+
+unfoldable pub global_set_at : BodyContext → List ℕ → Chosen
+global_set_at context bytes = giving (global_set_node context) (choose_at (offered (is_mutable context) (indexed (length context.globals))) bytes)
+
+-- a call whose results are dropped
+abbrev pub any_call_node : BodyContext → ℕ → Option Node
+any_call_node context index =
+    option_map (λ (function : FuncType). node_of function.params (instr.Call index) (length function.results)) (function_at context index)
+
+unfoldable pub any_call_at : BodyContext → List ℕ → Chosen
+any_call_at context bytes = let index = range_at 0 (indexed (length context.funcs) - 1) bytes in (any_call_node context index.0, index.1)
+
+-- a block of a function type, whose results are dropped, or one without parameters and results
+abbrev pub any_block_node : Option Opening → ℕ → Option FuncType → Node
+any_block_node opening index (Some function) = blocked opening (block.Func index) function.params function.results (length function.results)
+any_block_node opening index None = blocked opening block.Empty [] [] 0
+
+unfoldable pub any_block_at : BodyContext → List ℕ → Chosen
+any_block_at context bytes =
+    let opening = opening_at bytes in
+    let index = range_at 0 (indexed (length context.types)) opening.1 in
+    (Some (any_block_node opening.0 index.0 (func_in (slice_get context.types index.0))), index.1)
+
+-- a branch that may come back; the values that it then leaves are dropped
+abbrev pub br_if_node : BodyContext → ℕ → Option Node
+br_if_node context label =
+    option_map (λ (taken : List ValType). node_of (taken ++ I32 ∷ []) (instr.BrIf label) (length taken)) (slice_get context.labels label)
+
+unfoldable pub branch_at : BodyContext → List ℕ → Chosen
+branch_at context bytes = let label = label_at context bytes in (br_if_node context label.0, label.1)
+
+-- labels to which the values that another label takes may go
+unfoldable pub targets_at : BodyContext → List ValType → ℕ → List ℕ → List ℕ × List ℕ
+targets_at context taken zero bytes = ([], bytes)
+targets_at context taken (suc count) bytes =
+    let label = choose_at (offered (is_target context.types context.labels taken) (label_count context)) bytes in
+    let more = targets_at context taken count label.1 in
+    (option_to_list label.0 ++ more.0, more.1)
+
+-- at most seven of them
+abbrev pub some_targets_at : BodyContext → List ValType → List ℕ → List ℕ × List ℕ
+some_targets_at context taken bytes = let count = range_at 0 7 bytes in targets_at context taken count.0 count.1
+
+-- a branch to one of several labels, of which one is for every other number: out of the function where there is no label
+abbrev pub table_by : BodyContext → ℕ → Option (List ValType) → List ℕ → Chosen
+table_by context label None bytes = (Some (return_node context), bytes)
+table_by context label (Some taken) bytes =
+    let targets = some_targets_at context taken bytes in
+    (Some (node_of (taken ++ I32 ∷ []) (instr.BrTable targets.0 label) 0), targets.1)
+
+unfoldable pub table_at : BodyContext → List ℕ → Chosen
+table_at context bytes = let label = label_at context bytes in table_by context label.0 (slice_get context.labels label.0) label.1
+
+-- a store
+abbrev pub store_node : Store → Access → Option Node
+store_node op access = Some (node_of (address access.wide ∷ (stored op).0 ∷ []) (instr.Store op access.at) 0)
+
+unfoldable pub store_at : BodyContext → List ℕ → Chosen
+store_at context bytes =
+    let op = chosen_at store.I32 stores bytes in
+    giving (store_node op.0) (access_at context.memories (stored op.0).1 op.1)
+
+-- what may be a statement, each family in so many places as it is likely
+abbrev pub statement_families : List StatementFamily
+statement_families =
+    statement.Nop ∷
+    statement.Drop ∷
+    statement.Drop ∷
+    statement.GlobalSet ∷
+    statement.GlobalSet ∷
+    statement.Call ∷
+    statement.Call ∷
+    statement.Block ∷
+    statement.Block ∷
+    statement.Branch ∷
+    statement.Leaving ∷
+    statement.Table ∷
+    statement.Store ∷
+    statement.Store ∷
+    statement.Unreachable ∷
+    statement.LocalSet ∷
+    []
+
+-- a statement of a family: none of `nop`
+abbrev pub statement_of : BodyContext → StatementFamily → List ℕ → Chosen
+statement_of context statement.Nop bytes = (None, bytes)
+statement_of context statement.Drop bytes = drop_at context bytes
+statement_of context statement.GlobalSet bytes = global_set_at context bytes
+statement_of context statement.Call bytes = any_call_at context bytes
+statement_of context statement.Block bytes = any_block_at context bytes
+statement_of context statement.Branch bytes = branch_at context bytes
+statement_of context statement.Leaving bytes = leaving_at context bytes
+statement_of context statement.Table bytes = table_at context bytes
+statement_of context statement.Store bytes = store_at context bytes
+statement_of context statement.Unreachable bytes = (Some (node_of [] instr.Unreachable 0), bytes)
+statement_of context statement.LocalSet bytes = set_at context bytes
+
+-- the node that was chosen, or `nop`
+abbrev pub or_nop : Chosen → Node × List ℕ
+or_nop chosen = (unwrap_or chosen.0 (node_of [] instr.Nop 0), chosen.1)
+
+unfoldable pub statement_choice_at : BodyContext → List ℕ → Node × List ℕ
+statement_choice_at context bytes =
+    let family = chosen_at statement.Nop statement_families bytes in
+    or_nop (statement_of context family.0 family.1)

@@ -1,0 +1,85 @@
+-- Which instruction without operands the bytes give. The choices and their order are rules of this project.
+use Rattle.std.specs.Prelude.{ℕ, Option, Some, None, option_map, List, [], ◌∷◌, length, slice_get, if◌then◌else◌}
+use Rattle.std.specs.Int.{cast_signed, w32, w64, w128}
+use Rattle.smith_bytes.specs.Draws.{choose_at, whole_at}
+use Rattle.smith_types.specs.declared.instruction_kind.InstructionKinds.{InstructionKinds}
+use Rattle.smith_types.specs.declared.value_type.RefType.{RefType}
+use Rattle.smith_types.specs.declared.value_type.ValType.{ValType}
+use Rattle.smith_types.specs.declared.value_type.ValType.TheVariants.{I32, I64, F32, F64, V128, Ref}
+use Rattle.smith_draw.specs.Choices.{chosen_at}
+use Rattle.smith_instr.specs.Contexts.{BodyContext}
+use Rattle.smith_instr.specs.Enabled.{is_enabled}
+use Rattle.smith_instr.specs.declared.instr.Instr.{Instr}
+use Rattle.smith_instr.specs.declared.instr.Instr.TheVariants as instr
+use Rattle.smith_instr.specs.declared.reference.ReferenceInstr.TheVariants as reference
+use Rattle.smith_code.specs.Choices.{giving}
+use Rattle.smith_code.specs.Offered.{is_global_below, is_readable, is_reference, offered}
+use Rattle.smith_code.specs.Scopes.{indexed}
+use Rattle.smith_code.specs.declared.families.LeafFamily.{LeafFamily}
+use Rattle.smith_code.specs.declared.families.LeafFamily.TheVariants as leaf
+
+-- null, or `unreachable` of a reference that may not be null
+abbrev pub null_or_stop : RefType → Instr
+null_or_stop to = if to.nullable then instr.Reference (reference.Null to.heap_type) else instr.Unreachable
+
+-- a constant of a type: the value or the bits that are drawn, of a reference null
+unfoldable pub constant_at : ValType → List ℕ → Instr × List ℕ
+constant_at I32 bytes = let drawn = whole_at 4 bytes in (instr.I32Const (cast_signed w32 drawn.0), drawn.1)
+constant_at I64 bytes = let drawn = whole_at 8 bytes in (instr.I64Const (cast_signed w64 drawn.0), drawn.1)
+constant_at F32 bytes = let drawn = whole_at 4 bytes in (instr.F32Const drawn.0, drawn.1)
+constant_at F64 bytes = let drawn = whole_at 8 bytes in (instr.F64Const drawn.0, drawn.1)
+constant_at V128 bytes = let drawn = whole_at 16 bytes in (instr.V128Const (cast_signed w128 drawn.0), drawn.1)
+constant_at (Ref to) bytes = (null_or_stop to, bytes)
+
+-- the instruction of an index that was drawn
+abbrev pub by_index : (ℕ → Instr) → Option ℕ × List ℕ → Option Instr × List ℕ
+by_index read drawn = (option_map read drawn.0, drawn.1)
+
+-- a local that is set, of a type below the wanted type
+abbrev pub local_at : BodyContext → List ℕ → ValType → List ℕ → Option Instr × List ℕ
+local_at context set wanted bytes = by_index instr.LocalGet (choose_at (offered (is_readable context set wanted) (indexed (length context.locals))) bytes)
+
+-- a global of a type below the wanted type
+abbrev pub global_at : BodyContext → ValType → List ℕ → Option Instr × List ℕ
+global_at context wanted bytes = by_index instr.GlobalGet (choose_at (offered (is_global_below context wanted) (indexed (length context.globals))) bytes)
+
+-- a function that may be named, of whose place among those the bytes choose
+unfoldable pub named_at : BodyContext → ValType → List ℕ → Option ℕ × List ℕ
+named_at context wanted bytes = giving (slice_get context.references) (choose_at (offered (is_reference context wanted) (length context.references)) bytes)
+
+abbrev pub reference_at : BodyContext → ValType → List ℕ → Option Instr × List ℕ
+reference_at context wanted bytes = by_index (λ function. instr.Reference (reference.Func function)) (named_at context wanted bytes)
+
+-- what may give a value without operands, each family in so many places as it is likely
+abbrev pub leaf_families : List LeafFamily
+leaf_families =
+    leaf.Local ∷
+    leaf.Local ∷
+    leaf.Global ∷
+    leaf.Reference ∷
+    leaf.Constant ∷
+    []
+
+-- an instruction of a family: none of a constant
+abbrev pub leaf_of : BodyContext → List ℕ → ValType → LeafFamily → List ℕ → Option Instr × List ℕ
+leaf_of context set wanted leaf.Local bytes = local_at context set wanted bytes
+leaf_of context set wanted leaf.Global bytes = global_at context wanted bytes
+leaf_of context set wanted leaf.Reference bytes = reference_at context wanted bytes
+leaf_of context set wanted leaf.Constant bytes = (None, bytes)
+
+unfoldable pub leaf_choice_at : BodyContext → List ℕ → ValType → List ℕ → Option Instr × List ℕ
+leaf_choice_at context set wanted bytes = let family = chosen_at leaf.Constant leaf_families bytes in leaf_of context set wanted family.0 family.1
+
+-- the instruction that was chosen, or a constant
+abbrev pub or_constant : ValType → Option Instr → List ℕ → Instr × List ℕ
+or_constant wanted (Some instruction) bytes = (instruction, bytes)
+or_constant wanted None bytes = constant_at wanted bytes
+
+unfoldable pub any_leaf_at : BodyContext → List ℕ → ValType → List ℕ → Instr × List ℕ
+any_leaf_at context set wanted bytes = let chosen = leaf_choice_at context set wanted bytes in or_constant wanted chosen.0 chosen.1
+
+-- that instruction where it is enabled, or `unreachable`
+unfoldable pub leaf_at : InstructionKinds → BodyContext → List ℕ → ValType → List ℕ → Instr × List ℕ
+leaf_at kinds context set wanted bytes =
+    let leaf = any_leaf_at context set wanted bytes in
+    (if is_enabled context.features kinds leaf.0 then leaf.0 else instr.Unreachable, leaf.1)

@@ -1,0 +1,27 @@
+-- Bytes that the examples speak of, and a context of two functions that give values.
+use Rattle.std.specs.Prelude.{ℕ, List, [], ◌∷◌, ◌++◌, pos}
+use Rattle.smith_types.specs.ExampleTypes.{final_type}
+use Rattle.smith_types.specs.declared.value_type.ValType.{ValType}
+use Rattle.smith_types.specs.declared.value_type.ValType.TheVariants.{I32, I64}
+use Rattle.smith_types.specs.declared.composite_type.CompositeInnerType.TheVariants.{Func}
+use Rattle.smith_instr.specs.Contexts.{BodyContext}
+use Rattle.smith_instr.specs.declared.instr.Instr.{Instr}
+use Rattle.smith_instr.specs.declared.instr.Instr.TheVariants as instr
+use Rattle.smith_instr_examples.specs.ExampleBodies.{function_of}
+
+-- what gives an i32 constant where an instruction without operands is drawn
+abbrev pub narrow : ℕ → List ℕ
+narrow n = 4 ∷ n ∷ 0 ∷ 0 ∷ 0 ∷ []
+
+-- and an i64 constant
+abbrev pub wide : ℕ → List ℕ
+wide n = 4 ∷ n ∷ 0 ∷ 0 ∷ 0 ∷ 0 ∷ 0 ∷ 0 ∷ 0 ∷ []
+
+abbrev pub wide_number : ℕ → Instr
+wide_number n = instr.I64Const (pos n)
+
+-- without parameters, and of this type: a function that gives an i32, and one that takes an i64 and gives an i32 and an i64
+abbrev pub calling : List ValType → BodyContext
+calling results = record (function_of [] results) {
+  types = final_type (Func (record { params = []; results = I32 ∷ [] })) ∷ final_type (Func (record { params = I64 ∷ []; results = I32 ∷ I64 ∷ [] })) ∷ [];
+}

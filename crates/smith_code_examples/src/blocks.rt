@@ -1,0 +1,31 @@
+ghost use Rattle.std.specs.Prelude.{◌≡◌, [], ◌∷◌, ◌++◌, false};
+ghost use Rattle.smith_types.specs.Instructions.{every_kind};
+ghost use Rattle.smith_types.specs.declared.value_type.AbstractHeapType.TheVariants as heap;
+ghost use Rattle.smith_types.specs.declared.value_type.HeapType.TheVariants.{Abstract};
+ghost use Rattle.smith_types.specs.declared.value_type.ValType.TheVariants.{I32};
+ghost use Rattle.smith_instr.specs.declared.control.BlockType.TheVariants as block;
+ghost use Rattle.smith_instr.specs.declared.instr.Instr.TheVariants as instr;
+ghost use Rattle.smith_instr.specs.declared.reference.ReferenceInstr.TheVariants as reference;
+ghost use Rattle.smith_instr_examples.specs.ExampleBodies.{function_of, number, some_func};
+ghost use Rattle.smith_code.specs.Bodies.{body_at};
+ghost use Rattle.smith_code_examples.specs.ExampleBytes.{narrow};
+
+fn values()
+    ensures block { body_at every_kind (function_of [] (I32 ∷ [])) 1 (0 ∷ 10 ∷ 0 ∷ narrow 5) ≡ (instr.Block (block.Value I32) ∷ number 5 ∷ instr.End ∷ [], []) }
+    ensures end_is_forgotten { ¬ (body_at every_kind (function_of [] (I32 ∷ [])) 1 (0 ∷ 10 ∷ 0 ∷ narrow 5) ≡ (instr.Block (block.Value I32) ∷ number 5 ∷ [], [])) }
+    ensures loop_of_a_value { body_at every_kind (function_of [] (I32 ∷ [])) 1 (0 ∷ 11 ∷ 1 ∷ narrow 5) ≡ (instr.Loop (block.Value I32) ∷ number 5 ∷ instr.End ∷ [], []) }
+    ensures conditional { body_at every_kind (function_of [] (I32 ∷ [])) 1 (0 ∷ 10 ∷ 2 ∷ narrow 1 ++ narrow 2 ++ narrow 3)
+        ≡ (number 1 ∷ instr.If (block.Value I32) ∷ number 2 ∷ instr.Else ∷ number 3 ∷ instr.End ∷ [], []) }
+{}
+
+fn statements()
+    ensures empty { body_at every_kind (function_of [] []) 1 (1 ∷ 7 ∷ 0 ∷ 0 ∷ []) ≡ (instr.Block (block.Func 0) ∷ instr.End ∷ [], []) }
+    ensures of_no_function_type { body_at every_kind (function_of [] []) 1 (1 ∷ 7 ∷ 0 ∷ 2 ∷ []) ≡ (instr.Block block.Empty ∷ instr.End ∷ [], []) }
+    ensures parameters_and_results_are_dropped { body_at every_kind (function_of [] []) 1 (1 ∷ 8 ∷ 0 ∷ 4 ∷ 4 ∷ 4 ∷ [])
+        ≡ (instr.Unreachable ∷ instr.Block (block.Func 4) ∷ instr.Drop ∷ instr.Reference (reference.Null (Abstract false heap.Func)) ∷ instr.End ∷ instr.Drop ∷ [], []) }
+{}
+
+fn locals()
+    ensures set_within { body_at every_kind (function_of (some_func ∷ []) (some_func ∷ [])) 2 (1 ∷ 7 ∷ 0 ∷ 0 ∷ 1 ∷ 15 ∷ 4 ∷ 0 ∷ [])
+        ≡ (instr.Block (block.Func 0) ∷ instr.Unreachable ∷ instr.LocalSet 0 ∷ instr.End ∷ instr.Unreachable ∷ [], []) }
+{}

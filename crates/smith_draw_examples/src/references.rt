@@ -1,0 +1,71 @@
+// References that aren't nullable, drawn where the configuration has them. The clauses are proved; nothing calls these functions.
+
+ghost use Rattle.std.specs.Prelude.{◌≡◌, [], ◌∷◌, true, false};
+ghost use Rattle.smith_types.specs.declared.value_type.ValType.TheVariants.{I32, Ref};
+ghost use Rattle.smith_types.specs.declared.value_type.AbstractHeapType.TheVariants as heap;
+ghost use Rattle.smith_types.specs.declared.value_type.HeapType.TheVariants.{Concrete, Exact};
+ghost use Rattle.smith_types.specs.Features.{every_feature};
+ghost use Rattle.smith_types.specs.ExampleFeatures.{usual_features};
+ghost use Rattle.smith_types.specs.ExampleTypes.{final_type, struct, array, empty_struct, plain_func, struct_and_below, constant, plain, nullable, not_null};
+ghost use Rattle.smith_types.specs.declared.composite_type.StorageType.TheVariants.{Val};
+ghost use Rattle.smith_types.specs.ExampleContexts.{context_of};
+ghost use Rattle.smith_config.specs.Config.{default_config};
+ghost use Rattle.smith_draw.specs.ConstBounds.{IsUngrounded, HoldsUngroundedField};
+ghost use Rattle.smith_draw.specs.ExampleConstExprs.{context_of_types};
+ghost use Rattle.smith_draw.specs.Grounding.{is_grounded};
+ghost use Rattle.smith_draw.specs.ValueTypes.{granted_at, ref_type_at};
+ghost use Rattle.smith_draw.specs.MatchingTypes.{references_offered, matching_ref_type_at};
+
+#[tactic(auto, unfolding(smith_draw::specs::Grounding::is_grounded, smith_draw::specs::Below::is_heap_below, smith_draw::specs::Offered::ancestors))]
+fn grounded()
+    ensures a_struct { is_grounded (context_of_types struct_and_below) (Concrete 0) ≡ true }
+    ensures its_kind { is_grounded (context_of_types struct_and_below) (plain heap.Eq) ≡ true }
+    ensures another_kind { is_grounded (context_of_types struct_and_below) (plain heap.I31) ≡ false }
+    ensures a_function { is_grounded (context_of usual_features (final_type plain_func ∷ []) (0 ∷ []) 1) (plain heap.Func) ≡ true }
+    ensures a_type_alone { is_grounded (context_of usual_features (final_type plain_func ∷ []) [] 0) (plain heap.Func) ≡ false }
+    ensures a_defined_function_exactly { is_grounded (context_of every_feature (final_type plain_func ∷ []) (0 ∷ []) 0) (Exact 0) ≡ true }
+    ensures an_imported_function_exactly { is_grounded (context_of every_feature (final_type plain_func ∷ []) (0 ∷ []) 1) (Exact 0) ≡ false }
+    ensures a_function_of_no_type { is_grounded (context_of usual_features [] (0 ∷ []) 0) (plain heap.Func) ≡ false }
+{}
+
+// A bool, where there are such references, asks for one.
+#[tactic(auto, unfolding(smith_draw::specs::ValueTypes::granted_at, smith_draw::specs::Grounding::is_grounded, smith_draw::specs::Below::is_heap_below, smith_draw::specs::Offered::ancestors, smith_bytes::specs::Draws::bool_at))]
+fn granted()
+    ensures wanted { granted_at (record default_config { non_nullable_enabled = true }) (context_of_types struct_and_below) (Concrete 0) (1 ∷ 7 ∷ []) ≡ (true, 7 ∷ []) }
+    ensures not_wanted { granted_at (record default_config { non_nullable_enabled = true }) (context_of_types struct_and_below) (Concrete 0) (0 ∷ 7 ∷ []) ≡ (false, 7 ∷ []) }
+    ensures not_grounded { granted_at (record default_config { non_nullable_enabled = true }) (context_of_types struct_and_below) (plain heap.Array) (1 ∷ 7 ∷ []) ≡ (false, 7 ∷ []) }
+    ensures without_a_draw { granted_at default_config (context_of_types struct_and_below) (Concrete 0) (1 ∷ 7 ∷ []) ≡ (false, 1 ∷ 7 ∷ []) }
+{}
+
+#[tactic(auto, unfolding(smith_draw::specs::ValueTypes::ref_type_at, smith_draw::specs::ValueTypes::granted_at, smith_draw::specs::ValueTypes::heap_type_at, smith_draw::specs::ValueTypes::type_index_at, smith_draw::specs::ValueTypes::abstract_heap_type_at, smith_draw::specs::ValueTypes::sharedness_at, smith_draw::specs::Choices::chosen_at, smith_draw::specs::Grounding::is_grounded, smith_draw::specs::Below::is_heap_below, smith_draw::specs::Offered::ancestors, smith_bytes::specs::Draws::bool_at, smith_bytes::specs::Draws::range_at, smith_bytes::specs::Draws::digit_count, smith_bytes::specs::Draws::ratio_at))]
+fn references()
+    ensures granted { ref_type_at (record default_config { non_nullable_enabled = true }) (context_of_types struct_and_below) false 2 (1 ∷ 1 ∷ 1 ∷ []) ≡ (not_null (Concrete 1), []) }
+    ensures to_an_abstract_type { ref_type_at (record default_config { non_nullable_enabled = true }) (context_of_types struct_and_below) false 2 (0 ∷ 3 ∷ 1 ∷ []) ≡ (not_null (plain heap.Any), []) }
+    ensures not_grounded { ref_type_at (record default_config { non_nullable_enabled = true }) (context_of_types struct_and_below) false 2 (0 ∷ 9 ∷ 1 ∷ []) ≡ (nullable (plain heap.Array), []) }
+    ensures without_references { ref_type_at (record default_config { reference_types_enabled = false; non_nullable_enabled = true }) (context_of_types []) false 0 (1 ∷ []) ≡ (nullable (plain heap.Func), 1 ∷ []) }
+{}
+
+// Of one that isn't nullable itself first, and of the others, also where they are the same, those that are grounded.
+#[tactic(auto, unfolding(smith_draw::specs::MatchingTypes::references_offered, smith_draw::specs::MatchingTypes::matching_ref_type_at, smith_draw::specs::Offered::subtypes_offered, smith_draw::specs::Choices::chosen_at, smith_draw::specs::Grounding::is_grounded, smith_draw::specs::Below::is_heap_below, smith_draw::specs::Offered::ancestors, smith_bytes::specs::Draws::range_at, smith_bytes::specs::Draws::digit_count))]
+fn offered()
+    ensures below_any { references_offered (record default_config { non_nullable_enabled = true }) (context_of_types struct_and_below) (not_null (plain heap.Any))
+        ≡ plain heap.Any ∷ plain heap.Eq ∷ plain heap.Struct ∷ Concrete 0 ∷ Concrete 1 ∷ [] }
+    ensures itself_twice { references_offered (record default_config { non_nullable_enabled = true }) (context_of_types struct_and_below) (not_null (plain heap.Struct))
+        ≡ plain heap.Struct ∷ plain heap.Struct ∷ Concrete 0 ∷ Concrete 1 ∷ [] }
+    ensures itself_alone { references_offered (record default_config { non_nullable_enabled = true }) (context_of_types []) (not_null (plain heap.Array)) ≡ plain heap.Array ∷ [] }
+    ensures below_a_nullable_one { references_offered (record default_config { non_nullable_enabled = true }) (context_of_types []) (nullable (plain heap.Array))
+        ≡ plain heap.Array ∷ plain heap.Array ∷ plain heap.None ∷ [] }
+    ensures where_there_are_none { references_offered default_config (context_of_types []) (not_null (plain heap.Array)) ≡ plain heap.Array ∷ plain heap.Array ∷ plain heap.None ∷ [] }
+    ensures drawn { matching_ref_type_at (record default_config { non_nullable_enabled = true }) (context_of_types struct_and_below) (not_null (plain heap.Any)) (3 ∷ []) ≡ (not_null (Concrete 0), []) }
+{}
+
+fn ungrounded()
+    ensures where_nothing_exists { IsUngrounded (record default_config { non_nullable_enabled = true }) (context_of_types []) (Ref (not_null (plain heap.Any))) }
+    ensures to_a_struct { ¬ IsUngrounded (record default_config { non_nullable_enabled = true }) (context_of_types struct_and_below) (Ref (not_null (Concrete 0))) }
+    ensures to_a_struct_by_default { IsUngrounded default_config (context_of_types struct_and_below) (Ref (not_null (Concrete 0))) }
+    ensures nullable { ¬ IsUngrounded (record default_config { non_nullable_enabled = true }) (context_of_types []) (Ref (nullable (plain heap.Any))) }
+    ensures a_number { ¬ IsUngrounded (record default_config { non_nullable_enabled = true }) (context_of_types []) I32 }
+    ensures in_an_element { HoldsUngroundedField (record default_config { non_nullable_enabled = true }) (context_of_types (final_type (array (constant (Val (Ref (not_null (plain heap.Func)))))) ∷ [])) }
+    ensures in_a_field_that_is_grounded { ¬ HoldsUngroundedField (record default_config { non_nullable_enabled = true })
+        (context_of_types (final_type empty_struct ∷ final_type (struct (constant (Val (Ref (not_null (Concrete 0)))) ∷ [])) ∷ [])) }
+{}

@@ -1,0 +1,4 @@
+pub mod ScopeLemmas
+pub mod CountedLemmas
+pub mod WiderLemmas
+pub mod TerminationLemmas

@@ -1,0 +1,128 @@
+-- What bodies of a valid module may refer to.
+use Rattle.std.proofs.Common.{◌≡◌, ℕ, ◌+◌, ◌-◌, ◌*◌, ◌<◌, ◌≤◌, List, [], ◌∷◌, ◌++◌, Some, length, length-append, get_or, refl, subst, ap, ◌∙◌, arith}
+use Rattle.std.specs.Prelude.{All, slice_get}
+use Rattle.std.specs.List.{AllByRecursion as Each}
+use Rattle.std.specs.declared.ops.Range.{Range}
+use Rattle.std.proofs.lemmas.List.Elements.{All-append, All-from_recursion, recursion_from_All, All-weaker}
+use Rattle.std.proofs.lemmas.Option.{slice_get_within, slice_get-get_or, slice_get_read, get_or_from_slice_get}
+use Rattle.smith_types.specs.Features.{Features}
+use Rattle.smith_types.specs.Space.{Space}
+use Rattle.smith_types.specs.Entities.{IsFuncAt, IsFuncValid, IsGlobalValid}
+use Rattle.smith_types.specs.ValidTypes.{IsValTypeValid, IsGroupValid, AreTypesValid, values_of}
+use Rattle.smith_types.specs.declared.code.Code.{Code}
+use Rattle.smith_types.specs.declared.code.Instructions.{Instructions}
+use Rattle.smith_types.specs.declared.code.Instructions.TheVariants.{Arbitrary, Unreachable}
+use Rattle.smith_types.specs.declared.composite_type.CompositeInnerType.{CompositeInnerType}
+use Rattle.smith_types.specs.declared.composite_type.CompositeInnerType.TheVariants.{Func}
+use Rattle.smith_types.specs.declared.composite_type.FuncType.{FuncType}
+use Rattle.smith_types.specs.declared.composite_type.SubType.{SubType}
+use Rattle.smith_types.specs.declared.entity_type.GlobalType.{GlobalType}
+use Rattle.smith_types.specs.declared.value_type.ValType.{ValType}
+use Rattle.smith_types.proofs.ValidityLemmas.{ends_within, group_at}
+use Rattle.smith_types.proofs.EntityGrowthLemmas.{IsValTypeValid-later}
+use Rattle.smith_contents.specs.Held.{IsRaw}
+use Rattle.smith_definitions.specs.Module.{Parts, IsValid, module_features, module_imports, module_types}
+use Rattle.smith_instr.specs.Enabled.{IsEnabled}
+use Rattle.smith_instr.specs.Sequences.{IsBodyTyped}
+use Rattle.smith_instr.specs.declared.instr.Instr.{Instr}
+use Rattle.smith_code.specs.Scopes.{most, IsScope}
+use Rattle.smith_program.specs.Bodies.{HasDefinedType, IsDrawnAt, function_context}
+use Rattle.smith_code.proofs.NodeLemmas.{func_wide}
+
+each_front : {A : Type 0} (P : A → Type 0) (xs ys : List A) → Each P (xs ++ ys) → Each P xs × Each P ys
+each_front P [] ys h = (tt, h)
+each_front P (x ∷ xs) ys (p, h) = let (front, back) = each_front P xs ys h in ((p, front), back)
+
+each_pair : {A : Type 0} (P Q : A → Type 0) (xs : List A) → Each P xs → Each Q xs → Each (λ (x : A). P x × Q x) xs
+each_pair P Q [] h k = tt
+each_pair P Q (x ∷ xs) (p, h) (q, k) = ((p, q), each_pair P Q xs h k)
+
+-- the values of a type are valid over all types
+type_values : (features : Features) (space : Space) → AreTypesValid features space → (index : ℕ) (t : SubType) → slice_get space.types index ≡ Some t
+    → All (IsValTypeValid features (length space.types)) (values_of t.composite_type.inner)
+type_values features space valid index t at =
+    let inside : index < length space.types = slice_get_within space.types index t at in
+    let whole = valid.covered.whole in
+    let (low, ends) = ends_within 0 space.groups valid.covered.consecutive in
+    let each = each_pair (IsGroupValid features space.types) (λ (g : Range ℕ). g.end ≤ length space.types) space.groups (recursion_from_All (IsGroupValid features space.types) space.groups valid.groups) (rw whole at ends) in
+    let (group, (h, within), begins, over) = group_at (λ (g : Range ℕ). IsGroupValid features space.types g × (g.end ≤ length space.types)) 0 space.groups index valid.covered.consecutive each (omega arith) (omega arith) in
+    let member = h.members index t begins over at in
+    All-weaker (IsValTypeValid features group.end) (IsValTypeValid features (length space.types)) (IsValTypeValid-later features group.end (length space.types) within) (values_of t.composite_type.inner) member.values
+
+-- the parameters and results of a function type are valid over all types
+func_values : (features : Features) (space : Space) → AreTypesValid features space → (index : ℕ) (function : FuncType) → IsFuncAt space.types index function
+    → All (IsValTypeValid features (length space.types)) function.params × All (IsValTypeValid features (length space.types)) function.results
+func_values features space valid index function (t, at, is) =
+    let P = IsValTypeValid features (length space.types) in
+    let all : All P (function.params ++ function.results) = subst (λ (x : CompositeInnerType). All P (values_of x)) is (type_values features space valid index t at) in
+    let (front, back) = each_front P function.params function.results (recursion_from_All P (function.params ++ function.results) all) in
+    (All-from_recursion P function.params front, All-from_recursion P function.results back)
+
+-- the bodies of a valid module are drawn over what is valid
+pub module_scope : (m : Parts) → IsValid m → (index : ℕ) (function : FuncType) → IsFuncAt m.types index function → (locals : List ValType)
+    → All (IsValTypeValid (module_features m) (length m.types)) locals → IsScope (function_context m function locals)
+module_scope m valid index function there locals locals_valid =
+    let features = module_features m in
+    let P = IsValTypeValid features (length m.types) in
+    let (params, results) = func_values features (module_types m) valid.types index function there in
+    record {
+      orderly = valid.types.orderly;
+      funcs = valid.entities.funcs;
+      globals = All-weaker (IsGlobalValid features m.types) (λ (global : GlobalType). P global.val_type) (λ (global : GlobalType) (h : IsGlobalValid features m.types global). h.value) m.globals valid.entities.globals;
+      locals = All-append P function.params locals params locals_valid;
+      results = results;
+      results_few = let wide = func_wide m.types index function there in omega arith;
+      params_valid = λ i f at. (func_values features (module_types m) valid.types i f at).0;
+      results_valid = λ i f at. (func_values features (module_types m) valid.types i f at).1;
+    }
+
+-- imported functions come before the defined ones
+pub imported_before : (m : Parts) → IsValid m → length m.funcs ≡ length (module_imports m).funcs + m.num_defined_funcs
+imported_before m valid =
+    let made = valid.spaces.funcs in
+    let count = made.count_is in
+    rw made.parts (simp length-append (omega arith))
+
+-- the index of the type of a defined function
+abbrev pub type_index : Parts → ℕ → ℕ
+type_index m place = get_or m.funcs (length (module_imports m).funcs + place) 0
+
+-- each defined function has a function type
+pub defined_there : (m : Parts) → IsValid m → (place : ℕ) → place < length m.code → (slice_get m.funcs (length (module_imports m).funcs + place) ≡ Some (type_index m place)) × IsFuncValid m.types (type_index m place)
+defined_there m valid place inside =
+    let all = imported_before m valid in
+    let each = valid.bodies.each in
+    let within : length (module_imports m).funcs + place < length m.funcs = omega arith in
+    (slice_get-get_or m.funcs (length (module_imports m).funcs + place) 0 within, valid.entities.funcs (length (module_imports m).funcs + place) 0 within)
+
+-- which is a type of the module
+pub type_inside : (m : Parts) → IsValid m → (place : ℕ) → place < length m.code → type_index m place < length m.types
+type_inside m valid place inside =
+    let (there, (function, (t, at, is))) = defined_there m valid place inside in
+    slice_get_within m.types (type_index m place) t at
+
+-- and is that which was read
+pub is_function : (m : Parts) → IsValid m → (place : ℕ) → place < length m.code → (read : SubType) → ((function : FuncType) → (get_or m.types (type_index m place) read).composite_type.inner ≡ Func function → ⊥) → ⊥
+is_function m valid place inside read none =
+    let (there, (function, (t, at, is))) = defined_there m valid place inside in
+    none function (ap (λ (t : SubType). t.composite_type.inner) (get_or_from_slice_get m.types (type_index m place) t read at) ∙ is)
+
+pub has_type : (m : Parts) → IsValid m → (place : ℕ) → place < length m.code → (read : SubType) (function : FuncType) → read ≡ get_or m.types (type_index m place) read
+    → (get_or m.types (type_index m place) read).composite_type.inner ≡ Func function → HasDefinedType m place function
+has_type m valid place inside read function is func =
+    (type_index m place, (defined_there m valid place inside).0, (read, slice_get_read m.types (length m.types) (type_index m place) read refl (type_inside m valid place inside) is, ap (λ (t : SubType). t.composite_type.inner) is ∙ func))
+
+-- instructions that aren't raw bytes
+pub not_raw : (instructions : Instructions) → ((bytes : List ℕ) → instructions ≡ Arbitrary bytes → ⊥) → ¬ IsRaw instructions
+not_raw Unreachable other = λ raw. raw
+not_raw (Arbitrary bytes) other = λ raw. other bytes refl
+
+-- a body that was drawn for the function that was read
+pub drawn_at : (m : Parts) (place : ℕ) (given : Code) (function : FuncType) (instructions : List Instr) → given ≡ get_or m.code place given → ¬ IsRaw given.instructions → HasDefinedType m place function
+    → IsBodyTyped (function_context m function given.locals) instructions → All (IsEnabled (module_features m) m.config.allowed_instructions) instructions
+    → length instructions ≤ 1 + length function.results + most m.types * m.config.max_instructions
+    → (code : Code) → slice_get m.code place ≡ Some code → (¬ IsRaw code.instructions) × IsDrawnAt m place code instructions
+drawn_at m place given function instructions read drawn there typed enabled short code at =
+    let same : given ≡ code = read ∙ get_or_from_slice_get m.code place code given at in
+    subst (λ (code : Code). (¬ IsRaw code.instructions) × IsDrawnAt m place code instructions) same
+    (drawn, record { body = record { function = function; there = there; typed = typed }; enabled = enabled; short = short })

@@ -1,0 +1,100 @@
+-- The bodies of a module to which a counter of fuel is added.
+use Rattle.std.proofs.Common.{◌≡◌, ℕ, ◌<◌, List, [], ◌∷◌, ◌++◌, Some, Result, Ok, Err, length, get_or, refl, sym, subst, ap, ◌∙◌, append-nil}
+use Rattle.std.specs.Prelude.{map, slice_get, option_map}
+use Rattle.std.specs.List.{flat_map, AllByRecursion as Each}
+use Rattle.std.specs.Int.{cast_signed, w32}
+use Rattle.std.proofs.lemmas.Grind.{flat_map-append}
+use Rattle.std.proofs.lemmas.List.{length-map}
+use Rattle.std.proofs.lemmas.List.Elements.{recursion_from_All, All-weaker}
+use Rattle.std.proofs.lemmas.Option.{same_Some, slice_get_within, slice_get-get_or, slice_get-map}
+use Rattle.smith_bytes.specs.declared.error.Error.{Error}
+use Rattle.smith_types.specs.Bodies.{IsFuel}
+use Rattle.smith_types.specs.declared.code.Code.{Code}
+use Rattle.smith_types.specs.declared.composite_type.FuncType.{FuncType}
+use Rattle.smith_types.specs.declared.const_instr.ConstInstr.{ConstInstr}
+use Rattle.smith_types.specs.declared.const_instr.ConstInstr.TheVariants.{I32Const}
+use Rattle.smith_types.specs.declared.value_type.ValType.{ValType}
+use Rattle.smith_definitions.specs.Module.{Parts, IsValid, module_imports}
+use Rattle.smith_instr.specs.Sequences.{IsBodyTyped}
+use Rattle.smith_instr.specs.declared.instr.Instr.{Instr}
+use Rattle.wasm_smith.specs.Termination.{AddsFuel, AnswersFuel, counter}
+use Rattle.smith_program.specs.Bodies.{AreBodiesOf, IsBodyAt, IsOfBody, function_context}
+use Rattle.smith_program.specs.Counted.{counted, counted_body}
+use Rattle.smith_program.specs.References.{named_in, references_of}
+use Rattle.smith_program.specs.declared.program.Body.{Body}
+use Rattle.smith_program.specs.declared.program.Body.TheVariants as body
+use Rattle.smith_program.proofs.CountedLemmas.{IsCounter, counted_typed}
+use Rattle.smith_program.proofs.WiderLemmas.{wider, wider_body}
+
+-- a module with a counter of this index
+abbrev counting : ℕ → ℕ → Parts → Parts
+counting fuel index old = record old {
+  globals = old.globals ++ counter ∷ [];
+  defined_globals = old.defined_globals ++ (index, I32Const (cast_signed w32 fuel) ∷ []) ∷ [];
+  fuel_globals = old.fuel_globals ++ index ∷ [];
+}
+
+-- its definition names no function
+same_references : (fuel index : ℕ) (old : Parts) → references_of (counting fuel index old) ≡ references_of old
+same_references fuel index old =
+    let f = λ (global : ℕ × List ConstInstr). named_in global.1 in
+    let none : flat_map f (old.defined_globals ++ (index, I32Const (cast_signed w32 fuel) ∷ []) ∷ []) ≡ flat_map f old.defined_globals =
+    flat_map-append f old.defined_globals ((index, I32Const (cast_signed w32 fuel) ∷ []) ∷ []) ∙ append-nil (flat_map f old.defined_globals) in
+    rw none refl
+
+still_typed : (fuel index : ℕ) (old : Parts) (function : FuncType) (locals : List ValType) (instructions : List Instr) → IsBodyTyped (function_context old function locals) instructions
+    → IsBodyTyped (function_context (counting fuel index old) function locals) instructions
+still_typed fuel index old function locals instructions typed =
+    subst (λ (references : List ℕ). IsBodyTyped (record (wider (function_context old function locals) (counter ∷ [])) { references = references }) instructions)
+    (sym (same_references fuel index old)) (wider_body (function_context old function locals) (counter ∷ []) instructions typed)
+
+still_at : (fuel index : ℕ) (old : Parts) (place : ℕ) (code : Code) (given : Body) → IsOfBody (IsBodyAt old place code) code given → IsOfBody (IsBodyAt (counting fuel index old) place code) code given
+still_at fuel index old place code body.Raw raw = raw
+still_at fuel index old place code (body.Drawn instructions) (not_raw, is) =
+    (not_raw, record { function = is.function; there = is.there; typed = still_typed fuel index old is.function code.locals instructions is.typed })
+
+still_bodies : (fuel index : ℕ) (old new : Parts) (bodies : List Body) → AddsFuel fuel index old new → AreBodiesOf old bodies → AreBodiesOf new bodies
+still_bodies fuel index old new bodies adds are =
+    subst (λ (m : Parts). AreBodiesOf m bodies) (sym adds.added) (record {
+      each = are.each;
+      in_place = λ place code given at there. still_at fuel index old place code given (are.in_place place code given at there);
+    })
+
+-- the bodies after a counter was added, or was not
+pub answered_bodies : (fuel : ℕ) (old new : Parts) (result : Result ℕ Error) (bodies : List Body) → AnswersFuel fuel old new result → AreBodiesOf old bodies → AreBodiesOf new bodies
+answered_bodies fuel old new (Ok index) bodies (none, adds) are = still_bodies fuel index old new bodies adds are
+answered_bodies fuel old new (Err error) bodies (may, kept) are = rw kept are
+
+-- the counters of a valid module
+counters_count : (m : Parts) → IsValid m → (function : FuncType) (locals : List ValType) → Each (IsCounter (function_context m function locals)) m.fuel_globals
+counters_count m valid function locals =
+    recursion_from_All (IsCounter (function_context m function locals)) m.fuel_globals
+    (All-weaker (IsFuel m.globals (length (module_imports m).globals)) (IsCounter (function_context m function locals)) (λ (index : ℕ) (fuel : IsFuel m.globals (length (module_imports m).globals) index). fuel.stands) m.fuel_globals valid.bodies.fuel)
+
+counted_at : (m : Parts) → IsValid m → (place : ℕ) (code : Code) (given : Body) → IsOfBody (IsBodyAt m place code) code given → IsOfBody (IsBodyAt m place code) code (counted_body m.fuel_globals given)
+counted_at m valid place code body.Raw raw = raw
+counted_at m valid place code (body.Drawn instructions) (not_raw, is) = (
+  not_raw,
+  record {
+    function = is.function;
+    there = is.there;
+    typed = counted_typed (function_context m is.function code.locals) m.fuel_globals instructions (counters_count m valid is.function code.locals) is.typed;
+  },
+)
+
+-- the item that was mapped to this one
+unmapped : {A B : Type 0} (f : A → B) (xs : List A) (d : A) (place : ℕ) (y : B) → slice_get (map f xs) place ≡ Some y → (x : A) × (slice_get xs place ≡ Some x) × (f x ≡ y)
+unmapped f xs d place y at =
+    let within : place < length (map f xs) = slice_get_within (map f xs) place y at in
+    let inside : place < length xs = subst (λ (n : ℕ). place < n) (length-map xs f) within in
+    let here : slice_get xs place ≡ Some (get_or xs place d) = slice_get-get_or xs place d inside in
+    (get_or xs place d, here, same_Some (f (get_or xs place d)) y (sym (ap (option_map f) here) ∙ (sym (slice_get-map f xs place) ∙ at)))
+
+-- bodies with the checks of the counters of their module
+pub counted_bodies : (m : Parts) (bodies : List Body) → IsValid m → AreBodiesOf m bodies → AreBodiesOf m (map (counted_body m.fuel_globals) bodies)
+counted_bodies m bodies valid are = record {
+  each = length-map bodies (counted_body m.fuel_globals) ∙ are.each;
+  in_place = λ place code given at there.
+      let (drawn, was, is) = unmapped (counted_body m.fuel_globals) bodies given place given there in
+      subst (IsOfBody (IsBodyAt m place code) code) is (counted_at m valid place code drawn (are.in_place place code drawn at was));
+}

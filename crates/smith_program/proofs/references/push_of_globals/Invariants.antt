@@ -1,0 +1,8 @@
+use Rattle.std.proofs.Common.{◌≡◌, ◌++◌, ℕ, List, take}
+use Rattle.std.specs.List.{flat_map}
+use Rattle.smith_types.specs.declared.const_instr.ConstInstr.{ConstInstr}
+use Rattle.smith_program.specs.References.{named_in}
+use Rattle.smith_program.proofs.references.push_of_globals.Given as goal
+
+abbrev pub invariant-loop-global : goal.invariant-loop-global
+invariant-loop-global l = l.named ≡ l.fn.named ++ flat_map (λ (global : ℕ × List ConstInstr). named_in global.1) (take l.global-index l.globals)

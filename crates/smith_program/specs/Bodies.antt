@@ -1,0 +1,72 @@
+-- Bodies of the functions of a module: the section Validation, Functions, of the WebAssembly Core Specification 3.0.
+use Rattle.std.specs.Prelude.{◌≡◌, ℕ, ◌+◌, ◌*◌, ◌≤◌, Some, List, [], ◌++◌, map, length, slice_get, All}
+use Rattle.smith_types.specs.Entities.{IsFuncAt}
+use Rattle.smith_types.specs.declared.code.Code.{Code}
+use Rattle.smith_types.specs.declared.composite_type.FuncType.{FuncType}
+use Rattle.smith_types.specs.declared.segments.ElementSegment.{ElementSegment}
+use Rattle.smith_types.specs.declared.value_type.ValType.{ValType}
+use Rattle.smith_contents.specs.Held.{IsRaw}
+use Rattle.smith_definitions.specs.Module.{Parts, module_features, module_imports}
+use Rattle.smith_instr.specs.Contexts.{BodyContext}
+use Rattle.smith_instr.specs.Enabled.{IsEnabled}
+use Rattle.smith_instr.specs.Sequences.{IsBodyTyped}
+use Rattle.smith_instr.specs.declared.instr.Instr.{Instr}
+use Rattle.smith_code.specs.Scopes.{most}
+use Rattle.smith_program.specs.References.{references_of}
+use Rattle.smith_program.specs.declared.program.Body.{Body}
+use Rattle.smith_program.specs.declared.program.Body.TheVariants as body
+
+-- the context of a function of this type, with these locals after its parameters
+abbrev pub function_context : Parts → FuncType → List ValType → BodyContext
+function_context m function locals = record {
+  features = module_features m;
+  types = m.types;
+  funcs = m.funcs;
+  imported_funcs = length (module_imports m).funcs;
+  tables = m.tables;
+  memories = m.memories;
+  globals = m.globals;
+  tags = m.tags;
+  elements = map (λ (segment : ElementSegment). segment.ty) m.elems;
+  datas = length m.segments;
+  references = references_of m;
+  locals = function.params ++ locals;
+  params = length function.params;
+  labels = [];
+  results = function.results;
+}
+
+-- the type of the defined function at a place: imported functions come first
+abbrev pub HasDefinedType : Parts → ℕ → FuncType → Type 0
+HasDefinedType m place function =
+    (index : ℕ) × (slice_get m.funcs (length (module_imports m).funcs + place) ≡ Some index) × IsFuncAt m.types index function
+
+-- instructions that are the body of the defined function at a place, its last `end` aside
+pub record IsBodyAt (m : Parts) (place : ℕ) (code : Code) (instructions : List Instr) : Type 0 where
+  pub function : FuncType
+  pub there : HasDefinedType m place function
+  pub typed : IsBodyTyped (function_context m function code.locals) instructions
+
+-- instructions that are, each of them enabled, and not more than the fuel of a body allows (own rules)
+pub record IsDrawnAt (m : Parts) (place : ℕ) (code : Code) (instructions : List Instr) : Type 0 where
+  pub body : IsBodyAt m place code instructions
+  pub enabled : All (IsEnabled (module_features m) m.config.allowed_instructions) instructions
+  pub short : length instructions ≤ 1 + length body.function.results + most m.types * m.config.max_instructions
+
+-- a body of which the instructions are as they should, or raw bytes, which stay (own rule)
+abbrev pub IsOfBody : (List Instr → Type 0) → Code → Body → Type 0
+IsOfBody Is code body.Raw = IsRaw code.instructions
+IsOfBody Is code (body.Drawn instructions) = (¬ IsRaw code.instructions) × Is instructions
+
+-- a body for each function that a module defines
+pub record AreBodiesBy (Is : ℕ → Code → List Instr → Type 0) (m : Parts) (bodies : List Body) : Type 0 where
+  pub each : length bodies ≡ length m.code
+  pub in_place : (place : ℕ) (code : Code) (body : Body) → slice_get m.code place ≡ Some code → slice_get bodies place ≡ Some body → IsOfBody (Is place code) code body
+
+-- bodies of the functions of a module
+abbrev pub AreBodiesOf : Parts → List Body → Type 0
+AreBodiesOf m bodies = AreBodiesBy (IsBodyAt m) m bodies
+
+-- bodies that were drawn for a module
+abbrev pub AreDrawnBodies : Parts → List Body → Type 0
+AreDrawnBodies m bodies = AreBodiesBy (IsDrawnAt m) m bodies

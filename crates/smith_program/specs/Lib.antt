@@ -1,0 +1,5 @@
+pub mod References
+pub mod Bodies
+pub mod Named
+pub mod Generated
+pub mod Counted

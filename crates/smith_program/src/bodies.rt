@@ -1,0 +1,170 @@
+ghost use Rattle.std.specs.Prelude.{◌≡◌, ◌<◌, ◌≤◌, ◌+◌, ◌*◌, ◌++◌, ℕ, All, IfOk, IfErr, Some, length, slice_get};
+ghost use Rattle.smith_bytes.specs.Source.{KeepsPieces};
+ghost use Rattle.smith_types.specs.Entities.{IsFuncAt};
+ghost use Rattle.smith_types.specs.ValidTypes.{IsValTypeValid};
+ghost use Rattle.smith_types.specs.declared.code.Code.{Code as Defined};
+ghost use Rattle.smith_definitions.specs.Module.{IsValid, module_features, module_imports};
+ghost use Rattle.smith_instr.specs.Enabled.{IsEnabled};
+ghost use Rattle.smith_instr.specs.Sequences.{IsBodyTyped};
+ghost use Rattle.smith_program.specs.Bodies.{AreDrawnBodies, HasDefinedType, IsDrawnAt, IsOfBody, function_context};
+ghost use Rattle.smith_program.specs.Named.{IsNamed};
+ghost use Rattle.smith_code.specs.Scopes.{most};
+
+use crate::program::Body;
+use crate::references::{element_types, references_of};
+use smith_bytes::{Error, Unstructured};
+use smith_code::{Scope, draw_body};
+use smith_instr::Instr;
+use smith_types::{Code, CompositeInnerType, FuncType, Instructions, Items, RefType, ValType};
+use std::alloc::Global;
+use wasm_smith::Module;
+
+/// Draws a body for each function that `module` defines, but where it has raw bytes for the function.
+///
+/// `module` is valid.
+///
+/// # Errors
+///
+/// `Memory` where memory is refused, and nothing else.
+pub fn draw_bodies(
+    alloc: Global,
+    module: &Module,
+    u: &mut Unstructured<'_>,
+) -> Result<Items<Body>, Error>
+    requires valid { IsValid «module».now }
+    ensures bodies { IfOk result (AreDrawnBodies «module».now) }
+    ensures refusal { IfErr result (λ e. e ≡ Error.Memory) }
+    ensures left { KeepsPieces u.old u.new }
+{
+    let named = Named {
+        elements: element_types(alloc, module)?,
+        references: references_of(alloc, module)?,
+    };
+    draw_each(alloc, module, &named, u)
+}
+
+/// What bodies may refer to that the module doesn't lend.
+#[derive(Drop)]
+pub(crate) struct Named {
+    /// The type of each element segment.
+    elements: Items<RefType>,
+    /// The functions that `ref.func` may name.
+    references: Items<u32>,
+}
+
+fn draw_each(
+    alloc: Global,
+    module: &Module,
+    named: &Named,
+    u: &mut Unstructured<'_>,
+) -> Result<Items<Body>, Error>
+    requires valid { IsValid «module».now }
+    requires named { IsNamed «module».now named.now }
+    ensures bodies { IfOk result (AreDrawnBodies «module».now) }
+    ensures refusal { IfErr result (λ e. e ≡ Error.Memory) }
+    ensures left { KeepsPieces u.old u.new }
+{
+    let mut bodies = Items::with_capacity(alloc, module.code().len())?;
+    for place in 0..module.code().len() {
+        bodies.push(draw_one(alloc, module, named, place, u)?)?;
+    }
+    Ok(bodies)
+}
+
+/// Draws the body of the defined function `place`.
+fn draw_one(
+    alloc: Global,
+    module: &Module,
+    named: &Named,
+    place: usize,
+    u: &mut Unstructured<'_>,
+) -> Result<Body, Error>
+    requires valid { IsValid «module».now }
+    requires named { IsNamed «module».now named.now }
+    requires inside { place < length «module».now.code }
+    ensures body { IfOk result (λ body. (code : Defined) → slice_get «module».now.code place ≡ Some code → IsOfBody (IsDrawnAt «module».now place code) code body) }
+    ensures refusal { IfErr result (λ e. e ≡ Error.Memory) }
+    ensures left { KeepsPieces u.old u.new }
+{
+    let code = &module.code()[place];
+    if let Instructions::Arbitrary(_) = code.instructions {
+        return Ok(Body::Raw);
+    }
+    let function = defined_type(module, place);
+    let instructions = draw_instructions(alloc, module, named, function, code, u)?;
+    Ok(Body::Drawn(instructions))
+}
+
+/// The type of the defined function `place`.
+fn defined_type(module: &Module, place: usize) -> &FuncType
+    requires valid { IsValid «module».now }
+    requires inside { place < length «module».now.code }
+    ensures { HasDefinedType «module».now place result.now }
+{
+    let imported = imported_funcs(module);
+    let index = module.funcs()[imported + place];
+    match &module.types()[index as usize].composite_type.inner {
+        CompositeInnerType::Func(function) => function,
+        _ => unreachable!(),
+    }
+}
+
+/// The number of imported functions.
+fn imported_funcs(module: &Module) -> usize
+    requires valid { IsValid «module».now }
+    ensures imported { result ≡ length (module_imports «module».now).funcs }
+{
+    module.funcs().len() - module.num_defined_funcs()
+}
+
+/// Draws the instructions of a function of the type `function`, whose locals are those of `code`.
+fn draw_instructions(
+    alloc: Global,
+    module: &Module,
+    named: &Named,
+    function: &FuncType,
+    code: &Code,
+    u: &mut Unstructured<'_>,
+) -> Result<Items<Instr>, Error>
+    requires valid { IsValid «module».now }
+    requires named { IsNamed «module».now named.now }
+    requires there { (index : ℕ) × IsFuncAt «module».now.types index function.now }
+    requires locals { All (IsValTypeValid (module_features «module».now) (length «module».now.types)) code.now.locals }
+    ensures typed { IfOk result (IsBodyTyped (function_context «module».now function.now code.now.locals)) }
+    ensures enabled { IfOk result (All (IsEnabled (module_features «module».now) «module».now.config.allowed_instructions)) }
+    ensures short { IfOk result (λ body. length body ≤ 1 + length function.now.results + most «module».now.types * «module».now.config.max_instructions) }
+    ensures refusal { IfErr result (λ e. e ≡ Error.Memory) }
+    ensures left { KeepsPieces u.old u.new }
+{
+    let locals = joined(alloc, function.params.as_slice(), code.locals.as_slice())?;
+    let config = module.config();
+    let scope = Scope {
+        features: config.features(),
+        kinds: config.allowed_instructions,
+        types: module.type_space(),
+        funcs: module.funcs(),
+        imported_funcs: imported_funcs(module),
+        tables: module.tables(),
+        memories: module.memories(),
+        globals: module.globals(),
+        tags: module.tags(),
+        elements: named.elements.as_slice(),
+        datas: module.data().len(),
+        references: named.references.as_slice(),
+        locals: locals.as_slice(),
+        params: function.params.len(),
+        results: function.results.as_slice(),
+    };
+    draw_body(alloc, &scope, config.max_instructions, u)
+}
+
+fn joined(alloc: Global, params: &[ValType], locals: &[ValType]) -> Result<Items<ValType>, Error>
+    ensures joined { IfOk result (λ joined. joined ≡ params.now ++ locals.now) }
+    ensures memory { IfErr result (λ e. e ≡ Error.Memory) }
+{
+    let mut joined = Items::from_slice(alloc, params)?;
+    for local in locals {
+        joined.push(*local)?;
+    }
+    Ok(joined)
+}

@@ -1,0 +1,10 @@
+//! Modules with bodies of instructions, drawn from bytes. The standard is the WebAssembly Core Specification 3.0.
+#![tactic(auto)]
+
+mod bodies;
+mod program;
+mod references;
+mod termination;
+
+pub use bodies::draw_bodies;
+pub use program::{Body, Program};

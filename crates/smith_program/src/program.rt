@@ -1,0 +1,42 @@
+use crate::bodies::draw_bodies;
+use smith_bytes::{Error, Unstructured};
+use smith_config::Config;
+use smith_instr::Instr;
+use smith_types::Items;
+use std::alloc::Global;
+use wasm_smith::Module;
+
+/// The body of a function that a module defines.
+#[derive(Debug, Drop)]
+pub enum Body {
+    /// The instructions, the last `end` aside.
+    Drawn(Items<Instr>),
+    /// The raw bytes that the module has for the function.
+    Raw,
+}
+
+/// A module, and the bodies of the functions that it defines.
+#[derive(Drop)]
+pub struct Program {
+    /// The module. Its own bodies are `unreachable`, but those of raw bytes.
+    pub module: Module,
+    /// The body of each function that the module defines.
+    pub bodies: Items<Body>,
+}
+
+impl Program {
+    ghost use Rattle.smith_program.specs.Generated.{IsProgram};
+
+    /// Draws a module from the bytes of `u` as [`Module::new`] does, and bodies of its functions from the bytes that are left.
+    ///
+    /// # Errors
+    ///
+    /// Those of [`Module::new`]; for the bodies only `Memory`.
+    pub fn new(alloc: Global, config: Config, u: &mut Unstructured<'_>) -> Result<Program, Error>
+        ensures { IsProgram config u.old result u.new }
+    {
+        let module = Module::new(alloc, config, u)?;
+        let bodies = draw_bodies(alloc, &module, u)?;
+        Ok(Program { module, bodies })
+    }
+}

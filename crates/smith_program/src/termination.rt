@@ -1,0 +1,34 @@
+ghost use Rattle.std.specs.Prelude.{◌≡◌, ◌<◌, ◌-◌, ◌^◌, length, map};
+ghost use Rattle.smith_definitions.specs.Module.{IsValid};
+ghost use Rattle.wasm_smith.specs.Termination.{AnswersFuel};
+ghost use Rattle.smith_program.specs.Bodies.{AreBodiesOf};
+ghost use Rattle.smith_program.specs.Counted.{counted_body};
+
+use crate::program::Program;
+use smith_bytes::Error;
+use std::alloc::Global;
+
+impl Program {
+    /// Adds a global to the module that counts down from `default_fuel`, and gives its index, as [`Module::ensure_termination`]
+    /// does. An encoder makes each call of a defined function, and each turn of a loop, take 1 off the counter, or trap at 0.
+    ///
+    /// The bodies stay as they are; they are typed with the checks too, which an encoder writes at their starts and after each `loop`.
+    ///
+    /// The module has fewer than 2^32 - 1 globals.
+    ///
+    /// # Errors
+    ///
+    /// `IncorrectFormat(RawBody)` where a body is raw bytes, before which no check can stand. The module is then as it was.
+    ///
+    /// [`Module::ensure_termination`]: wasm_smith::Module::ensure_termination
+    pub fn ensure_termination(&mut self, alloc: Global, default_fuel: u32) -> Result<u32, Error>
+        requires room { length self.old.«module».globals < 2 ^ 32 - 1 }
+        ensures answer { AnswersFuel default_fuel self.old.«module» self.new.«module» result }
+        ensures valid { IsValid self.old.«module» → IsValid self.new.«module» }
+        ensures bodies { self.new.bodies ≡ self.old.bodies }
+        ensures typed { AreBodiesOf self.old.«module» self.old.bodies → AreBodiesOf self.new.«module» self.new.bodies }
+        ensures counted { IsValid self.new.«module» → AreBodiesOf self.new.«module» self.new.bodies → AreBodiesOf self.new.«module» (map (counted_body self.new.«module».fuel_globals) self.new.bodies) }
+    {
+        self.module.ensure_termination(alloc, default_fuel)
+    }
+}
