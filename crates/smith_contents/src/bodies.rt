@@ -12,7 +12,7 @@ ghost use Rattle.smith_contents.specs.Held.{IsRaw};
 
 use smith_bytes::{Error, Unstructured};
 use smith_config::Config;
-use smith_draw::{Spaces, arbitrary_locals};
+use smith_draw::{KeptGrounds, Spaces, Standing, draw_locals};
 use smith_types::{Code, Instructions, Items};
 use std::alloc::Global;
 
@@ -55,13 +55,12 @@ fn draw_instructions(
 fn draw_body(
     alloc: Global,
     config: &Config,
-    spaces: &Spaces<'_>,
+    standing: &Standing<'_>,
     u: &mut Unstructured<'_>,
 ) -> Result<Code, Error>
-    requires { IsSanitized config.now }
-    ensures { Draws (body_at config.now (standing_in config.now spaces.now) u.old) result u.old u.new }
+    ensures { Draws (body_at config.now standing.now u.old) result u.old u.new }
 {
-    let locals = arbitrary_locals(alloc, config, spaces, u)?;
+    let locals = draw_locals(alloc, config, standing, u)?;
     let instructions = draw_instructions(alloc, config, u)?;
     Ok(Code {
         locals,
@@ -73,16 +72,15 @@ fn draw_body(
 fn draw_each_body(
     alloc: Global,
     config: &Config,
-    spaces: &Spaces<'_>,
+    standing: &Standing<'_>,
     count: usize,
     u: &mut Unstructured<'_>,
 ) -> Result<Items<Code>, Error>
-    requires { IsSanitized config.now }
-    ensures { Draws (bodies_at config.now (standing_in config.now spaces.now) count u.old) result u.old u.new }
+    ensures { Draws (bodies_at config.now standing.now count u.old) result u.old u.new }
 {
     let mut bodies = Items::with_capacity(alloc, count)?;
     for made in 0..count {
-        bodies.push(draw_body(alloc, config, spaces, u)?)?;
+        bodies.push(draw_body(alloc, config, standing, u)?)?;
     }
     Ok(bodies)
 }
