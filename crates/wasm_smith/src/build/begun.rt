@@ -97,18 +97,6 @@ pub(crate) fn begin(
     if let Some(shape) = &config.available_imports {
         return begin_with_imports(alloc, config, shape, drawn, u);
     }
-    drawn.types = no_types(alloc, config)?;
+    drawn.types = TypeSpace::with_capacity(alloc, config.min_types)?;
     Ok(())
-}
-
-// A type space with room for the least number of types, which keeps what types ground only where references that aren't nullable may be drawn.
-fn no_types(alloc: Global, config: &Config) -> Result<TypeSpace, Error>
-    ensures ok { IfOk result (λ space. space ≡ record { types = []; groups = [] }) }
-    ensures memory { IfErr result (λ e. e ≡ Error.Memory) }
-{
-    let mut types = TypeSpace::with_capacity(alloc, config.min_types)?;
-    if !config.non_nullable_enabled {
-        types.keep_no_grounds();
-    }
-    Ok(types)
 }
