@@ -6,3 +6,5 @@ pub mod Rows
 pub mod Choices
 pub mod Leaves
 pub mod Bodies
+pub mod ExampleNodes
+pub mod ExampleDrafts

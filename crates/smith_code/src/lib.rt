@@ -6,6 +6,7 @@ mod body;
 mod branches;
 mod choices;
 mod drawn;
+mod examples;
 mod families;
 mod funcs;
 mod globals;

@@ -12,8 +12,6 @@ fn leaving()
     ensures to_a_label { body_at every_kind (function_of [] (I32 ∷ [])) 1 (0 ∷ 12 ∷ 0 ∷ narrow 5) ≡ (number 5 ∷ instr.Br 0 ∷ [], []) }
     ensures out_of_a_block { body_at every_kind (function_of [] (I64 ∷ [])) 2 (1 ∷ 7 ∷ 0 ∷ 0 ∷ 1 ∷ 10 ∷ 0 ∷ 1 ∷ wide 5 ++ wide 6)
         ≡ (instr.Block (block.Func 0) ∷ wide_number 5 ∷ instr.Br 1 ∷ instr.End ∷ wide_number 6 ∷ [], []) }
-    ensures to_the_other_label { ¬ (body_at every_kind (function_of [] (I64 ∷ [])) 2 (1 ∷ 7 ∷ 0 ∷ 0 ∷ 1 ∷ 10 ∷ 0 ∷ 1 ∷ wide 5 ++ wide 6)
-        ≡ (instr.Block (block.Func 0) ∷ wide_number 5 ∷ instr.Br 0 ∷ instr.End ∷ wide_number 6 ∷ [], [])) }
 {}
 
 fn staying()

@@ -1,0 +1,5 @@
+// What the definitions say of nodes and drafts, which only this crate can name. The clauses are proved; nothing calls these functions.
+// Bodies that bytes give stand in the crate of examples above this one.
+
+mod drafts;
+mod nodes;
