@@ -12,7 +12,9 @@ use Rattle.smith_code.specs.Bodies.{
   Drawing,
   State,
   begun,
+  blocked_at,
   body_at,
+  conditional_at,
   drawing_at,
   dropped,
   enclosed_at,
@@ -99,12 +101,12 @@ plain_exact scope draw head instruction sets old new bytes is done =
     rw is (state_is scope new old.labels.items (old.out ++ instruction ∷ []) (old.set.items ++ option_to_list sets) old.fuel bytes done.same done.out done.set_more done.fuel)
 
 pub head_enclosed : (draw : Drawing) (head : Head) (opening : Opening) (ty : BlockType) (sides : Sides) (sets : Option ℕ) (s : State) → head ≡ heads.Enclosed opening ty sides
-    → head_at draw head sets s ≡ written instr.End (enclosed_at draw (label_of opening sides.params sides.results) sides (written (opened opening ty) s))
+    → head_at draw head sets s ≡ blocked_at draw opening ty sides s
 unfolding head_at
 head_enclosed draw head opening ty sides sets s is = rw is refl
 
 pub head_if : (draw : Drawing) (head : Head) (ty : BlockType) (sides : Sides) (sets : Option ℕ) (s : State) → head ≡ heads.If ty sides
-    → head_at draw head sets s ≡ written instr.End (enclosed_at draw sides.results sides (written instr.Else (enclosed_at draw sides.results sides (written (instr.If ty) s))))
+    → head_at draw head sets s ≡ conditional_at draw ty sides s
 unfolding head_at
 head_if draw head ty sides sets s is = rw is refl
 
@@ -136,7 +138,7 @@ set_again old entered inside new height drawn same high taken =
 pub enclosed_exact : {a b : List ValType} {n : ℕ} (scope : Scope) (draw : Drawing) (opening : Opening) (ty : BlockType) (sides : Sides) (old entered inside new : Draft) (bytes left : List ℕ) (height : ℕ)
     → IsOpened (opened opening ty) (label_of opening sides.params sides.results) old entered → inside_at draw sides (state_of scope entered bytes) ≡ state_of scope inside left → IsDrawn scope a b n entered inside
     → height ≡ length old.set.items → IsEnded instr.End height inside new → new.labels.items ≡ old.labels.items
-    → written instr.End (enclosed_at draw (label_of opening sides.params sides.results) sides (written (opened opening ty) (state_of scope old bytes))) ≡ state_of scope new left
+    → blocked_at draw opening ty sides (state_of scope old bytes) ≡ state_of scope new left
 unfolding enclosed_at
 enclosed_exact scope draw opening ty sides old entered inside new bytes left height start exact drawn high end labels =
     let begin = entered_exact scope (opened opening ty) (label_of opening sides.params sides.results) old entered bytes start in
@@ -146,7 +148,7 @@ pub if_exact : {a b c d : List ValType} {m n : ℕ} (scope : Scope) (draw : Draw
     → IsOpened (instr.If ty) sides.results old entered → inside_at draw sides (state_of scope entered bytes) ≡ state_of scope first middle → IsDrawn scope a b m entered first
     → height ≡ length old.set.items → IsEnded instr.Else height first other → other.labels.items ≡ first.labels.items → inside_at draw sides (state_of scope other middle) ≡ state_of scope last left → IsDrawn scope c d n other last
     → IsEnded instr.End height last new → new.labels.items ≡ old.labels.items
-    → written instr.End (enclosed_at draw sides.results sides (written instr.Else (enclosed_at draw sides.results sides (written (instr.If ty) (state_of scope old bytes))))) ≡ state_of scope new left
+    → conditional_at draw ty sides (state_of scope old bytes) ≡ state_of scope new left
 unfolding enclosed_at
 if_exact scope draw ty sides old entered first other last new bytes middle left height start exact drawn high split between exact' drawn' end labels =
     let begin = entered_exact scope (instr.If ty) sides.results old entered bytes start in

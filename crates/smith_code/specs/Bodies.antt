@@ -4,6 +4,7 @@ use Rattle.smith_bytes.specs.Draws.{range_at}
 use Rattle.smith_types.specs.declared.instruction_kind.InstructionKinds.{InstructionKinds}
 use Rattle.smith_types.specs.declared.value_type.ValType.{ValType}
 use Rattle.smith_instr.specs.Contexts.{BodyContext, labelled}
+use Rattle.smith_instr.specs.declared.control.BlockType.{BlockType}
 use Rattle.smith_instr.specs.declared.instr.Instr.{Instr}
 use Rattle.smith_instr.specs.declared.instr.Instr.TheVariants as instr
 use Rattle.smith_code.specs.Choices.{allowed_choice_at, statement_choice_at}
@@ -12,6 +13,7 @@ use Rattle.smith_code.specs.Nodes.{is_node_allowed, label_of, opened}
 use Rattle.smith_code.specs.declared.node.Head.{Head}
 use Rattle.smith_code.specs.declared.node.Head.TheVariants as head
 use Rattle.smith_code.specs.declared.node.Node.{Node}
+use Rattle.smith_code.specs.declared.node.Opening.{Opening}
 use Rattle.smith_code.specs.declared.node.Sides.{Sides}
 
 -- a body that is being drawn: what the next instruction may refer to, the instructions so far, the locals that were set, the fuel,
@@ -48,15 +50,22 @@ unfoldable pub enclosed_at : Drawing → List ValType → Sides → State → St
 enclosed_at draw label sides s =
     record (inside_at draw sides (record s { context = labelled s.context label })) { context = s.context; set = s.set }
 
+-- a block or a loop
+abbrev pub blocked_at : Drawing → Opening → BlockType → Sides → State → State
+blocked_at draw opening ty sides s =
+    written instr.End (enclosed_at draw (label_of opening sides.params sides.results) sides (written (opened opening ty) s))
+
+-- an `if` with its `else`
+abbrev pub conditional_at : Drawing → BlockType → Sides → State → State
+conditional_at draw ty sides s =
+    let first = enclosed_at draw sides.results sides (written (instr.If ty) s) in
+    written instr.End (enclosed_at draw sides.results sides (written instr.Else first))
+
 -- what comes after operands, and the local that it sets
 unfoldable pub head_at : Drawing → Head → Option ℕ → State → State
 head_at draw (head.Plain instruction) sets s = record s { out = s.out ++ instruction ∷ []; set = s.set ++ option_to_list sets }
-head_at draw (head.Enclosed opening ty sides) sets s =
-    written instr.End (enclosed_at draw (label_of opening sides.params sides.results) sides (written (opened opening ty) s))
-head_at draw (head.If ty sides) sets s =
-    written instr.End (enclosed_at draw sides.results sides
-    (written instr.Else (enclosed_at draw sides.results sides
-    (written (instr.If ty) s))))
+head_at draw (head.Enclosed opening ty sides) sets s = blocked_at draw opening ty sides s
+head_at draw (head.If ty sides) sets s = conditional_at draw ty sides s
 
 -- a node takes one unit of fuel: its operands are drawn, then the rest of it
 unfoldable pub node_at : Drawing → Node → State → State
@@ -90,7 +99,7 @@ statement_at kinds below s =
     let chosen = statement_choice_at s.context s.bytes in
     allowed_at kinds below chosen.0 (record s { bytes = chosen.1 })
 
--- at most so many statements, while there is fuel and the bytes want one more
+-- statements up to this number, while there is fuel and the bytes want one more
 abbrev pub statements_within : (State → State) → ℕ → State → State
 statements_within statement zero s = s
 statements_within statement (suc most) s =

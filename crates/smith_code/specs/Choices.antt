@@ -143,7 +143,7 @@ memory_at context wanted bytes =
     let index = choose_at (offered (is_addressed context wanted) (indexed (length context.memories))) bytes in
     memory_by wanted index.0 index.1
 
--- what may give a value, each family in so many places as it is likely
+-- what may give a value, each family in as many places as it is likely
 abbrev pub value_families : List ValueFamily
 value_families =
     value.Leaf ∷
@@ -268,7 +268,7 @@ store_at context bytes =
     let op = chosen_at store.I32 stores bytes in
     giving (store_node op.0) (access_at context.memories (stored op.0).1 op.1)
 
--- what may be a statement, each family in so many places as it is likely
+-- what may be a statement, each family in as many places as it is likely
 abbrev pub statement_families : List StatementFamily
 statement_families =
     statement.Nop ∷

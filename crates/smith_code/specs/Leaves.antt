@@ -50,7 +50,7 @@ named_at context wanted bytes = giving (slice_get context.references) (choose_at
 abbrev pub reference_at : BodyContext → ValType → List ℕ → Option Instr × List ℕ
 reference_at context wanted bytes = by_index (λ function. instr.Reference (reference.Func function)) (named_at context wanted bytes)
 
--- what may give a value without operands, each family in so many places as it is likely
+-- what may give a value without operands, each family in as many places as it is likely
 abbrev pub leaf_families : List LeafFamily
 leaf_families =
     leaf.Local ∷

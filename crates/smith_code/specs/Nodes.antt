@@ -82,7 +82,7 @@ pub record IsNodeAllowed (scope : Scope) (node : Node) : Type 0 where
   pub head : IsHeadAllowed scope node.head
   pub drops : 0 < node.drops → IsAllowedIn scope instr.Drop
 
--- whether so many values may be dropped
+-- whether this number of values may be dropped
 abbrev pub is_drop_allowed : Features → InstructionKinds → ℕ → Bool
 is_drop_allowed features kinds count = (count == 0) || is_enabled features kinds instr.Drop
 

@@ -5,15 +5,15 @@ ghost use Rattle.smith_types.specs.declared.value_type.ValType.TheVariants.{I32}
 ghost use Rattle.smith_instr.specs.Contexts.{AreBelow, AreValid, IsBlockType, IsValid};
 ghost use Rattle.smith_instr.specs.declared.instr.Instr.TheVariants as instr;
 ghost use Rattle.smith_code.specs.Bodies.{
+  blocked_at,
+  conditional_at,
   drawing_at,
-  enclosed_at,
   head_at,
   inside_at,
   node_at,
   statement_at,
   values_at,
   whole_at,
-  written,
 };
 ghost use Rattle.smith_code.specs.Drawn.{IsDrawn, state_of};
 ghost use Rattle.smith_code.specs.Nodes.{
@@ -149,7 +149,7 @@ fn draw_enclosed(
     requires sides { AreSidesValid (bare scope.now).features (bare scope.now).types sides.now }
     requires allowed { IsAllowedIn scope.now (opened opening ty) }
     requires drops { 0 < length sides.now.params → IsAllowedIn scope.now instr.Drop }
-    ensures exact { OnOk result (written instr.End (enclosed_at (drawing_at scope.now.kinds depth) (label_of opening sides.now.params sides.now.results) sides.now (written (opened opening ty) (state_of scope.now draft.old u.old))) ≡ state_of scope.now draft.new u.new) }
+    ensures exact { OnOk result (blocked_at (drawing_at scope.now.kinds depth) opening ty sides.now (state_of scope.now draft.old u.old) ≡ state_of scope.now draft.new u.new) }
     ensures drawn { (values : List Val) → IsBlockType (bare scope.now) ty sides.now.params sides.now.results → AreBelow (bare scope.now) sides.now.results values → AreValid (bare scope.now) values → OnOk result (IsDrawn scope.now sides.now.params values (block_cost scope.now.types.now.types) draft.old draft.new) }
     ensures less { OnOk result (draft.new.fuel ≤ draft.old.fuel) }
     ensures memory { IfErr result (λ e. e ≡ Error.Memory) }
@@ -196,7 +196,7 @@ fn draw_if(
     requires sides { AreSidesValid (bare scope.now).features (bare scope.now).types sides.now }
     requires allowed { IsAllowedIn scope.now (instr.If ty) }
     requires drops { 0 < length sides.now.params → IsAllowedIn scope.now instr.Drop }
-    ensures exact { OnOk result (written instr.End (enclosed_at (drawing_at scope.now.kinds depth) sides.now.results sides.now (written instr.Else (enclosed_at (drawing_at scope.now.kinds depth) sides.now.results sides.now (written (instr.If ty) (state_of scope.now draft.old u.old))))) ≡ state_of scope.now draft.new u.new) }
+    ensures exact { OnOk result (conditional_at (drawing_at scope.now.kinds depth) ty sides.now (state_of scope.now draft.old u.old) ≡ state_of scope.now draft.new u.new) }
     ensures drawn { (values : List Val) → IsBlockType (bare scope.now) ty sides.now.params sides.now.results → AreBelow (bare scope.now) sides.now.results values → AreValid (bare scope.now) values → OnOk result (IsDrawn scope.now (sides.now.params ++ I32 ∷ []) values (block_cost scope.now.types.now.types) draft.old draft.new) }
     ensures less { OnOk result (draft.new.fuel ≤ draft.old.fuel) }
     ensures memory { IfErr result (λ e. e ≡ Error.Memory) }

@@ -47,7 +47,7 @@ pub(crate) enum LeafFamily {
     Constant,
 }
 
-/// What may give a value, each family in so many places as it is likely.
+/// What may give a value, each family in as many places as it is likely.
 pub(crate) fn value_families<'a>() -> &'a [ValueFamily]
     ensures { result.now ≡ value_families }
 {
@@ -71,7 +71,7 @@ pub(crate) fn value_families<'a>() -> &'a [ValueFamily]
     ]
 }
 
-/// What may be a statement, each family in so many places as it is likely.
+/// What may be a statement, each family in as many places as it is likely.
 pub(crate) fn statement_families<'a>() -> &'a [StatementFamily]
     ensures { result.now ≡ statement_families }
 {
@@ -95,7 +95,7 @@ pub(crate) fn statement_families<'a>() -> &'a [StatementFamily]
     ]
 }
 
-/// What may give a value without operands, each family in so many places as it is likely.
+/// What may give a value without operands, each family in as many places as it is likely.
 pub(crate) fn leaf_families<'a>() -> &'a [LeafFamily]
     ensures { result.now ≡ leaf_families }
 {

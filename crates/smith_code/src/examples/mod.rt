@@ -1,5 +1,5 @@
 // What the definitions say of nodes and drafts, which only this crate can name. The clauses are proved; nothing calls these functions.
-// Bodies that bytes give stand in the crate of examples above this one.
+// Bodies that bytes give are in the crate of examples above this one.
 
 mod drafts;
 mod nodes;
