@@ -28,7 +28,7 @@ ghost use Rattle.smith_draw.specs.RecGroups.{
 };
 ghost use Rattle.smith_draw.specs.Spelling.{IsRoot, SpellsAdded, SpellsSpace};
 
-use crate::spaces::{Entities, Spaces};
+use crate::spaces::Entities;
 use crate::standing::Standing;
 use crate::sub_type::draw_sub_type;
 use smith_bytes::{Error, Unstructured};
@@ -63,8 +63,7 @@ fn draw_over(
 ) -> Result<SubType, Error>
     ensures { Draws (sub_type_at config.now (over (functions_in config.now entities.now) types.now.types) limit u.old) result u.old u.new }
 {
-    let entities = *entities;
-    let standing = Standing::over(config, &Spaces { types, entities });
+    let standing = Standing::beside(config, types, entities);
     draw_sub_type(alloc, config, &standing, limit, u)
 }
 

@@ -3,9 +3,9 @@ ghost use Rattle.smith_types.specs.Types.{IsOrderly};
 ghost use Rattle.smith_types.specs.Subtyping.{IsInRange};
 ghost use Rattle.smith_types.specs.Expressions.{reference_to, function_reference};
 ghost use Rattle.smith_types.specs.FuncGrounds.{AreFuncGrounds};
-ghost use Rattle.smith_draw.specs.Grounding.{standing_in, any_from, function_grounds, is_grounded};
+ghost use Rattle.smith_draw.specs.Grounding.{standing_in, functions_in, over, any_from, function_grounds, is_grounded};
 
-use crate::spaces::Spaces;
+use crate::spaces::{Entities, Spaces};
 use smith_config::Config;
 use smith_types::{FuncGrounds, HeapType, SubType, TypeSpace};
 use std::marker::Model;
@@ -45,6 +45,23 @@ impl<'a> Standing<'a> {
             types: spaces.types,
             funcs: spaces.entities.funcs,
             imported_funcs: spaces.entities.imported_funcs,
+            grounds: None,
+        }
+    }
+
+    /// The types of `types` and the functions of `entities`, as [`Standing::over`] has those of one value.
+    pub(crate) fn beside(
+        config: &'a Config,
+        types: &'a TypeSpace,
+        entities: &Entities<'a>,
+    ) -> Standing<'a>
+        ensures { result ≡ over (functions_in config.now entities.now) types.now.types }
+    {
+        Standing {
+            config,
+            types,
+            funcs: entities.funcs,
+            imported_funcs: entities.imported_funcs,
             grounds: None,
         }
     }

@@ -141,7 +141,3 @@ kinds_more types t own kinds is h = rw is (record { each = λ is_shared. kind_mo
   kind_more : (is_shared : Bool) → kind_at (kinds_with (is_ground t) t.composite_type.shared kinds) is_shared ≡ list_any (is_ground_of is_shared) (types ++ t ∷ [])
   kind_more true = turn true
   kind_more false = turn false
-
--- what is kept
-pub kept_own : (kept own : Bool) (t : SubType) → own ≡ (kept && is_ground t) → kept ≡ true → own ≡ is_ground t
-kept_own kept own t is on = is ∙ ap (λ (b : Bool). b && is_ground t) on

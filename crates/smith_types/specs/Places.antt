@@ -3,7 +3,6 @@
 use Rattle.std.specs.Prelude.{◌≡◌, ℕ, suc, ◌+◌, ◌<◌, ◌≤◌, List, [], ◌∷◌, ◌++◌, Some, length, map, take, slice_get, slice_index, Vec, vec_len, vec_capacity}
 use Rattle.smith_types.specs.declared.composite_type.SubType.{SubType}
 use Rattle.std.specs.declared.alloc.Global.{Global}
-use Rattle.smith_types.specs.declared.ground.Ground.{Ground}
 use Rattle.smith_types.specs.declared.place.Place.{Place}
 use Rattle.smith_types.specs.declared.value_type.HeapType.TheVariants.{Concrete}
 use Rattle.smith_types.specs.Space.{HasDepth}
@@ -51,9 +50,7 @@ pub record IsRowAtEnd (table : List ℕ) (above : Place) (ended : List ℕ) (sta
   pub ends : start + above.depth ≡ length ended + 1
   pub same : (k : ℕ) → suc k < above.depth → slice_index ended (start + k) ≡ slice_index table (above.start + k)
 
--- lists with an entry for each type: as long as the list of types, and with room for as many
-pub record AreBeside (types : Vec SubType Global) (places : Vec Place Global) (grounds : Vec Ground Global) : Type 0 where
-  pub places_long : vec_len places ≡ vec_len types
-  pub grounds_long : vec_len grounds ≡ vec_len types
-  pub places_room : vec_capacity types ≤ vec_capacity places
-  pub grounds_room : vec_capacity types ≤ vec_capacity grounds
+-- a list with an entry for each type: as long as the list of types, and with room for as many
+pub record AreBeside (types : Vec SubType Global) (places : Vec Place Global) : Type 0 where
+  pub long : vec_len places ≡ vec_len types
+  pub room : vec_capacity types ≤ vec_capacity places

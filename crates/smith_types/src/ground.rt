@@ -1,9 +1,9 @@
-ghost use Rattle.std.specs.Prelude.{◌≡◌, ◌&&◌, ◌+◌, ◌++◌, ◌<◌, ℕ, [], ◌∷◌, None, Some, length, false, vec_len, vec_capacity, if◌then◌else◌};
+ghost use Rattle.std.specs.Prelude.{◌≡◌, ◌+◌, ◌++◌, ◌<◌, ℕ, [], ◌∷◌, None, Some, length, false, true, vec_len, vec_capacity, if◌then◌else◌};
 ghost use Rattle.smith_types.specs.Types.{IsOrderly};
 ghost use Rattle.smith_types.specs.Space.{MayFollow};
 ghost use Rattle.smith_types.specs.Expressions.{unpacked};
 ghost use Rattle.smith_types.specs.Grounded.{is_defaultable, are_defaultable};
-ghost use Rattle.smith_types.specs.Grounds.{is_ground, kind_at, kinds_with, AreGrounds, AreClosed, AreMarked};
+ghost use Rattle.smith_types.specs.Grounds.{is_ground, kind_at, kinds_with, AreGrounds, AreGroundKinds, AreClosed, AreMarked};
 
 use crate::composite_type::{CompositeInnerType, FieldType, StorageType, SubType};
 use crate::value_type::ValType;
@@ -53,16 +53,39 @@ pub(crate) fn no_grounds() -> GroundKinds
     }
 }
 
-// Adds to `grounds`, which has room, an entry for the type `added`, the next one after `types`, and marks the types above it. Where
-// `own` isn't set it says that the type grounds nothing.
-pub(crate) fn join_grounds(types: &[SubType], added: &SubType, own: bool, grounds: &mut Vec<Ground>)
+// Adds to `grounds`, which has room, and to `kinds` what the type `added`, the next one after `types`, grounds, where `kept` is set.
+pub(crate) fn note_ground(
+    kept: bool,
+    types: &[SubType],
+    added: &SubType,
+    grounds: &mut Vec<Ground>,
+    kinds: &mut GroundKinds,
+)
     requires orderly { IsOrderly types.now }
     requires follows { MayFollow types.now added.now }
-    requires long { vec_len grounds.old ≡ length types.now }
+    requires grounds { kept ≡ true → AreGrounds types.now grounds.old.items }
+    requires kinds { kept ≡ true → AreGroundKinds types.now kinds.old }
+    requires room { kept ≡ true → vec_len grounds.old < vec_capacity grounds.old }
+    ensures grounds { kept ≡ true → AreGrounds (types.now ++ added.now ∷ []) grounds.new.items }
+    ensures kinds { kept ≡ true → AreGroundKinds (types.now ++ added.now ∷ []) kinds.new }
+{
+    if !kept {
+        return;
+    }
+    let own = is_ground(added);
+    join_grounds(types, added, own, grounds);
+    *kinds = kinds.with(own, added.composite_type.shared);
+}
+
+// Adds to `grounds`, which has room, an entry for the type `added`, the next one after `types`, and marks the types above it where
+// `own` says that `added` grounds.
+fn join_grounds(types: &[SubType], added: &SubType, own: bool, grounds: &mut Vec<Ground>)
+    requires orderly { IsOrderly types.now }
+    requires follows { MayFollow types.now added.now }
+    requires own { own ≡ is_ground added.now }
+    requires grounds { AreGrounds types.now grounds.old.items }
     requires room { vec_len grounds.old < vec_capacity grounds.old }
-    ensures grounds { own ≡ is_ground added.now → AreGrounds types.now grounds.old.items → AreGrounds (types.now ++ added.now ∷ []) grounds.new.items }
-    ensures len { vec_len grounds.new ≡ vec_len grounds.old + 1 }
-    ensures capacity { vec_capacity grounds.new ≡ vec_capacity grounds.old }
+    ensures { AreGrounds (types.now ++ added.now ∷ []) grounds.new.items }
 {
     mark_above(types, supertype_if(own, added), grounds);
     grounds.push_reserved(Ground { own, below: own });
@@ -96,13 +119,6 @@ pub(crate) fn mark_above(types: &[SubType], from: Option<u32>, grounds: &mut Vec
         };
         above = types[index as usize].supertype;
     }
-}
-
-// Whether `ty` is such a struct type, where `kept` is set.
-pub(crate) fn is_kept_ground(kept: bool, ty: &SubType) -> bool
-    ensures { result ≡ (kept && is_ground ty.now) }
-{
-    kept && is_ground(ty)
 }
 
 // Whether `ty` is a struct type whose fields all have defaults.

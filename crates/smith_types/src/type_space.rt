@@ -23,6 +23,7 @@ ghost use Rattle.std.specs.Prelude.{
   ◌&&◌,
   nat_lt,
   if◌then◌else◌,
+  true,
 };
 ghost use Rattle.std.specs.declared.ops.Range.{Range};
 ghost use Rattle.smith_types.specs.Types.{IsAlike, IsOrderly, next_start, next_group};
@@ -39,7 +40,7 @@ ghost use Rattle.smith_types.specs.Subtyping.{IsBelow, IsRefBelow, IsValBelow, I
 use crate::composite_type::{CompositeInnerType, CompositeType, SubType};
 use crate::entity_type::EntityType;
 use crate::family::{Family, extend_families, join_family};
-use crate::ground::{Ground, GroundKinds, is_ground, is_kept_ground, join_grounds, no_grounds};
+use crate::ground::{Ground, GroundKinds, is_ground, no_grounds, note_ground};
 use crate::matching::composite_type_is_match;
 use crate::place::{Place, last_counts, push_row};
 use crate::subtyping::{
@@ -94,7 +95,7 @@ impl Model for TypeSpace {
         × AreFamilies a.types.items a.families.items
         × (a.keeps_grounds ≡ true → AreGrounds a.types.items a.grounds.items)
         × (a.keeps_grounds ≡ true → AreGroundKinds a.types.items a.ground_kinds)
-        × AreBeside a.types a.places a.grounds };
+        × AreBeside a.types a.places };
 }
 
 /// Prints the types and the groups.
@@ -143,7 +144,7 @@ impl TypeSpace {
             families: Vec::new(alloc),
             extensible: Vec::new(alloc),
             keeps_grounds: true,
-            grounds: Vec::with_capacity(alloc, types)?,
+            grounds: Vec::new(alloc),
             ground_kinds: no_grounds(),
             groups: Vec::with_capacity(alloc, types)?,
         })
@@ -347,7 +348,8 @@ impl TypeSpace {
         ensures err { OnErr result (self.new ≡ self.old) }
         ensures memory { IfErr result (λ e. e ≡ Error.Memory) }
     {
-        make_room(1, &mut self.types, &mut self.places, &mut self.grounds)?;
+        make_room(1, &mut self.types, &mut self.places)?;
+        make_ground_room(self.keeps_grounds, 1, &mut self.grounds)?;
         let types = self.types.as_slice();
         let index = types.len() as u32;
         let place = make_place(
@@ -361,9 +363,13 @@ impl TypeSpace {
         )?;
         self.places.push_reserved(place);
         join_family(types, &added, &mut self.families);
-        let own = is_kept_ground(self.keeps_grounds, &added);
-        join_grounds(types, &added, own, &mut self.grounds);
-        self.ground_kinds = self.ground_kinds.with(own, added.composite_type.shared);
+        note_ground(
+            self.keeps_grounds,
+            types,
+            &added,
+            &mut self.grounds,
+            &mut self.ground_kinds,
+        );
         self.types.push_reserved(added);
         Ok(index)
     }
@@ -374,12 +380,8 @@ impl TypeSpace {
         ensures memory { IfErr result (λ e. e ≡ Error.Memory) }
     {
         self.extensible.reserve(additional)?;
-        make_room(
-            additional,
-            &mut self.types,
-            &mut self.places,
-            &mut self.grounds,
-        )
+        make_ground_room(self.keeps_grounds, additional, &mut self.grounds)?;
+        make_room(additional, &mut self.types, &mut self.places)
     }
 
     /// Adds a group, maybe empty, of the types behind the last group.
@@ -452,18 +454,16 @@ impl TypeSpace {
     }
 }
 
-// Makes room for `additional` more types in each of `types`, `places` and `grounds`, which grow together.
+// Makes room for `additional` more types in each of `types` and `places`, which grow together.
 fn make_room(
     additional: usize,
     types: &mut Vec<SubType>,
     places: &mut Vec<Place>,
-    grounds: &mut Vec<Ground>,
 ) -> Result<(), Error>
-    requires { AreBeside types.old places.old grounds.old }
-    ensures beside { AreBeside types.new places.new grounds.new }
+    requires { AreBeside types.old places.old }
+    ensures beside { AreBeside types.new places.new }
     ensures types { types.new.items ≡ types.old.items }
     ensures places { places.new.items ≡ places.old.items }
-    ensures grounds { grounds.new.items ≡ grounds.old.items }
     ensures room { OnOk result (vec_len types.new + additional ≤ vec_capacity types.new) }
     ensures memory { IfErr result (λ e. e ≡ Error.Memory) }
 {
@@ -472,8 +472,19 @@ fn make_room(
     }
     let more = additional.max(types.len()).max(LEAST_ROOM);
     places.reserve_exact(more)?;
-    grounds.reserve_exact(more)?;
     Ok(types.reserve_exact(more)?)
+}
+
+// Makes room for `additional` more entries in `grounds`, where `kept` is set.
+fn make_ground_room(kept: bool, additional: usize, grounds: &mut Vec<Ground>) -> Result<(), Error>
+    ensures grounds { grounds.new.items ≡ grounds.old.items }
+    ensures room { kept ≡ true → OnOk result (vec_len grounds.new + additional ≤ vec_capacity grounds.new) }
+    ensures memory { IfErr result (λ e. e ≡ Error.Memory) }
+{
+    if kept {
+        grounds.reserve(additional)?;
+    }
+    Ok(())
 }
 
 // Makes the place of the type `added`, the next one after `types`, with its row in `rows` and room in `families`, which are first made for

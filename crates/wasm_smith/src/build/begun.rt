@@ -1,6 +1,6 @@
 //! The beginning of a module, of the shapes that its configuration uses.
 
-ghost use Rattle.std.specs.Prelude.{◌≡◌, IfErr, OnOk};
+ghost use Rattle.std.specs.Prelude.{◌≡◌, [], IfOk, IfErr, OnOk};
 ghost use Rattle.smith_bytes.specs.Source.{KeepsPieces};
 ghost use Rattle.smith_bytes.specs.declared.error.Which.TheVariants.{AvailableImports, ModuleShape};
 ghost use Rattle.smith_config.specs.Sanitized.{IsSanitized};
@@ -97,6 +97,19 @@ pub(crate) fn begin(
     if let Some(shape) = &config.available_imports {
         return begin_with_imports(alloc, config, shape, drawn, u);
     }
-    drawn.types = TypeSpace::with_capacity(alloc, config.min_types)?;
+    drawn.types = no_types(alloc, config)?;
     Ok(())
+}
+
+/// Makes a type space with room for the least number of types of `config`. It keeps what types ground only where `config` has
+/// references that aren't nullable.
+fn no_types(alloc: Global, config: &Config) -> Result<TypeSpace, Error>
+    ensures ok { IfOk result (λ space. space ≡ record { types = []; groups = [] }) }
+    ensures memory { IfErr result (λ e. e ≡ Error.Memory) }
+{
+    let mut types = TypeSpace::with_capacity(alloc, config.min_types)?;
+    if !config.non_nullable_enabled {
+        types.keep_no_grounds();
+    }
+    Ok(types)
 }

@@ -1,9 +1,8 @@
-use Rattle.std.proofs.Common.{◌∙◌, sym}
 use Rattle.smith_types.proofs.GroundLemmas.{grounds_closed, grounds_more}
 use Rattle.smith_types.proofs.ground.join_grounds.Goals as goal
 
-pub returns-clause-grounds : goal.returns-clause-grounds
-returns-clause-grounds c = λ own grounds.
+pub returns : goal.returns
+returns c =
     rw c.push_reserved.ensures.items
-    (grounds_more c.args.types.now c.args.added.now c.requires.orderly c.requires.follows c.args.grounds.now.items c.mark_above.new.grounds.items c.args.own c.supertype_if.result own c.supertype_if.ensures grounds
-    (c.mark_above.ensures.marked (grounds_closed c.args.types.now c.args.grounds.now.items grounds)))
+    (grounds_more c.args.types.now c.args.added.now c.requires.orderly c.requires.follows c.args.grounds.now.items c.mark_above.new.grounds.items c.args.own c.supertype_if.result c.requires.own c.supertype_if.ensures c.requires.grounds
+    (c.mark_above.ensures.marked (grounds_closed c.args.types.now c.args.grounds.now.items c.requires.grounds)))

@@ -5,7 +5,6 @@ use Rattle.smith_types.specs.Space.{MayFollow}
 use Rattle.smith_types.proofs.ListLemmas.{slice_get-last}
 use Rattle.smith_types.proofs.SpaceLemmas.{IsSound-type}
 use Rattle.smith_types.proofs.PlaceLemmas.{ArePlaces-push, ArePlaces-longer}
-use Rattle.smith_types.proofs.GroundLemmas.{kept_own, kinds_more}
 use Rattle.smith_types.proofs.type_space.TypeSpace.push_type.Goals as goal
 
 pub invariant_of-self-in_err-place : goal.invariant_of-self-in_err-place
@@ -15,7 +14,7 @@ invariant_of-self-in_err-place c =
       rw (room.types, room.places) (ArePlaces-longer _ _ _ _ c.make_place.ensures.rows c.self.invariant.1),
       rw (room.types, room.places, c.in_err-place.ensures.err) c.self.invariant.2,
       rw c.as_slice-types.ensures.value at c.make_place.ensures.families,
-      λ kept. rw (room.types, room.grounds) (c.self.invariant.4 kept),
+      λ kept. rw (room.types, c.make_ground_room.ensures.grounds) (c.self.invariant.4 kept),
       λ kept. rw room.types (c.self.invariant.5 kept),
       room.beside,
     )
@@ -34,17 +33,11 @@ invariant_of-self-2 c =
       rw (all, placed) (ArePlaces-push types added _ _ _ _ c.self.invariant.1 c.make_place.ensures.rows (rw seen at c.in_ok-place.ensures.place)),
       rw (all, placed) (rw (seen, c.as_slice.ensures.value, room.places) at c.in_ok-place.ensures.extensible),
       rw all (rw seen at c.join_family.ensures),
-      λ kept.
-          let own = kept_own c.self.inside.keeps_grounds c.is_kept_ground-own.result added c.is_kept_ground-own.ensures kept in
-          rw all (rw seen at (c.join_grounds.ensures.grounds own (rw (seen, room.grounds) (c.self.invariant.4 kept)))),
-      λ kept.
-          let own = kept_own c.self.inside.keeps_grounds c.is_kept_ground-own.result added c.is_kept_ground-own.ensures kept in
-          rw (all, c.with-self-inside.ensures) (kinds_more types added c.is_kept_ground-own.result c.self.inside.ground_kinds own (c.self.invariant.5 kept)),
+      λ kept. rw all (rw seen at c.note_ground.ensures.grounds kept),
+      λ kept. rw all (rw seen at c.note_ground.ensures.kinds kept),
       record {
-        places_long = omega (arith, c.push_reserved.ensures.len, c.push_reserved-2.ensures.len, beside.places_long);
-        grounds_long = omega (arith, c.join_grounds.ensures.len, c.push_reserved-2.ensures.len, beside.grounds_long);
-        places_room = omega (arith, c.push_reserved.ensures.capacity, c.push_reserved-2.ensures.capacity, beside.places_room);
-        grounds_room = omega (arith, c.join_grounds.ensures.capacity, c.push_reserved-2.ensures.capacity, beside.grounds_room);
+        long = omega (arith, c.push_reserved.ensures.len, c.push_reserved-2.ensures.len, beside.long);
+        room = omega (arith, c.push_reserved.ensures.capacity, c.push_reserved-2.ensures.capacity, beside.room);
       },
     )
 
