@@ -17,7 +17,7 @@ use Rattle.smith_draw.specs.Offered.{gc_subtypes, gc_supertypes, subtypes_offere
 use Rattle.smith_draw.specs.MatchingTypes.{first_and_passing, references_offered, matching_ref_type_at, matching_heap_type_at, super_heap_type_at}
 
 -- one item alone is chosen without a draw
-chosen_alone : {A : Type 0} (x : A) (bytes : List ℕ) → chosen_at x (x ∷ []) bytes ≡ (x, bytes)
+pub chosen_alone : {A : Type 0} (x : A) (bytes : List ℕ) → chosen_at x (x ∷ []) bytes ≡ (x, bytes)
 unfolding chosen_at range_at digit_count
 chosen_alone x bytes = refl
 
@@ -39,16 +39,15 @@ unfolding super_heap_type_at supertypes_offered
 super_without_gc config types ty bytes off = rw off (chosen_alone ty bytes)
 
 -- the item that stands at the place that is drawn is chosen
-placed : {A : Type 0} (other : A) (items : List A) (bytes : List ℕ) (n place : ℕ) (x : A) (after : List ℕ) → n ≡ length items → range_at 0 (n - 1) bytes ≡ (place, after) → slice_get items place ≡ Some x → chosen_at other items bytes ≡ (x, after)
+pub placed : {A : Type 0} (other : A) (items : List A) (bytes : List ℕ) (n place : ℕ) (x : A) (after : List ℕ) → n ≡ length items → range_at 0 (n - 1) bytes ≡ (place, after) → slice_get items place ≡ Some x → chosen_at other items bytes ≡ (x, after)
 unfolding chosen_at
 placed {A = A} other items bytes n place x after count drawn at =
     let same : range_at 0 (length items - 1) bytes ≡ (place, after) = ap (λ (m : ℕ). range_at 0 (m - 1) bytes) (sym count) ∙ drawn in
     ap (λ (r : ℕ × List ℕ). (slice_index_or items r.0 other, r.1)) same ∙ ap (λ (y : A). (y, after)) (get_or_from_slice_get items place x other at)
 
-pub matching_with_gc : (config : Config) (types : List SubType) (ty : HeapType) (bytes : List ℕ) (n place : ℕ) (x : HeapType) (after : List ℕ) → config.gc_enabled ≡ true → n ≡ length (gc_subtypes config types ty) → range_at 0 (n - 1) bytes ≡ (place, after) → slice_get (gc_subtypes config types ty) place ≡ Some x
-    → matching_heap_type_at config types ty bytes ≡ (x, after)
+pub matching_with_gc : (config : Config) (types : List SubType) (ty : HeapType) (bytes : List ℕ) → config.gc_enabled ≡ true → matching_heap_type_at config types ty bytes ≡ chosen_at ty (gc_subtypes config types ty) bytes
 unfolding matching_heap_type_at subtypes_offered
-matching_with_gc config types ty bytes n place x after on count drawn at = rw on (placed ty (gc_subtypes config types ty) bytes n place x after count drawn at)
+matching_with_gc config types ty bytes on = rw on refl
 
 pub super_with_gc : (config : Config) (types : List SubType) (ty : HeapType) (bytes : List ℕ) (n place : ℕ) (x : HeapType) (after : List ℕ) → config.gc_enabled ≡ true → n ≡ length (gc_supertypes types ty) → range_at 0 (n - 1) bytes ≡ (place, after) → slice_get (gc_supertypes types ty) place ≡ Some x
     → super_heap_type_at config types ty bytes ≡ (x, after)

@@ -1,4 +1,4 @@
-ghost use Rattle.std.specs.Prelude.{◌≡◌, ◌<◌, ◌↔◌, ◌⊎◌, false, IsTrue, Some, IfOk, drop, filter, length, slice_get, ◌||◌, not};
+ghost use Rattle.std.specs.Prelude.{◌≡◌, ◌<◌, ◌↔◌, ◌⊎◌, false, IsTrue, Some, IfOk, drop, filter, length, map, ◌++◌, slice_get, ◌||◌, not};
 ghost use Rattle.smith_bytes.specs.Draws.{choose_at};
 ghost use Rattle.smith_types.specs.Subtyping.{IsBelow, IsRefBelow, IsValBelow, IsInRange, IsValInRange};
 ghost use Rattle.smith_types.specs.Matching.{IsStorageMatch, IsFieldMatch, IsFuncMatch, IsStorageInRange, IsFieldInRange, IsFuncInRange};
@@ -11,6 +11,7 @@ ghost use Rattle.smith_types.specs.ValidTypes.{
   IsShareable,
 };
 ghost use Rattle.smith_types.specs.Grounded.{IsGrounded};
+ghost use Rattle.smith_types.specs.declared.value_type.HeapType.TheVariants.{Abstract, Concrete};
 ghost use Rattle.smith_config.specs.Features.{features_of};
 ghost use Rattle.smith_draw.specs.Choices.{chosen_at};
 ghost use Rattle.smith_draw.specs.Drawing.{AlwaysDraws, Draws};
@@ -22,7 +23,7 @@ ghost use Rattle.smith_draw.specs.Kept.{
   IsStorageShareable,
   IsFuncShareable,
 };
-ghost use Rattle.smith_draw.specs.Offered.{gc_subtypes, subtypes_offered};
+ghost use Rattle.smith_draw.specs.Offered.{abstract_subtypes, gc_subtypes, kinds_below, of_kinds, subtypes_offered};
 ghost use Rattle.smith_draw.specs.MatchingTypes.{
   first_and_passing,
   references_offered,
@@ -35,13 +36,16 @@ ghost use Rattle.smith_draw.specs.MatchingTypes.{
 };
 
 use crate::each::{Replacement, draw_each};
-use crate::offered::{count_subtypes, offered_subtype};
+use crate::offered::{
+    abstract_subtypes, count_abstract, count_concrete_subtypes, count_subtypes, kinds_below,
+    offered_abstract, offered_concrete_subtype, offered_subtype,
+};
 use crate::spaces::{Spaces, orderly};
 use crate::standing::Standing;
 use crate::super_type::Above;
 use smith_bytes::{Error, Unstructured};
 use smith_config::Config;
-use smith_types::{FieldType, FuncType, HeapType, RefType, StorageType, TypeSpace, ValType};
+use smith_types::{AbstractHeapType, FieldType, FuncType, HeapType, RefType, StorageType, TypeSpace, ValType};
 use std::alloc::Global;
 
 fn draw_matching_heap_type(
@@ -55,9 +59,53 @@ fn draw_matching_heap_type(
     if !config.gc_enabled {
         return Ok(ty);
     }
-    let count = count_subtypes(config, space, ty);
+    Ok(draw_subtype(config, space, ty, u))
+}
+
+/// Draws one of the subtypes of `ty` that are offered with garbage collection.
+fn draw_subtype(
+    config: &Config,
+    space: &TypeSpace,
+    ty: HeapType,
+    u: &mut Unstructured<'_>,
+) -> HeapType
+    ensures { AlwaysDraws (chosen_at ty (gc_subtypes config.now space.now.types ty) u.old) result u.old u.new }
+{
+    match ty {
+        HeapType::Abstract { shared, ty } => draw_abstract_subtype(space, shared, ty, u),
+        HeapType::Concrete(index) => draw_concrete_subtype(config, space, index, u),
+        HeapType::Exact(_) => ty,
+    }
+}
+
+/// Draws one of the subtypes that are offered of the abstract type `ty`, shared or not as `shared` says.
+fn draw_abstract_subtype(
+    space: &TypeSpace,
+    shared: bool,
+    ty: AbstractHeapType,
+    u: &mut Unstructured<'_>,
+) -> HeapType
+    ensures { AlwaysDraws (chosen_at (Abstract shared ty) (map (Abstract shared) (abstract_subtypes ty) ++ of_kinds space.now.types shared (kinds_below ty)) u.old) result u.old u.new }
+{
+    let abstracts = abstract_subtypes(ty);
+    let kinds = kinds_below(ty);
+    let count = count_abstract(space, shared, abstracts, kinds);
     let place = u.int_in_range(0..=count - 1);
-    Ok(offered_subtype(config, space, ty, place))
+    offered_abstract(space, shared, abstracts, kinds, place)
+}
+
+/// Draws one of the subtypes that are offered of the type of the index `index`.
+fn draw_concrete_subtype(
+    config: &Config,
+    space: &TypeSpace,
+    index: u32,
+    u: &mut Unstructured<'_>,
+) -> HeapType
+    ensures { AlwaysDraws (chosen_at (Concrete index) (gc_subtypes config.now space.now.types (Concrete index)) u.old) result u.old u.new }
+{
+    let count = count_concrete_subtypes(config, space, index);
+    let place = u.int_in_range(0..=count - 1);
+    offered_concrete_subtype(config, space, index, place)
 }
 
 /// Draws `ty`, or a grounded one of the other subtypes that are offered of it.

@@ -69,7 +69,7 @@ pub(crate) fn offered_supertype(space: &TypeSpace, ty: HeapType, place: usize) -
 
 /// Returns the number of the abstract types `abstracts` and of the concrete types of the kinds `kinds`, all of them shared, or all of
 /// them not, as `shared` says.
-fn count_abstract(
+pub(crate) fn count_abstract(
     space: &TypeSpace,
     shared: bool,
     abstracts: &[AbstractHeapType],
@@ -86,7 +86,7 @@ fn count_abstract(
 }
 
 /// Returns the type at the place `place` among those that [`count_abstract`] counts, the abstract types first.
-fn offered_abstract(
+pub(crate) fn offered_abstract(
     space: &TypeSpace,
     shared: bool,
     abstracts: &[AbstractHeapType],
@@ -205,7 +205,7 @@ pub(crate) fn offered_subtype(
 }
 
 /// Returns the number of subtypes that are offered of the type of the index `index`, itself among them.
-fn count_concrete_subtypes(config: &Config, space: &TypeSpace, index: u32) -> usize
+pub(crate) fn count_concrete_subtypes(config: &Config, space: &TypeSpace, index: u32) -> usize
     ensures { result ≡ length (gc_subtypes config.now space.now.types (Concrete index)) }
 {
     let direct = count_direct(space, index);
@@ -236,7 +236,7 @@ fn count_bottom(types: &[SubType], index: u32) -> usize
 }
 
 /// Returns the one of the subtypes of the type of the index `index` at the place `place`, the type itself first.
-fn offered_concrete_subtype(
+pub(crate) fn offered_concrete_subtype(
     config: &Config,
     space: &TypeSpace,
     index: u32,
@@ -325,7 +325,7 @@ fn supertypes_of_inner(inner: &CompositeInnerType) -> &'static [AbstractHeapType
 }
 
 /// The abstract types that are offered below `ty`, `ty` itself first.
-fn abstract_subtypes(ty: AbstractHeapType) -> &'static [AbstractHeapType]
+pub(crate) fn abstract_subtypes(ty: AbstractHeapType) -> &'static [AbstractHeapType]
     ensures { result.now ≡ abstract_subtypes ty }
 {
     use AbstractHeapType::{
@@ -371,7 +371,7 @@ fn abstract_supertypes(ty: AbstractHeapType) -> &'static [AbstractHeapType]
 }
 
 /// The kinds of the concrete types that are offered below `ty`.
-fn kinds_below(ty: AbstractHeapType) -> &'static [AbstractHeapType]
+pub(crate) fn kinds_below(ty: AbstractHeapType) -> &'static [AbstractHeapType]
     ensures { result.now ≡ kinds_below ty }
 {
     use AbstractHeapType::{Any, Array, Eq, Func, Struct};

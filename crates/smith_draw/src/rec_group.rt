@@ -12,7 +12,6 @@ ghost use Rattle.smith_draw.specs.ConstBounds.{HoldsNonNullableField, HoldsUngro
 ghost use Rattle.smith_draw.specs.Drawing.{AlwaysDraws, Draws, DrawsInto};
 ghost use Rattle.smith_draw.specs.FuncSizes.{HasFewValues};
 ghost use Rattle.smith_draw.specs.Grounding.{functions_in, over};
-ghost use Rattle.smith_draw.specs.SubTypes.{sub_type_at};
 ghost use Rattle.smith_draw.specs.RecGroups.{
   types_left,
   types_until_at,
@@ -52,21 +51,6 @@ pub fn add_type(types: &mut TypeSpace, added: SubType) -> Result<u32, Error>
     types.push_type(added)
 }
 
-/// Draws a type over `types` and the functions of `entities`.
-fn draw_over(
-    alloc: Global,
-    config: &Config,
-    types: &TypeSpace,
-    entities: &Entities<'_>,
-    limit: u32,
-    u: &mut Unstructured<'_>,
-) -> Result<SubType, Error>
-    ensures { Draws (sub_type_at config.now (over (functions_in config.now entities.now) types.now.types) limit u.old) result u.old u.new }
-{
-    let standing = Standing::beside(config, types, entities);
-    draw_sub_type(alloc, config, &standing, limit, u)
-}
-
 /// Adds types to `types`, until there are `limit` types.
 #[tactic(auto, unfolding(crate::specs::RecGroups::types_until_at))]
 fn add_types(
@@ -82,7 +66,8 @@ fn add_types(
     ensures groups { OnOk result (types.new.groups ≡ types.old.groups) }
 {
     for made in types.types().len()..limit as usize {
-        let added = draw_over(alloc, config, types, entities, limit, u)?;
+        let standing = Standing::beside(config, types, entities);
+        let added = draw_sub_type(alloc, config, &standing, limit, u)?;
         add_type(types, added)?;
     }
     Ok(())

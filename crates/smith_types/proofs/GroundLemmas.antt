@@ -126,18 +126,3 @@ module _ (types : List SubType) (t : SubType) (orderly : IsOrderly types) (follo
       ],
     );
   }
-
-either_none : (b : Bool) → (b || false) ≡ b
-either_none true = refl
-either_none false = refl
-
--- the kinds with a type more
-pub kinds_more : (types : List SubType) (t : SubType) (own : Bool) (kinds : GroundKinds) → own ≡ is_ground t → AreGroundKinds types kinds
-    → AreGroundKinds (types ++ t ∷ []) (kinds_with own t.composite_type.shared kinds)
-kinds_more types t own kinds is h = rw is (record { each = λ is_shared. kind_more is_shared }) where
-  turn : (is_shared : Bool) → (kind_at kinds is_shared || is_ground_of is_shared t) ≡ list_any (is_ground_of is_shared) (types ++ t ∷ [])
-  turn is_shared = ap (λ (b : Bool). b || is_ground_of is_shared t) (h.each is_shared) ∙ ap (λ (b : Bool). list_any (is_ground_of is_shared) types || b) (sym (either_none (is_ground_of is_shared t))) ∙ sym (list_any-append (is_ground_of is_shared) types (t ∷ []))
-
-  kind_more : (is_shared : Bool) → kind_at (kinds_with (is_ground t) t.composite_type.shared kinds) is_shared ≡ list_any (is_ground_of is_shared) (types ++ t ∷ [])
-  kind_more true = turn true
-  kind_more false = turn false

@@ -348,7 +348,7 @@ impl TypeSpace {
         ensures err { OnErr result (self.new ≡ self.old) }
         ensures memory { IfErr result (λ e. e ≡ Error.Memory) }
     {
-        make_room(1, &mut self.types, &mut self.places)?;
+        make_room(&mut self.types, &mut self.places)?;
         make_ground_room(self.keeps_grounds, 1, &mut self.grounds)?;
         let types = self.types.as_slice();
         let index = types.len() as u32;
@@ -381,7 +381,10 @@ impl TypeSpace {
     {
         self.extensible.reserve(additional)?;
         make_ground_room(self.keeps_grounds, additional, &mut self.grounds)?;
-        make_room(additional, &mut self.types, &mut self.places)
+        if additional > self.types.capacity() - self.types.len() {
+            grow(additional, &mut self.types, &mut self.places)?;
+        }
+        Ok(())
     }
 
     /// Adds a group, maybe empty, of the types behind the last group.
@@ -454,8 +457,23 @@ impl TypeSpace {
     }
 }
 
-// Makes room for `additional` more types in each of `types` and `places`, which grow together.
-fn make_room(
+// Makes room for one more type in each of `types` and `places`, where there is none.
+fn make_room(types: &mut Vec<SubType>, places: &mut Vec<Place>) -> Result<(), Error>
+    requires { AreBeside types.old places.old }
+    ensures beside { AreBeside types.new places.new }
+    ensures types { types.new.items ≡ types.old.items }
+    ensures places { places.new.items ≡ places.old.items }
+    ensures room { OnOk result (vec_len types.new < vec_capacity types.new) }
+    ensures memory { IfErr result (λ e. e ≡ Error.Memory) }
+{
+    if types.len() == types.capacity() {
+        grow(1, types, places)?;
+    }
+    Ok(())
+}
+
+// Makes room for at least `additional` more types in each of `types` and `places`, which grow together.
+fn grow(
     additional: usize,
     types: &mut Vec<SubType>,
     places: &mut Vec<Place>,
@@ -467,9 +485,6 @@ fn make_room(
     ensures room { OnOk result (vec_len types.new + additional ≤ vec_capacity types.new) }
     ensures memory { IfErr result (λ e. e ≡ Error.Memory) }
 {
-    if additional <= types.capacity() - types.len() {
-        return Ok(());
-    }
     let more = additional.max(types.len()).max(LEAST_ROOM);
     places.reserve_exact(more)?;
     Ok(types.reserve_exact(more)?)

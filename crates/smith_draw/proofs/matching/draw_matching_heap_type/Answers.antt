@@ -1,4 +1,4 @@
-use Rattle.std.proofs.Common.{rules}
+use Rattle.std.proofs.Common.{◌∙◌, rules}
 use Rattle.smith_draw.proofs.ChosenLemmas.{matching_without_gc, matching_with_gc}
 use Rattle.smith_draw.proofs.matching.draw_matching_heap_type.Goals as goal
 
@@ -7,7 +7,7 @@ returns-then-not-config c = record { exact = matching_without_gc _ _ _ _ c.if-no
 
 pub returns : goal.returns
 returns c = record {
-  exact = matching_with_gc _ _ _ _ _ _ _ _ c.if-not-config.false c.count_subtypes-count.ensures (rw (c.new.ensures.start, c.new.ensures.end) at c.int_in_range-place.ensures.exact) c.offered_subtype.ensures;
+  exact = matching_with_gc _ _ _ _ c.if-not-config.false ∙ c.draw_subtype.ensures.exact;
   memory = search rules;
-  left = search rules;
+  left = c.draw_subtype.ensures.left;
 }
