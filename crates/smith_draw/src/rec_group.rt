@@ -28,7 +28,6 @@ ghost use Rattle.smith_draw.specs.RecGroups.{
 ghost use Rattle.smith_draw.specs.Spelling.{IsRoot, SpellsAdded, SpellsSpace};
 
 use crate::spaces::Entities;
-use crate::standing::Standing;
 use crate::sub_type::draw_sub_type;
 use smith_bytes::{Error, Unstructured};
 use smith_config::Config;
@@ -66,8 +65,7 @@ fn add_types(
     ensures groups { OnOk result (types.new.groups ≡ types.old.groups) }
 {
     for made in types.types().len()..limit as usize {
-        let standing = Standing::beside(config, types, entities);
-        let added = draw_sub_type(alloc, config, &standing, limit, u)?;
+        let added = draw_sub_type(alloc, config, types, entities, limit, u)?;
         add_type(types, added)?;
     }
     Ok(())

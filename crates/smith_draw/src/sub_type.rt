@@ -6,7 +6,7 @@ ghost use Rattle.smith_types.specs.ValidTypes.{values_of, IsTypeValid};
 ghost use Rattle.smith_config.specs.Features.{features_of};
 ghost use Rattle.smith_config.specs.Sanitized.{IsSanitized};
 ghost use Rattle.smith_draw.specs.Drawing.{AlwaysDraws, Draws};
-ghost use Rattle.smith_draw.specs.Grounding.{standing_in};
+ghost use Rattle.smith_draw.specs.Grounding.{functions_in, over, standing_in};
 ghost use Rattle.smith_draw.specs.SubTypes.{
   supertypes,
   is_final_at,
@@ -23,7 +23,7 @@ ghost use Rattle.smith_draw.specs.Spelling.{IsRoot, RefersTo, SpellsSubType};
 use crate::choice::choose;
 use crate::composite_type::draw_composite_type;
 use crate::matching_composite::draw_matching_composite_type;
-use crate::spaces::{Spaces, orderly};
+use crate::spaces::{Entities, Spaces, orderly};
 use crate::standing::Standing;
 use smith_bytes::{Error, Unstructured};
 use smith_config::Config;
@@ -123,22 +123,24 @@ fn is_supertype_wanted(config: &Config, count: usize, u: &mut Unstructured<'_>) 
     u.ratio(1u32, 32)
 }
 
-/// Draws a type below a type that may have subtypes, or without a supertype.
+/// Draws a type over `types` and the functions of `entities`: below a type that may have subtypes, or without a supertype.
 #[tactic(auto, unfolding(crate::specs::SubTypes::sub_type_at))]
 pub(crate) fn draw_sub_type(
     alloc: Global,
     config: &Config,
-    standing: &Standing<'_>,
+    types: &TypeSpace,
+    entities: &Entities<'_>,
     limit: u32,
     u: &mut Unstructured<'_>,
 ) -> Result<SubType, Error>
-    ensures { Draws (sub_type_at config.now standing.now limit u.old) result u.old u.new }
+    ensures { Draws (sub_type_at config.now (over (functions_in config.now entities.now) types.now.types) limit u.old) result u.old u.new }
 {
-    let indices = supertypes(standing.types());
+    let standing = Standing::beside(config, types, entities);
+    let indices = supertypes(types);
     if is_supertype_wanted(config, indices.len(), u) {
-        return draw_sub_type_of(alloc, config, standing, limit, indices, u);
+        return draw_sub_type_of(alloc, config, &standing, limit, indices, u);
     }
-    draw_root_type(alloc, config, standing, limit, u)
+    draw_root_type(alloc, config, &standing, limit, u)
 }
 
 /// Draws a subtype: below a type of `spaces` that may have subtypes, or without a supertype. Without garbage collection the
@@ -158,8 +160,7 @@ pub fn arbitrary_sub_type(
     ensures follows { IfOk result (HasSuperType spaces.now.types.now.types) }
     ensures reach { All IsRoot spaces.now.types.now.types → IfOk result (λ drawn. Takes (SpellsSuch (λ t. All (RefersTo config.now spaces.now.types.now.types) (values_of t.composite_type.inner)) (SpellsSubType config.now spaces.now.types.now.types limit)) u.old drawn u.new) }
 {
-    let standing = Standing::over(config, spaces);
-    draw_sub_type(alloc, config, &standing, limit, u)
+    draw_sub_type(alloc, config, spaces.types, &spaces.entities, limit, u)
 }
 
 /// Draws a subtype below a type of `spaces` that may have subtypes. The standard's section Structure, Recursive Types.

@@ -7,10 +7,10 @@ use Rattle.smith_draw.proofs.DrawingLemmas.{of_drawn}
 use Rattle.smith_draw.proofs.sub_type.arbitrary_sub_type.Goals as goal
 
 pub returns-clause-valid : goal.returns-clause-valid
-returns-clause-valid c = λ valid. of_drawn _ (rw c.over-standing.ensures at c.draw_sub_type.ensures) (sub_type_valid _ (functions_in c.args.config.now c.args.spaces.now.entities) _ _ _ c.requires.sanitized valid)
+returns-clause-valid c = λ valid. of_drawn _ c.draw_sub_type.ensures (sub_type_valid _ (functions_in c.args.config.now c.args.spaces.now.entities) _ _ _ c.requires.sanitized valid)
 
 pub returns-clause-follows : goal.returns-clause-follows
-returns-clause-follows c = of_drawn _ (rw c.over-standing.ensures at c.draw_sub_type.ensures) (sub_type_follows _ _ _ _)
+returns-clause-follows c = of_drawn _ c.draw_sub_type.ensures (sub_type_follows _ _ _ _)
 
 pub returns-clause-reach : goal.returns-clause-reach
-returns-clause-reach c = λ roots. IfOk-weaker c.draw_sub_type.result _ _ (λ _ e. sub_type_taken c.args.config.now (standing_in c.args.config.now c.args.spaces.now) refl _ _ _ _ c.requires.sanitized roots e) (rw c.over-standing.ensures at c.draw_sub_type.ensures.exact)
+returns-clause-reach c = λ roots. IfOk-weaker c.draw_sub_type.result _ _ (λ _ e. sub_type_taken c.args.config.now (standing_in c.args.config.now c.args.spaces.now) refl _ _ _ _ c.requires.sanitized roots e) c.draw_sub_type.ensures.exact
