@@ -1,5 +1,5 @@
 -- How many heap types are offered in place of one, and which of them stands at a place.
-use Rattle.std.proofs.Common.{rules, ◌≡◌, ℕ, zero, suc, ◌+◌, ◌-◌, ◌<◌, ◌≤◌, Bool, true, false, not, ◌&&◌, List, [], ◌∷◌, ◌++◌, map, Option, Some, None, length, get_or, drop, refl, sym, ◌∙◌, ap, subst, arith, drop-cons}
+use Rattle.std.proofs.Common.{rules, ◌≡◌, ℕ, zero, suc, ◌+◌, ◌-◌, ◌<◌, ◌≤◌, Bool, true, false, not, ◌&&◌, List, [], ◌∷◌, ◌++◌, map, Option, Some, None, length, get_or, drop, refl, sym, ◌∙◌, ap, subst, arith, lit<, drop-cons}
 use Rattle.std.specs.Prelude.{slice_get, if◌then◌else◌}
 use Rattle.std.proofs.lemmas.Option.{slice_get-map}
 use Rattle.std.specs.Option.{option_map}
@@ -70,6 +70,16 @@ kinds_counted types s ks i n kind d inside is count =
     ap length (kinds_turn types s ks i d inside)
     ∙ length-append (map Concrete (indices_of_kind types s (get_or ks i d))) (of_kinds types s (drop (i + 1) ks))
     ∙ ap (λ (m : ℕ). m + length (of_kinds types s (drop (i + 1) ks))) (length-map (indices_of_kind types s (get_or ks i d)) Concrete ∙ ap (λ k. length (indices_of_kind types s k)) (sym is) ∙ sym count)
+
+-- one kind, and two
+pub one_kind : (types : List SubType) (s : Bool) (kind : AbstractHeapType) → length (of_kinds types s (kind ∷ [])) ≡ length (indices_of_kind types s kind)
+one_kind types s kind = let counted = kinds_counted types s (kind ∷ []) 0 (length (indices_of_kind types s kind)) kind kind (lit< tt) refl refl in omega (arith, counted)
+
+pub two_kinds : (types : List SubType) (s : Bool) (a b : AbstractHeapType) → length (of_kinds types s (a ∷ b ∷ [])) ≡ length (of_kinds types s (a ∷ [])) + length (of_kinds types s (b ∷ []))
+two_kinds types s a b =
+    let both = kinds_counted types s (a ∷ b ∷ []) 0 (length (indices_of_kind types s a)) a a (lit< tt) refl refl in
+    let first = one_kind types s a in
+    omega (arith, both, first)
 
 -- the place is within the next kind
 pub kinds_here : (types : List SubType) (s : Bool) (ks : List AbstractHeapType) (i place found : ℕ) (kind d : AbstractHeapType) → i < length ks → kind ≡ get_or ks i d → slice_get (indices_of_kind types s kind) place ≡ Some found

@@ -37,7 +37,7 @@ ghost use Rattle.smith_draw.specs.MatchingTypes.{
 
 use crate::each::{Replacement, draw_each};
 use crate::offered::{
-    abstract_subtypes, count_abstract, count_concrete_subtypes, count_subtypes, kinds_below,
+    abstract_subtypes, count_concrete_subtypes, count_of_kinds_below, count_subtypes, kinds_below,
     offered_abstract, offered_concrete_subtype, offered_subtype,
 };
 use crate::spaces::{Spaces, orderly};
@@ -89,7 +89,7 @@ fn draw_abstract_subtype(
 {
     let abstracts = abstract_subtypes(ty);
     let kinds = kinds_below(ty);
-    let count = count_abstract(space, shared, abstracts, kinds);
+    let count = abstracts.len() + count_of_kinds_below(space, shared, ty);
     let place = u.int_in_range(0..=count - 1);
     offered_abstract(space, shared, abstracts, kinds, place)
 }

@@ -14,6 +14,7 @@ ghost use Rattle.std.specs.Prelude.{
   if◌then◌else◌,
 };
 ghost use Rattle.smith_types.specs.declared.value_type.HeapType.TheVariants.{Abstract, Concrete, Exact};
+ghost use Rattle.smith_types.specs.declared.value_type.AbstractHeapType.TheVariants.{Array, Struct};
 ghost use Rattle.smith_types.specs.Types.{IsOrderly};
 ghost use Rattle.smith_draw.specs.Offered.{
   abstract_subtypes,
@@ -69,7 +70,7 @@ pub(crate) fn offered_supertype(space: &TypeSpace, ty: HeapType, place: usize) -
 
 /// Returns the number of the abstract types `abstracts` and of the concrete types of the kinds `kinds`, all of them shared, or all of
 /// them not, as `shared` says.
-pub(crate) fn count_abstract(
+fn count_abstract(
     space: &TypeSpace,
     shared: bool,
     abstracts: &[AbstractHeapType],
@@ -83,6 +84,38 @@ pub(crate) fn count_abstract(
         count += space.count_of_kind(shared, *kind) as usize;
     }
     count
+}
+
+/// Returns the number of concrete types that are offered below the abstract type `ty`, shared or not as `shared` says.
+pub(crate) fn count_of_kinds_below(space: &TypeSpace, shared: bool, ty: AbstractHeapType) -> usize
+    ensures count { result ≡ length (of_kinds space.now.types shared (kinds_below ty)) }
+    ensures few { result < 2 ^ 33 }
+{
+    match ty {
+        AbstractHeapType::Any => count_of_aggregates(space, shared),
+        AbstractHeapType::Eq => count_of_aggregates(space, shared),
+        AbstractHeapType::Struct => count_of_kind(space, shared, AbstractHeapType::Struct),
+        AbstractHeapType::Array => count_of_kind(space, shared, AbstractHeapType::Array),
+        AbstractHeapType::Func => count_of_kind(space, shared, AbstractHeapType::Func),
+        _ => 0,
+    }
+}
+
+/// Returns the number of array and struct types, shared or not as `shared` says.
+fn count_of_aggregates(space: &TypeSpace, shared: bool) -> usize
+    ensures count { result ≡ length (of_kinds space.now.types shared (Array ∷ Struct ∷ [])) }
+    ensures few { result < 2 ^ 33 }
+{
+    count_of_kind(space, shared, AbstractHeapType::Array)
+        + count_of_kind(space, shared, AbstractHeapType::Struct)
+}
+
+/// Returns the number of types of the kind `kind`, shared or not as `shared` says.
+fn count_of_kind(space: &TypeSpace, shared: bool, kind: AbstractHeapType) -> usize
+    ensures count { result ≡ length (of_kinds space.now.types shared (kind ∷ [])) }
+    ensures few { result < 2 ^ 32 }
+{
+    space.count_of_kind(shared, kind) as usize
 }
 
 /// Returns the type at the place `place` among those that [`count_abstract`] counts, the abstract types first.
@@ -178,7 +211,7 @@ pub(crate) fn count_subtypes(config: &Config, space: &TypeSpace, ty: HeapType) -
 {
     match ty {
         HeapType::Abstract { shared, ty } => {
-            count_abstract(space, shared, abstract_subtypes(ty), kinds_below(ty))
+            abstract_subtypes(ty).len() + count_of_kinds_below(space, shared, ty)
         }
         HeapType::Concrete(index) => count_concrete_subtypes(config, space, index),
         HeapType::Exact(_) => 1,

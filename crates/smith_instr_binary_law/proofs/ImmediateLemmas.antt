@@ -1,11 +1,10 @@
 -- Immediates have one meaning.
-use Rattle.std.proofs.Common.{◌≡◌, ℕ, ◌+◌, ◌^◌, ◌<◌, ◌≤◌, Bool, true, false, List, [], ◌∷◌, ◌++◌, length, refl, sym, ap, ◌∙◌, arith}
-use Rattle.std.specs.Prelude.{ℤ, pos, ◌==◌, if◌then◌else◌}
-use Rattle.smith_binary.specs.Pieces.{Is, IsByte, Joined, IsList}
+use Rattle.std.proofs.Common.{◌≡◌, ℕ, ◌+◌, ◌^◌, ◌≤◌, Bool, true, false, List, [], ◌∷◌, ◌++◌, refl, sym, ap, ◌∙◌, arith}
+use Rattle.std.specs.Prelude.{pos, ◌==◌, if◌then◌else◌}
+use Rattle.smith_binary.specs.Pieces.{IsByte, Joined, IsList}
 use Rattle.smith_binary.specs.Unambiguous.{Same, IsUnambiguous}
-use Rattle.smith_binary.proofs.UnambiguousLemmas.{SameTwo, unsigned_is_unambiguous, signed_is_unambiguous, byte_is_unambiguous, first_same, joined_same, list_is_unambiguous, same_front}
+use Rattle.smith_binary.proofs.UnambiguousLemmas.{unsigned_is_unambiguous, signed_is_unambiguous, byte_is_unambiguous, first_same, joined_same, list_is_unambiguous, same_front}
 use Rattle.smith_types.specs.declared.value_type.HeapType.{HeapType}
-use Rattle.smith_types.specs.declared.value_type.RefType.{RefType}
 use Rattle.smith_types.specs.declared.value_type.ValType.{ValType}
 use Rattle.smith_types.specs.declared.value_type.ValType.TheVariants.{I32, I64, F32, F64, V128, Ref}
 use Rattle.smith_sections.specs.Types.{IsValType}

@@ -1,18 +1,18 @@
 -- Instructions, expressions and bodies have one meaning.
-use Rattle.std.proofs.Common.{◌≡◌, ℕ, ◌+◌, ◌≤◌, Bool, List, [], ◌∷◌, ◌++◌, length, Some, None, Option, refl, sym, subst, ap, ◌∙◌, arith, append_assoc, length-append}
-use Rattle.smith_binary.specs.Pieces.{IsByte, Joined, Each}
+use Rattle.std.proofs.Common.{◌≡◌, ℕ, ◌+◌, ◌≤◌, Bool, List, [], ◌∷◌, ◌++◌, length, Some, refl, sym, subst, ap, ◌∙◌, arith, append_assoc, length-append}
+use Rattle.smith_binary.specs.Pieces.{Joined, Each}
 use Rattle.smith_binary.specs.Unambiguous.{Same, IsUnambiguous, IsUnambiguousWhole}
 use Rattle.smith_binary.proofs.UnambiguousLemmas.{first_same, same_tail, sized_is_unambiguous}
 use Rattle.smith_types.specs.declared.value_type.ValType.{ValType}
-use Rattle.smith_encode_law.proofs.HeadLemmas.{Begins, joined_begins, begins_as}
+use Rattle.smith_encode_law.proofs.HeadLemmas.{joined_begins, begins_as}
 use Rattle.smith_encode_law.proofs.ModuleLemmas.{locals_are_unambiguous}
 use Rattle.smith_instr.specs.declared.instr.Instr.{Instr}
 use Rattle.smith_instr.specs.declared.instr.Instr.TheVariants as instr
 use Rattle.smith_instr_binary.specs.Bodies.{IsFunc, IsFuncBody}
-use Rattle.smith_instr_binary.specs.Instructions.{IsInstr, IsInstrs, IsExpr}
+use Rattle.smith_instr_binary.specs.Instructions.{IsInstr, IsExpr}
 use Rattle.smith_instr_binary.specs.Nesting.{blocks_after, AreNested}
-use Rattle.smith_instr_binary_law.proofs.OpcodeLemmas.{Opcode, IsOpcode, opcode_same, opcode_begins}
-use Rattle.smith_instr_binary_law.proofs.ShapeLemmas.{Shape, AreImmediates, shaped_same}
+use Rattle.smith_instr_binary_law.proofs.OpcodeLemmas.{IsOpcode, opcode_same, opcode_begins}
+use Rattle.smith_instr_binary_law.proofs.ShapeLemmas.{AreImmediates, shaped_same}
 use Rattle.smith_instr_binary_law.proofs.ListedLemmas.{shape_at}
 use Rattle.smith_instr_binary_law.proofs.ViewLemmas.{View, view}
 

@@ -1,12 +1,11 @@
 -- Each instruction is in the tables of opcodes.
-use Rattle.std.proofs.Common.{◌≡◌, ℕ, zero, suc, ◌+◌, ◌<◌, Bool, true, false, List, [], ◌∷◌, refl, arith}
+use Rattle.std.proofs.Common.{◌≡◌, ℕ, Bool, true, false, List, refl}
 use Rattle.std.specs.Prelude.{◌==◌}
 use Rattle.smith_instr_binary.specs.Aggregate.{get_number}
 use Rattle.smith_instr_binary.specs.Atomic.{atomic_number}
-use Rattle.smith_instr_binary.specs.Memory.{load_opcode, store_opcode, vector_load_number}
+use Rattle.smith_instr_binary.specs.Memory.{load_opcode, store_opcode}
 use Rattle.smith_instr_binary.specs.Numeric.{int_unary_opcode, int_binary_opcode, int_compare_opcode, float_unary_opcode, float_binary_opcode, float_compare_opcode, conversion_opcode, extension_opcode, saturating_number, wide_number}
 use Rattle.smith_instr_binary.specs.References.{cast_number}
-use Rattle.smith_instr_binary.specs.VectorNumbers.{vector_unary_number, vector_float_unary_number, vector_binary_number, vector_float_binary_number, all_true_number, bitmask_number, shift_number, splat_number, extract_number, replace_number, relaxed_float_unary_number, relaxed_binary_number, relaxed_float_binary_number, relaxed_ternary_number, relaxed_float_ternary_number}
 use Rattle.smith_instr_binary_law.proofs.OpcodeLemmas.{Opcode, IsProper}
 use Rattle.smith_instr_binary_law.proofs.OpcodeLemmas.Opcode.{short, long}
 use Rattle.smith_instr_binary_law.proofs.RowLemmas.{at_row}

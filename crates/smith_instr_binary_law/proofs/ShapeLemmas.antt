@@ -1,9 +1,9 @@
 -- Instructions by the immediates after their opcode: given these, the instruction.
 use Rattle.std.proofs.Common.{◌≡◌, ℕ, List, [], ◌∷◌, ◌++◌, refl, sym, subst, ap, ◌∙◌}
 use Rattle.std.specs.Prelude.{ℤ}
-use Rattle.smith_binary.specs.Numbers.{IsUnsigned, IsSigned, IsLittleEndian, IsVector}
+use Rattle.smith_binary.specs.Numbers.{IsSigned, IsLittleEndian, IsVector}
 use Rattle.smith_binary.specs.Pieces.{Is, IsByte, Joined, IsList}
-use Rattle.smith_binary.specs.Unambiguous.{Same, IsUnambiguous}
+use Rattle.smith_binary.specs.Unambiguous.{Same}
 use Rattle.smith_binary.proofs.UnambiguousLemmas.{unsigned_is_unambiguous, signed_is_unambiguous, digits_is_unambiguous, vector_is_unambiguous, byte_is_unambiguous, list_is_unambiguous}
 use Rattle.smith_types.specs.declared.value_type.HeapType.{HeapType}
 use Rattle.smith_types.specs.declared.value_type.ValType.{ValType}

@@ -1,6 +1,6 @@
 -- Each instruction is an opcode of the tables, then its immediates.
-use Rattle.std.proofs.Common.{◌≡◌, ℕ, ◌+◌, List, [], ◌∷◌, refl}
-use Rattle.smith_binary.specs.Pieces.{Is, Joined}
+use Rattle.std.proofs.Common.{◌≡◌, ℕ, ◌+◌, List, refl}
+use Rattle.smith_binary.specs.Pieces.{Joined}
 use Rattle.smith_instr_binary.specs.Aggregate.{IsAggregate, get_number}
 use Rattle.smith_instr_binary.specs.Atomic.{atomic_number}
 use Rattle.smith_instr_binary.specs.Instructions.{IsInstr}

@@ -19,7 +19,7 @@ use Rattle.smith_instr.specs.Sequences.{IsBodyTyped}
 use Rattle.smith_instr.specs.declared.instr.Instr.{Instr}
 use Rattle.wasm_smith.specs.Termination.{AddsFuel, AnswersFuel, counter}
 use Rattle.smith_program.specs.Bodies.{AreBodiesOf, IsBodyAt, IsOfBody, function_context}
-use Rattle.smith_program.specs.Counted.{counted, counted_body}
+use Rattle.smith_program.specs.Counted.{counted_body}
 use Rattle.smith_program.specs.References.{named_in, references_of}
 use Rattle.smith_program.specs.declared.program.Body.{Body}
 use Rattle.smith_program.specs.declared.program.Body.TheVariants as body

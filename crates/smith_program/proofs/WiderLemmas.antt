@@ -1,5 +1,5 @@
 -- A body is typed as it was where its module has more globals.
-use Rattle.std.proofs.Common.{◌≡◌, ℕ, List, ◌++◌, Some, refl}
+use Rattle.std.proofs.Common.{ℕ, List, ◌++◌}
 use Rattle.std.specs.Prelude.{All}
 use Rattle.std.proofs.lemmas.List.Elements.{All-weaker}
 use Rattle.smith_types.specs.declared.entity_type.GlobalType.{GlobalType}
@@ -10,7 +10,7 @@ use Rattle.smith_instr.specs.Contexts.{BodyContext}
 use Rattle.smith_instr.specs.InstrTypes.{HasInstrType, IsBranchCast, IsCatch, IsFunctionTable}
 use Rattle.smith_instr.specs.MemoryTypes.{HasAtomicType, HasMemoryType}
 use Rattle.smith_instr.specs.ReferenceTypes.{HasReferenceType, HasTableType}
-use Rattle.smith_instr.specs.Sequences.{Stacked, CountsAs, IsFramed, IsStep, AreTyped, IsBodyTyped, nothing, step, block, loop, if_alone, if_else, try_table}
+use Rattle.smith_instr.specs.Sequences.{Stacked, CountsAs, IsFramed, AreTyped, IsBodyTyped, nothing, step, block, loop, if_alone, if_else, try_table}
 use Rattle.smith_instr.specs.declared.aggregate.AggregateInstr.{AggregateInstr}
 use Rattle.smith_instr.specs.declared.aggregate.AggregateInstr.TheVariants as aggregate
 use Rattle.smith_instr.specs.declared.atomic.AtomicAccess.{AtomicAccess}

@@ -1,19 +1,16 @@
 -- What a type space keeps of types that ground others, as types are added.
 use Rattle.std.proofs.Common.{◌≡◌, ℕ, ◌+◌, ◌<◌, Bool, true, false, List, [], ◌∷◌, ◌++◌, Option, Some, None, IsTrue, length, refl, sym, ◌∙◌, ap, subst, inl, inr, arith}
-use Rattle.std.specs.Prelude.{◌&&◌, slice_get, ◌||◌, if◌then◌else◌}
-use Rattle.std.specs.List.{list_any}
+use Rattle.std.specs.Prelude.{slice_get, if◌then◌else◌}
 use Rattle.std.proofs.lemmas.Bool.{cases_eq, cases_lt}
-use Rattle.std.proofs.lemmas.List.Folds.{list_any-append}
 use Rattle.std.proofs.lemmas.Option.{slice_get_within, none-some}
 use Rattle.std.proofs.lemmas.List.{length-append}
 use Rattle.smith_types.specs.declared.composite_type.SubType.{SubType}
 use Rattle.smith_types.specs.declared.value_type.HeapType.TheVariants.{Concrete}
 use Rattle.smith_types.specs.declared.ground.Ground.{Ground}
-use Rattle.smith_types.specs.declared.ground.GroundKinds.{GroundKinds}
 use Rattle.smith_types.specs.Types.{IsOrderly}
 use Rattle.smith_types.specs.Space.{MayFollow}
 use Rattle.smith_types.specs.Subtyping.{IsBelow, itself}
-use Rattle.smith_types.specs.Grounds.{is_ground, IsGroundBelow, own_at, below_at, AreGrounds, AreClosed, AreMarked, is_ground_of, kind_at, kinds_with, AreGroundKinds}
+use Rattle.smith_types.specs.Grounds.{is_ground, IsGroundBelow, own_at, below_at, AreGrounds, AreClosed, AreMarked}
 use Rattle.smith_types.proofs.ListLemmas.{slice_get-grown, slice_get-last, slice_get-push, slice_get-front}
 use Rattle.smith_types.proofs.GrowthLemmas.{IsBelow-grown, IsBelow-trans}
 use Rattle.smith_types.proofs.PathLemmas.{below_declared}

@@ -1,4 +1,4 @@
-use Rattle.std.proofs.Common.{◌≡◌, ℕ, [], ◌∷◌, ◌++◌, length, refl, ap, arith, length-append}
+use Rattle.std.proofs.Common.{◌≡◌, [], ◌∷◌, ◌++◌, length, refl, ap, arith, length-append}
 use Rattle.smith_binary.specs.Pieces.{Each}
 use Rattle.smith_encode_law.proofs.CheckLemmas.{both}
 use Rattle.smith_instr.specs.declared.control.BlockType.TheVariants as block
