@@ -45,7 +45,9 @@ use crate::standing::Standing;
 use crate::super_type::Above;
 use smith_bytes::{Error, Unstructured};
 use smith_config::Config;
-use smith_types::{AbstractHeapType, FieldType, FuncType, HeapType, RefType, StorageType, TypeSpace, ValType};
+use smith_types::{
+    AbstractHeapType, FieldType, FuncType, HeapType, RefType, StorageType, TypeSpace, ValType,
+};
 use std::alloc::Global;
 
 fn draw_matching_heap_type(

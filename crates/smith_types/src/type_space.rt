@@ -473,11 +473,7 @@ fn make_room(types: &mut Vec<SubType>, places: &mut Vec<Place>) -> Result<(), Er
 }
 
 // Makes room for at least `additional` more types in each of `types` and `places`, which grow together.
-fn grow(
-    additional: usize,
-    types: &mut Vec<SubType>,
-    places: &mut Vec<Place>,
-) -> Result<(), Error>
+fn grow(additional: usize, types: &mut Vec<SubType>, places: &mut Vec<Place>) -> Result<(), Error>
     requires { AreBeside types.old places.old }
     ensures beside { AreBeside types.new places.new }
     ensures types { types.new.items ≡ types.old.items }
