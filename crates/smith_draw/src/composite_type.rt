@@ -23,7 +23,7 @@ ghost use Rattle.smith_draw.specs.Spelling.{RefersTo, SpellsFuncType, SpellsStru
 use crate::field_type::draw_field_type;
 use crate::spaces::{Spaces, orderly};
 use crate::standing::Standing;
-use crate::value_type::{draw_sharedness, draw_val_type};
+use crate::value_type::{draw_sharedness, draw_val_type_among, value_classes};
 use smith_bytes::{Error, Unstructured, goes_on};
 use smith_config::Config;
 use smith_types::{
@@ -44,12 +44,14 @@ pub(crate) fn draw_val_types(
 ) -> Result<Items<ValType>, Error>
     ensures { Draws (val_types_at config.now standing.now must_share limit most u.old) result u.old u.new }
 {
+    let classes = value_classes(config);
     let mut drawn = Items::new(alloc);
     for made in 0..most {
         if !goes_on(u, made, 0) {
             return Ok(drawn);
         }
-        drawn.push(draw_val_type(config, standing, must_share, limit, u))?;
+        let value = draw_val_type_among(config, standing, classes, must_share, limit, u);
+        drawn.push(value)?;
     }
     Ok(drawn)
 }

@@ -41,7 +41,7 @@ use std::alloc::Global;
 
 /// The class of a value type, which is chosen first.
 #[derive(Clone, Copy)]
-enum ValueClass {
+pub(crate) enum ValueClass {
     I32,
     I64,
     F32,
@@ -202,7 +202,7 @@ pub fn draw_ref_type(
 }
 
 /// The classes of the value types that `config` enables.
-fn value_classes(config: &Config) -> &'static [ValueClass]
+pub(crate) fn value_classes(config: &Config) -> &'static [ValueClass]
     ensures { result.now ≡ enabled (value_classes config.now) }
 {
     use ValueClass::{F32, F64, I32, I64, Reference, V128};
@@ -241,7 +241,23 @@ fn draw_value_of_class(
     }
 }
 
+/// Draws a value type of one of `classes`, which are those that `config` enables.
 #[tactic(auto, unfolding(crate::specs::ValueTypes::val_type_at))]
+pub(crate) fn draw_val_type_among(
+    config: &Config,
+    standing: &Standing<'_>,
+    classes: &[ValueClass],
+    must_share: bool,
+    limit: u32,
+    u: &mut Unstructured<'_>,
+) -> ValType
+    requires { classes.now ≡ enabled (value_classes config.now) }
+    ensures { AlwaysDraws (val_type_at config.now standing.now must_share limit u.old) result u.old u.new }
+{
+    let class = choose(classes, u);
+    draw_value_of_class(config, standing, must_share, limit, class, u)
+}
+
 pub(crate) fn draw_val_type(
     config: &Config,
     standing: &Standing<'_>,
@@ -251,8 +267,14 @@ pub(crate) fn draw_val_type(
 ) -> ValType
     ensures { AlwaysDraws (val_type_at config.now standing.now must_share limit u.old) result u.old u.new }
 {
-    let class = choose(value_classes(config), u);
-    draw_value_of_class(config, standing, must_share, limit, class, u)
+    draw_val_type_among(
+        config,
+        standing,
+        value_classes(config),
+        must_share,
+        limit,
+        u,
+    )
 }
 
 /// Draws a heap type: a type of `spaces` below `limit`, or an abstract heap type that `config` enables. The heap type is shared
