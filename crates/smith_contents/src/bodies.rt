@@ -6,12 +6,13 @@ ghost use Rattle.smith_config.specs.Features.{features_of};
 ghost use Rattle.smith_config.specs.Sanitized.{IsSanitized};
 ghost use Rattle.smith_draw.specs.Grounding.{standing_in};
 ghost use Rattle.smith_draw.specs.Drawing.{AlwaysDraws, Draws};
+ghost use Rattle.smith_draw.specs.KeptGrounds.{AreKeptGrounds};
 ghost use Rattle.smith_contents.specs.DrawnBodies.{raw_bytes_at, is_raw_at, instructions_at, body_at, bodies_at};
 ghost use Rattle.smith_contents.specs.Held.{IsRaw};
 
 use smith_bytes::{Error, Unstructured};
 use smith_config::Config;
-use smith_draw::{Spaces, arbitrary_locals};
+use smith_draw::{KeptGrounds, Spaces, Standing, draw_locals};
 use smith_types::{Code, Instructions, Items};
 use std::alloc::Global;
 
@@ -54,13 +55,12 @@ fn draw_instructions(
 fn draw_body(
     alloc: Global,
     config: &Config,
-    spaces: &Spaces<'_>,
+    standing: &Standing<'_>,
     u: &mut Unstructured<'_>,
 ) -> Result<Code, Error>
-    requires { IsSanitized config.now }
-    ensures { Draws (body_at config.now (standing_in config.now spaces.now) u.old) result u.old u.new }
+    ensures { Draws (body_at config.now standing.now u.old) result u.old u.new }
 {
-    let locals = arbitrary_locals(alloc, config, spaces, u)?;
+    let locals = draw_locals(alloc, config, standing, u)?;
     let instructions = draw_instructions(alloc, config, u)?;
     Ok(Code {
         locals,
@@ -69,6 +69,37 @@ fn draw_body(
 }
 
 #[tactic(auto, unfolding(crate::specs::DrawnBodies::bodies_at))]
+fn draw_each_body(
+    alloc: Global,
+    config: &Config,
+    standing: &Standing<'_>,
+    count: usize,
+    u: &mut Unstructured<'_>,
+) -> Result<Items<Code>, Error>
+    ensures { Draws (bodies_at config.now standing.now count u.old) result u.old u.new }
+{
+    let mut bodies = Items::with_capacity(alloc, count)?;
+    for made in 0..count {
+        bodies.push(draw_body(alloc, config, standing, u)?)?;
+    }
+    Ok(bodies)
+}
+
+fn draw_over(
+    alloc: Global,
+    config: &Config,
+    spaces: &Spaces<'_>,
+    grounds: &KeptGrounds,
+    count: usize,
+    u: &mut Unstructured<'_>,
+) -> Result<Items<Code>, Error>
+    requires { AreKeptGrounds (standing_in config.now spaces.now) grounds.now }
+    ensures { Draws (bodies_at config.now (standing_in config.now spaces.now) count u.old) result u.old u.new }
+{
+    let kept = grounds.standing(config, spaces);
+    draw_each_body(alloc, config, &kept, count, u)
+}
+
 fn draw_bodies(
     alloc: Global,
     config: &Config,
@@ -76,14 +107,11 @@ fn draw_bodies(
     count: usize,
     u: &mut Unstructured<'_>,
 ) -> Result<Items<Code>, Error>
-    requires { IsSanitized config.now }
     ensures { Draws (bodies_at config.now (standing_in config.now spaces.now) count u.old) result u.old u.new }
 {
-    let mut bodies = Items::with_capacity(alloc, count)?;
-    for made in 0..count {
-        bodies.push(draw_body(alloc, config, spaces, u)?)?;
-    }
-    Ok(bodies)
+    let mut grounds = KeptGrounds::new();
+    grounds.keep(alloc, config, spaces)?;
+    draw_over(alloc, config, spaces, &grounds, count, u)
 }
 
 /// Draws the bodies of `count` functions: locals over the types and functions of `spaces`, then `unreachable`, or raw bytes where

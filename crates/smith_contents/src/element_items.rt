@@ -6,7 +6,6 @@ ghost use Rattle.smith_types.specs.Segments.{item_count};
 ghost use Rattle.smith_types.specs.declared.segments.Elements.TheVariants as listed;
 ghost use Rattle.smith_types.specs.declared.value_type.RefType.{RefType};
 ghost use Rattle.smith_types.specs.declared.value_type.ValType.TheVariants.{Ref};
-ghost use Rattle.smith_config.specs.Sanitized.{IsSanitized};
 ghost use Rattle.smith_draw.specs.Grounding.{standing_in};
 ghost use Rattle.smith_draw.specs.ConstBounds.{IsUngrounded, MayRefuseConstExpr};
 ghost use Rattle.smith_draw.specs.ConstFloats.{GivesNoFloat};
@@ -32,7 +31,7 @@ use crate::element_kinds::{KindChoice, is_funcref};
 use crate::offered_indices::OfferedIndices;
 use smith_bytes::{Count, Error, Unstructured, Why, goes_on};
 use smith_config::Config;
-use smith_draw::{Spaces, arbitrary_const_expr, arbitrary_matching_ref_type, arbitrary_ref_type};
+use smith_draw::{Spaces, Standing, arbitrary_const_expr, draw_matching_ref_type, draw_ref_type};
 use smith_types::{ConstInstr, Elements, Items, RefType, SubType, ValType};
 use std::alloc::Global;
 
@@ -40,19 +39,18 @@ use std::alloc::Global;
 fn draw_type_for(
     alloc: Global,
     config: &Config,
-    spaces: &Spaces<'_>,
+    standing: &Standing<'_>,
     choice: KindChoice,
     u: &mut Unstructured<'_>,
 ) -> Result<RefType, Error>
-    requires { IsSanitized config.now }
-    ensures { Draws (item_type_at config.now (standing_in config.now spaces.now) choice u.old) result u.old u.new }
+    ensures { Draws (item_type_at config.now standing.now choice u.old) result u.old u.new }
 {
-    let limit = spaces.types.types().len() as u32;
+    let limit = standing.types().types().len() as u32;
     match choice {
         KindChoice::Active(_, table) => {
-            arbitrary_matching_ref_type(alloc, config, spaces, table.element_type, u)
+            draw_matching_ref_type(alloc, config, standing, table.element_type, u)
         }
-        _ => arbitrary_ref_type(alloc, config, spaces, false, limit, u),
+        _ => Ok(draw_ref_type(config, standing, false, limit, u)),
     }
 }
 
@@ -61,17 +59,19 @@ pub(crate) fn draw_item_type(
     alloc: Global,
     config: &Config,
     spaces: &Spaces<'_>,
+    standing: &Standing<'_>,
     choice: KindChoice,
     u: &mut Unstructured<'_>,
 ) -> Result<RefType, Error>
     requires may { MayDrawElements config.now spaces.now }
+    requires standing { standing.now ≡ standing_in config.now spaces.now }
     requires offered { IsOffered config.now spaces.now.types.now.types spaces.now.entities.tables.now choice }
     ensures draws { Draws (item_type_at config.now (standing_in config.now spaces.now) choice u.old) result u.old u.new }
     ensures may { IfOk result (MayHoldItems config.now spaces.now) }
     ensures fits { IfOk result (FitsTable spaces.now.types.now.types choice) }
     ensures needed { IfOk result (λ ty. IsUngrounded config.now (standing_in config.now spaces.now) (Ref ty) → HasUngroundedElements config.now (standing_in config.now spaces.now) spaces.now.entities.tables.now) }
 {
-    draw_type_for(alloc, config, spaces, choice, u)
+    draw_type_for(alloc, config, standing, choice, u)
 }
 
 /// Whether the type at `index` is not shared.

@@ -22,7 +22,7 @@ use crate::element_offsets::draw_kind;
 use crate::offered_kinds::OfferedKinds;
 use smith_bytes::{Count, Error, Unstructured, Why, goes_on};
 use smith_config::Config;
-use smith_draw::Spaces;
+use smith_draw::{KeptGrounds, Spaces, Standing};
 use smith_types::{ElementSegment, Elements, Items};
 use std::alloc::Global;
 
@@ -45,11 +45,13 @@ fn draw_segment(
     alloc: Global,
     config: &Config,
     spaces: &Spaces<'_>,
+    standing: &Standing<'_>,
     kinds: &OfferedKinds<'_>,
     total: usize,
     u: &mut Unstructured<'_>,
 ) -> Result<ElementSegment, Error>
     requires may { MayDrawElements config.now spaces.now }
+    requires standing { standing.now ≡ standing_in config.now spaces.now }
     requires some { 0 < length kinds.now }
     requires offered { All (IsOffered config.now spaces.now.types.now.types spaces.now.entities.tables.now) kinds.now }
     requires total { total ≤ config.now.max_elements }
@@ -61,7 +63,7 @@ fn draw_segment(
 {
     let choice = kinds.choose(u);
     let (kind, hint) = draw_kind(config, spaces, choice, u);
-    let ty = draw_item_type(alloc, config, spaces, choice, u)?;
+    let ty = draw_item_type(alloc, config, spaces, standing, choice, u)?;
     let most = most_items(config, hint, total);
     let items = draw_items(alloc, config, spaces, ty, most, u)?;
     Ok(ElementSegment { kind, ty, items })
@@ -82,10 +84,12 @@ fn draw_segments(
     alloc: Global,
     config: &Config,
     spaces: &Spaces<'_>,
+    standing: &Standing<'_>,
     kinds: &OfferedKinds<'_>,
     u: &mut Unstructured<'_>,
 ) -> Result<Items<ElementSegment>, Error>
     requires may { MayDrawElements config.now spaces.now }
+    requires standing { standing.now ≡ standing_in config.now spaces.now }
     requires some { 0 < length kinds.now }
     requires offered { All (IsOffered config.now spaces.now.types.now.types spaces.now.entities.tables.now) kinds.now }
     ensures exact { Gives (λ segments. (segments, u.new)) result (element_segments_at config.now (seen_by config.now spaces.now true) kinds.now config.now.max_element_segments [] u.old) }
@@ -100,7 +104,7 @@ fn draw_segments(
         if !goes_on(u, made, config.min_element_segments) {
             return Ok(segments);
         }
-        let segment = draw_segment(alloc, config, spaces, kinds, total, u)?;
+        let segment = draw_segment(alloc, config, spaces, standing, kinds, total, u)?;
         total += item_count(&segment.items);
         segments.push(segment)?;
     }
@@ -136,7 +140,10 @@ fn draw_elements(
     if kinds.is_empty() {
         return none(alloc, config);
     }
-    draw_segments(alloc, config, spaces, &kinds, u)
+    let mut grounds = KeptGrounds::new();
+    grounds.keep(alloc, config, spaces)?;
+    let standing = grounds.standing(config, spaces);
+    draw_segments(alloc, config, spaces, &standing, &kinds, u)
 }
 
 /// Draws the element segments: at least `min_element_segments` and at most `max_element_segments` of `config`, each of at least

@@ -1,7 +1,7 @@
 use Rattle.std.proofs.Common.{rules}
 use Rattle.smith_bytes.proofs.GrowingLoop.{grow_full}
 use Rattle.smith_draw.proofs.UntilLoop.{until_go}
-use Rattle.smith_contents.proofs.bodies.draw_bodies.Goals as goal
+use Rattle.smith_contents.proofs.bodies.draw_each_body.Goals as goal
 
 pub loop-made-preserved : goal.loop-made-preserved
 loop-made-preserved c = until_go c.loop-made.invariant c.loop-made-test.true c.in_ok-draw_body.ensures.exact c.in_ok-push.ensures.ok c.draw_body.ensures.left
