@@ -1,3 +1,4 @@
+use crate::tries::refused;
 use smith_bytes::{Error, Unstructured};
 use smith_config::Config;
 use smith_memory::{Ended, Tried, refusals};
@@ -14,17 +15,22 @@ struct Counting {
 
 impl Tried for Counting {
     fn ended(&mut self, alloc: Global) -> Ended {
-        if !are_equal(&self.module, &self.copy) {
-            return Ended::Wrong("the module is another");
+        if are_equal(&self.module, &self.copy) {
+            counted(alloc, &mut self.module)
+        } else {
+            Ended::Wrong("the module is another")
         }
-        if self.module.globals().len() >= u32::MAX as usize {
-            return Ended::Wrong("there are too many globals");
-        }
-        match self.module.ensure_termination(alloc, 5) {
-            Ok(0) => Ended::Given,
-            Err(Error::Memory) => Ended::Refused,
-            _ => Ended::Wrong("the counter is another"),
-        }
+    }
+}
+
+fn counted(alloc: Global, module: &mut Module) -> Ended {
+    if module.globals().len() >= u32::MAX as usize {
+        return Ended::Wrong("there are too many globals");
+    }
+    match module.ensure_termination(alloc, 5) {
+        Ok(0) => Ended::Given,
+        Ok(_) => Ended::Wrong("the counter is another"),
+        Err(refusal) => refused(refusal),
     }
 }
 
@@ -51,12 +57,16 @@ fn function(alloc: Global) -> Result<Module, Error> {
     )
 }
 
+fn refusals_of(alloc: Global) -> Result<usize, Fail> {
+    let mut counting = Counting {
+        module: function(alloc)?,
+        copy: function(alloc)?,
+    };
+    refusals(alloc, 16, &mut counting)
+}
+
 #[test]
 fn counters(rt: HostRuntime) -> Result<(), Fail> {
-    let mut counting = Counting {
-        module: function(rt.alloc())?,
-        copy: function(rt.alloc())?,
-    };
-    assert!(rt; refusals(rt.alloc(), 16, &mut counting)? > 0);
+    assert!(rt; refusals_of(rt.alloc())? > 0);
     Ok(())
 }

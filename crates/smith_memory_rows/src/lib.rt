@@ -18,4 +18,6 @@ mod names;
 #[cfg(test)]
 mod spelled;
 #[cfg(test)]
+mod tries;
+#[cfg(test)]
 mod types;

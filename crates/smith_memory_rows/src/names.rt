@@ -1,5 +1,6 @@
+use crate::tries::is_left;
 use smith_bytes::{Error, Unstructured, unique_kebab_string, unique_string, unique_url};
-use smith_memory::{Ended, Tried, is_piece, refusals};
+use smith_memory::{Ended, Tried, refusals};
 use std::alloc::{AllocError, Global};
 use std::collections::HashSet;
 use std::test::Fail;
@@ -30,10 +31,7 @@ impl Tried for Naming {
     fn ended(&mut self, alloc: Global) -> Ended {
         let mut u = Unstructured::new(INPUT);
         let answer = named(alloc, self.kind, &mut self.names, &mut u);
-        if !u
-            .peek_bytes(u.len())
-            .is_some_and(|left| is_piece(left, INPUT))
-        {
+        if !is_left(&u, INPUT) {
             return Ended::Wrong("the source is no piece of the input");
         }
         let stand = NAMES.iter().all(|name| self.names.contains(*name));

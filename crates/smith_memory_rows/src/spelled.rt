@@ -1,4 +1,5 @@
 use crate::made_types::function;
+use crate::tries::refused;
 use smith_bytes::Error;
 use smith_config::Config;
 use smith_memory::{Ended, Tried, refusals};
@@ -11,20 +12,19 @@ use std::alloc::Global;
 use std::test::Fail;
 
 // Groups and functions that are spelled.
-#[derive(Drop)]
-struct Spelling {
-    config: Config,
-    groups: Vec<Items<SubType>>,
+#[derive(Clone, Copy)]
+struct Spelling<'a> {
+    config: &'a Config,
+    groups: &'a [Items<SubType>],
     funcs: &'static [u32],
 }
 
-impl Tried for Spelling {
+impl Tried for Spelling<'_> {
     fn ended(&mut self, alloc: Global) -> Ended {
-        match spell(alloc, &self.config, self.groups.as_slice(), self.funcs) {
+        match spell(alloc, self.config, self.groups, self.funcs) {
             Ok(Some(_)) => Ended::Given,
             Ok(None) => Ended::Wrong("nothing is spelled"),
-            Err(Error::Memory) => Ended::Refused,
-            Err(_) => Ended::Wrong("a spelling is refused for another reason"),
+            Err(refusal) => refused(refusal),
         }
     }
 }
@@ -83,21 +83,29 @@ fn functions(alloc: Global) -> Result<Vec<Items<SubType>>, Error> {
 
 fn refusals_of(
     alloc: Global,
-    groups: Vec<Items<SubType>>,
+    groups: &[Items<SubType>],
     funcs: &'static [u32],
 ) -> Result<usize, Fail> {
+    let config = Config::default();
     let mut spelling = Spelling {
-        config: Config::default(),
+        config: &config,
         groups,
         funcs,
     };
     refusals(alloc, 16, &mut spelling)
 }
 
+fn refusals_of_functions(alloc: Global) -> Result<usize, Fail> {
+    refusals_of(alloc, functions(alloc)?.as_slice(), &[0])
+}
+
+fn refusals_of_types(alloc: Global) -> Result<usize, Fail> {
+    refusals_of(alloc, array_and_struct(alloc)?.as_slice(), &[])
+}
+
 #[test]
 fn spellings(rt: HostRuntime) -> Result<(), Fail> {
-    let alloc = rt.alloc();
-    assert!(rt; refusals_of(alloc, functions(alloc)?, &[0])? > 0);
-    assert!(rt; refusals_of(alloc, array_and_struct(alloc)?, &[])? > 0);
+    assert!(rt; refusals_of_functions(rt.alloc())? > 0);
+    assert!(rt; refusals_of_types(rt.alloc())? > 0);
     Ok(())
 }
