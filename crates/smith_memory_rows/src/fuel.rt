@@ -44,29 +44,36 @@ fn are_equal(one: &Module, other: &Module) -> bool {
         && one.types() == other.types()
 }
 
-// A module of a function that takes a number.
-fn function(alloc: Global) -> Result<Module, Error> {
+// A function that takes a number.
+const INPUT: &[u8] = &[1, 1, 0, 0, 0, 0, 0, 0, 1];
+
+fn config_of_a_function() -> Config {
     let mut config = Config::default();
     config.gc_enabled = false;
     config.max_types = 1;
     config.max_funcs = 1;
-    Module::new(
-        alloc,
-        config,
-        &mut Unstructured::new(&[1, 1, 0, 0, 0, 0, 0, 0, 1]),
-    )
+    config
 }
 
-fn refusals_of(alloc: Global) -> Result<usize, Fail> {
-    let mut counting = Counting {
-        module: function(alloc)?,
-        copy: function(alloc)?,
-    };
-    refusals(alloc, 16, &mut counting)
+// A module of a function that takes a number.
+fn function(alloc: Global) -> Result<Module, Error> {
+    Module::new(alloc, config_of_a_function(), &mut Unstructured::new(INPUT))
+}
+
+fn refusals_of(alloc: Global, module: Module, copy: Module) -> Result<usize, Fail> {
+    refusals(alloc, 16, &mut Counting { module, copy })
+}
+
+fn refusals_beside_a_copy(alloc: Global, module: Module) -> Result<usize, Fail> {
+    refusals_of(alloc, module, function(alloc)?)
+}
+
+fn refusals_of_a_function(alloc: Global) -> Result<usize, Fail> {
+    refusals_beside_a_copy(alloc, function(alloc)?)
 }
 
 #[test]
 fn counters(rt: HostRuntime) -> Result<(), Fail> {
-    assert!(rt; refusals_of(rt.alloc())? > 0);
+    assert!(rt; refusals_of_a_function(rt.alloc())? > 0);
     Ok(())
 }

@@ -1,5 +1,5 @@
 use crate::made_shapes::{one_of_each, ping_and_memory, three_memories};
-use crate::tries::{config_of_memories, is_left, put, refused};
+use crate::tries::{config_of_memories, is_left, put, refused, set_minimums};
 use smith_bytes::{Error, Unstructured};
 use smith_config::Config;
 use smith_memory::{Ended, Tried, refusals};
@@ -62,26 +62,32 @@ fn set_asked(alloc: Global, config: &mut Config, asked: Asked) -> Result<(), Err
     match asked {
         Asked::Nothing => {}
         Asked::Imports => set_imports(config),
-        Asked::AvailableImports => put(&mut config.available_imports, ping_and_memory(alloc)?),
-        Asked::Exports => put(&mut config.exports, one_of_each(alloc)?),
-        Asked::ModuleShape => put(&mut config.module_shape, three_memories(alloc)?),
+        Asked::AvailableImports => return set_available_imports(alloc, config),
+        Asked::Exports => return set_exports(alloc, config),
+        Asked::ModuleShape => return set_module_shape(alloc, config),
         Asked::EachPart => set_minimums(config),
     }
+    Ok(())
+}
+
+fn set_available_imports(alloc: Global, config: &mut Config) -> Result<(), Error> {
+    put(&mut config.available_imports, ping_and_memory(alloc)?);
+    Ok(())
+}
+
+fn set_exports(alloc: Global, config: &mut Config) -> Result<(), Error> {
+    put(&mut config.exports, one_of_each(alloc)?);
+    Ok(())
+}
+
+fn set_module_shape(alloc: Global, config: &mut Config) -> Result<(), Error> {
+    put(&mut config.module_shape, three_memories(alloc)?);
     Ok(())
 }
 
 fn set_imports(config: &mut Config) {
     config.max_imports = 2;
     config.min_globals = 1;
-}
-
-fn set_minimums(config: &mut Config) {
-    config.min_types = 4;
-    config.min_tables = 1;
-    config.min_memories = 1;
-    config.min_globals = 2;
-    config.min_element_segments = 2;
-    config.min_data_segments = 1;
 }
 
 // The number of refusals before there is enough memory.

@@ -1,4 +1,4 @@
-use crate::made_types::function;
+use crate::made_types::{function, with_type};
 use crate::tries::refused;
 use smith_bytes::Error;
 use smith_config::Config;
@@ -29,14 +29,6 @@ impl Tried for Spelling<'_> {
     }
 }
 
-// A group of the type `ty` alone.
-fn add_group(alloc: Global, groups: &mut Vec<Items<SubType>>, ty: SubType) -> Result<(), Error> {
-    let mut group = Items::new(alloc);
-    group.push(ty)?;
-    groups.push(group)?;
-    Ok(())
-}
-
 // A final type of this structure.
 fn final_type(inner: CompositeInnerType) -> SubType {
     SubType {
@@ -63,22 +55,23 @@ const FIRST: FieldType = FieldType {
     mutable: true,
 };
 
-// An array of bytes, and a struct that refers to it.
-fn array_and_struct(alloc: Global) -> Result<Vec<Items<SubType>>, Error> {
-    let mut groups = Vec::new(alloc);
-    let array = CompositeInnerType::Array(ArrayType(BYTE));
-    add_group(alloc, &mut groups, final_type(array))?;
+// A struct that refers to the first type.
+fn referrer(alloc: Global) -> Result<SubType, Error> {
     let fields = Items::from_slice(alloc, &[FIRST])?;
-    let refers = CompositeInnerType::Struct(StructType { fields });
-    add_group(alloc, &mut groups, final_type(refers))?;
-    Ok(groups)
+    Ok(final_type(CompositeInnerType::Struct(StructType { fields })))
+}
+
+// An array of bytes, and a struct that refers to it.
+fn array_and_struct(alloc: Global) -> Result<Items<Items<SubType>>, Error> {
+    let array = final_type(CompositeInnerType::Array(ArrayType(BYTE)));
+    let groups = with_type(alloc, Items::new(alloc), array)?;
+    with_type(alloc, groups, referrer(alloc)?)
 }
 
 // Functions without parameters and results.
-fn functions(alloc: Global) -> Result<Vec<Items<SubType>>, Error> {
-    let mut groups = Vec::new(alloc);
-    add_group(alloc, &mut groups, function(alloc, true, &[], &[])?)?;
-    Ok(groups)
+fn functions(alloc: Global) -> Result<Items<Items<SubType>>, Error> {
+    let ty = function(alloc, true, &[], &[])?;
+    with_type(alloc, Items::new(alloc), ty)
 }
 
 fn refusals_of(

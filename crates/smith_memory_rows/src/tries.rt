@@ -25,6 +25,16 @@ pub(crate) fn config_of_memories() -> Config {
     config
 }
 
+/// Sets some of each part at least.
+pub(crate) fn set_minimums(config: &mut Config) {
+    config.min_types = 4;
+    config.min_tables = 1;
+    config.min_memories = 1;
+    config.min_globals = 2;
+    config.min_element_segments = 2;
+    config.min_data_segments = 1;
+}
+
 /// Puts `shape` into `slot`, the field of a configuration.
 pub(crate) fn put(slot: &mut Option<Shape>, shape: Shape) {
     *slot = Some(shape);
