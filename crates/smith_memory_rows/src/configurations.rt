@@ -1,5 +1,6 @@
+use crate::made_configurations::{config_of_memories, set_available_imports, set_exports};
 use crate::made_shapes::{one_of_each, ping_and_memory, three_memories};
-use crate::tries::{config_of_memories, put, refused};
+use crate::tries::refused;
 use smith_bytes::{Error, Which};
 use smith_config::{Config, Shape};
 use smith_memory::{Ended, Tried, refusals};
@@ -34,9 +35,13 @@ fn compared(copy: &Config, config: &Config) -> Ended {
     }
 }
 
+fn set_shapes(alloc: Global, config: &mut Config) -> Result<(), Error> {
+    set_exports(alloc, config)?;
+    set_available_imports(alloc, config)
+}
+
 fn refusals_of_copies(alloc: Global, config: &mut Config) -> Result<usize, Fail> {
-    put(&mut config.exports, one_of_each(alloc)?);
-    put(&mut config.available_imports, ping_and_memory(alloc)?);
+    set_shapes(alloc, config)?;
     refusals(alloc, 16, &mut Copying { config })
 }
 

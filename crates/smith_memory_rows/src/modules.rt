@@ -1,5 +1,7 @@
-use crate::made_shapes::{one_of_each, ping_and_memory, three_memories};
-use crate::tries::{config_of_memories, is_left, put, refused, set_minimums};
+use crate::made_configurations::{
+    config_of_memories, set_available_imports, set_exports, set_minimums, set_module_shape,
+};
+use crate::tries::{is_left, refused};
 use smith_bytes::{Error, Unstructured};
 use smith_config::Config;
 use smith_memory::{Ended, Tried, refusals};
@@ -67,21 +69,6 @@ fn set_asked(alloc: Global, config: &mut Config, asked: Asked) -> Result<(), Err
         Asked::ModuleShape => return set_module_shape(alloc, config),
         Asked::EachPart => set_minimums(config),
     }
-    Ok(())
-}
-
-fn set_available_imports(alloc: Global, config: &mut Config) -> Result<(), Error> {
-    put(&mut config.available_imports, ping_and_memory(alloc)?);
-    Ok(())
-}
-
-fn set_exports(alloc: Global, config: &mut Config) -> Result<(), Error> {
-    put(&mut config.exports, one_of_each(alloc)?);
-    Ok(())
-}
-
-fn set_module_shape(alloc: Global, config: &mut Config) -> Result<(), Error> {
-    put(&mut config.module_shape, three_memories(alloc)?);
     Ok(())
 }
 
