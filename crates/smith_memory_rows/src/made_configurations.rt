@@ -25,19 +25,19 @@ fn put(slot: &mut Option<Shape>, shape: Shape) {
     *slot = Some(shape);
 }
 
-/// Has one of each kind exported.
+/// Sets the exports to one of each kind.
 pub(crate) fn set_exports(alloc: Global, config: &mut Config) -> Result<(), Error> {
     put(&mut config.exports, one_of_each(alloc)?);
     Ok(())
 }
 
-/// Has a function and a memory to import.
+/// Sets the available imports to a function and a memory.
 pub(crate) fn set_available_imports(alloc: Global, config: &mut Config) -> Result<(), Error> {
     put(&mut config.available_imports, ping_and_memory(alloc)?);
     Ok(())
 }
 
-/// Has three memories that are imported.
+/// Sets the module shape to three memories that are imported.
 pub(crate) fn set_module_shape(alloc: Global, config: &mut Config) -> Result<(), Error> {
     put(&mut config.module_shape, three_memories(alloc)?);
     Ok(())

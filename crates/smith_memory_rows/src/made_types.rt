@@ -10,8 +10,8 @@ pub(crate) fn with<T: Drop>(mut items: Items<T>, item: T) -> Result<Items<T>, Er
     Ok(items)
 }
 
-/// Makes a group of the type `ty` alone.
-pub(crate) fn group_of(alloc: Global, ty: SubType) -> Result<Items<SubType>, Error> {
+// Makes a group of the type `ty` alone.
+fn group_of(alloc: Global, ty: SubType) -> Result<Items<SubType>, Error> {
     with(Items::new(alloc), ty)
 }
 
