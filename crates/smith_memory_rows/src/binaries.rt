@@ -1,3 +1,4 @@
+use crate::made_configurations::set_minimums;
 use smith_bytes::{Error, Unstructured};
 use smith_config::Config;
 use smith_encode::{EncodeError, encode};
@@ -7,41 +8,52 @@ use std::test::Fail;
 use wasm_smith::Module;
 
 // A module that is encoded.
-#[derive(Drop)]
-struct Encoding {
-    module: Module,
+#[derive(Clone, Copy)]
+struct Encoding<'a> {
+    module: &'a Module,
 }
 
-impl Tried for Encoding {
+impl Tried for Encoding<'_> {
     fn ended(&mut self, alloc: Global) -> Ended {
-        match encode(alloc, &self.module) {
-            Ok(bytes) if bytes.as_slice().starts_with(b"\0asm") => Ended::Given,
-            Err(EncodeError::Memory) => Ended::Refused,
-            _ => Ended::Wrong("the binary is another"),
-        }
+        encoded(encode(alloc, self.module))
     }
+}
+
+// What the call that answered `answer` came to.
+fn encoded(answer: Result<Vec<u8>, EncodeError>) -> Ended {
+    match answer {
+        Ok(bytes) if bytes.as_slice().starts_with(b"\0asm") => Ended::Given,
+        Err(EncodeError::Memory) => Ended::Refused,
+        _ => Ended::Wrong("the binary is another"),
+    }
+}
+
+// Some of each part.
+const PARTS: &[u8] = &[
+    1, 1, 1, 1, 0, 0, 0, 0, 0, 0, 1, 1, 0, 1, 0, 1, 1, 0, 1, 1, 1, 0, 1, 0, 1, 1, 1,
+];
+
+fn config_of_parts() -> Config {
+    let mut config = Config::default();
+    set_minimums(&mut config);
+    config
 }
 
 // A module of some of each part.
 fn module_of_parts(alloc: Global) -> Result<Module, Error> {
-    let mut config = Config::default();
-    config.min_types = 4;
-    config.min_tables = 1;
-    config.min_memories = 1;
-    config.min_globals = 2;
-    config.min_element_segments = 2;
-    config.min_data_segments = 1;
-    let input = [
-        1, 1, 1, 1, 0, 0, 0, 0, 0, 0, 1, 1, 0, 1, 0, 1, 1, 0, 1, 1, 1, 0, 1, 0, 1, 1, 1,
-    ];
-    Module::new(alloc, config, &mut Unstructured::new(&input))
+    Module::new(alloc, config_of_parts(), &mut Unstructured::new(PARTS))
+}
+
+fn refusals_of(alloc: Global, module: &Module) -> Result<usize, Fail> {
+    refusals(alloc, 16, &mut Encoding { module })
+}
+
+fn refusals_of_parts(alloc: Global) -> Result<usize, Fail> {
+    refusals_of(alloc, &module_of_parts(alloc)?)
 }
 
 #[test]
 fn binaries(rt: HostRuntime) -> Result<(), Fail> {
-    let mut encoding = Encoding {
-        module: module_of_parts(rt.alloc())?,
-    };
-    assert!(rt; refusals(rt.alloc(), 16, &mut encoding)? > 0);
+    assert!(rt; refusals_of_parts(rt.alloc())? > 0);
     Ok(())
 }

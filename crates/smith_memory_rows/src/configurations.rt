@@ -1,71 +1,106 @@
+use crate::made_configurations::{config_of_memories, set_available_imports, set_exports};
 use crate::made_shapes::{one_of_each, ping_and_memory, three_memories};
+use crate::tries::refused;
 use smith_bytes::{Error, Which};
 use smith_config::{Config, Shape};
 use smith_memory::{Ended, Tried, refusals};
 use std::alloc::Global;
 use std::test::Fail;
 
-// A copy of a configuration with two shapes.
-#[derive(Drop)]
-struct Copying {
-    config: Config,
+// A copy of a configuration.
+#[derive(Clone, Copy)]
+struct Copying<'a> {
+    config: &'a Config,
 }
 
-impl Tried for Copying {
+impl Tried for Copying<'_> {
     fn ended(&mut self, alloc: Global) -> Ended {
-        match self.config.clone(alloc) {
-            Ok(copy) if copy.exports == self.config.exports => Ended::Given,
-            Err(Error::Memory) => Ended::Refused,
-            _ => Ended::Wrong("the copy is another"),
-        }
+        copied(self.config.clone(alloc), self.config)
     }
 }
 
+// What a copy of `config` came to.
+fn copied(copy: Result<Config, Error>, config: &Config) -> Ended {
+    match copy {
+        Ok(copy) => compared(&copy, config),
+        Err(refusal) => refused(refusal),
+    }
+}
+
+fn compared(copy: &Config, config: &Config) -> Ended {
+    if copy.exports == config.exports && copy.available_imports == config.available_imports {
+        Ended::Given
+    } else {
+        Ended::Wrong("the copy is another")
+    }
+}
+
+fn set_shapes(alloc: Global, config: &mut Config) -> Result<(), Error> {
+    set_exports(alloc, config)?;
+    set_available_imports(alloc, config)
+}
+
+fn refusals_of_copies(alloc: Global, config: &mut Config) -> Result<usize, Fail> {
+    set_shapes(alloc, config)?;
+    refusals(alloc, 16, &mut Copying { config })
+}
+
+fn refusals_of_a_copy(alloc: Global) -> Result<usize, Fail> {
+    let mut config = config_of_memories();
+    refusals_of_copies(alloc, &mut config)
+}
+
+// A configuration with two shapes is copied.
 #[test]
 fn copies(rt: HostRuntime) -> Result<(), Fail> {
-    let mut copying = Copying {
-        config: Config::default(),
-    };
-    copying.config.exports = Some(one_of_each(rt.alloc())?);
-    copying.config.available_imports = Some(ping_and_memory(rt.alloc())?);
-    assert!(rt; refusals(rt.alloc(), 16, &mut copying)? > 0);
+    assert!(rt; refusals_of_a_copy(rt.alloc())? > 0);
     Ok(())
 }
 
 // A check of a shape.
-#[derive(Drop)]
-struct Checking {
-    config: Config,
-    shape: Shape,
+#[derive(Clone, Copy)]
+struct Checking<'a> {
+    config: &'a Config,
+    shape: &'a Shape,
     which: Which,
 }
 
-impl Tried for Checking {
+impl Tried for Checking<'_> {
     fn ended(&mut self, alloc: Global) -> Ended {
-        match self.shape.check(alloc, self.which, &self.config) {
+        match self.shape.check(alloc, self.which, self.config) {
             Ok(()) => Ended::Given,
-            Err(Error::Memory) => Ended::Refused,
-            Err(_) => Ended::Wrong("a shape is refused for another reason"),
+            Err(refusal) => refused(refusal),
         }
     }
 }
 
-fn refusals_of(alloc: Global, shape: Shape, which: Which) -> Result<usize, Fail> {
+fn refusals_of(alloc: Global, shape: &Shape, which: Which) -> Result<usize, Fail> {
+    let config = config_of_memories();
     let mut checking = Checking {
-        config: Config::default(),
+        config: &config,
         shape,
         which,
     };
-    checking.config.max_memories = 3;
     refusals(alloc, 16, &mut checking)
+}
+
+fn refusals_of_exports(alloc: Global) -> Result<usize, Fail> {
+    refusals_of(alloc, &one_of_each(alloc)?, Which::Exports)
+}
+
+fn refusals_of_imports(alloc: Global) -> Result<usize, Fail> {
+    refusals_of(alloc, &ping_and_memory(alloc)?, Which::AvailableImports)
+}
+
+fn refusals_of_memories(alloc: Global) -> Result<usize, Fail> {
+    refusals_of(alloc, &three_memories(alloc)?, Which::ModuleShape)
 }
 
 // A shape without types and exports is checked without memory.
 #[test]
 fn checks(rt: HostRuntime) -> Result<(), Fail> {
-    let alloc = rt.alloc();
-    assert!(rt; refusals_of(alloc, one_of_each(alloc)?, Which::Exports)? > 0);
-    assert!(rt; refusals_of(alloc, ping_and_memory(alloc)?, Which::AvailableImports)? > 0);
-    assert!(rt; refusals_of(alloc, three_memories(alloc)?, Which::ModuleShape)? == 0);
+    assert!(rt; refusals_of_exports(rt.alloc())? > 0);
+    assert!(rt; refusals_of_imports(rt.alloc())? > 0);
+    assert!(rt; refusals_of_memories(rt.alloc())? == 0);
     Ok(())
 }

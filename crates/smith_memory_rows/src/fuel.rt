@@ -1,3 +1,4 @@
+use crate::tries::refused;
 use smith_bytes::{Error, Unstructured};
 use smith_config::Config;
 use smith_memory::{Ended, Tried, refusals};
@@ -14,17 +15,22 @@ struct Counting {
 
 impl Tried for Counting {
     fn ended(&mut self, alloc: Global) -> Ended {
-        if !are_equal(&self.module, &self.copy) {
-            return Ended::Wrong("the module is another");
+        if are_equal(&self.module, &self.copy) {
+            counted(alloc, &mut self.module)
+        } else {
+            Ended::Wrong("the module is another")
         }
-        if self.module.globals().len() >= u32::MAX as usize {
-            return Ended::Wrong("there are too many globals");
-        }
-        match self.module.ensure_termination(alloc, 5) {
-            Ok(0) => Ended::Given,
-            Err(Error::Memory) => Ended::Refused,
-            _ => Ended::Wrong("the counter is another"),
-        }
+    }
+}
+
+fn counted(alloc: Global, module: &mut Module) -> Ended {
+    if module.globals().len() >= u32::MAX as usize {
+        return Ended::Wrong("there are too many globals");
+    }
+    match module.ensure_termination(alloc, 5) {
+        Ok(0) => Ended::Given,
+        Ok(_) => Ended::Wrong("the counter is another"),
+        Err(refusal) => refused(refusal),
     }
 }
 
@@ -38,25 +44,36 @@ fn are_equal(one: &Module, other: &Module) -> bool {
         && one.types() == other.types()
 }
 
-// A module of a function that takes a number.
-fn function(alloc: Global) -> Result<Module, Error> {
+// A function that takes a number.
+const INPUT: &[u8] = &[1, 1, 0, 0, 0, 0, 0, 0, 1];
+
+fn config_of_a_function() -> Config {
     let mut config = Config::default();
     config.gc_enabled = false;
     config.max_types = 1;
     config.max_funcs = 1;
-    Module::new(
-        alloc,
-        config,
-        &mut Unstructured::new(&[1, 1, 0, 0, 0, 0, 0, 0, 1]),
-    )
+    config
+}
+
+// A module of a function that takes a number.
+fn function(alloc: Global) -> Result<Module, Error> {
+    Module::new(alloc, config_of_a_function(), &mut Unstructured::new(INPUT))
+}
+
+fn refusals_of(alloc: Global, module: Module, copy: Module) -> Result<usize, Fail> {
+    refusals(alloc, 16, &mut Counting { module, copy })
+}
+
+fn refusals_beside_a_copy(alloc: Global, module: Module) -> Result<usize, Fail> {
+    refusals_of(alloc, module, function(alloc)?)
+}
+
+fn refusals_of_a_function(alloc: Global) -> Result<usize, Fail> {
+    refusals_beside_a_copy(alloc, function(alloc)?)
 }
 
 #[test]
 fn counters(rt: HostRuntime) -> Result<(), Fail> {
-    let mut counting = Counting {
-        module: function(rt.alloc())?,
-        copy: function(rt.alloc())?,
-    };
-    assert!(rt; refusals(rt.alloc(), 16, &mut counting)? > 0);
+    assert!(rt; refusals_of_a_function(rt.alloc())? > 0);
     Ok(())
 }

@@ -8,6 +8,8 @@ mod configurations;
 #[cfg(test)]
 mod fuel;
 #[cfg(test)]
+mod made_configurations;
+#[cfg(test)]
 mod made_shapes;
 #[cfg(test)]
 mod made_types;
@@ -17,5 +19,7 @@ mod modules;
 mod names;
 #[cfg(test)]
 mod spelled;
+#[cfg(test)]
+mod tries;
 #[cfg(test)]
 mod types;

@@ -1,4 +1,4 @@
-use crate::made_types::function;
+use crate::made_types::{function, with, with_type};
 use smith_bytes::Error;
 use smith_config::Shape;
 use smith_types::{
@@ -14,6 +14,9 @@ const PAGE: MemoryType = MemoryType {
     shared: false,
     page_size_log2: None,
 };
+
+// A memory of one page, as the type of an import.
+const MEMORY: EntityType = EntityType::Memory(PAGE);
 
 const TEN_PAGES: MemoryType = MemoryType {
     minimum: 1,
@@ -46,11 +49,11 @@ fn constant(val_type: ValType) -> GlobalType {
     }
 }
 
-// Makes a shape of nothing.
-fn no_shape(alloc: Global) -> Shape {
+// Makes a shape of these groups and imports, which defines and exports nothing.
+fn shape_of(alloc: Global, groups: Items<Items<SubType>>, imports: Items<Imports>) -> Shape {
     Shape {
-        groups: Items::new(alloc),
-        imports: Items::new(alloc),
+        groups,
+        imports,
         funcs: Items::new(alloc),
         tags: Items::new(alloc),
         tables: Items::new(alloc),
@@ -60,39 +63,13 @@ fn no_shape(alloc: Global) -> Shape {
     }
 }
 
-// Adds the type `ty` to `shape`, in a group of its own.
-fn add_type(alloc: Global, shape: &mut Shape, ty: SubType) -> Result<(), Error> {
-    let mut group = Items::new(alloc);
-    group.push(ty)?;
-    shape.groups.push(group)
-}
-
-// Adds an import of the type `entity_type` to `shape`, by itself.
-fn add_import(
-    alloc: Global,
-    shape: &mut Shape,
-    module: &str,
-    name: &str,
-    entity_type: EntityType,
-) -> Result<(), Error> {
-    shape.imports.push(Imports::Single(Import {
-        module: Name::from_text(alloc, module)?,
+// Makes an import from `env` by the name `name`, by itself.
+fn import_of(alloc: Global, name: &str, entity_type: EntityType) -> Result<Imports, Error> {
+    Ok(Imports::Single(Import {
+        module: Name::from_text(alloc, "env")?,
         name: Name::from_text(alloc, name)?,
         entity_type,
     }))
-}
-
-// Adds an export of the name `name` to `shape`: the entity of the index `index` in the space of the kind `kind`.
-fn add_export(
-    alloc: Global,
-    shape: &mut Shape,
-    name: &str,
-    kind: ExportKind,
-    index: u32,
-) -> Result<(), Error> {
-    shape
-        .exports
-        .push((Name::from_text(alloc, name)?, kind, index))
 }
 
 // Makes a compact group of imports from `module` by the names `texts`, each a memory of one page with a type of its own.
@@ -101,7 +78,7 @@ fn items_of(alloc: Global, module: &str, texts: &[&str]) -> Result<Imports, Erro
     for text in texts {
         items.push(ImportItem {
             name: Name::from_text(alloc, text)?,
-            entity_type: EntityType::Memory(PAGE),
+            entity_type: MEMORY,
         })?;
     }
     Ok(Imports::Compact1 {
@@ -110,81 +87,106 @@ fn items_of(alloc: Global, module: &str, texts: &[&str]) -> Result<Imports, Erro
     })
 }
 
-// Makes a compact group of imports from `module` by the names `texts`, which share the type `entity_type`.
-fn names_of(
-    alloc: Global,
-    module: &str,
-    entity_type: EntityType,
-    texts: &[&str],
-) -> Result<Imports, Error> {
+// Makes a compact group of imports from `module` by the names `texts`, memories of one page that share their type.
+fn names_of(alloc: Global, module: &str, texts: &[&str]) -> Result<Imports, Error> {
     let mut names = Items::new(alloc);
     for text in texts {
         names.push(Name::from_text(alloc, text)?)?;
     }
     Ok(Imports::Compact2 {
         module: Name::from_text(alloc, module)?,
-        entity_type,
+        entity_type: MEMORY,
         names,
     })
 }
 
-// Adds a group of each form with imports, and one of each without.
-fn add_groups(alloc: Global, imports: &mut Items<Imports>) -> Result<(), Error> {
-    let memory = EntityType::Memory(PAGE);
-    imports.push(items_of(alloc, "env", &["one"])?)?;
-    imports.push(items_of(alloc, "a", &[])?)?;
-    imports.push(names_of(alloc, "b", memory, &["two", "three"])?)?;
-    imports.push(names_of(alloc, "env", memory, &[])?)
+// Adds the group that `items_of` makes.
+fn with_items(
+    alloc: Global,
+    imports: Items<Imports>,
+    module: &str,
+    texts: &[&str],
+) -> Result<Items<Imports>, Error> {
+    with(imports, items_of(alloc, module, texts)?)
+}
+
+// Adds the group that `names_of` makes.
+fn with_names(
+    alloc: Global,
+    imports: Items<Imports>,
+    module: &str,
+    texts: &[&str],
+) -> Result<Items<Imports>, Error> {
+    with(imports, names_of(alloc, module, texts)?)
+}
+
+// Makes a group of each form with imports, and one of each without.
+fn groups_of_memories(alloc: Global) -> Result<Items<Imports>, Error> {
+    let one = with_items(alloc, Items::new(alloc), "env", &["one"])?;
+    let none = with_items(alloc, one, "a", &[])?;
+    let three = with_names(alloc, none, "b", &["two", "three"])?;
+    with_names(alloc, three, "env", &[])
 }
 
 /// Makes a shape of three memories to import, one and two in a group, with empty groups between them.
 pub(crate) fn three_memories(alloc: Global) -> Result<Shape, Error> {
-    let mut shape = no_shape(alloc);
-    add_groups(alloc, &mut shape.imports)?;
-    Ok(shape)
+    Ok(shape_of(alloc, Items::new(alloc), groups_of_memories(alloc)?))
 }
 
-// Adds the type of the function `foo`, and that of the tag `quux`.
-fn add_types(alloc: Global, shape: &mut Shape) -> Result<(), Error> {
+// Makes the type of the function `foo`, and that of the tag `quux`.
+fn types_of_each(alloc: Global) -> Result<Items<Items<SubType>>, Error> {
     let foo = function(alloc, true, &[ValType::I32], &[ValType::I64])?;
-    add_type(alloc, shape, foo)?;
-    let quux = function(alloc, true, &[ValType::F32], &[])?;
-    add_type(alloc, shape, quux)
+    let groups = with_type(alloc, Items::new(alloc), foo)?;
+    with_type(alloc, groups, function(alloc, true, &[ValType::F32], &[])?)
 }
 
-// Adds one definition of each kind.
-fn define(shape: &mut Shape) -> Result<(), Error> {
-    shape.funcs.push(0)?;
-    shape.tags.push(1)?;
-    shape.globals.push(constant(ValType::F32))?;
-    shape.memories.push(TEN_PAGES)?;
-    shape.tables.push(EXTERNAL_TABLE)
-}
+// The name and the kind of each export, of the index 0.
+const EXPORTS: [(&str, ExportKind); 5] = [
+    ("foo", ExportKind::Func),
+    ("bar", ExportKind::Global),
+    ("baz", ExportKind::Memory),
+    ("qux", ExportKind::Table),
+    ("quux", ExportKind::Tag),
+];
 
 // Exports the first of each kind.
-fn export_each(alloc: Global, shape: &mut Shape) -> Result<(), Error> {
-    add_export(alloc, shape, "foo", ExportKind::Func, 0)?;
-    add_export(alloc, shape, "bar", ExportKind::Global, 0)?;
-    add_export(alloc, shape, "baz", ExportKind::Memory, 0)?;
-    add_export(alloc, shape, "qux", ExportKind::Table, 0)?;
-    add_export(alloc, shape, "quux", ExportKind::Tag, 0)
+fn exports_of_each(alloc: Global) -> Result<Items<(Name, ExportKind, u32)>, Error> {
+    let mut exports = Items::new(alloc);
+    for (name, kind) in EXPORTS {
+        exports.push((Name::from_text(alloc, name)?, kind, 0))?;
+    }
+    Ok(exports)
 }
 
 /// Makes a shape of an export of each kind: a function from i32 to i64, a constant f32, a memory, a table, and a tag of an f32.
 pub(crate) fn one_of_each(alloc: Global) -> Result<Shape, Error> {
-    let mut shape = no_shape(alloc);
-    add_types(alloc, &mut shape)?;
-    define(&mut shape)?;
-    export_each(alloc, &mut shape)?;
-    Ok(shape)
+    Ok(Shape {
+        groups: types_of_each(alloc)?,
+        imports: Items::new(alloc),
+        funcs: Items::from_slice(alloc, &[0])?,
+        tags: Items::from_slice(alloc, &[1])?,
+        tables: Items::from_slice(alloc, &[EXTERNAL_TABLE])?,
+        memories: Items::from_slice(alloc, &[TEN_PAGES])?,
+        globals: Items::from_slice(alloc, &[constant(ValType::F32)])?,
+        exports: exports_of_each(alloc)?,
+    })
+}
+
+// Makes the type of the function `ping`.
+fn type_of_ping(alloc: Global) -> Result<Items<Items<SubType>>, Error> {
+    let ping = function(alloc, true, &[ValType::I32], &[])?;
+    with_type(alloc, Items::new(alloc), ping)
+}
+
+// Makes the imports `ping` and `memory`.
+fn ping_and_memory_imports(alloc: Global) -> Result<Items<Imports>, Error> {
+    let ping = import_of(alloc, "ping", EntityType::Func(0))?;
+    let imports = with(Items::new(alloc), ping)?;
+    with(imports, import_of(alloc, "memory", MEMORY)?)
 }
 
 /// Makes a shape of a function that takes an i32, and of a memory, to import.
 pub(crate) fn ping_and_memory(alloc: Global) -> Result<Shape, Error> {
-    let mut shape = no_shape(alloc);
-    let ping = function(alloc, true, &[ValType::I32], &[])?;
-    add_type(alloc, &mut shape, ping)?;
-    add_import(alloc, &mut shape, "env", "ping", EntityType::Func(0))?;
-    add_import(alloc, &mut shape, "env", "memory", EntityType::Memory(PAGE))?;
-    Ok(shape)
+    let groups = type_of_ping(alloc)?;
+    Ok(shape_of(alloc, groups, ping_and_memory_imports(alloc)?))
 }

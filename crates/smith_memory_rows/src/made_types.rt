@@ -4,6 +4,26 @@ use smith_types::{
 };
 use std::alloc::Global;
 
+/// Adds `item` to `items`, which are given back with it.
+pub(crate) fn with<T: Drop>(mut items: Items<T>, item: T) -> Result<Items<T>, Error> {
+    items.push(item)?;
+    Ok(items)
+}
+
+// Makes a group of the type `ty` alone.
+fn group_of(alloc: Global, ty: SubType) -> Result<Items<SubType>, Error> {
+    with(Items::new(alloc), ty)
+}
+
+/// Adds the type `ty` to `groups`, in a group of its own.
+pub(crate) fn with_type(
+    alloc: Global,
+    groups: Items<Items<SubType>>,
+    ty: SubType,
+) -> Result<Items<Items<SubType>>, Error> {
+    with(groups, group_of(alloc, ty)?)
+}
+
 /// Makes a struct type without fields, below the type `supertype` where that is given.
 pub(crate) fn empty_struct(alloc: Global, is_final: bool, supertype: Option<u32>) -> SubType {
     SubType {

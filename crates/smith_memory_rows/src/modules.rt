@@ -1,41 +1,49 @@
-use crate::made_shapes::{one_of_each, ping_and_memory, three_memories};
+use crate::made_configurations::{
+    config_of_memories, set_available_imports, set_exports, set_minimums, set_module_shape,
+};
+use crate::tries::{is_left, refused};
 use smith_bytes::{Error, Unstructured};
 use smith_config::Config;
-use smith_memory::{Ended, Tried, is_piece, refusals};
+use smith_memory::{Ended, Tried, refusals};
 use std::alloc::Global;
 use std::test::Fail;
 use wasm_smith::Module;
 
 // A module that is drawn of `input`, for a copy of `config`.
-#[derive(Drop)]
-struct Drawing {
-    config: Config,
+#[derive(Clone, Copy)]
+struct Drawing<'a> {
+    config: &'a Config,
     input: &'static [u8],
 }
 
-impl Tried for Drawing {
+impl Tried for Drawing<'_> {
     fn ended(&mut self, alloc: Global) -> Ended {
-        match self.config.clone(alloc) {
-            Ok(config) => drawn(alloc, config, self.input),
-            Err(Error::Memory) => Ended::Refused,
-            Err(_) => Ended::Wrong("a copy is refused for another reason"),
-        }
+        copied(alloc, self.config.clone(alloc), self.input)
+    }
+}
+
+fn copied(alloc: Global, copy: Result<Config, Error>, input: &[u8]) -> Ended {
+    match copy {
+        Ok(config) => drawn(alloc, config, input),
+        Err(refusal) => refused(refusal),
     }
 }
 
 fn drawn(alloc: Global, config: Config, input: &[u8]) -> Ended {
     let mut u = Unstructured::new(input);
-    let answer = Module::new(alloc, config, &mut u);
-    if !u
-        .peek_bytes(u.len())
-        .is_some_and(|left| is_piece(left, input))
-    {
-        return Ended::Wrong("the source is no piece of the input");
+    let ended = made(Module::new(alloc, config, &mut u));
+    if is_left(&u, input) {
+        ended
+    } else {
+        Ended::Wrong("the source is no piece of the input")
     }
+}
+
+// What the call that answered `answer` came to.
+fn made(answer: Result<Module, Error>) -> Ended {
     match answer {
         Ok(_) => Ended::Given,
-        Err(Error::Memory) => Ended::Refused,
-        Err(_) => Ended::Wrong("a module is refused for another reason"),
+        Err(refusal) => refused(refusal),
     }
 }
 
@@ -53,38 +61,36 @@ enum Asked {
 }
 
 fn set_asked(alloc: Global, config: &mut Config, asked: Asked) -> Result<(), Error> {
-    config.max_memories = 3;
     match asked {
         Asked::Nothing => {}
-        Asked::Imports => {
-            config.max_imports = 2;
-            config.min_globals = 1;
-        }
-        Asked::AvailableImports => config.available_imports = Some(ping_and_memory(alloc)?),
-        Asked::Exports => config.exports = Some(one_of_each(alloc)?),
-        Asked::ModuleShape => config.module_shape = Some(three_memories(alloc)?),
+        Asked::Imports => set_imports(config),
+        Asked::AvailableImports => return set_available_imports(alloc, config),
+        Asked::Exports => return set_exports(alloc, config),
+        Asked::ModuleShape => return set_module_shape(alloc, config),
         Asked::EachPart => set_minimums(config),
     }
     Ok(())
 }
 
-fn set_minimums(config: &mut Config) {
-    config.min_types = 4;
-    config.min_tables = 1;
-    config.min_memories = 1;
-    config.min_globals = 2;
-    config.min_element_segments = 2;
-    config.min_data_segments = 1;
+fn set_imports(config: &mut Config) {
+    config.max_imports = 2;
+    config.min_globals = 1;
 }
 
 // The number of refusals before there is enough memory.
 fn refusals_of(alloc: Global, asked: Asked, input: &'static [u8]) -> Result<usize, Fail> {
-    let mut drawing = Drawing {
-        config: Config::default(),
-        input,
-    };
-    set_asked(alloc, &mut drawing.config, asked)?;
-    refusals(alloc, 64, &mut drawing)
+    let mut config = config_of_memories();
+    refusals_under(alloc, asked, input, &mut config)
+}
+
+fn refusals_under(
+    alloc: Global,
+    asked: Asked,
+    input: &'static [u8],
+    config: &mut Config,
+) -> Result<usize, Fail> {
+    set_asked(alloc, config, asked)?;
+    refusals(alloc, 64, &mut Drawing { config, input })
 }
 
 // A group that is cloned past the end of the input.

@@ -1,5 +1,6 @@
+use crate::tries::is_left;
 use smith_bytes::{Error, Unstructured, unique_kebab_string, unique_string, unique_url};
-use smith_memory::{Ended, Tried, is_piece, refusals};
+use smith_memory::{Ended, Tried, refusals};
 use std::alloc::{AllocError, Global};
 use std::collections::HashSet;
 use std::test::Fail;
@@ -29,19 +30,27 @@ struct Naming {
 impl Tried for Naming {
     fn ended(&mut self, alloc: Global) -> Ended {
         let mut u = Unstructured::new(INPUT);
-        let answer = named(alloc, self.kind, &mut self.names, &mut u);
-        if !u
-            .peek_bytes(u.len())
-            .is_some_and(|left| is_piece(left, INPUT))
-        {
-            return Ended::Wrong("the source is no piece of the input");
+        let ended = drawn(
+            named(alloc, self.kind, &mut self.names, &mut u),
+            &self.names,
+        );
+        if is_left(&u, INPUT) {
+            ended
+        } else {
+            Ended::Wrong("the source is no piece of the input")
         }
-        let stand = NAMES.iter().all(|name| self.names.contains(*name));
-        match answer {
-            Ok(_) if stand && self.names.len() == NAMES.len() + 1 => Ended::Given,
-            Err(Error::Memory) if stand && self.names.len() == NAMES.len() => Ended::Refused,
-            _ => Ended::Wrong("the names are others"),
-        }
+    }
+}
+
+// What the draw that answered `answer` came to, which left `names`.
+fn drawn(answer: Result<String, Error>, names: &HashSet<String>) -> Ended {
+    if !NAMES.iter().all(|name| names.contains(*name)) {
+        return Ended::Wrong("the names are others");
+    }
+    match answer {
+        Ok(_) if names.len() == NAMES.len() + 1 => Ended::Given,
+        Err(Error::Memory) if names.len() == NAMES.len() => Ended::Refused,
+        _ => Ended::Wrong("the names are others"),
     }
 }
 
@@ -66,14 +75,15 @@ fn standing(alloc: Global) -> Result<HashSet<String>, AllocError> {
     Ok(names)
 }
 
+fn refusals_of(alloc: Global, kind: Kind) -> Result<usize, Fail> {
+    let names = standing(alloc)?;
+    refusals(alloc, 16, &mut Naming { kind, names })
+}
+
 #[test]
 fn names(rt: HostRuntime) -> Result<(), Fail> {
     for kind in [Kind::Text, Kind::Kebab, Kind::Url] {
-        let mut naming = Naming {
-            kind,
-            names: standing(rt.alloc())?,
-        };
-        let refusals = refusals(rt.alloc(), 16, &mut naming)?;
+        let refusals = refusals_of(rt.alloc(), kind)?;
         assert!(rt; refusals > 0, "at {kind:?}");
     }
     Ok(())

@@ -1,4 +1,5 @@
-use crate::made_types::function;
+use crate::made_types::{function, with_type};
+use crate::tries::refused;
 use smith_bytes::Error;
 use smith_config::Config;
 use smith_memory::{Ended, Tried, refusals};
@@ -11,30 +12,21 @@ use std::alloc::Global;
 use std::test::Fail;
 
 // Groups and functions that are spelled.
-#[derive(Drop)]
-struct Spelling {
-    config: Config,
-    groups: Vec<Items<SubType>>,
+#[derive(Clone, Copy)]
+struct Spelling<'a> {
+    config: &'a Config,
+    groups: &'a [Items<SubType>],
     funcs: &'static [u32],
 }
 
-impl Tried for Spelling {
+impl Tried for Spelling<'_> {
     fn ended(&mut self, alloc: Global) -> Ended {
-        match spell(alloc, &self.config, self.groups.as_slice(), self.funcs) {
+        match spell(alloc, self.config, self.groups, self.funcs) {
             Ok(Some(_)) => Ended::Given,
             Ok(None) => Ended::Wrong("nothing is spelled"),
-            Err(Error::Memory) => Ended::Refused,
-            Err(_) => Ended::Wrong("a spelling is refused for another reason"),
+            Err(refusal) => refused(refusal),
         }
     }
-}
-
-// A group of the type `ty` alone.
-fn add_group(alloc: Global, groups: &mut Vec<Items<SubType>>, ty: SubType) -> Result<(), Error> {
-    let mut group = Items::new(alloc);
-    group.push(ty)?;
-    groups.push(group)?;
-    Ok(())
 }
 
 // A final type of this structure.
@@ -63,41 +55,50 @@ const FIRST: FieldType = FieldType {
     mutable: true,
 };
 
-// An array of bytes, and a struct that refers to it.
-fn array_and_struct(alloc: Global) -> Result<Vec<Items<SubType>>, Error> {
-    let mut groups = Vec::new(alloc);
-    let array = CompositeInnerType::Array(ArrayType(BYTE));
-    add_group(alloc, &mut groups, final_type(array))?;
+// A struct that refers to the first type.
+fn referrer(alloc: Global) -> Result<SubType, Error> {
     let fields = Items::from_slice(alloc, &[FIRST])?;
-    let refers = CompositeInnerType::Struct(StructType { fields });
-    add_group(alloc, &mut groups, final_type(refers))?;
-    Ok(groups)
+    Ok(final_type(CompositeInnerType::Struct(StructType { fields })))
+}
+
+// An array of bytes, and a struct that refers to it.
+fn array_and_struct(alloc: Global) -> Result<Items<Items<SubType>>, Error> {
+    let array = final_type(CompositeInnerType::Array(ArrayType(BYTE)));
+    let groups = with_type(alloc, Items::new(alloc), array)?;
+    with_type(alloc, groups, referrer(alloc)?)
 }
 
 // Functions without parameters and results.
-fn functions(alloc: Global) -> Result<Vec<Items<SubType>>, Error> {
-    let mut groups = Vec::new(alloc);
-    add_group(alloc, &mut groups, function(alloc, true, &[], &[])?)?;
-    Ok(groups)
+fn functions(alloc: Global) -> Result<Items<Items<SubType>>, Error> {
+    let ty = function(alloc, true, &[], &[])?;
+    with_type(alloc, Items::new(alloc), ty)
 }
 
 fn refusals_of(
     alloc: Global,
-    groups: Vec<Items<SubType>>,
+    groups: &[Items<SubType>],
     funcs: &'static [u32],
 ) -> Result<usize, Fail> {
+    let config = Config::default();
     let mut spelling = Spelling {
-        config: Config::default(),
+        config: &config,
         groups,
         funcs,
     };
     refusals(alloc, 16, &mut spelling)
 }
 
+fn refusals_of_functions(alloc: Global) -> Result<usize, Fail> {
+    refusals_of(alloc, functions(alloc)?.as_slice(), &[0])
+}
+
+fn refusals_of_types(alloc: Global) -> Result<usize, Fail> {
+    refusals_of(alloc, array_and_struct(alloc)?.as_slice(), &[])
+}
+
 #[test]
 fn spellings(rt: HostRuntime) -> Result<(), Fail> {
-    let alloc = rt.alloc();
-    assert!(rt; refusals_of(alloc, functions(alloc)?, &[0])? > 0);
-    assert!(rt; refusals_of(alloc, array_and_struct(alloc)?, &[])? > 0);
+    assert!(rt; refusals_of_functions(rt.alloc())? > 0);
+    assert!(rt; refusals_of_types(rt.alloc())? > 0);
     Ok(())
 }
