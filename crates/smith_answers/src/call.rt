@@ -3,6 +3,8 @@
 pub(crate) enum Call {
     /// A module, told by its text or its binary.
     Module(ModuleCall),
+    /// A program, told by its text or its binary.
+    Program(ProgramCall),
     /// A configuration, or a check of one or of a shape.
     Config(ConfigCall),
     /// A draw over a type space.
@@ -31,6 +33,13 @@ pub(crate) enum ModuleCall {
     Arbitrary,
     NewOfDrawn,
     EnsureTermination,
+    Encode,
+}
+
+/// How a program is told.
+#[derive(Clone, Copy)]
+pub(crate) enum ProgramCall {
+    New,
     Encode,
 }
 
@@ -173,7 +182,7 @@ pub(crate) enum SpaceCall {
 pub(crate) const RECORDED: &str = "recorded";
 
 // Each call by its name.
-static CALLS: [(&str, Call); 78] = [
+static CALLS: [(&str, Call); 80] = [
     ("Module::new", Call::Module(ModuleCall::New)),
     (
         "Module::new_internal",
@@ -189,6 +198,8 @@ static CALLS: [(&str, Call); 78] = [
         Call::Module(ModuleCall::EnsureTermination),
     ),
     ("encode", Call::Module(ModuleCall::Encode)),
+    ("Program::new", Call::Program(ProgramCall::New)),
+    ("encode of Program::new", Call::Program(ProgramCall::Encode)),
     ("Config::arbitrary", Call::Config(ConfigCall::Arbitrary)),
     ("Config::clone", Call::Config(ConfigCall::Clone)),
     ("Config::sanitize", Call::Config(ConfigCall::Sanitize)),

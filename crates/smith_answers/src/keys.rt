@@ -45,6 +45,13 @@ pub(crate) fn check_keys(case: &Case, call: Call) -> Result<(), Fault> {
 fn keys_of(call: Call) -> Keys {
     match call {
         Call::Module(call) => keys_of_module(call),
+        Call::Program(_) => Keys {
+            config: true,
+            shapes: true,
+            args: true,
+            input: true,
+            ..NONE
+        },
         Call::Config(call) => keys_of_config(call),
         Call::Draw(_) => Keys {
             config: true,

@@ -5,8 +5,8 @@
 //! - `name` says what the case shows.
 //! - `call` names the call as Rust does, such as `Module::new`, `spell` or `arbitrary_const_expr`; `call.rt` lists them.
 //!   `Module::new of Config::arbitrary` draws the configuration first and the module from what is left, `encode` adds
-//!   fuel to the module of `Module::new` for each argument and encodes it, and `recorded` makes checksums of what generated inputs
-//!   give.
+//!   fuel to the module of `Module::new` for each argument and encodes it, `Program::new` and `encode of Program::new` do so with the
+//!   program and tell what is left of the input, and `recorded` makes checksums of what generated inputs give.
 //! - `args` lists the arguments of the call: numbers in decimal, types and heap types as the text format writes them without its
 //!   abbreviations, function types and entities as shapes write them, `true` and `false`, names. What each means is said where the
 //!   call is made, in `answers`.
@@ -18,9 +18,10 @@
 //! - `inputs` is `each byte` for all inputs of one byte, `each even byte` or `each odd byte` for half of them, or `each cut` for each
 //!   front of `input`. What is wanted is then wanted of each answer.
 //!
-//! An answer is text: the text of a module as `smith_text` writes it; of `encode` the line `8 bytes, SHA-256 93a4..`, and the bytes
-//! after the word `binary` where they are at most 200; else a line for each value. A refusal is a line such as
-//! `refused: IncorrectFormat(TypeSize)`. After a draw, `left 2` says how many bytes are left, and `next 0102` which come first.
+//! An answer is text: the text of a module as `smith_text` writes it, of a program as `smith_program_text` does; of encoded ones the line
+//! `8 bytes, SHA-256 93a4..`, and the bytes after the word `binary` where they are at most 200; else a line for each value. A refusal is a
+//! line such as `refused: IncorrectFormat(TypeSize)`. After a draw, `left 2` says how many bytes are left, and `next 0102` which come
+//! first.
 //! A case wants at least one of the first four of these, none of them empty, and blanks around lines don't count:
 //!
 //! - `answer` lists all lines, or those up to a last line `...`;

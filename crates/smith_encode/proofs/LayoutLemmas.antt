@@ -16,13 +16,14 @@ use Rattle.smith_sections.specs.Imports.{IsImportGroup, IsImports}
 use Rattle.smith_sections.specs.Definitions.{IsTable, IsGlobal, initialised_table, initialised_global}
 use Rattle.smith_sections.specs.Exports.{IsExport}
 use Rattle.smith_sections.specs.Elements.{IsElement, element_of}
-use Rattle.smith_sections.specs.Codes.{IsBody, body_of}
 use Rattle.smith_sections.specs.Data.{IsData, data_of}
 use Rattle.smith_sections.specs.Sections.{IsOptionalSection, IsListSection, IsSectionIf}
-use Rattle.smith_sections.specs.Modules.{IsPreamble, IsStartSection, IsDataCount, IsModule}
+use Rattle.smith_sections.specs.Modules.{Contents, IsPreamble, IsStartSection, IsDataCount}
+use Rattle.smith_encode.specs.Around.{IsModuleAround}
 use Rattle.smith_encode.specs.Contents.{defined, contents_of}
 use Rattle.smith_encode.specs.Layout.{is_filled, id_if, writes_types, writes_imports, writes_data_count, section_ids, IsAnySection, HasSections}
 use Rattle.smith_encode.specs.Written.{IsFront, IsMiddle, IsBack}
+use Rattle.smith_encode.proofs.MappedLemmas.{section_mapped}
 
 -- pieces in order, in another grouping
 regrouped : {A B C : List ℕ → Type 0} {piece : List ℕ} → Joined (Joined A B) C piece → Joined A (Joined B C) piece
@@ -35,8 +36,12 @@ regrouped h = record {
 }
 
 -- pieces in order, each read as something else
-both_as : {A B V W : List ℕ → Type 0} (piece : List ℕ) → ((p : List ℕ) → A p → V p) → ((p : List ℕ) → B p → W p) → Joined A B piece → Joined V W piece
+pub both_as : {A B V W : List ℕ → Type 0} (piece : List ℕ) → ((p : List ℕ) → A p → V p) → ((p : List ℕ) → B p → W p) → Joined A B piece → Joined V W piece
 both_as piece one other h = record { first = h.first; second = h.second; is_first = one h.first h.is_first; is_second = other h.second h.is_second; whole = h.whole }
+
+-- a piece, then another that is read as something else
+behind : {First Second Other : List ℕ → Type 0} → ((piece : List ℕ) → Second piece → Other piece) → (piece : List ℕ) → Joined First Second piece → Joined First Other piece
+behind weaker piece h = both_as piece (λ p same. same) weaker h
 
 -- a section that is left out where it says nothing
 optional : (is_written : Bool) (id : ℕ) (SaysNothing : Type 0) (Content Other : List ℕ → Type 0) → (is_written ≡ false → SaysNothing) → ((p : List ℕ) → Content p → Other p) → (piece : List ℕ) → IsSectionIf is_written id Content piece
@@ -54,7 +59,7 @@ list_optional : {A : Type 0} (is_written : Bool) (id : ℕ) (Item : A → List �
 list_optional is_written id Item xs nothing piece h = optional is_written id (xs ≡ []) (IsList Item xs) (IsList Item xs) nothing (λ p content. content) piece h
 
 -- a list that is not filled
-not_filled : {A : Type 0} (xs : List A) → is_filled xs ≡ false → xs ≡ []
+pub not_filled : {A : Type 0} (xs : List A) → is_filled xs ≡ false → xs ≡ []
 not_filled [] e = refl
 not_filled (x ∷ xs) e = absurd (let past : length (x ∷ xs) ≤ 0 = ltb-false 0 (length (x ∷ xs)) e in omega arith)
 
@@ -97,21 +102,32 @@ middle_is m more piece h =
     (λ r last. both_as r (list_optional (is_filled m.exports) 7 IsExport m.exports (not_filled m.exports)) more last) (regrouped later)) (regrouped rest))
     (regrouped h)
 
-back_is : (m : Parts) (piece : List ℕ) → IsBack m piece
+back_is : (m : Parts) (Bodies : List ℕ → Type 0) (piece : List ℕ) → IsBack m Bodies piece
     → Joined (IsStartSection m.start)
     (Joined (IsListSection 9 IsElement (contents_of m).elements)
-    (Joined (IsDataCount (contents_of m).segments) (Joined (IsListSection 10 IsBody (contents_of m).bodies) (IsListSection 11 IsData (contents_of m).segments)))) piece
-back_is m piece h =
+    (Joined (IsDataCount (contents_of m).segments) (Joined (IsSectionIf (is_filled m.code) 10 Bodies) (IsListSection 11 IsData (contents_of m).segments)))) piece
+back_is m Bodies piece h =
     both_as piece (λ p start. start)
     (λ p rest. both_as p (list_optional (is_filled m.elems) 9 IsElement (contents_of m).elements (none_mapped element_of m.elems))
     (λ q later. both_as q
     (optional (writes_data_count m) 12 (Unit {0}) (IsUnsigned 32 (length m.segments)) (IsUnsigned 32 (length (contents_of m).segments)) (λ e. tt) (λ c count. subst (λ (n : ℕ). IsUnsigned 32 n c) (sym (length-map m.segments data_of)) count))
-    (λ r last. both_as r (list_optional (is_filled m.code) 10 IsBody (contents_of m).bodies (none_mapped (body_of m.fuel_globals) m.code)) (list_optional (is_filled m.segments) 11 IsData (contents_of m).segments (none_mapped data_of m.segments)) last)
+    (λ r last. both_as r (λ s code. code) (list_optional (is_filled m.segments) 11 IsData (contents_of m).segments (none_mapped data_of m.segments)) last)
     later) rest)
     h
 
-pub module_is : (m : Parts) (piece : List ℕ) → Joined IsPreamble (Joined (IsFront m) (Joined (IsMiddle m) (IsBack m))) piece → IsModule (contents_of m) piece
-module_is m piece h = both_as piece (λ p preamble. preamble) (λ p rest. front_is m (λ q later. middle_is m (back_is m) q later) p rest) h
+pub module_around : (m : Parts) (Bodies : List ℕ → Type 0) (piece : List ℕ) → Joined IsPreamble (Joined (IsFront m) (Joined (IsMiddle m) (IsBack m Bodies))) piece
+    → IsModuleAround (contents_of m) (IsSectionIf (is_filled m.code) 10 Bodies) piece
+module_around m Bodies piece h = both_as piece (λ p preamble. preamble) (λ p rest. front_is m (λ q later. middle_is m (back_is m Bodies) q later) p rest) h
+
+-- a module whose code section is read as something else
+pub around_as : (m : Contents) (Code Other : List ℕ → Type 0) → ((piece : List ℕ) → Code piece → Other piece) → (piece : List ℕ) → IsModuleAround m Code piece → IsModuleAround m Other piece
+around_as m Code Other weaker piece h =
+    let last : (p : List ℕ) → Joined Code (IsListSection 11 IsData m.segments) p → Joined Other (IsListSection 11 IsData m.segments) p = λ p. both_as p weaker (λ q same. same) in
+    behind (behind (behind (behind (behind (behind (behind (behind (behind (behind (behind (behind last))))))))))) piece h
+
+-- the section of a list of bodies
+pub code_section : {A B : Type 0} (P : B → List ℕ → Type 0) (f : A → B) (xs : List A) (piece : List ℕ) → IsSectionIf (is_filled xs) 10 (IsList (λ (x : A). P (f x)) xs) piece → IsListSection 10 P (map f xs) piece
+code_section P f xs piece h = list_optional (is_filled xs) 10 P (map f xs) (none_mapped f xs) piece (section_mapped (is_filled xs) 10 P f xs piece h)
 
 -- the identifiers of sections in order
 ids_joined : (xs ys : List ℕ) {piece : List ℕ} → Joined (Each IsAnySection xs) (Each IsAnySection ys) piece → Each IsAnySection (xs ++ ys) piece
@@ -165,14 +181,14 @@ middle_ids m ids more piece h =
     piece
     (regrouped h)
 
-back_ids : (m : Parts) (piece : List ℕ) → IsBack m piece
+back_ids : (m : Parts) (Bodies : List ℕ → Type 0) (piece : List ℕ) → IsBack m Bodies piece
     → Each IsAnySection (id_if (is_some m.start) 8 ++ (id_if (is_filled m.elems) 9 ++ (id_if (writes_data_count m) 12 ++ (id_if (is_filled m.code) 10 ++ id_if (is_filled m.segments) 11)))) piece
-back_ids m piece h =
+back_ids m Bodies piece h =
     ids_joined (id_if (is_some m.start) 8) _
     (both_as piece (start_id m.start)
     (one_id (is_filled m.elems) 9 (IsList IsElement (contents_of m).elements) _
-    (one_id (writes_data_count m) 12 (IsUnsigned 32 (length m.segments)) _ (one_id (is_filled m.code) 10 (IsList IsBody (contents_of m).bodies) _ (section_id (is_filled m.segments) 11 (IsList IsData (contents_of m).segments)))))
+    (one_id (writes_data_count m) 12 (IsUnsigned 32 (length m.segments)) _ (one_id (is_filled m.code) 10 Bodies _ (section_id (is_filled m.segments) 11 (IsList IsData (contents_of m).segments)))))
     h)
 
-pub sections_are : (m : Parts) (piece : List ℕ) → Joined IsPreamble (Joined (IsFront m) (Joined (IsMiddle m) (IsBack m))) piece → HasSections (section_ids m) piece
-sections_are m piece h = both_as piece (λ p preamble. preamble) (front_ids m _ (middle_ids m _ (back_ids m))) h
+pub sections_are : (m : Parts) (Bodies : List ℕ → Type 0) (piece : List ℕ) → Joined IsPreamble (Joined (IsFront m) (Joined (IsMiddle m) (IsBack m Bodies))) piece → HasSections (section_ids m) piece
+sections_are m Bodies piece h = both_as piece (λ p preamble. preamble) (front_ids m _ (middle_ids m _ (back_ids m Bodies))) h

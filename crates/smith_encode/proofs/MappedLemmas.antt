@@ -27,7 +27,7 @@ pub fault_as : {P Q : Type 0} (e : EncodeError) → (P → Q) → IsFault P e �
 fault_as Memory weaker h = tt
 fault_as TooLong weaker h = weaker h
 
-pub fault_weaker : {P Q : Type 0} (r : Result (Unit {0}) EncodeError) → (P → Q) → IfErr r (IsFault P) → IfErr r (IsFault Q)
+pub fault_weaker : {A P Q : Type 0} (r : Result A EncodeError) → (P → Q) → IfErr r (IsFault P) → IfErr r (IsFault Q)
 fault_weaker (Ok u) weaker h = tt
 fault_weaker (Err e) weaker h = fault_as e weaker h
 

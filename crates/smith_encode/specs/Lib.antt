@@ -2,3 +2,4 @@ pub mod Contents
 pub mod Layout
 pub mod TooLong
 pub mod Written
+pub mod Around

@@ -10,7 +10,6 @@ use Rattle.smith_sections.specs.Imports.{IsImportGroup}
 use Rattle.smith_sections.specs.Definitions.{IsTable, IsGlobal}
 use Rattle.smith_sections.specs.Exports.{IsExport}
 use Rattle.smith_sections.specs.Elements.{IsElement}
-use Rattle.smith_sections.specs.Codes.{IsBody}
 use Rattle.smith_sections.specs.Data.{IsData}
 use Rattle.smith_sections.specs.Sections.{IsSectionIf}
 use Rattle.smith_sections.specs.Modules.{IsStartSection}
@@ -32,10 +31,10 @@ IsMiddle m =
     (Joined (IsSectionIf (is_filled (defined m.num_defined_tags m.tags)) 13 (IsList IsTagType (contents_of m).tags))
     (Joined (IsSectionIf (is_filled m.defined_globals) 6 (IsList IsGlobal (contents_of m).globals)) (IsSectionIf (is_filled m.exports) 7 (IsList IsExport m.exports))))
 
--- the others
-abbrev pub IsBack : Parts → List ℕ → Type 0
-IsBack m =
+-- the others, where this spells the content of the code section
+abbrev pub IsBack : Parts → (List ℕ → Type 0) → List ℕ → Type 0
+IsBack m Bodies =
     Joined (IsStartSection m.start)
     (Joined (IsSectionIf (is_filled m.elems) 9 (IsList IsElement (contents_of m).elements))
     (Joined (IsSectionIf (writes_data_count m) 12 (IsUnsigned 32 (length m.segments)))
-    (Joined (IsSectionIf (is_filled m.code) 10 (IsList IsBody (contents_of m).bodies)) (IsSectionIf (is_filled m.segments) 11 (IsList IsData (contents_of m).segments)))))
+    (Joined (IsSectionIf (is_filled m.code) 10 Bodies) (IsSectionIf (is_filled m.segments) 11 (IsList IsData (contents_of m).segments)))))

@@ -10,5 +10,5 @@ mod sections;
 #[cfg(test)]
 mod tests;
 
-pub use modules::encode;
+pub use modules::{encode, encode_with_bodies};
 pub use smith_binary::EncodeError;

@@ -1,9 +1,12 @@
-ghost use Rattle.std.specs.Prelude.{IfOk, IfErr, OnOk};
+ghost use Rattle.std.specs.Prelude.{◌⊎◌, IfOk, IfErr, OnOk};
 ghost use Rattle.smith_binary.specs.Faults.{IsFault};
 ghost use Rattle.smith_binary.specs.Pieces.{Writes};
+ghost use Rattle.smith_sections.specs.Long.{IsLongContent};
 ghost use Rattle.smith_sections.specs.Modules.{IsModule};
+ghost use Rattle.smith_sections.specs.Sections.{IsSectionIf};
+ghost use Rattle.smith_encode.specs.Around.{IsModuleAround};
 ghost use Rattle.smith_encode.specs.Contents.{contents_of};
-ghost use Rattle.smith_encode.specs.Layout.{section_ids, HasSections};
+ghost use Rattle.smith_encode.specs.Layout.{is_filled, section_ids, HasSections};
 ghost use Rattle.smith_encode.specs.Written.{IsFront, IsMiddle, IsBack};
 ghost use Rattle.smith_encode.specs.TooLong.{IsTooLong};
 
@@ -13,7 +16,7 @@ use crate::sections::{
     write_types,
 };
 use smith_binary::{EncodeError, Sink};
-use smith_sections::write_preamble;
+use smith_sections::{Bodies, Encode, Listed, write_preamble};
 use std::alloc::Global;
 use wasm_smith::Module;
 
@@ -39,15 +42,15 @@ fn write_middle(module: &Module, sink: &mut Sink) -> Result<(), EncodeError>
     write_exports(module, sink)
 }
 
-// Writes the sections from that of the start function on.
-fn write_back(module: &Module, sink: &mut Sink) -> Result<(), EncodeError>
-    ensures writes { OnOk result (Writes (IsBack «module».now) sink.old sink.new) }
-    ensures fault { IfErr result (IsFault (IsTooLong «module».now)) }
+// Writes the sections from that of the start function on, with `bodies` in the code section.
+fn write_back<B: Encode>(module: &Module, bodies: &B, sink: &mut Sink) -> Result<(), EncodeError>
+    ensures writes { OnOk result (Writes (IsBack «module».now (B.spells bodies.now)) sink.old sink.new) }
+    ensures fault { IfErr result (IsFault (IsTooLong «module».now ⊎ (B.is_long bodies.now ⊎ IsLongContent (B.spells bodies.now)))) }
 {
     write_start(module, sink)?;
     write_elements(module, sink)?;
     write_data_count(module, sink)?;
-    write_bodies(module, sink)?;
+    write_bodies(module, bodies, sink)?;
     write_segments(module, sink)
 }
 
@@ -70,10 +73,34 @@ pub fn encode(alloc: Global, module: &Module) -> Result<Vec<u8>, EncodeError>
     ensures sections { IfOk result (λ bytes. HasSections (section_ids «module».now) bytes.items) }
     ensures fault { IfErr result (IsFault (IsTooLong «module».now)) }
 {
+    let bodies = Listed {
+        writer: Bodies {
+            counters: module.fuel_globals(),
+        },
+        items: module.code(),
+    };
+    encode_with_bodies(alloc, module, &bodies)
+}
+
+/// Encodes `module` as [`encode`] does, but for the code section, whose content is `bodies`. The section is written where the module
+/// defines a function.
+///
+/// # Errors
+///
+/// `TooLong` as for [`encode`], or where `bodies` have a list of 2^32 items or more, or 2^32 bytes or more; `Memory` for want of memory.
+pub fn encode_with_bodies<B: Encode>(
+    alloc: Global,
+    module: &Module,
+    bodies: &B,
+) -> Result<Vec<u8>, EncodeError>
+    ensures spelled { IfOk result (λ bytes. IsModuleAround (contents_of «module».now) (IsSectionIf (is_filled «module».now.code) 10 (B.spells bodies.now)) bytes.items) }
+    ensures sections { IfOk result (λ bytes. HasSections (section_ids «module».now) bytes.items) }
+    ensures fault { IfErr result (IsFault (IsTooLong «module».now ⊎ (B.is_long bodies.now ⊎ IsLongContent (B.spells bodies.now)))) }
+{
     let mut sink = Sink::new(alloc);
     write_preamble(&mut sink)?;
     write_front(module, &mut sink)?;
     write_middle(module, &mut sink)?;
-    write_back(module, &mut sink)?;
+    write_back(module, bodies, &mut sink)?;
     Ok(sink.into_vec())
 }

@@ -1,4 +1,4 @@
-ghost use Rattle.std.specs.Prelude.{◌≡◌, length, OnOk, IfErr};
+ghost use Rattle.std.specs.Prelude.{◌≡◌, ◌⊎◌, length, OnOk, IfErr};
 ghost use Rattle.smith_binary.specs.Faults.{IsFault};
 ghost use Rattle.smith_binary.specs.Numbers.{IsUnsigned};
 ghost use Rattle.smith_binary.specs.Pieces.{IsList, Writes};
@@ -9,8 +9,8 @@ ghost use Rattle.smith_sections.specs.Imports.{IsImportGroup};
 ghost use Rattle.smith_sections.specs.Definitions.{IsTable, IsGlobal};
 ghost use Rattle.smith_sections.specs.Exports.{IsExport};
 ghost use Rattle.smith_sections.specs.Elements.{IsElement};
-ghost use Rattle.smith_sections.specs.Codes.{IsBody};
 ghost use Rattle.smith_sections.specs.Data.{IsData};
+ghost use Rattle.smith_sections.specs.Long.{IsLongContent};
 ghost use Rattle.smith_sections.specs.Sections.{IsSectionIf};
 ghost use Rattle.smith_sections.specs.Modules.{IsStartSection};
 ghost use Rattle.smith_encode.specs.Contents.{defined, contents_of};
@@ -19,7 +19,7 @@ ghost use Rattle.smith_encode.specs.TooLong.{IsTooLong};
 
 use smith_binary::{EncodeError, Sink};
 use smith_sections::{
-    Bodies, Count, Globals, Groups, Listed, Plain, Tables, Tags, Zipped, write_section_if,
+    Count, Encode, Globals, Groups, Listed, Plain, Tables, Tags, Zipped, write_section_if,
 };
 use wasm_smith::Module;
 
@@ -193,18 +193,16 @@ pub(crate) fn write_data_count(module: &Module, sink: &mut Sink) -> Result<(), E
     write_section_if(writes_data_count(module), 12, &count, sink)
 }
 
-/// Writes the code section.
-pub(crate) fn write_bodies(module: &Module, sink: &mut Sink) -> Result<(), EncodeError>
-    ensures writes { OnOk result (Writes (IsSectionIf (is_filled «module».now.code) 10 (IsList IsBody (contents_of «module».now).bodies)) sink.old sink.new) }
-    ensures fault { IfErr result (IsFault (IsTooLong «module».now)) }
+/// Writes the code section, whose content is `bodies`.
+pub(crate) fn write_bodies<B: Encode>(
+    module: &Module,
+    bodies: &B,
+    sink: &mut Sink,
+) -> Result<(), EncodeError>
+    ensures writes { OnOk result (Writes (IsSectionIf (is_filled «module».now.code) 10 (B.spells bodies.now)) sink.old sink.new) }
+    ensures fault { IfErr result (IsFault (B.is_long bodies.now ⊎ IsLongContent (B.spells bodies.now))) }
 {
-    let bodies = Listed {
-        writer: Bodies {
-            counters: module.fuel_globals(),
-        },
-        items: module.code(),
-    };
-    write_section_if(is_filled(bodies.items), 10, &bodies, sink)
+    write_section_if(is_filled(module.code()), 10, bodies, sink)
 }
 
 /// Writes the data section.

@@ -27,8 +27,12 @@ impl EncodeItem<ValType> for Runs {
     }
 }
 
-// Writes the list of `locals`.
-fn write_locals(locals: &[ValType], sink: &mut Sink) -> Result<(), EncodeError>
+/// Writes the locals `locals` of a body, each as a run of its own.
+///
+/// # Errors
+///
+/// `TooLong` where there are 2^32 locals or more.
+pub fn encode_locals(sink: &mut Sink, locals: &[ValType]) -> Result<(), EncodeError>
     ensures writes { OnOk result (Writes (IsLocals locals.now) sink.old sink.new) }
     ensures fault { IfErr result (IsFault (IsLongList IsNeverLong locals.now)) }
 {
@@ -55,7 +59,7 @@ pub fn encode_body(
     ensures fault { IfErr result (IsFault (IsLongFunc locals.now instructions.now)) }
 {
     let mut content = sink.fresh();
-    write_locals(locals, &mut content)?;
+    encode_locals(&mut content, locals)?;
     encode_expr(&mut content, instructions)?;
     sink.write_sized(content.as_slice())
 }

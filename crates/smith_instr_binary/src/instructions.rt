@@ -147,8 +147,12 @@ pub fn encode_instr(sink: &mut Sink, instruction: &Instr) -> Result<(), EncodeEr
     }
 }
 
-// Writes `instructions` in order.
-fn write_instrs(instructions: &[Instr], sink: &mut Sink) -> Result<(), EncodeError>
+/// Writes `instructions` in order, without the `end` of an expression.
+///
+/// # Errors
+///
+/// `TooLong` as for [`encode_instr`].
+pub fn encode_instrs(sink: &mut Sink, instructions: &[Instr]) -> Result<(), EncodeError>
     ensures writes { OnOk result (Writes (IsInstrs instructions.now) sink.old sink.new) }
     ensures fault { IfErr result (IsFault (Any IsLongInstr instructions.now)) }
 {
@@ -167,6 +171,6 @@ pub fn encode_expr(sink: &mut Sink, instructions: &[Instr]) -> Result<(), Encode
     ensures writes { OnOk result (Writes (IsExpr instructions.now) sink.old sink.new) }
     ensures fault { IfErr result (IsFault (Any IsLongInstr instructions.now)) }
 {
-    write_instrs(instructions, sink)?;
+    encode_instrs(sink, instructions)?;
     sink.write_byte(0x0B)
 }

@@ -17,6 +17,6 @@ mod references;
 mod vector;
 mod vector_numbers;
 
-pub use bodies::encode_body;
-pub use instructions::{encode_expr, encode_instr};
+pub use bodies::{encode_body, encode_locals};
+pub use instructions::{encode_expr, encode_instr, encode_instrs};
 pub use smith_binary::{EncodeError, Sink};

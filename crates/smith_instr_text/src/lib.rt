@@ -12,5 +12,5 @@ mod references;
 mod vector;
 
 pub use instructions::write_instr;
-pub use lines::write_instrs;
+pub use lines::{write_counted_instrs, write_instrs};
 pub use smith_text::{FromFmt, Sink};

@@ -1,7 +1,7 @@
 ghost use Rattle.std.specs.Prelude.{◌≡◌, false, is_err};
 
 use crate::instructions::write_instr;
-use smith_instr::Instr;
+use smith_instr::{BlockType, Instr, IntBinary, NumericInstr};
 use smith_text::Sink;
 use std::fmt;
 
@@ -34,6 +34,18 @@ fn write_indent<S: Sink>(depth: usize, sink: &mut S) -> fmt::Result
     Ok(())
 }
 
+// Writes the line of `instruction`, where those before it are at the depth `depth`, and returns the depth of those after it.
+fn write_line<S: Sink>(instruction: &Instr, depth: usize, sink: &mut S) -> Result<usize, fmt::Error>
+    requires open { S.failed sink.old ≡ false }
+    ensures fault { S.failed sink.new ≡ is_err result }
+{
+    let level = depth_at(instruction, depth);
+    write_indent(level, sink)?;
+    write_instr(instruction, sink)?;
+    sink.write_str("\n")?;
+    Ok(depth_after(instruction, level))
+}
+
 /// Writes `instructions` in their plain form, a line each. The first is at the depth `depth`, at two spaces a level, and those of a
 /// block are one level deeper than its start and its end.
 ///
@@ -46,11 +58,63 @@ pub fn write_instrs<S: Sink>(instructions: &[Instr], depth: usize, sink: &mut S)
 {
     let mut level = depth;
     for instruction in instructions {
-        level = depth_at(instruction, level);
-        write_indent(level, sink)?;
-        write_instr(instruction, sink)?;
-        sink.write_str("\n")?;
-        level = depth_after(instruction, level);
+        level = write_line(instruction, level, sink)?;
+    }
+    Ok(())
+}
+
+// Writes the checks of `counters`, the last one first.
+fn write_checks<S: Sink>(counters: &[u32], depth: usize, sink: &mut S) -> fmt::Result
+    requires open { S.failed sink.old ≡ false }
+    ensures fault { S.failed sink.new ≡ is_err result }
+{
+    for counter in counters.iter().rev() {
+        write_check(*counter, depth, sink)?;
+    }
+    Ok(())
+}
+
+// Writes the check of the counter of fuel `counter`: a trap at 0, else 1 is taken off.
+fn write_check<S: Sink>(counter: u32, depth: usize, sink: &mut S) -> fmt::Result
+    requires open { S.failed sink.old ≡ false }
+    ensures fault { S.failed sink.new ≡ is_err result }
+{
+    let check = [
+        Instr::GlobalGet(counter),
+        Instr::Numeric(NumericInstr::I32Eqz),
+        Instr::If(BlockType::Empty),
+        Instr::Unreachable,
+        Instr::End,
+        Instr::GlobalGet(counter),
+        Instr::I32Const(1),
+        Instr::Numeric(NumericInstr::I32Binary(IntBinary::Sub)),
+        Instr::GlobalSet(counter),
+    ];
+    write_instrs(&check, depth, sink)
+}
+
+/// Writes `instructions` as [`write_instrs`] does, with the checks of the counters of fuel `counters` before them and after the start of
+/// each loop.
+///
+/// # Errors
+///
+/// The error of the first write that fails. Nothing is written after it.
+pub fn write_counted_instrs<S: Sink>(
+    instructions: &[Instr],
+    counters: &[u32],
+    depth: usize,
+    sink: &mut S,
+) -> fmt::Result
+    requires open { S.failed sink.old ≡ false }
+    ensures fault { S.failed sink.new ≡ is_err result }
+{
+    write_checks(counters, depth, sink)?;
+    let mut level = depth;
+    for instruction in instructions {
+        level = write_line(instruction, level, sink)?;
+        if let Instr::Loop(_) = instruction {
+            write_checks(counters, level, sink)?;
+        }
     }
     Ok(())
 }

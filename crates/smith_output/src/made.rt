@@ -1,15 +1,14 @@
 ghost use Rattle.std.specs.Prelude.{◌≡◌, ◌<◌, ◌-◌, ◌^◌, None, IfOk, IfErr, length};
 ghost use Rattle.smith_output.specs.Output.{IsBinaryOf, IsUnencoded, IsRefusedFor};
 ghost use Rattle.smith_output.specs.declared.made.Form.TheVariants.{Binary};
-ghost use Rattle.smith_sections.specs.Modules.{IsModule};
-ghost use Rattle.smith_encode.specs.Contents.{contents_of};
+ghost use Rattle.smith_program_binary.specs.Programs.{IsProgramBinary};
 
 use smith_bytes::{Error, Unstructured};
 use smith_config::Config;
-use smith_encode::{EncodeError, encode};
-use smith_text::text;
+use smith_program::Program;
+use smith_program_binary::{EncodeError, encode};
+use smith_program_text::text;
 use std::alloc::Global;
-use wasm_smith::Module;
 
 /// The format in which a module is written.
 #[derive(Clone, Copy, Debug, PartialEq, Eq)]
@@ -25,7 +24,7 @@ pub enum Form {
 pub struct Manner {
     /// The format.
     pub form: Form,
-    /// The number of calls that a module without raw bodies allows before it traps, where calls are counted.
+    /// The number of calls and of turns of loops that a program without raw bodies allows before it traps, where they are counted.
     pub fuel: Option<u32>,
 }
 
@@ -51,11 +50,11 @@ impl From<Error> for OutputFault {
     }
 }
 
-/// Draws a module from the bytes of `u` under `config`, as [`Module::new`] does, and encodes the module in the binary format.
+/// Draws a program from the bytes of `u` under `config`, as [`Program::new`] does, and encodes it in the binary format.
 ///
 /// # Errors
 ///
-/// `Refused` with the refusal of [`Module::new`]; `TooLong` where the binary format has no room for the module.
+/// `Refused` with the refusal of [`Program::new`]; `TooLong` where the binary format has no room for the program.
 pub fn binary(
     alloc: Global,
     config: Config,
@@ -64,31 +63,31 @@ pub fn binary(
     ensures bytes { IfOk result (λ bytes. IsBinaryOf config u.old bytes.items u.new) }
     ensures refused { IfErr result (IsRefusedFor config u.old u.new) }
 {
-    match Module::new(alloc, config, u) {
-        Ok(module) => encoded(alloc, &module),
+    match Program::new(alloc, config, u) {
+        Ok(program) => encoded(alloc, &program),
         Err(refusal) => Err(OutputFault::Refused(refusal)),
     }
 }
 
-/// Encodes `module` in the binary format.
-fn encoded(alloc: Global, module: &Module) -> Result<Vec<u8>, OutputFault>
-    ensures spelled { IfOk result (λ bytes. IsModule (contents_of «module».now) bytes.items) }
-    ensures refused { IfErr result IsUnencoded }
+/// Encodes `program` in the binary format.
+fn encoded(alloc: Global, program: &Program) -> Result<Vec<u8>, OutputFault>
+    ensures spelled { IfOk result (λ bytes. IsProgramBinary program.now.«module» program.now.bodies bytes.items) }
+    ensures refused { IfErr result (IsUnencoded program.now) }
 {
-    match encode(alloc, module) {
+    match encode(alloc, program) {
         Ok(bytes) => Ok(bytes),
         Err(EncodeError::Memory) => Err(OutputFault::Refused(Error::Memory)),
         Err(EncodeError::TooLong) => Err(OutputFault::TooLong),
     }
 }
 
-/// Draws a module from the bytes of `u` under `config`, as [`Module::new`] does, counts its calls where `manner` says so, and writes
-/// the module in the form of `manner`.
+/// Draws a program from the bytes of `u` under `config`, as [`Program::new`] does, counts its calls and its turns of loops where `manner`
+/// says so, and writes it in the form of `manner`.
 ///
 /// # Errors
 ///
-/// `Refused` with the refusal of [`Module::new`], or with `IncorrectFormat(RawBody)` where calls are to be counted and a body is raw
-/// bytes; `TooLong` where the binary format has no room for the module.
+/// `Refused` with the refusal of [`Program::new`], or with `IncorrectFormat(RawBody)` where calls are to be counted and a body is raw
+/// bytes; `TooLong` where the binary format has no room for the program.
 pub fn output(
     alloc: Global,
     config: Config,
@@ -96,32 +95,33 @@ pub fn output(
     u: &mut Unstructured<'_>,
 ) -> Result<Vec<u8>, OutputFault>
     ensures binary { manner.form ≡ Binary → manner.fuel ≡ None → IfOk result (λ bytes. IsBinaryOf config u.old bytes.items u.new) }
+    ensures refused { manner.form ≡ Binary → manner.fuel ≡ None → IfErr result (IsRefusedFor config u.old u.new) }
 {
     match manner {
         Manner {
             form: Form::Binary,
             fuel: None,
         } => binary(alloc, config, u),
-        _ => counted(alloc, Module::new(alloc, config, u)?, manner),
+        _ => counted(alloc, Program::new(alloc, config, u)?, manner),
     }
 }
 
-/// Writes `module` in the form of `manner`, after its calls are counted where `manner` says so.
-fn counted(alloc: Global, mut module: Module, manner: Manner) -> Result<Vec<u8>, OutputFault> {
+/// Writes `program` in the form of `manner`, after its calls and its turns of loops are counted where `manner` says so.
+fn counted(alloc: Global, mut program: Program, manner: Manner) -> Result<Vec<u8>, OutputFault> {
     if let Some(fuel) = manner.fuel {
-        count_calls(alloc, &mut module, fuel)?;
+        count(alloc, &mut program, fuel)?;
     }
     match manner.form {
-        Form::Binary => encoded(alloc, &module),
-        Form::Text => Ok(text(alloc, &module)?.into_bytes()),
+        Form::Binary => encoded(alloc, &program),
+        Form::Text => Ok(text(alloc, &program)?.into_bytes()),
     }
 }
 
-/// Adds to `module` a global that counts calls down from `fuel`.
-fn count_calls(alloc: Global, module: &mut Module, fuel: u32) -> Result<(), OutputFault> {
-    if module.globals().len() >= u32::MAX as usize {
+/// Adds to the module of `program` a global that counts calls and turns of loops down from `fuel`.
+fn count(alloc: Global, program: &mut Program, fuel: u32) -> Result<(), OutputFault> {
+    if program.module.globals().len() >= u32::MAX as usize {
         return Err(OutputFault::TooLong);
     }
-    let _index = module.ensure_termination(alloc, fuel)?;
+    let _index = program.ensure_termination(alloc, fuel)?;
     Ok(())
 }

@@ -42,28 +42,77 @@ fn write_locals<S: Sink>(body: &Code, sink: &mut S) -> fmt::Result
     sink.write_str("\n")
 }
 
-// Writes the function of the index `index`, of the type of the index `ty`. The section Text Format, Functions. Raw bytes have no
-// text: they follow the module.
-fn write_function<S: Sink>(
+/// The instructions of the bodies of a module, as text.
+pub trait BodyText {
+    /// Writes the instructions of the defined function `place` to `sink`, of which no write has failed: a line each, at least four
+    /// spaces deep. `body` is the module's, and `fuel_globals` are the indices of its globals that count fuel.
+    ///
+    /// # Errors
+    ///
+    /// The error of the first write that fails. Nothing is written after it.
+    fn write_body<S: Sink>(
+        &self,
+        place: usize,
+        body: &Code,
+        fuel_globals: &[u32],
+        sink: &mut S,
+    ) -> fmt::Result
+        requires open { S.failed sink.old ≡ false }
+        ensures fault { S.failed sink.new ≡ is_err result };
+}
+
+/// The bodies that a module has. Raw bytes have no text: they follow the module.
+#[derive(Clone, Copy)]
+pub struct OwnBodies;
+
+impl BodyText for OwnBodies {
+    fn write_body<S: Sink>(
+        &self,
+        _place: usize,
+        body: &Code,
+        fuel_globals: &[u32],
+        sink: &mut S,
+    ) -> fmt::Result {
+        match body.instructions {
+            Instructions::Unreachable => write_trap(fuel_globals, sink),
+            Instructions::Arbitrary(_) => Ok(()),
+        }
+    }
+}
+
+/// A function that a module defines: its place among them, its index and the index of its type, and its body.
+#[derive(Clone, Copy)]
+struct Defined<'a> {
+    place: usize,
     index: usize,
     ty: u32,
-    body: &Code,
+    body: &'a Code,
+}
+
+// Writes the function `defined`, whose instructions `bodies` writes. The section Text Format, Functions.
+fn write_function<B: BodyText, S: Sink>(
+    defined: &Defined<'_>,
+    bodies: &B,
     fuel_globals: &[u32],
     sink: &mut S,
 ) -> fmt::Result
     requires open { S.failed sink.old ≡ false }
     ensures fault { S.failed sink.new ≡ is_err result }
 {
+    let index = defined.index;
+    let ty = defined.ty;
     writeln!(sink, "  (func (;{index};) (type {ty})")?;
-    write_locals(body, sink)?;
-    if let Instructions::Unreachable = body.instructions {
-        write_trap(fuel_globals, sink)?;
-    }
+    write_locals(defined.body, sink)?;
+    bodies.write_body(defined.place, defined.body, fuel_globals, sink)?;
     sink.write_str("  )\n")
 }
 
-/// Writes the functions that `module` defines.
-pub(crate) fn write_functions<S: Sink>(module: &Module, sink: &mut S) -> fmt::Result
+/// Writes the functions that `module` defines, whose instructions `bodies` writes.
+pub(crate) fn write_functions<B: BodyText, S: Sink>(
+    module: &Module,
+    bodies: &B,
+    sink: &mut S,
+) -> fmt::Result
     requires open { S.failed sink.old ≡ false }
     ensures fault { S.failed sink.new ≡ is_err result }
 {
@@ -71,7 +120,13 @@ pub(crate) fn write_functions<S: Sink>(module: &Module, sink: &mut S) -> fmt::Re
     let imported = funcs.len().saturating_sub(module.code().len());
     let defined = funcs.iter().enumerate().skip(imported);
     for ((index, ty), body) in defined.zip(module.code()) {
-        write_function(index, *ty, body, module.fuel_globals(), sink)?;
+        let function = Defined {
+            place: index.saturating_sub(imported),
+            index,
+            ty: *ty,
+            body,
+        };
+        write_function(&function, bodies, module.fuel_globals(), sink)?;
     }
     Ok(())
 }

@@ -16,6 +16,7 @@ mod text_form;
 mod types;
 mod values;
 
-pub use module::text;
+pub use functions::{BodyText, OwnBodies};
+pub use module::{text, write_with_bodies};
 pub use sink::{FromFmt, Sink};
 pub use text_form::TextForm;

@@ -1,6 +1,6 @@
 ghost use Rattle.std.specs.Prelude.{◌≡◌, false, is_err, IfErr};
 
-use crate::functions::write_functions;
+use crate::functions::{BodyText, OwnBodies, write_functions};
 use crate::imports::write_imports;
 use crate::notes::write_notes;
 use crate::segments::{write_data_segments, write_element_segments};
@@ -94,23 +94,40 @@ fn write_exports<S: Sink>(module: &Module, sink: &mut S) -> fmt::Result
     }
 }
 
+/// Writes `module` as [`TextForm::write_text`] does, to `sink`, of which no write has failed, but for the instructions of its bodies,
+/// which `bodies` writes.
+///
+/// # Errors
+///
+/// The error of the first write that fails. Nothing is written after it.
+pub fn write_with_bodies<B: BodyText, S: Sink>(
+    module: &Module,
+    bodies: &B,
+    sink: &mut S,
+) -> fmt::Result
+    requires open { S.failed sink.old ≡ false }
+    ensures fault { S.failed sink.new ≡ is_err result }
+{
+    sink.write_str("(module\n")?;
+    write_types(module.types(), module.rec_groups(), sink)?;
+    write_imports(module.imports(), sink)?;
+    write_tables(module, sink)?;
+    write_memories(module, sink)?;
+    write_tags(module, sink)?;
+    write_globals(module, sink)?;
+    write_exports(module, sink)?;
+    write_element_segments(module.elems(), sink)?;
+    write_functions(module, bodies, sink)?;
+    write_data_segments(module.data(), sink)?;
+    sink.write_str(")\n")?;
+    write_notes(module, sink)
+}
+
 /// The section Text Format, Modules: a field a line, in the order of the sections of the binary format, functions where their
 /// bodies stand. Lines of comments follow for what the text format has no form for.
 impl TextForm for Module {
     fn write_text<S: Sink>(&self, sink: &mut S) -> fmt::Result {
-        sink.write_str("(module\n")?;
-        write_types(self.types(), self.rec_groups(), sink)?;
-        write_imports(self.imports(), sink)?;
-        write_tables(self, sink)?;
-        write_memories(self, sink)?;
-        write_tags(self, sink)?;
-        write_globals(self, sink)?;
-        write_exports(self, sink)?;
-        write_element_segments(self.elems(), sink)?;
-        write_functions(self, sink)?;
-        write_data_segments(self.data(), sink)?;
-        sink.write_str(")\n")?;
-        write_notes(self, sink)
+        write_with_bodies(self, &OwnBodies, sink)
     }
 }
 

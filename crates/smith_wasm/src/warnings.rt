@@ -1,11 +1,10 @@
 use crate::asked::Asked;
 use crate::failure::Failure;
 
-// The fields by which the Rust crate makes bodies, custom sections and components, of which there are none here.
-const WITHOUT_EFFECT: [&str; 12] = [
-    "allowed-instructions",
+// The fields by which the Rust crate chooses offsets and NaNs in bodies, and makes custom sections and components, of which there is none
+// here.
+const WITHOUT_EFFECT: [&str; 10] = [
     "memory-offset-choices",
-    "max-instructions",
     "canonicalize-nans",
     "generate-custom-sections",
     "min-uleb-size",

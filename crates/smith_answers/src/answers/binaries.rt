@@ -21,7 +21,12 @@ pub(crate) fn tell_binary(
     }
 }
 
-fn tell_bytes_whole(alloc: Global, bytes: &[u8], answer: &mut String) -> Result<(), Fault> {
+/// Appends the number of `bytes` and their checksum, and the bytes where they are at most 200.
+pub(crate) fn tell_bytes_whole(
+    alloc: Global,
+    bytes: &[u8],
+    answer: &mut String,
+) -> Result<(), Fault> {
     let count = bytes.len();
     let checksum = hex::encode(alloc, Sha256::digest(bytes))?;
     writeln!(answer, "{count} bytes, SHA-256 {checksum}")?;

@@ -13,6 +13,7 @@ mod modules;
 mod names;
 mod numbers;
 mod parsers;
+mod programs;
 mod sources;
 mod spaces;
 mod subtypes;
@@ -26,6 +27,7 @@ use crate::answers::draws::answer_draw;
 use crate::answers::modules::answer_module;
 use crate::answers::names::answer_name;
 use crate::answers::parsers::answer_parser;
+use crate::answers::programs::answer_program;
 use crate::answers::sources::answer_source;
 use crate::answers::subtypes::answer_subtype;
 use crate::answers::type_spaces::answer_space;
@@ -100,6 +102,7 @@ fn answer_over(
     set_config(alloc, line, case, config)?;
     match call {
         Call::Module(call) => answer_module(alloc, case, call, config, input, answer),
+        Call::Program(call) => answer_program(alloc, case, call, config, input, answer),
         Call::Draw(call) => answer_draw(alloc, case, call, config, input, answer),
         Call::Config(call) => answer_config(alloc, case, call, config, answer),
         _ => answer_recorded(alloc, case, config, answer),

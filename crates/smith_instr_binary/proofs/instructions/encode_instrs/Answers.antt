@@ -1,6 +1,6 @@
 use Rattle.smith_binary.proofs.WrittenLemmas.{leads_each, each_written}
 use Rattle.smith_instr_binary.specs.Instructions.{IsInstr}
-use Rattle.smith_instr_binary.proofs.instructions.write_instrs.Goals as goal
+use Rattle.smith_instr_binary.proofs.instructions.encode_instrs.Goals as goal
 
 pub loop-instruction-preserved : goal.loop-instruction-preserved
 loop-instruction-preserved c =

@@ -1,0 +1,78 @@
+use crate::answers::binaries::tell_bytes_whole;
+use crate::answers::told::{tell_refusal, tell_rest};
+use crate::arguments::number;
+use crate::call::ProgramCall;
+use crate::case::Case;
+use crate::fault::Fault;
+use smith_bytes::Unstructured;
+use smith_config::Config;
+use smith_program::Program;
+use smith_program_binary::encode;
+use smith_program_text::text;
+use std::alloc::Global;
+use std::mem;
+
+/// Appends the text of the program of `input`, or its binary where `call` encodes it, or the refusal; and what is left of `input`.
+/// The configuration `config` is used up. Each argument is fuel that is added to the program.
+pub(crate) fn answer_program(
+    alloc: Global,
+    case: &Case,
+    call: ProgramCall,
+    config: &mut Config,
+    input: &[u8],
+    answer: &mut String,
+) -> Result<(), Fault> {
+    let config = mem::replace(config, Config::default());
+    let mut u = Unstructured::new(input);
+    match Program::new(alloc, config, &mut u) {
+        Ok(mut program) => tell_program(alloc, case, call, &mut program, answer)?,
+        Err(refusal) => tell_refusal(refusal, answer)?,
+    }
+    tell_rest(&u, answer)
+}
+
+// Appends what `call` tells of `program`, after fuel is added for each argument.
+fn tell_program(
+    alloc: Global,
+    case: &Case,
+    call: ProgramCall,
+    program: &mut Program,
+    answer: &mut String,
+) -> Result<(), Fault> {
+    for place in 0..case.args().len() {
+        add_fuel(alloc, program, number(case, place)?, answer)?;
+    }
+    match call {
+        ProgramCall::New => tell_text(alloc, program, answer),
+        ProgramCall::Encode => tell_binary(alloc, program, answer),
+    }
+}
+
+fn add_fuel(
+    alloc: Global,
+    program: &mut Program,
+    fuel: u32,
+    answer: &mut String,
+) -> Result<(), Fault> {
+    if program.module.globals().len() >= u32::MAX as usize {
+        return Err(Fault::NotCallable("there are too many globals"));
+    }
+    match program.ensure_termination(alloc, fuel) {
+        Ok(index) => Ok(writeln!(answer, "fuel global {index}")?),
+        Err(refusal) => tell_refusal(refusal, answer),
+    }
+}
+
+fn tell_text(alloc: Global, program: &Program, answer: &mut String) -> Result<(), Fault> {
+    match text(alloc, program) {
+        Ok(text) => Ok(answer.push_str(text.as_str())?),
+        Err(refusal) => tell_refusal(refusal, answer),
+    }
+}
+
+fn tell_binary(alloc: Global, program: &Program, answer: &mut String) -> Result<(), Fault> {
+    match encode(alloc, program) {
+        Ok(bytes) => tell_bytes_whole(alloc, bytes.as_slice(), answer),
+        Err(refusal) => Ok(writeln!(answer, "refused: {refusal:?}")?),
+    }
+}

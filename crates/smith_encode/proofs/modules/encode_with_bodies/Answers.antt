@@ -1,0 +1,9 @@
+use Rattle.smith_binary.proofs.WrittenLemmas.{joined_written, written_whole}
+use Rattle.smith_encode.proofs.LayoutLemmas.{module_around, sections_are}
+use Rattle.smith_encode.proofs.modules.encode_with_bodies.Goals as goal
+
+pub returns-clause-spelled : goal.returns-clause-spelled
+returns-clause-spelled g c = rw c.into_vec.ensures (module_around c.args.module.now _ _ (written_whole (joined_written (rw c.new-sink.ensures at c.in_ok-write_preamble.ensures.writes) (joined_written c.in_ok-write_front.ensures.writes (joined_written c.in_ok-write_middle.ensures.writes c.in_ok-write_back.ensures.writes)))))
+
+pub returns-clause-sections : goal.returns-clause-sections
+returns-clause-sections g c = rw c.into_vec.ensures (sections_are c.args.module.now _ _ (written_whole (joined_written (rw c.new-sink.ensures at c.in_ok-write_preamble.ensures.writes) (joined_written c.in_ok-write_front.ensures.writes (joined_written c.in_ok-write_middle.ensures.writes c.in_ok-write_back.ensures.writes)))))

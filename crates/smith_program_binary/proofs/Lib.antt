@@ -1,0 +1,3 @@
+pub mod CountedLemmas
+pub mod BodyLemmas
+pub mod ProgramLemmas

@@ -1,0 +1,16 @@
+use Rattle.std.proofs.lemmas.Result.{IfOk-weaker}
+use Rattle.smith_encode.specs.Around.{IsModuleAround}
+use Rattle.smith_encode.specs.Contents.{contents_of}
+use Rattle.smith_encode.specs.Layout.{is_filled}
+use Rattle.smith_sections.specs.Sections.{IsSectionIf}
+use Rattle.smith_program_binary.specs.Bodies.{AreBodiesOf}
+use Rattle.smith_program_binary.specs.Programs.{IsProgramBinary}
+use Rattle.smith_program_binary.proofs.ProgramLemmas.{program_is}
+use Rattle.smith_program_binary.proofs.programs.encode.Goals as goal
+
+pub returns-clause-spelled : goal.returns-clause-spelled
+returns-clause-spelled c =
+    let m = c.args.program.now.«module» in
+    let bodies = c.args.program.now.bodies in
+    IfOk-weaker c.encode_with_bodies.result (λ bytes. IsModuleAround (contents_of m) (IsSectionIf (is_filled m.code) 10 (AreBodiesOf m.fuel_globals m.code bodies)) bytes.items) (λ bytes. IsProgramBinary m bodies bytes.items)
+    (λ bytes. program_is m bodies bytes.items) (rw (c.fuel_globals.ensures, c.code.ensures, c.as_slice.ensures) at c.encode_with_bodies.ensures.spelled)

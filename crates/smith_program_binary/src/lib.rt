@@ -1,0 +1,10 @@
+//! Programs, which are modules with bodies of instructions, in the binary format of the WebAssembly Core Specification 3.0 (chapter
+//! Binary Format).
+#![tactic(auto)]
+
+mod bodies;
+mod counted;
+mod programs;
+
+pub use programs::encode;
+pub use smith_binary::EncodeError;

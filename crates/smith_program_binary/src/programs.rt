@@ -1,0 +1,32 @@
+ghost use Rattle.std.specs.Prelude.{IfOk, IfErr};
+ghost use Rattle.smith_binary.specs.Faults.{IsFault};
+ghost use Rattle.smith_encode.specs.Layout.{section_ids, HasSections};
+ghost use Rattle.smith_program_binary.specs.Long.{IsLongProgram};
+ghost use Rattle.smith_program_binary.specs.Programs.{IsProgramBinary};
+
+use crate::bodies::Bodies;
+use smith_binary::EncodeError;
+use smith_encode::encode_with_bodies;
+use smith_program::Program;
+use std::alloc::Global;
+
+/// Encodes `program` in the binary format of the WebAssembly Core Specification 3.0, in fresh memory of `alloc`.
+///
+/// All but the bodies is written as [`smith_encode::encode`] writes the module. The checks of its counters of fuel are written at the
+/// start of a body that was drawn, and after each `loop` in it.
+///
+/// # Errors
+///
+/// `TooLong` where a list has 2^32 items or more, or a section or a body 2^32 bytes or more; `Memory` for want of memory.
+pub fn encode(alloc: Global, program: &Program) -> Result<Vec<u8>, EncodeError>
+    ensures spelled { IfOk result (λ bytes. IsProgramBinary program.now.«module» program.now.bodies bytes.items) }
+    ensures sections { IfOk result (λ bytes. HasSections (section_ids program.now.«module») bytes.items) }
+    ensures fault { IfErr result (IsFault (IsLongProgram program.now.«module» program.now.bodies)) }
+{
+    let bodies = Bodies {
+        counters: program.module.fuel_globals(),
+        codes: program.module.code(),
+        bodies: program.bodies.as_slice(),
+    };
+    encode_with_bodies(alloc, &program.module, &bodies)
+}

@@ -1,0 +1,68 @@
+ghost use Rattle.std.specs.Prelude.{◌≡◌, false, is_err, IfErr};
+
+use smith_bytes::Error;
+use smith_instr_text::write_counted_instrs;
+use smith_program::{Body, Program};
+use smith_text::{BodyText, FromFmt, OwnBodies, Sink, write_with_bodies};
+use smith_types::Code;
+use std::alloc::Global;
+use std::fmt;
+
+// The depth of the instructions of a body.
+const DEPTH: usize = 2;
+
+/// The bodies of a program, as text.
+#[derive(Clone, Copy)]
+struct Bodies<'a> {
+    bodies: &'a [Body],
+}
+
+impl<'a> BodyText for Bodies<'a> {
+    fn write_body<S: Sink>(
+        &self,
+        place: usize,
+        body: &Code,
+        fuel_globals: &[u32],
+        sink: &mut S,
+    ) -> fmt::Result {
+        match self.bodies.get(place) {
+            Some(Body::Drawn(instructions)) => {
+                write_counted_instrs(instructions.as_slice(), fuel_globals, DEPTH, sink)
+            }
+            _ => OwnBodies.write_body(place, body, fuel_globals, sink),
+        }
+    }
+}
+
+/// Writes `program` in the text format, to `sink`, of which no write has failed.
+///
+/// All but the bodies is written as the text of the module. The checks of its counters of fuel are written at the start of a body that
+/// was drawn, and after each `loop` in it.
+///
+/// # Errors
+///
+/// The error of the first write that fails. Nothing is written after it.
+pub fn write_program<S: Sink>(program: &Program, sink: &mut S) -> fmt::Result
+    requires open { S.failed sink.old ≡ false }
+    ensures fault { S.failed sink.new ≡ is_err result }
+{
+    let bodies = Bodies {
+        bodies: program.bodies.as_slice(),
+    };
+    write_with_bodies(&program.module, &bodies, sink)
+}
+
+/// Gives the text of `program`, as [`write_program`] writes it, in memory of `alloc`.
+///
+/// # Errors
+///
+/// `Memory` for want of memory.
+pub fn text(alloc: Global, program: &Program) -> Result<String, Error>
+    ensures memory { IfErr result (λ e. e ≡ Error.Memory) }
+{
+    let mut text = String::new(alloc);
+    match write_program(program, &mut FromFmt::new(&mut text)) {
+        Ok(()) => Ok(text),
+        Err(fmt::Error) => Err(Error::Memory),
+    }
+}
