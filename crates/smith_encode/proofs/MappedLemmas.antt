@@ -1,6 +1,6 @@
 -- Sections by what their items mean in a module.
-use Rattle.std.proofs.Common.{ℕ, ◌+◌, ◌-◌, ◌*◌, [], ◌∷◌, ◌<◌, ◌≤◌, ◌^◌, ◌⊎◌, Bool, true, false, List, length, Result, Ok, Err, sym, subst, ap, ◌∙◌, arith, inl, inr}
-use Rattle.std.specs.Prelude.{map, Any, IfErr}
+use Rattle.std.proofs.Common.{◌≡◌, ℕ, ◌+◌, ◌-◌, ◌*◌, [], ◌∷◌, ◌<◌, ◌≤◌, ◌^◌, ◌⊎◌, Bool, true, false, List, length, Result, Ok, Err, sym, subst, ap, ◌∙◌, arith, inl, inr}
+use Rattle.std.specs.Prelude.{map, Any, IfErr, IsErrAnd}
 use Rattle.std.proofs.lemmas.List.{length-map, get_or-map}
 use Rattle.smith_binary.specs.declared.error.EncodeError.{EncodeError}
 use Rattle.smith_binary.specs.declared.error.EncodeError.TheVariants.{Memory, TooLong}
@@ -30,6 +30,11 @@ fault_as TooLong weaker h = weaker h
 pub fault_weaker : {A P Q : Type 0} (r : Result A EncodeError) → (P → Q) → IfErr r (IsFault P) → IfErr r (IsFault Q)
 fault_weaker (Ok u) weaker h = tt
 fault_weaker (Err e) weaker h = fault_as e weaker h
+
+-- the fault of a `?`, for another reason
+pub handed_on : {A P Q : Type 0} (r : Result A EncodeError) (e : EncodeError) → IsErrAnd r (λ y. y ≡ e) → (P → Q) → IsFault P e → IfErr r (IsFault Q)
+handed_on (Ok u) e is weaker h = tt
+handed_on {P = P} {Q = Q} (Err y) e is weaker h = fault_as y weaker (subst (λ (one : EncodeError). IsFault P one) (sym is) h)
 
 any_mapped : {A B : Type 0} (P : B → Type 0) (f : A → B) (xs : List A) → Any (λ (x : A). P (f x)) xs → Any P (map f xs)
 any_mapped P f xs h = (h.0, f h.1, subst (λ (n : ℕ). h.0 < n) (sym (length-map xs f)) h.2, get_or-map f xs h.0 h.1 (f h.1) h.2 ∙ ap f h.3, h.4)

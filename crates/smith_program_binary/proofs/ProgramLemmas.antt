@@ -1,5 +1,5 @@
 -- Bodies as they are written are those of a module with bytes of expressions.
-use Rattle.std.proofs.Common.{◌≡◌, ℕ, ◌+◌, Bool, true, false, List, [], ◌∷◌, ◌++◌, length, refl, sym, subst, ap, ◌∙◌}
+use Rattle.std.proofs.Common.{◌≡◌, ℕ, suc, Bool, true, false, List, [], ◌∷◌, ◌++◌, length, refl, sym, subst, ap, ◌∙◌}
 use Rattle.std.specs.Prelude.{map}
 use Rattle.std.specs.List.{zip}
 use Rattle.smith_binary.specs.Numbers.{IsUnsigned}
@@ -29,10 +29,6 @@ pub record AreRead (counters : List ℕ) (codes : List Code) (bodies : List Body
   pub many : length (with_expressions codes expressions.0) ≡ length (zip codes bodies)
   pub spelled : Each IsBody (with_expressions codes expressions.0) piece
 
-none_with : {A B : Type 0} (xs : List A) → zip {X = B} xs [] ≡ []
-none_with [] = refl
-none_with (x ∷ xs) = refl
-
 each_read : (counters : List ℕ) (codes : List Code) (bodies : List Body) (piece : List ℕ) → Each (IsBodyOf counters) (zip codes bodies) piece → AreRead counters codes bodies piece
 unfolding Each
 each_read counters [] bodies piece h = record { expressions = ([], tt); many = refl; spelled = h }
@@ -42,7 +38,7 @@ each_read counters (code ∷ codes) (given ∷ bodies) piece h =
     let content = h.is_first.is_content in
     record {
       expressions = (content.second ∷ rest.expressions.0, (content.is_second, rest.expressions.1));
-      many = ap (λ (n : ℕ). n + 1) rest.many;
+      many = ap suc rest.many;
       spelled = record {
         first = h.first;
         second = h.second;
