@@ -69,9 +69,9 @@ checks_last (counter ∷ counters) last =
 -- one check more
 pub checks_step : {Whole : List ℕ → Type 0} {start now later : List ℕ} (counters before : List ℕ) (last : ℕ) → counters ≡ before ++ last ∷ [] → Leads (IsInstrs (checks_of counters)) Whole start now
     → Writes (IsInstrs (check_of last)) now later → Leads (IsInstrs (checks_of before)) Whole start later
-checks_step counters before last split so_far one =
+checks_step {now = now} counters before last split so_far one =
     let all : check_of last ++ checks_of before ≡ checks_of counters = checks_last before last ∙ ap (λ (cs : List ℕ). checks_of cs) (sym split) in
-    record { to = λ final more. so_far.to final (subst (λ (xs : List Instr). Writes (IsInstrs xs) _ final) all (instrs_written (check_of last) (checks_of before) one more)) }
+    record { to = λ final more. so_far.to final (subst (λ (xs : List Instr). Writes (IsInstrs xs) now final) all (instrs_written (check_of last) (checks_of before) one more)) }
 
 -- no check more
 pub checks_end : {Whole : List ℕ → Type 0} {start now : List ℕ} (counters : List ℕ) → length counters ≡ 0 → Leads (IsInstrs (checks_of counters)) Whole start now → Writes Whole start now

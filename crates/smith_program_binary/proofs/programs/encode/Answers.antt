@@ -14,3 +14,6 @@ returns-clause-spelled c =
     let bodies = c.args.program.now.bodies in
     IfOk-weaker c.encode_with_bodies.result (λ bytes. IsModuleAround (contents_of m) (IsSectionIf (is_filled m.code) 10 (AreBodiesOf m.fuel_globals m.code bodies)) bytes.items) (λ bytes. IsProgramBinary m bodies bytes.items)
     (λ bytes. program_is m bodies bytes.items) (rw (c.fuel_globals.ensures, c.code.ensures, c.as_slice.ensures) at c.encode_with_bodies.ensures.spelled)
+
+pub returns-clause-fault : goal.returns-clause-fault
+returns-clause-fault c = rw (c.fuel_globals.ensures, c.code.ensures, c.as_slice.ensures) at c.encode_with_bodies.ensures.fault
