@@ -22,6 +22,14 @@ IsRefusal text input (Config refusal) = refusal.fault ≢ OutOfMemory → ReadsT
 IsRefusal text input (Module e) = AnswersText text input (Err e)
 IsRefusal text input (Encoding e) = (program : Program) × AnswersText text input (Ok program) × IsFault (IsLongProgram program.«module» program.bodies) e
 
+-- a program and its text may be refused so: as above, and never as too long
+abbrev pub IsTextRefusal : List ℕ → List ℕ → Refusal → Type 0
+IsTextRefusal text input NotUtf8 = IsRefusal text input NotUtf8
+IsTextRefusal text input (Config refusal) = IsRefusal text input (Config refusal)
+IsTextRefusal text input (Module e) = IsRefusal text input (Module e)
+IsTextRefusal text input (Encoding encoding.Memory) = IsRefusal text input (Encoding encoding.Memory)
+IsTextRefusal text input (Encoding encoding.TooLong) = ⊥
+
 -- the number of what is wrong with a configuration's text
 abbrev pub fault_status : Fault → ℕ
 fault_status OutOfMemory = 2
