@@ -45,7 +45,7 @@ def _made(call, config: str, given: bytes) -> bytes:
 
 
 def module(given: bytes, config: str = "") -> bytes:
-    """The module of `given` in the binary format. `config` is a JSON object, or empty for the default configuration."""
+    """The module of `given`, with bodies of instructions, in the binary format. `config` is a JSON object, or empty for the default."""
     return _made(_LIBRARY.smith_binary, config, given)
 
 

@@ -71,7 +71,7 @@ fn made(call: Call, config: &Config, input: &[u8]) -> Result<Vec<u8>, Refused> {
     }
 }
 
-/// The module of `config` and `input` in the binary format.
+/// The module of `config` and `input`, with bodies of instructions, in the binary format.
 pub fn module(config: &Config, input: &[u8]) -> Result<Vec<u8>, Refused> {
     made(smith_binary, config, input)
 }

@@ -1,9 +1,10 @@
-//! The generator for C, and for all that calls C: a module of a configuration and an input, into the caller's memory.
+//! The generator for C, and for all that calls C: a module of a configuration and an input, with bodies of instructions, into the
+//! caller's memory.
 #![tactic(auto)]
 
 ghost use Rattle.smith_c.specs.Answers.{IsAnswered, IsExplained};
-ghost use Rattle.smith_request.specs.Made.{IsBinary, HasBinary, HasModule};
-ghost use Rattle.smith_request.specs.Refusals.{IsRefusal};
+ghost use Rattle.smith_request.specs.Made.{IsBinary, HasBinary, HasProgram};
+ghost use Rattle.smith_request.specs.Refusals.{IsRefusal, IsTextRefusal};
 
 mod answer;
 mod explanation;
@@ -13,7 +14,8 @@ use crate::answer::put;
 use crate::explanation::explain;
 use std::alloc::Global;
 
-/// Writes the module of a configuration and of `input` to the front of `out`, in the binary format.
+/// Writes the module of a configuration and of `input`, with a body for each function that it defines, to the front of `out`, in the
+/// binary format.
 ///
 /// `config` is the text of a JSON object, or empty for the default configuration.
 #[unsafe(no_mangle)]
@@ -26,10 +28,10 @@ pub extern "C" fn smith_binary(alloc: Global, config: &[u8], input: &[u8], out: 
     }
 }
 
-/// Writes that module in the text format. No clause says which text it is.
+/// Writes that module in the text format, for which none is too long. No clause says which text it is.
 #[unsafe(no_mangle)]
 pub extern "C" fn smith_text(alloc: Global, config: &[u8], input: &[u8], out: &mut [u8]) -> Answer
-    ensures { IsAnswered (λ text. HasModule config.now input.now) (IsRefusal config.now input.now) out.old out.new result }
+    ensures { IsAnswered (λ text. HasProgram config.now input.now) (IsTextRefusal config.now input.now) out.old out.new result }
 {
     match smith_request::text(alloc, config, input) {
         Ok(text) => put(answer::MADE, text.as_str().as_bytes(), out),

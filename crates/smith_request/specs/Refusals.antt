@@ -1,4 +1,4 @@
--- Why there is no module, and the number that says so.
+-- Why there is no program, and the number that says so.
 use Rattle.std.specs.Prelude.{◌≢◌, ℕ, List, Ok, Err}
 use Rattle.std.specs.Str.{IsUtf8}
 use Rattle.std.specs.String.{string_bytes}
@@ -6,11 +6,11 @@ use Rattle.smith_binary.specs.Faults.{IsFault}
 use Rattle.smith_binary.specs.declared.error.EncodeError.TheVariants as encoding
 use Rattle.smith_bytes.specs.declared.error.Error.{Error}
 use Rattle.smith_bytes.specs.declared.error.Error.TheVariants as errors
-use Rattle.smith_definitions.specs.Module.{Parts}
-use Rattle.smith_encode.specs.TooLong.{IsTooLong}
 use Rattle.smith_json.specs.Objects.{ReadsText}
 use Rattle.smith_json.specs.declared.refusal.Fault.{Fault}
 use Rattle.smith_json.specs.declared.refusal.Fault.TheVariants.{OutOfMemory, NotAnObject, UnknownField, RepeatedField, WrongType, OutOfRange, TextAfter}
+use Rattle.smith_program.specs.declared.program.Program.{Program}
+use Rattle.smith_program_binary.specs.Long.{IsLongProgram}
 use Rattle.smith_request.specs.Made.{AnswersText}
 use Rattle.smith_request.specs.declared.refusal.Refusal.{Refusal}
 use Rattle.smith_request.specs.declared.refusal.Refusal.TheVariants.{NotUtf8, Config, Module, Encoding}
@@ -20,7 +20,15 @@ abbrev pub IsRefusal : List ℕ → List ℕ → Refusal → Type 0
 IsRefusal text input NotUtf8 = IsUtf8 text → ⊥
 IsRefusal text input (Config refusal) = refusal.fault ≢ OutOfMemory → ReadsText text (Err (refusal.fault, string_bytes refusal.field))
 IsRefusal text input (Module e) = AnswersText text input (Err e)
-IsRefusal text input (Encoding e) = (parts : Parts) × AnswersText text input (Ok parts) × IsFault (IsTooLong parts) e
+IsRefusal text input (Encoding e) = (program : Program) × AnswersText text input (Ok program) × IsFault (IsLongProgram program.«module» program.bodies) e
+
+-- a program and its text may be refused so: as above, and never as too long
+abbrev pub IsTextRefusal : List ℕ → List ℕ → Refusal → Type 0
+IsTextRefusal text input NotUtf8 = IsRefusal text input NotUtf8
+IsTextRefusal text input (Config refusal) = IsRefusal text input (Config refusal)
+IsTextRefusal text input (Module e) = IsRefusal text input (Module e)
+IsTextRefusal text input (Encoding encoding.Memory) = IsRefusal text input (Encoding encoding.Memory)
+IsTextRefusal text input (Encoding encoding.TooLong) = ⊥
 
 -- the number of what is wrong with a configuration's text
 abbrev pub fault_status : Fault → ℕ
@@ -32,7 +40,7 @@ fault_status WrongType = 3
 fault_status OutOfRange = 3
 fault_status TextAfter = 3
 
--- the number of why a module wasn't drawn
+-- the number of why a program wasn't drawn
 abbrev pub error_status : Error → ℕ
 error_status errors.Memory = 2
 error_status (errors.Config _) = 4

@@ -1,19 +1,19 @@
 ghost use Rattle.std.specs.Prelude.{◌≡◌, ℕ, List, [], Ok, Err, IfOk, IfErr};
 ghost use Rattle.smith_json.specs.Objects.{ReadsText};
-ghost use Rattle.smith_request.specs.Made.{IsConfigured, Answers, AnswersText, IsBinary, HasModule};
-ghost use Rattle.smith_request.specs.Refusals.{IsRefusal};
+ghost use Rattle.smith_request.specs.Made.{IsConfigured, Answers, AnswersText, IsBinary, HasProgram};
+ghost use Rattle.smith_request.specs.Refusals.{IsRefusal, IsTextRefusal};
 
 use crate::refusal::Refusal;
 use smith_binary::EncodeError;
 use smith_bytes::{Error, Unstructured};
 use smith_config::Config;
+use smith_program::Program;
 use std::alloc::Global;
 use std::str;
-use wasm_smith::Module;
 
 fn parsed(alloc: Global, text: &str) -> Result<Config, Refusal>
     ensures ok { IfOk result (λ config. ReadsText text.now (Ok (config, []))) }
-    ensures refused { IfErr result (λ refusal. (input : List ℕ) → IsRefusal text.now input refusal) }
+    ensures refused { IfErr result (λ refusal. (input : List ℕ) → IsTextRefusal text.now input refusal) }
 {
     match smith_json::config(alloc, text) {
         Ok(config) => Ok(config),
@@ -24,7 +24,7 @@ fn parsed(alloc: Global, text: &str) -> Result<Config, Refusal>
 /// Reads a configuration from `text`: the default one where it is empty.
 fn configured(alloc: Global, text: &[u8]) -> Result<Config, Refusal>
     ensures ok { IfOk result (λ config. IsConfigured text.now config) }
-    ensures refused { IfErr result (λ refusal. (input : List ℕ) → IsRefusal text.now input refusal) }
+    ensures refused { IfErr result (λ refusal. (input : List ℕ) → IsTextRefusal text.now input refusal) }
 {
     if text.is_empty() {
         return Ok(Config::default());
@@ -35,16 +35,17 @@ fn configured(alloc: Global, text: &[u8]) -> Result<Config, Refusal>
     }
 }
 
-fn drawn(alloc: Global, config: Config, input: &[u8]) -> Result<Module, Error>
+fn drawn(alloc: Global, config: Config, input: &[u8]) -> Result<Program, Error>
     ensures { Answers config input.now result }
 {
-    Module::new(alloc, config, &mut Unstructured::new(input))
+    Program::new(alloc, config, &mut Unstructured::new(input))
 }
 
-/// Draws the module of the configuration that `text` stands for and of `input`.
-pub fn module(alloc: Global, text: &[u8], input: &[u8]) -> Result<Module, Refusal>
-    ensures ok { IfOk result (λ parts. AnswersText text.now input.now (Ok parts)) }
-    ensures refused { IfErr result (λ refusal. IsRefusal text.now input.now refusal) }
+/// Draws the program of the configuration that `text` stands for and of `input`: the module, and then from the bytes that are left a
+/// body for each function that it defines.
+pub fn program(alloc: Global, text: &[u8], input: &[u8]) -> Result<Program, Refusal>
+    ensures ok { IfOk result (λ program. AnswersText text.now input.now (Ok program)) }
+    ensures refused { IfErr result (λ refusal. IsTextRefusal text.now input.now refusal) }
 {
     match configured(alloc, text) {
         Ok(config) => drawn(alloc, config, input).map_err(Refusal::Module),
@@ -52,13 +53,13 @@ pub fn module(alloc: Global, text: &[u8], input: &[u8]) -> Result<Module, Refusa
     }
 }
 
-/// Draws that module, and encodes it in the binary format.
+/// Draws that program, and encodes it in the binary format.
 pub fn binary(alloc: Global, text: &[u8], input: &[u8]) -> Result<Vec<u8>, Refusal>
     ensures ok { IfOk result (λ bytes. IsBinary text.now input.now bytes.items) }
     ensures refused { IfErr result (λ refusal. IsRefusal text.now input.now refusal) }
 {
-    match module(alloc, text, input) {
-        Ok(module) => match smith_encode::encode(alloc, &module) {
+    match program(alloc, text, input) {
+        Ok(program) => match smith_program_binary::encode(alloc, &program) {
             Ok(bytes) => Ok(bytes),
             Err(fault) => Err(Refusal::Encoding(fault)),
         },
@@ -66,22 +67,23 @@ pub fn binary(alloc: Global, text: &[u8], input: &[u8]) -> Result<Vec<u8>, Refus
     }
 }
 
-fn written(alloc: Global, module: &Module) -> Result<String, Refusal>
+fn written(alloc: Global, program: &Program) -> Result<String, Refusal>
     ensures memory { IfErr result (λ refusal. refusal ≡ Refusal.Encoding EncodeError.Memory) }
 {
-    match smith_text::text(alloc, module) {
+    match smith_program_text::text(alloc, program) {
         Ok(text) => Ok(text),
         Err(_) => Err(Refusal::Encoding(EncodeError::Memory)),
     }
 }
 
-/// Draws that module, and writes it in the text format. Tests try that the text is right; no clause says so.
+/// Draws that program, and writes it in the text format. It is never refused as too long. Tests try that the text is right; no clause
+/// says so.
 pub fn text(alloc: Global, text: &[u8], input: &[u8]) -> Result<String, Refusal>
-    ensures ok { IfOk result (λ written. HasModule text.now input.now) }
-    ensures refused { IfErr result (λ refusal. IsRefusal text.now input.now refusal) }
+    ensures ok { IfOk result (λ written. HasProgram text.now input.now) }
+    ensures refused { IfErr result (λ refusal. IsTextRefusal text.now input.now refusal) }
 {
-    match module(alloc, text, input) {
-        Ok(module) => written(alloc, &module),
+    match program(alloc, text, input) {
+        Ok(program) => written(alloc, &program),
         Err(refusal) => Err(refusal),
     }
 }

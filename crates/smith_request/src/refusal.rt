@@ -6,7 +6,7 @@ use smith_bytes::Error;
 use smith_json::{ConfigRefusal, Fault};
 use std::fmt;
 
-/// Why there is no module.
+/// Why there is no program.
 #[derive(Debug, Drop)]
 pub enum Refusal {
     /// The text of the configuration isn't UTF-8.
@@ -15,7 +15,7 @@ pub enum Refusal {
     Config(ConfigRefusal),
     /// The configuration, or the want of memory, allows no module.
     Module(Error),
-    /// The module can't be written.
+    /// The program can't be written.
     Encoding(EncodeError),
 }
 
