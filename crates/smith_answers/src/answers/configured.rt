@@ -5,6 +5,7 @@ use json::{Reader, Scratch};
 use smith_config::{Config, Shape};
 use smith_json::{ConfigRefusal, Refusal, read_config};
 use std::alloc::Global;
+use std::mem;
 
 /// Sets in `config`, which is the default, the fields and the shapes that `case` gives. The case stands in `line`.
 pub(crate) fn set_config(
@@ -15,6 +16,11 @@ pub(crate) fn set_config(
 ) -> Result<(), Fault> {
     set_fields(alloc, line, config)?;
     set_shapes(alloc, case, config)
+}
+
+/// The configuration `config`, in whose place the default stays.
+pub(crate) fn taken(config: &mut Config) -> Config {
+    mem::replace(config, Config::default())
 }
 
 // Sets the fields that the case of `line` gives.

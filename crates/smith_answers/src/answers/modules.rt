@@ -1,4 +1,5 @@
 use crate::answers::binaries::tell_binary;
+use crate::answers::configured::taken;
 use crate::answers::told::{tell_refusal, tell_rest};
 use crate::arguments::{number, word};
 use crate::call::ModuleCall;
@@ -8,7 +9,6 @@ use smith_bytes::{Error, Unstructured};
 use smith_config::Config;
 use smith_text::text;
 use std::alloc::Global;
-use std::mem;
 use wasm_smith::{DuplicateImportsBehavior, Module};
 
 /// Appends the text of the module that `call` makes, or its binary where `call` encodes it, or the refusal. The configuration
@@ -79,11 +79,6 @@ fn made(
         ModuleCall::NewInternal => Module::new_internal(alloc, taken(config), u, behavior),
         _ => Module::new(alloc, taken(config), u),
     }
-}
-
-// The configuration `config`, in whose place the default stays.
-fn taken(config: &mut Config) -> Config {
-    mem::replace(config, Config::default())
 }
 
 // The rule of duplicate imports: that of the first argument for the internal call, else the rule of `Module::new`.

@@ -1,16 +1,16 @@
 use crate::answers::binaries::tell_bytes_whole;
+use crate::answers::configured::taken;
 use crate::answers::told::{tell_refusal, tell_rest};
 use crate::arguments::number;
 use crate::call::ProgramCall;
 use crate::case::Case;
 use crate::fault::Fault;
-use smith_bytes::Unstructured;
+use smith_bytes::{Error, Unstructured};
 use smith_config::Config;
 use smith_program::Program;
 use smith_program_binary::encode;
 use smith_program_text::text;
 use std::alloc::Global;
-use std::mem;
 
 /// Appends the text of the program of `input`, or its binary where `call` encodes it, or the refusal; and what is left of `input`.
 /// The configuration `config` is used up. Each argument is fuel that is added to the program.
@@ -22,13 +22,24 @@ pub(crate) fn answer_program(
     input: &[u8],
     answer: &mut String,
 ) -> Result<(), Fault> {
-    let config = mem::replace(config, Config::default());
     let mut u = Unstructured::new(input);
-    match Program::new(alloc, config, &mut u) {
-        Ok(mut program) => tell_program(alloc, case, call, &mut program, answer)?,
-        Err(refusal) => tell_refusal(refusal, answer)?,
-    }
+    let made = Program::new(alloc, taken(config), &mut u);
+    tell_made(alloc, case, call, made, answer)?;
     tell_rest(&u, answer)
+}
+
+// Appends what `call` tells of the program that is made, or the refusal.
+fn tell_made(
+    alloc: Global,
+    case: &Case,
+    call: ProgramCall,
+    made: Result<Program, Error>,
+    answer: &mut String,
+) -> Result<(), Fault> {
+    match made {
+        Ok(mut program) => tell_program(alloc, case, call, &mut program, answer),
+        Err(refusal) => tell_refusal(refusal, answer),
+    }
 }
 
 // Appends what `call` tells of `program`, after fuel is added for each argument.
@@ -39,13 +50,24 @@ fn tell_program(
     program: &mut Program,
     answer: &mut String,
 ) -> Result<(), Fault> {
-    for place in 0..case.args().len() {
-        add_fuel(alloc, program, number(case, place)?, answer)?;
-    }
+    terminate(alloc, case, program, answer)?;
     match call {
         ProgramCall::New => tell_text(alloc, program, answer),
         ProgramCall::Encode => tell_binary(alloc, program, answer),
     }
+}
+
+// Adds fuel to `program` for each argument in turn, and tells each answer.
+fn terminate(
+    alloc: Global,
+    case: &Case,
+    program: &mut Program,
+    answer: &mut String,
+) -> Result<(), Fault> {
+    for place in 0..case.args().len() {
+        add_fuel(alloc, program, number(case, place)?, answer)?;
+    }
+    Ok(())
 }
 
 fn add_fuel(
