@@ -22,13 +22,17 @@ IsRefusal text input (Config refusal) = refusal.fault ≢ OutOfMemory → ReadsT
 IsRefusal text input (Module e) = AnswersText text input (Err e)
 IsRefusal text input (Encoding e) = (program : Program) × AnswersText text input (Ok program) × IsFault (IsLongProgram program.«module» program.bodies) e
 
--- a program and its text may be refused so: as above, and never as too long
+-- a refusal is another one than that a program is too long
+abbrev pub IsNotTooLong : Refusal → Type 0
+IsNotTooLong NotUtf8 = Unit {0}
+IsNotTooLong (Config refusal) = Unit {0}
+IsNotTooLong (Module e) = Unit {0}
+IsNotTooLong (Encoding encoding.Memory) = Unit {0}
+IsNotTooLong (Encoding encoding.TooLong) = ⊥
+
+-- a program's text may be refused so: as its binary may, and never as too long
 abbrev pub IsTextRefusal : List ℕ → List ℕ → Refusal → Type 0
-IsTextRefusal text input NotUtf8 = IsRefusal text input NotUtf8
-IsTextRefusal text input (Config refusal) = IsRefusal text input (Config refusal)
-IsTextRefusal text input (Module e) = IsRefusal text input (Module e)
-IsTextRefusal text input (Encoding encoding.Memory) = IsRefusal text input (Encoding encoding.Memory)
-IsTextRefusal text input (Encoding encoding.TooLong) = ⊥
+IsTextRefusal text input refusal = IsRefusal text input refusal × IsNotTooLong refusal
 
 -- the number of what is wrong with a configuration's text
 abbrev pub fault_status : Fault → ℕ

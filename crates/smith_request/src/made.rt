@@ -1,7 +1,7 @@
 ghost use Rattle.std.specs.Prelude.{◌≡◌, ℕ, List, [], Ok, Err, IfOk, IfErr};
 ghost use Rattle.smith_json.specs.Objects.{ReadsText};
 ghost use Rattle.smith_request.specs.Made.{IsConfigured, Answers, AnswersText, IsBinary, HasProgram};
-ghost use Rattle.smith_request.specs.Refusals.{IsRefusal, IsTextRefusal};
+ghost use Rattle.smith_request.specs.Refusals.{IsRefusal, IsNotTooLong};
 
 use crate::refusal::Refusal;
 use smith_binary::EncodeError;
@@ -13,7 +13,8 @@ use std::str;
 
 fn parsed(alloc: Global, text: &str) -> Result<Config, Refusal>
     ensures ok { IfOk result (λ config. ReadsText text.now (Ok (config, []))) }
-    ensures refused { IfErr result (λ refusal. (input : List ℕ) → IsTextRefusal text.now input refusal) }
+    ensures refused { IfErr result (λ refusal. (input : List ℕ) → IsRefusal text.now input refusal) }
+    ensures short { IfErr result IsNotTooLong }
 {
     match smith_json::config(alloc, text) {
         Ok(config) => Ok(config),
@@ -24,7 +25,8 @@ fn parsed(alloc: Global, text: &str) -> Result<Config, Refusal>
 /// Reads a configuration from `text`: the default one where it is empty.
 fn configured(alloc: Global, text: &[u8]) -> Result<Config, Refusal>
     ensures ok { IfOk result (λ config. IsConfigured text.now config) }
-    ensures refused { IfErr result (λ refusal. (input : List ℕ) → IsTextRefusal text.now input refusal) }
+    ensures refused { IfErr result (λ refusal. (input : List ℕ) → IsRefusal text.now input refusal) }
+    ensures short { IfErr result IsNotTooLong }
 {
     if text.is_empty() {
         return Ok(Config::default());
@@ -45,7 +47,8 @@ fn drawn(alloc: Global, config: Config, input: &[u8]) -> Result<Program, Error>
 /// body for each function that it defines.
 pub fn program(alloc: Global, text: &[u8], input: &[u8]) -> Result<Program, Refusal>
     ensures ok { IfOk result (λ program. AnswersText text.now input.now (Ok program)) }
-    ensures refused { IfErr result (λ refusal. IsTextRefusal text.now input.now refusal) }
+    ensures refused { IfErr result (λ refusal. IsRefusal text.now input.now refusal) }
+    ensures short { IfErr result IsNotTooLong }
 {
     match configured(alloc, text) {
         Ok(config) => drawn(alloc, config, input).map_err(Refusal::Module),
@@ -80,7 +83,8 @@ fn written(alloc: Global, program: &Program) -> Result<String, Refusal>
 /// says so.
 pub fn text(alloc: Global, text: &[u8], input: &[u8]) -> Result<String, Refusal>
     ensures ok { IfOk result (λ written. HasProgram text.now input.now) }
-    ensures refused { IfErr result (λ refusal. IsTextRefusal text.now input.now refusal) }
+    ensures refused { IfErr result (λ refusal. IsRefusal text.now input.now refusal) }
+    ensures short { IfErr result IsNotTooLong }
 {
     match program(alloc, text, input) {
         Ok(program) => written(alloc, &program),
