@@ -1,5 +1,5 @@
 -- What is answered where a module is drawn and then its bodies.
-use Rattle.std.proofs.Common.{◌≡◌, ◌∙◌, ℕ, List, false, Ok, Err, inl}
+use Rattle.std.proofs.Common.{◌≡◌, ◌∙◌, sym, subst, ℕ, List, false, Ok, Err, inl, inr}
 use Rattle.std.specs.Prelude.{Result, IsErrAnd}
 use Rattle.smith_bytes.specs.Source.{KeepsPieces}
 use Rattle.smith_bytes.specs.declared.error.Error.{Error}
@@ -22,9 +22,24 @@ program_made given bytes after left m bodies generated drawn kept = record {
   source = kept bytes generated.source;
 }
 
+-- no module
+pub module_refused : (given : Config) (bytes left : List ℕ) (answer : Result Program Error) (e : Error) → IsGenerated false given bytes (Err e) left → IsErrAnd answer (λ y. y ≡ e)
+    → IsProgram given bytes answer left
+module_refused given bytes left (Ok program) e generated passed = absurd passed
+module_refused given bytes left (Err y) e generated passed = record {
+  modules = tt;
+  bodies = tt;
+  refusals = inl (subst (λ (x : Error). IsGenerated false given bytes (Err x) left) (sym passed) generated);
+  source = generated.source;
+}
+
 -- no memory for the bodies
 pub bodies_refused : (given : Config) (bytes after left : List ℕ) (m : Parts) (answer : Result Program Error) (e : Error) → IsGenerated false given bytes (Ok m) after → IsErrAnd answer (λ y. y ≡ e) → e ≡ Memory → KeepsPieces after left
     → IsProgram given bytes answer left
 bodies_refused given bytes after left m (Ok program) e generated passed memory kept = absurd passed
-bodies_refused given bytes after left m (Err y) e generated passed memory kept =
-    record { modules = tt; bodies = tt; refusals = inl (passed ∙ memory); source = kept bytes generated.source }
+bodies_refused given bytes after left m (Err y) e generated passed memory kept = record {
+  modules = tt;
+  bodies = tt;
+  refusals = inr (record { is = passed ∙ memory; m = m; of = record { after = after; generated = generated; source = kept } });
+  source = kept bytes generated.source;
+}

@@ -1,12 +1,10 @@
 -- What `Program::new` promises.
-use Rattle.std.specs.Prelude.{◌≡◌, ◌⊎◌, ℕ, false, List, Result, Ok, IfOk, IfErr}
+use Rattle.std.specs.Prelude.{◌≡◌, ◌⊎◌, ℕ, false, List, Result, Ok, Err, IfOk, IfErr}
 use Rattle.smith_bytes.specs.Source.{IsPiece, KeepsPieces}
 use Rattle.smith_bytes.specs.declared.error.Error.{Error}
 use Rattle.smith_bytes.specs.declared.error.Error.TheVariants.{Memory}
 use Rattle.smith_config.specs.declared.config.Config.{Config}
-use Rattle.smith_config.specs.Sanitized.{sanitized}
 use Rattle.smith_definitions.specs.Module.{Parts}
-use Rattle.smith_definitions.specs.Refusals.{MayRefuse}
 use Rattle.wasm_smith.specs.Generated.{IsGenerated}
 use Rattle.smith_program.specs.Bodies.{AreDrawnBodies}
 use Rattle.smith_program.specs.declared.program.Program.{Program}
@@ -17,9 +15,15 @@ pub record IsModuleOf (given : Config) (bytes left : List ℕ) (m : Parts) : Typ
   pub generated : IsGenerated false given bytes (Ok m) after
   pub source : KeepsPieces after left
 
--- the answer for a configuration and the bytes of the source, of which some are left
+-- want of memory for the bodies of a module that is given
+pub record LacksMemory (given : Config) (bytes left : List ℕ) (e : Error) : Type 0 where
+  pub is : e ≡ Memory
+  pub m : Parts
+  pub of : IsModuleOf given bytes left m
+
+-- the answer for a configuration and the bytes of the source, of which some are left: a refusal is that of the module, or of its bodies
 pub record IsProgram (given : Config) (bytes : List ℕ) (answer : Result Program Error) (left : List ℕ) : Type 0 where
   pub modules : IfOk answer (λ program. IsModuleOf given bytes left program.«module»)
   pub bodies : IfOk answer (λ program. AreDrawnBodies program.«module» program.bodies)
-  pub refusals : IfErr answer (λ e. (e ≡ Memory) ⊎ MayRefuse (sanitized given) e)
+  pub refusals : IfErr answer (λ e. IsGenerated false given bytes (Err e) left ⊎ LacksMemory given bytes left e)
   pub source : IsPiece bytes left
