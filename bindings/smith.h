@@ -54,7 +54,7 @@ struct smith_answer smith_binary(const uint8_t *config, size_t config_length,
                                  const uint8_t *input, size_t input_length,
                                  uint8_t *out, size_t out_length);
 
-/* Writes the module in the text format. The status is any of the above; SMITH_TOO_LONG does not occur in this version. */
+/* Writes the module in the text format. The status is any of the above but SMITH_TOO_LONG. */
 struct smith_answer smith_text(const uint8_t *config, size_t config_length,
                                const uint8_t *input, size_t input_length,
                                uint8_t *out, size_t out_length);

@@ -3,7 +3,7 @@
 
 ghost use Rattle.smith_c.specs.Answers.{IsAnswered, IsExplained};
 ghost use Rattle.smith_request.specs.Made.{IsBinary, HasBinary, HasModule};
-ghost use Rattle.smith_request.specs.Refusals.{IsRefusal};
+ghost use Rattle.smith_request.specs.Refusals.{IsRefusal, IsTextRefusal};
 
 mod answer;
 mod explanation;
@@ -26,10 +26,10 @@ pub extern "C" fn smith_binary(alloc: Global, config: &[u8], input: &[u8], out: 
     }
 }
 
-/// Writes that module in the text format. No clause says which text it is.
+/// Writes that module in the text format, for which none is too long. No clause says which text it is.
 #[unsafe(no_mangle)]
 pub extern "C" fn smith_text(alloc: Global, config: &[u8], input: &[u8], out: &mut [u8]) -> Answer
-    ensures { IsAnswered (λ text. HasModule config.now input.now) (IsRefusal config.now input.now) out.old out.new result }
+    ensures { IsAnswered (λ text. HasModule config.now input.now) (IsTextRefusal config.now input.now) out.old out.new result }
 {
     match smith_request::text(alloc, config, input) {
         Ok(text) => put(answer::MADE, text.as_str().as_bytes(), out),

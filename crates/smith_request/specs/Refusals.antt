@@ -22,6 +22,11 @@ IsRefusal text input (Config refusal) = refusal.fault ≢ OutOfMemory → ReadsT
 IsRefusal text input (Module e) = AnswersText text input (Err e)
 IsRefusal text input (Encoding e) = (parts : Parts) × AnswersText text input (Ok parts) × IsFault (IsTooLong parts) e
 
+-- a module and its text may be refused so: as above, and never as too long
+abbrev pub IsTextRefusal : List ℕ → List ℕ → Refusal → Type 0
+IsTextRefusal text input (Encoding encoding.TooLong) = ⊥
+IsTextRefusal text input refusal = IsRefusal text input refusal
+
 -- the number of what is wrong with a configuration's text
 abbrev pub fault_status : Fault → ℕ
 fault_status OutOfMemory = 2

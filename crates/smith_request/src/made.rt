@@ -1,7 +1,7 @@
 ghost use Rattle.std.specs.Prelude.{◌≡◌, ℕ, List, [], Ok, Err, IfOk, IfErr};
 ghost use Rattle.smith_json.specs.Objects.{ReadsText};
 ghost use Rattle.smith_request.specs.Made.{IsConfigured, Answers, AnswersText, IsBinary, HasModule};
-ghost use Rattle.smith_request.specs.Refusals.{IsRefusal};
+ghost use Rattle.smith_request.specs.Refusals.{IsRefusal, IsTextRefusal};
 
 use crate::refusal::Refusal;
 use smith_binary::EncodeError;
@@ -13,7 +13,7 @@ use wasm_smith::Module;
 
 fn parsed(alloc: Global, text: &str) -> Result<Config, Refusal>
     ensures ok { IfOk result (λ config. ReadsText text.now (Ok (config, []))) }
-    ensures refused { IfErr result (λ refusal. (input : List ℕ) → IsRefusal text.now input refusal) }
+    ensures refused { IfErr result (λ refusal. (input : List ℕ) → IsTextRefusal text.now input refusal) }
 {
     match smith_json::config(alloc, text) {
         Ok(config) => Ok(config),
@@ -24,7 +24,7 @@ fn parsed(alloc: Global, text: &str) -> Result<Config, Refusal>
 /// Reads a configuration from `text`: the default one where it is empty.
 fn configured(alloc: Global, text: &[u8]) -> Result<Config, Refusal>
     ensures ok { IfOk result (λ config. IsConfigured text.now config) }
-    ensures refused { IfErr result (λ refusal. (input : List ℕ) → IsRefusal text.now input refusal) }
+    ensures refused { IfErr result (λ refusal. (input : List ℕ) → IsTextRefusal text.now input refusal) }
 {
     if text.is_empty() {
         return Ok(Config::default());
@@ -44,7 +44,7 @@ fn drawn(alloc: Global, config: Config, input: &[u8]) -> Result<Module, Error>
 /// Draws the module of the configuration that `text` stands for and of `input`.
 pub fn module(alloc: Global, text: &[u8], input: &[u8]) -> Result<Module, Refusal>
     ensures ok { IfOk result (λ parts. AnswersText text.now input.now (Ok parts)) }
-    ensures refused { IfErr result (λ refusal. IsRefusal text.now input.now refusal) }
+    ensures refused { IfErr result (λ refusal. IsTextRefusal text.now input.now refusal) }
 {
     match configured(alloc, text) {
         Ok(config) => drawn(alloc, config, input).map_err(Refusal::Module),
@@ -78,7 +78,7 @@ fn written(alloc: Global, module: &Module) -> Result<String, Refusal>
 /// Draws that module, and writes it in the text format. Tests try that the text is right; no clause says so.
 pub fn text(alloc: Global, text: &[u8], input: &[u8]) -> Result<String, Refusal>
     ensures ok { IfOk result (λ written. HasModule text.now input.now) }
-    ensures refused { IfErr result (λ refusal. IsRefusal text.now input.now refusal) }
+    ensures refused { IfErr result (λ refusal. IsTextRefusal text.now input.now refusal) }
 {
     match module(alloc, text, input) {
         Ok(module) => written(alloc, &module),
