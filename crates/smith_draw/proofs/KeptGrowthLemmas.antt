@@ -3,6 +3,7 @@ use Rattle.std.proofs.Common.{rules, ◌≡◌, ℕ, zero, suc, ◌+◌, ◌<◌
 use Rattle.std.specs.Prelude.{All, slice_get, not, ◌&&◌, ◌||◌, ◌==◌, nat_le, if◌then◌else◌}
 use Rattle.std.proofs.lemmas.List.{length-append, take-append-le}
 use Rattle.std.proofs.lemmas.List.Elements.{All-head, All-tail, All-take, All-weaker}
+use Rattle.std.proofs.lemmas.Option.{slice_get_within}
 use Rattle.smith_types.specs.Types.{IsOrderly}
 use Rattle.smith_types.specs.Subtyping.{IsInRange, IsValInRange}
 use Rattle.smith_types.specs.declared.value_type.HeapType.{HeapType}
@@ -15,10 +16,10 @@ use Rattle.smith_types.specs.Features.{Features}
 use Rattle.smith_types.specs.ValidTypes.{IsHeapTypeValid, IsValTypeValid}
 use Rattle.smith_types.specs.Expressions.{Context, reference_to, function_reference}
 use Rattle.smith_types.specs.Grown.{Extends}
+use Rattle.smith_types.specs.Entities.{IsFuncValid, IsGlobalValid}
 use Rattle.smith_draw.specs.Offered.{supertype_of, supertype_at, ancestors_within, ancestors}
 use Rattle.smith_draw.specs.Below.{names, is_under, is_bottom_of, is_heap_below, is_val_below}
 use Rattle.smith_draw.specs.ConstOffers.{each_from, offered_if, global_offers, function_offers}
-use Rattle.smith_draw.specs.ConstScopes.{IsScope}
 use Rattle.smith_draw.specs.KeptOffers.{IsKeptOffer, AreKeptOffers}
 use Rattle.smith_draw.specs.declared.const_expr.node_choice.Choice.TheVariants as choice
 use Rattle.smith_draw.specs.declared.const_expr.kept_offers.KeptOffer.{KeptOffer}
@@ -78,6 +79,9 @@ value_in_range features types (Ref reference) h = heap_in_range reference.heap_t
   heap_in_range (Exact index) h = h.1
 value_in_range features types value h = search rules
 
+func_in_range : (types : List SubType) (index : ℕ) → IsFuncValid types index → index < length types
+func_in_range types index (function, t, at, is) = slice_get_within types index t at
+
 -- a longer list of types has in range what these have
 in_range_longer : (types more : List SubType) (value : ValType) → IsValInRange types value → IsValInRange (types ++ more) value
 in_range_longer types more (Ref reference) h = heap_longer reference.heap_type h where
@@ -94,9 +98,9 @@ each_same P f g same start (x ∷ xs) each =
     ap (λ ys. ys ++ each_from f (start + 1) xs) (same start x (All-head P x xs each)) ∙ ap (λ ys. g start x ++ ys) (each_same P f g same (start + 1) xs (All-tail P x xs each))
 
 -- contexts, of which the second has more types, functions and globals at their ends
-module _ (old new : Context) (scope : IsScope old) (features : new.features ≡ old.features) (types : Extends old.types new.types) (funcs : Extends old.funcs new.funcs) (globals : Extends old.globals new.globals) (imported : new.imported_funcs ≡ old.imported_funcs) where
+module _ (old new : Context) (orderly : IsOrderly old.types) (old_funcs : All (IsFuncValid old.types) old.funcs) (old_globals : All (IsGlobalValid old.features old.types) old.globals) (features : new.features ≡ old.features) (types : Extends old.types new.types) (funcs : Extends old.funcs new.funcs) (globals : Extends old.globals new.globals) (imported : new.imported_funcs ≡ old.imported_funcs) where
   below_same : (a b : ValType) → IsValInRange old.types a → IsValInRange old.types b → is_val_below new.types a b ≡ is_val_below old.types a b
-  below_same a b lower upper = subst (λ (xs : List SubType). is_val_below xs a b ≡ is_val_below old.types a b) (sym types.parts) (val_same old.types types.more scope.orderly a b lower upper)
+  below_same a b lower upper = subst (λ (xs : List SubType). is_val_below xs a b ≡ is_val_below old.types a b) (sym types.parts) (val_same old.types types.more orderly a b lower upper)
 
   reference_same : (function index : ℕ) → function_reference new function index ≡ function_reference old function index
   reference_same function index = λ i. if nat_le (imported i) function then reference_to (if (features i).custom_descriptors then Exact index else Concrete index) else reference_to (Concrete index)
@@ -110,20 +114,50 @@ module _ (old new : Context) (scope : IsScope old) (features : new.features ≡ 
     globals_seen = let longer = ap length globals.parts ∙ length-append old.globals globals.more in omega (arith, longer, kept.globals_seen);
     globals =
         kept.globals
-        ∙ sym (each_same (λ (global : GlobalType). IsValTypeValid old.features (length old.types) global.val_type) (global_offers new offer.wanted) (global_offers old offer.wanted)
-        (λ i global valid. ap (λ (below : Bool). offered_if (not global.mutable && below) (choice.Global i)) (below_same global.val_type offer.wanted (value_in_range old.features old.types global.val_type valid) kept.wanted))
-        0 (take offer.globals_seen old.globals) (All-take _ offer.globals_seen old.globals scope.globals))
+        ∙ sym (each_same (IsGlobalValid old.features old.types) (global_offers new offer.wanted) (global_offers old offer.wanted)
+        (λ i global valid. ap (λ (below : Bool). offered_if (not global.mutable && below) (choice.Global i)) (below_same global.val_type offer.wanted (value_in_range old.features old.types global.val_type valid.value) kept.wanted))
+        0 (take offer.globals_seen old.globals) (All-take (IsGlobalValid old.features old.types) offer.globals_seen old.globals old_globals))
         ∙ ap (λ (xs : List GlobalType). each_from (global_offers new offer.wanted) 0 xs) (sym (seen_same offer.globals_seen old.globals new.globals globals kept.globals_seen));
     funcs_seen = let longer = ap length funcs.parts ∙ length-append old.funcs funcs.more in omega (arith, longer, kept.funcs_seen);
     funcs =
         kept.funcs
-        ∙ sym (each_same (λ index. index < length old.types) (function_offers new offer.wanted) (function_offers old offer.wanted)
-        (λ i index inside. ap (λ (below : Bool). offered_if below (choice.Function i))
-        (ap (λ (v : ValType). is_val_below new.types v offer.wanted) (reference_same i index) ∙ below_same (function_reference old i index) offer.wanted (within_reference old.types index (nat_le old.imported_funcs i) old.features.custom_descriptors inside) kept.wanted))
-        0 (take offer.funcs_seen old.funcs) (All-take _ offer.funcs_seen old.funcs scope.funcs))
+        ∙ sym (each_same (IsFuncValid old.types) (function_offers new offer.wanted) (function_offers old offer.wanted)
+        (λ i index valid. ap (λ (below : Bool). offered_if below (choice.Function i))
+        (ap (λ (v : ValType). is_val_below new.types v offer.wanted) (reference_same i index) ∙ below_same (function_reference old i index) offer.wanted (within_reference old.types index (nat_le old.imported_funcs i) old.features.custom_descriptors (func_in_range old.types index valid)) kept.wanted))
+        0 (take offer.funcs_seen old.funcs) (All-take (IsFuncValid old.types) offer.funcs_seen old.funcs old_funcs))
         ∙ ap (λ (xs : List ℕ). each_from (function_offers new offer.wanted) 0 xs) (sym (seen_same offer.funcs_seen old.funcs new.funcs funcs kept.funcs_seen));
   }
 
   -- what was kept fits
   pub kept_grown : (kept : KeptOffers) → AreKeptOffers old kept → AreKeptOffers new kept
   kept_grown kept all = All-weaker (IsKeptOffer old) (IsKeptOffer new) offer_grown kept.kept.items all
+
+-- the same over types that stay
+module _ (old new : Context) (features : new.features ≡ old.features) (types : new.types ≡ old.types) (funcs : Extends old.funcs new.funcs) (globals : Extends old.globals new.globals) (imported : new.imported_funcs ≡ old.imported_funcs) where
+  global_offers_same : (wanted : ValType) → global_offers new wanted ≡ global_offers old wanted
+  global_offers_same wanted = ap (λ (xs : List SubType) index (global : GlobalType). offered_if (not global.mutable && is_val_below xs global.val_type wanted) (choice.Global index)) types
+
+  function_offers_same : (wanted : ValType) → function_offers new wanted ≡ function_offers old wanted
+  function_offers_same wanted = λ i function index. offered_if (is_val_below (types i) (if nat_le (imported i) function then reference_to (if (features i).custom_descriptors then Exact index else Concrete index) else reference_to (Concrete index)) wanted) (choice.Function function)
+
+  front_kept : {A : Type 0} (n : ℕ) (xs ys : List A) → Extends xs ys → n ≤ length xs → take n ys ≡ take n xs
+  front_kept n xs ys longer inside = ap (take n) longer.parts ∙ take-append-le n xs longer.more inside
+
+  offer_longer : (offer : KeptOffer) → IsKeptOffer old offer → IsKeptOffer new offer
+  offer_longer offer kept = record {
+    wanted = subst (λ (xs : List SubType). IsValInRange xs offer.wanted) (sym types) kept.wanted;
+    globals_seen = let longer = ap length globals.parts ∙ length-append old.globals globals.more in omega (arith, longer, kept.globals_seen);
+    globals =
+        kept.globals
+        ∙ ap (λ offers. each_from offers 0 (take offer.globals_seen old.globals)) (sym (global_offers_same offer.wanted))
+        ∙ ap (λ (xs : List GlobalType). each_from (global_offers new offer.wanted) 0 xs) (sym (front_kept offer.globals_seen old.globals new.globals globals kept.globals_seen));
+    funcs_seen = let longer = ap length funcs.parts ∙ length-append old.funcs funcs.more in omega (arith, longer, kept.funcs_seen);
+    funcs =
+        kept.funcs
+        ∙ ap (λ offers. each_from offers 0 (take offer.funcs_seen old.funcs)) (sym (function_offers_same offer.wanted))
+        ∙ ap (λ (xs : List ℕ). each_from (function_offers new offer.wanted) 0 xs) (sym (front_kept offer.funcs_seen old.funcs new.funcs funcs kept.funcs_seen));
+  }
+
+  -- what was kept fits where nothing is added but functions and globals
+  pub kept_longer : (kept : KeptOffers) → AreKeptOffers old kept → AreKeptOffers new kept
+  kept_longer kept all = All-weaker (IsKeptOffer old) (IsKeptOffer new) offer_longer kept.kept.items all
