@@ -2,7 +2,12 @@
 use Rattle.std.proofs.Common.{◌≡◌, ℕ, zero, suc, ◌+◌, ◌<◌, ◌≤◌, Bool, true, false, List, [], ◌∷◌, ◌++◌, take, get_or, map, length, refl, sym, ap, ◌∙◌, subst, arith}
 use Rattle.std.specs.Prelude.{slice_get, Some, Result, Ok, Err}
 use Rattle.std.proofs.lemmas.List.{append-nil, append_assoc, map-append}
-use Rattle.smith_draw.specs.ConstOffers.{each_from, offered_if, past}
+use Rattle.std.proofs.Math.Seq.{take-length}
+use Rattle.smith_types.specs.Expressions.{Context}
+use Rattle.smith_types.specs.declared.value_type.ValType.{ValType}
+use Rattle.smith_draw.specs.ConstOffers.{each_from, offered_if, past, global_offers, function_offers}
+use Rattle.smith_draw.specs.KeptOffers.{IsKeptOffer, IsWhole}
+use Rattle.smith_draw.specs.declared.const_expr.kept_offers.KeptOffer.{KeptOffer}
 
 -- what the items up to one offer, and this one
 pub each_more : {A B : Type 0} (offer : ℕ → A → List B) (start : ℕ) (xs : List A) (k : ℕ) (d : A) → k < length xs → each_from offer start (take (k + 1) xs) ≡ each_from offer start (take k xs) ++ offer (start + k) (get_or xs k d)
@@ -29,3 +34,16 @@ unfolding past
 past_made make [] place d inside = absurd (omega arith)
 past_made make (x ∷ xs) zero d inside = refl
 past_made make (x ∷ xs) (suc place) d inside = past_made make xs place d (omega arith)
+
+-- what is kept of all visible globals and all functions is all that they offer
+pub whole_kept : (context : Context) (offer : KeptOffer) (wanted : ValType) → IsKeptOffer context offer → offer.wanted ≡ wanted → offer.globals_seen ≡ context.visible → offer.funcs_seen ≡ length context.funcs → IsWhole context wanted offer
+whole_kept context offer wanted kept same globals funcs = record {
+  globals =
+      kept.globals
+      ∙ ap (λ (w : ValType). each_from (global_offers context w) 0 (take offer.globals_seen context.globals)) same
+      ∙ ap (λ (n : ℕ). each_from (global_offers context wanted) 0 (take n context.globals)) globals;
+  funcs =
+      kept.funcs
+      ∙ ap (λ (w : ValType). each_from (function_offers context w) 0 (take offer.funcs_seen context.funcs)) same
+      ∙ ap (λ (xs : List ℕ). each_from (function_offers context wanted) 0 xs) (ap (λ (n : ℕ). take n context.funcs) funcs ∙ take-length context.funcs);
+}
