@@ -49,7 +49,7 @@ use Rattle.smith_draw.proofs.SubTypeLemmas.{sub_type_follows}
 use Rattle.smith_draw.proofs.RecGroupLemmas.{IsStanding, each_grown, members_stand, least_keeps, more_keeps}
 
 -- a field that stores no reference that may not be null and is not grounded
-abbrev IsFilledField : Config → Context → FieldType → Type 0
+abbrev pub IsFilledField : Config → Context → FieldType → Type 0
 IsFilledField config context field = ¬ IsUngrounded config context (unpacked field.element_type)
 
 -- a type whose fields, or whose element, are no such references
@@ -109,12 +109,12 @@ pub global_type_filled : (config : Config) (context : Context) (orderly : IsOrde
 unfolding global_type_at
 global_type_filled config context orderly bytes = val_type_filled config context orderly false (length context.types) bytes
 
-storage_of_number : (config : Config) (context : Context) (orderly : IsOrderly context.types) (must_share : Bool) (limit number : ℕ) (bytes : List ℕ) → ¬ IsUngrounded config context (unpacked (storage_of_number_at config context must_share limit number bytes).0)
+pub storage_of_number : (config : Config) (context : Context) (orderly : IsOrderly context.types) (must_share : Bool) (limit number : ℕ) (bytes : List ℕ) → ¬ IsUngrounded config context (unpacked (storage_of_number_at config context must_share limit number bytes).0)
 storage_of_number config context orderly must_share limit zero bytes never = never
 storage_of_number config context orderly must_share limit (suc zero) bytes never = never
 storage_of_number config context orderly must_share limit (suc (suc number)) bytes never = val_type_filled config context orderly must_share limit bytes never
 
-field_drawn : (config : Config) (context : Context) (orderly : IsOrderly context.types) (must_share : Bool) (limit : ℕ) (bytes : List ℕ) → IsFilledField config context (field_type_at config context must_share limit bytes).0
+pub field_drawn : (config : Config) (context : Context) (orderly : IsOrderly context.types) (must_share : Bool) (limit : ℕ) (bytes : List ℕ) → IsFilledField config context (field_type_at config context must_share limit bytes).0
 unfolding field_type_at storage_type_at
 field_drawn config context orderly must_share limit bytes =
     let number = range_at 0 2 bytes in
@@ -125,7 +125,7 @@ unfolding fields_until_at
 fields_drawn config context orderly must_share limit end fields bytes now =
     grow_all (IsFilledField config context) (λ _. field_type_at config context must_share limit) (λ _ after. field_drawn config context orderly must_share limit after) end (end - length fields) fields bytes now
 
-struct_drawn : (config : Config) (context : Context) (orderly : IsOrderly context.types) (must_share : Bool) (limit : ℕ) (bytes : List ℕ) → All (IsFilledField config context) (struct_type_at config context must_share limit bytes).0.fields
+pub struct_drawn : (config : Config) (context : Context) (orderly : IsOrderly context.types) (must_share : Bool) (limit : ℕ) (bytes : List ℕ) → All (IsFilledField config context) (struct_type_at config context must_share limit bytes).0.fields
 unfolding struct_type_at
 struct_drawn config context orderly must_share limit bytes =
     let count = range_at 0 20 bytes in

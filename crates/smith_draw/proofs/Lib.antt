@@ -31,6 +31,7 @@ pub mod EachTypeLemmas
 pub mod FloatLemmas
 pub mod FuncSizeLemmas
 pub mod FilledLemmas
+pub mod FilledValueLemmas
 pub mod NullableLemmas
 pub mod SharedHeapTypeLemmas
 pub mod GlobalTypeLemmas

@@ -59,6 +59,14 @@ fn offered()
     ensures drawn { matching_ref_type_at (record default_config { non_nullable_enabled = true }) (context_of_types struct_and_below) (not_null (plain heap.Any)) (3 ∷ []) ≡ (not_null (Concrete 0), []) }
 {}
 
+#[tactic(auto, unfolding(smith_draw::specs::MatchingTypes::references_offered, smith_draw::specs::MatchingTypes::matching_ref_type_at, smith_draw::specs::Offered::subtypes_offered, smith_draw::specs::Choices::chosen_at, smith_draw::specs::Grounding::is_grounded, smith_draw::specs::Below::is_heap_below, smith_draw::specs::Offered::ancestors, smith_bytes::specs::Draws::range_at, smith_bytes::specs::Draws::digit_count))]
+fn offered_over_functions()
+    ensures below_func { references_offered (record default_config { non_nullable_enabled = true }) (context_of usual_features (final_type plain_func ∷ []) (0 ∷ []) 1) (not_null (plain heap.Func)) ≡ plain heap.Func ∷ Concrete 0 ∷ [] }
+    ensures without_a_function { references_offered (record default_config { non_nullable_enabled = true }) (context_of usual_features (final_type plain_func ∷ []) [] 0) (not_null (plain heap.Func)) ≡ plain heap.Func ∷ [] }
+    ensures exactly { references_offered (record default_config { non_nullable_enabled = true; custom_descriptors_enabled = true }) (context_of every_feature (final_type plain_func ∷ []) (0 ∷ []) 0) (not_null (Concrete 0)) ≡ Concrete 0 ∷ Exact 0 ∷ [] }
+    ensures not_exactly_where_it_is_imported { references_offered (record default_config { non_nullable_enabled = true; custom_descriptors_enabled = true }) (context_of every_feature (final_type plain_func ∷ []) (0 ∷ []) 1) (not_null (Concrete 0)) ≡ Concrete 0 ∷ [] }
+{}
+
 fn ungrounded()
     ensures where_nothing_exists { IsUngrounded (record default_config { non_nullable_enabled = true }) (context_of_types []) (Ref (not_null (plain heap.Any))) }
     ensures to_a_struct { ¬ IsUngrounded (record default_config { non_nullable_enabled = true }) (context_of_types struct_and_below) (Ref (not_null (Concrete 0))) }
