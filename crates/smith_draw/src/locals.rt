@@ -3,8 +3,9 @@ ghost use Rattle.smith_types.specs.Floats.{IsNoFloat};
 ghost use Rattle.smith_types.specs.ValidTypes.{IsValTypeValid};
 ghost use Rattle.smith_config.specs.Features.{features_of};
 ghost use Rattle.smith_config.specs.Sanitized.{IsSanitized};
-ghost use Rattle.smith_draw.specs.ConstBounds.{IsNonNullable, IsUngrounded};
+ghost use Rattle.smith_draw.specs.ConstBounds.{IsNonNullable};
 ghost use Rattle.smith_draw.specs.Drawing.{Draws};
+ghost use Rattle.smith_draw.specs.Granted.{IsGranted};
 ghost use Rattle.smith_draw.specs.Grounding.{standing_in};
 ghost use Rattle.smith_draw.specs.Locals.{locals_at};
 
@@ -43,7 +44,7 @@ pub fn arbitrary_locals(
     requires { IsSanitized config.now }
     ensures draws { Draws (locals_at config.now (standing_in config.now spaces.now) u.old) result u.old u.new }
     ensures most { IfOk result (λ locals. length locals ≤ 100) }
-    ensures grounded { IfOk result (All (λ value. ¬ IsUngrounded config.now (standing_in config.now spaces.now) value)) }
+    ensures granted { IfOk result (All (IsGranted config.now (standing_in config.now spaces.now))) }
     ensures valid { IfOk result (All (IsValTypeValid (features_of config.now) (length spaces.now.types.now.types))) }
     ensures floats { config.now.allow_floats ≡ false → IfOk result (All IsNoFloat) }
     ensures nullable { config.now.non_nullable_enabled ≡ false → IfOk result (All (λ ty. ¬ IsNonNullable ty)) }
