@@ -127,7 +127,7 @@ fn features_on()
     ensures multibyte_array_access { features_of (record default_config { multibyte_array_access_enabled = true }) ≡ record (features_of default_config) { multibyte_array_access = true } }
     ensures custom_descriptors { features_of (record default_config { custom_descriptors_enabled = true }) ≡ record (features_of default_config) { custom_descriptors = true } }
     ensures several_memories { features_of (record default_config { max_memories = 2 }) ≡ record (features_of default_config) { multi_memory = true } }
-    ensures no_other_field { features_of (record default_config { max_tables = 2; canonicalize_nans = true; allow_floats = false }) ≡ features_of default_config }
+    ensures no_other_field { features_of (record default_config { max_tables = 2; canonicalize_nans = true; allow_floats = false; non_nullable_enabled = true }) ≡ features_of default_config }
 {}
 
 fn faults()

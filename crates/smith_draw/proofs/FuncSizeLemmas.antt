@@ -1,7 +1,7 @@
 -- Drawn function types take at most 20 values and give at most 20, or as many as the function types that they match.
-use Rattle.std.proofs.Common.{◌≡◌, ℕ, zero, suc, ◌≤◌, Bool, true, false, cond, Option, Some, None, List, [], length, refl, arith}
-use Rattle.std.specs.Prelude.{slice_get, All}
-use Rattle.smith_bytes.proofs.GrownLemmas.{cond_both, grow_most}
+use Rattle.std.proofs.Common.{ℕ, zero, suc, ◌≤◌, Bool, true, false, cond, Some, List, [], length, arith}
+use Rattle.std.specs.Prelude.{All}
+use Rattle.smith_bytes.proofs.GrownLemmas.{grow_most}
 use Rattle.smith_types.specs.Expressions.{Context}
 use Rattle.smith_types.specs.Space.{Space}
 use Rattle.smith_types.specs.declared.composite_type.CompositeInnerType.{CompositeInnerType}
@@ -10,16 +10,15 @@ use Rattle.smith_types.specs.declared.composite_type.FuncType.{FuncType}
 use Rattle.smith_types.specs.declared.composite_type.SubType.{SubType}
 use Rattle.smith_config.specs.declared.config.Config.{Config}
 use Rattle.smith_draw.specs.Grounding.{over}
-use Rattle.smith_draw.specs.Choices.{chosen_at}
 use Rattle.smith_draw.specs.CompositeTypes.{val_types_at, most_results, func_type_at, inner_of_number_at, inner_number_at, composite_type_at}
 use Rattle.smith_draw.specs.FuncSizes.{IsFunctionWithin, IsInnerWithin, HasFewValues, IsSmallInner, IsSmall}
 use Rattle.smith_draw.specs.MatchingTypes.{each_at, super_val_type_at, matching_val_type_at, matching_func_type_at}
 use Rattle.smith_draw.specs.MatchingComposites.{matching_inner_at, matching_composite_type_at}
 use Rattle.smith_draw.specs.RecGroups.{types_at}
-use Rattle.smith_draw.specs.SubTypes.{is_final_at, root_type_at, sub_type_below_at, sub_type_of_at, supertype_wanted_at, supertypes, sub_type_at}
+use Rattle.smith_draw.specs.SubTypes.{is_final_at, root_type_at, sub_type_below_at, sub_type_at}
 use Rattle.smith_draw.specs.ValueTypes.{sharedness_at, val_type_at}
 use Rattle.smith_draw.proofs.EachTypeLemmas.{types_keep}
-use Rattle.smith_draw.proofs.FloatLemmas.{stands_in}
+use Rattle.smith_draw.proofs.KeptTypeLemmas.{sub_type_has}
 use Rattle.smith_draw.proofs.MatchingLemmas.{length-each_at}
 
 values_few : (config : Config) (context : Context) (must_share : Bool) (limit most : ℕ) (bytes : List ℕ) → length (val_types_at config context must_share limit most bytes).0 ≤ most
@@ -74,18 +73,12 @@ module _ (most : ℕ) (enough : 20 ≤ most) where
   matched_within config context must_share limit (Func function) bytes h = matched_function_within config context function bytes h
   matched_within config context must_share limit (Struct structure) bytes h = tt
 
-  below_within : (config : Config) (context : Context) (limit index : ℕ) (at : Option SubType) (bytes : List ℕ) → ((t : SubType) → at ≡ Some t → HasFewValues most t) → HasFewValues most (sub_type_below_at config context limit index at bytes).0
+  below_within : (config : Config) (context : Context) (limit index : ℕ) (t : SubType) (bytes : List ℕ) → HasFewValues most t → HasFewValues most (sub_type_below_at config context limit index (Some t) bytes).0
   unfolding matching_composite_type_at
-  below_within config context limit index None bytes h = root_within config context limit bytes
-  below_within config context limit index (Some t) bytes h = matched_within config context t.composite_type.shared limit t.composite_type.inner bytes (h t refl)
+  below_within config context limit index t bytes h = matched_within config context t.composite_type.shared limit t.composite_type.inner bytes h
 
   sub_type_within : (config : Config) (context : Context) (limit : ℕ) (bytes : List ℕ) → All (HasFewValues most) context.types → HasFewValues most (sub_type_at config context limit bytes).0
-  unfolding sub_type_at sub_type_of_at
-  sub_type_within config context limit bytes all =
-      let wanted = supertype_wanted_at config (length (supertypes context.types)) bytes in
-      let index = chosen_at 0 (supertypes context.types) wanted.1 in
-      cond_both (λ (r : SubType × List ℕ). HasFewValues most r.0) wanted.0 (sub_type_of_at config context limit (supertypes context.types) wanted.1) (root_type_at config context limit wanted.1)
-      (below_within config context limit index.0 (slice_get context.types index.0) index.1 (λ t at. stands_in (HasFewValues most) context.types index.0 t at all)) (root_within config context limit wanted.1)
+  sub_type_within config context limit bytes all = sub_type_has config context limit (HasFewValues most) (root_within config context limit) (below_within config context limit) all bytes
 
   -- so do those of a type space that groups are drawn into
   pub types_within : (config : Config) (context : Context) (space : Space) (bytes : List ℕ) → All (HasFewValues most) space.types → All (HasFewValues most) (types_at config context space bytes).0.types

@@ -29,8 +29,10 @@ pub mod GroupsLoop
 pub mod RecGroupLemmas
 pub mod EachTypeLemmas
 pub mod FloatLemmas
+pub mod KeptTypeLemmas
 pub mod FuncSizeLemmas
 pub mod FilledLemmas
+pub mod GrantedLemmas
 pub mod NullableLemmas
 pub mod SharedHeapTypeLemmas
 pub mod GlobalTypeLemmas

@@ -32,6 +32,7 @@ pub mod Constants
 pub mod ConstNodes
 pub mod ConstExprs
 pub mod ConstBounds
+pub mod Granted
 pub mod Putting
 pub mod ConstSteps
 pub mod ConstTasks

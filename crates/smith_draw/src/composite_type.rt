@@ -7,6 +7,7 @@ ghost use Rattle.smith_types.specs.ValidTypes.{values_of, IsFuncTypeValid, IsVal
 ghost use Rattle.smith_config.specs.Features.{features_of};
 ghost use Rattle.smith_config.specs.Sanitized.{IsSanitized};
 ghost use Rattle.smith_draw.specs.Drawing.{AlwaysDraws, Draws};
+ghost use Rattle.smith_draw.specs.Granted.{IsGranted};
 ghost use Rattle.smith_draw.specs.Grounding.{standing_in};
 ghost use Rattle.smith_draw.specs.FieldTypes.{fields_until_at};
 ghost use Rattle.smith_draw.specs.CompositeTypes.{
@@ -178,6 +179,7 @@ pub fn arbitrary_func_type(
     requires sanitized { IsSanitized config.now }
     requires may_share { IsTrue must_share → IsTrue config.now.shared_everything_threads_enabled }
     ensures draws { Draws (func_type_at config.now (standing_in config.now spaces.now) must_share limit u.old) result u.old u.new }
+    ensures granted { IfOk result (λ drawn. All (IsGranted config.now (standing_in config.now spaces.now)) (values_of (Func drawn))) }
     ensures valid { IfOk result (IsFuncTypeValid (features_of config.now) limit) }
     ensures stands { IfOk result (IsFuncInRange spaces.now.types.now.types) }
     ensures shared { IsTrue must_share → IfOk result (λ drawn. All (IsShareable spaces.now.types.now.types) (values_of (Func drawn))) }
@@ -203,6 +205,7 @@ pub fn arbitrary_struct_type(
     requires sanitized { IsSanitized config.now }
     requires may_share { IsTrue must_share → IsTrue config.now.shared_everything_threads_enabled }
     ensures draws { Draws (struct_type_at config.now (standing_in config.now spaces.now) must_share limit u.old) result u.old u.new }
+    ensures granted { IfOk result (λ drawn. All (IsGranted config.now (standing_in config.now spaces.now)) (values_of (Struct drawn))) }
     ensures few { IfOk result (λ drawn. length drawn.fields ≤ 20) }
     ensures valid { IfOk result (λ drawn. All (IsValTypeValid (features_of config.now) limit) (values_of (Struct drawn))) }
     ensures stands { IfOk result (λ drawn. All (IsFieldInRange spaces.now.types.now.types) drawn.fields) }
@@ -228,6 +231,7 @@ pub fn arbitrary_composite_type(
 ) -> Result<CompositeType, Error>
     requires sanitized { IsSanitized config.now }
     ensures draws { Draws (composite_type_at config.now (standing_in config.now spaces.now) limit u.old) result u.old u.new }
+    ensures granted { IfOk result (λ drawn. All (IsGranted config.now (standing_in config.now spaces.now)) (values_of drawn.inner)) }
     ensures enabled { IfOk result (λ drawn. IsInnerEnabled (features_of config.now) drawn.inner) }
     ensures may_be_shared { IfOk result (λ drawn. IsTrue drawn.shared → IsTrue config.now.shared_everything_threads_enabled) }
     ensures valid { IfOk result (λ drawn. All (IsValTypeValid (features_of config.now) limit) (values_of drawn.inner)) }

@@ -5,6 +5,7 @@ ghost use Rattle.smith_types.specs.ValidTypes.{values_of_storage, IsValTypeValid
 ghost use Rattle.smith_config.specs.Features.{features_of};
 ghost use Rattle.smith_config.specs.Sanitized.{IsSanitized};
 ghost use Rattle.smith_draw.specs.Drawing.{AlwaysDraws, Draws};
+ghost use Rattle.smith_draw.specs.Granted.{IsGranted};
 ghost use Rattle.smith_draw.specs.Grounding.{standing_in};
 ghost use Rattle.smith_draw.specs.FieldTypes.{storage_of_number_at, storage_type_at, field_type_at};
 ghost use Rattle.smith_draw.specs.Spelling.{RefersTo, SpellsStorage, SpellsField};
@@ -70,6 +71,7 @@ pub fn arbitrary_storage_type(
     requires may_share { IsTrue must_share → IsTrue config.now.shared_everything_threads_enabled }
     ensures ok { IsOk result }
     ensures draws { Draws (storage_type_at config.now (standing_in config.now spaces.now) must_share limit u.old) result u.old u.new }
+    ensures granted { IfOk result (λ drawn. All (IsGranted config.now (standing_in config.now spaces.now)) (values_of_storage drawn)) }
     ensures valid { IfOk result (λ drawn. All (IsValTypeValid (features_of config.now) limit) (values_of_storage drawn)) }
     ensures stands { IfOk result (IsStorageInRange spaces.now.types.now.types) }
     ensures shared { IsTrue must_share → IfOk result (λ drawn. All (IsShareable spaces.now.types.now.types) (values_of_storage drawn)) }
@@ -98,6 +100,7 @@ pub fn arbitrary_field_type(
     requires may_share { IsTrue must_share → IsTrue config.now.shared_everything_threads_enabled }
     ensures ok { IsOk result }
     ensures draws { Draws (field_type_at config.now (standing_in config.now spaces.now) must_share limit u.old) result u.old u.new }
+    ensures granted { IfOk result (λ drawn. All (IsGranted config.now (standing_in config.now spaces.now)) (values_of_storage drawn.element_type)) }
     ensures valid { IfOk result (λ drawn. All (IsValTypeValid (features_of config.now) limit) (values_of_storage drawn.element_type)) }
     ensures stands { IfOk result (IsFieldInRange spaces.now.types.now.types) }
     ensures shared { IsTrue must_share → IfOk result (λ drawn. All (IsShareable spaces.now.types.now.types) (values_of_storage drawn.element_type)) }

@@ -5,11 +5,12 @@ ghost use Rattle.smith_config.specs.Features.{features_of};
 ghost use Rattle.smith_config.specs.Sanitized.{IsSanitized};
 ghost use Rattle.smith_draw.specs.ConstBounds.{IsNonNullable};
 ghost use Rattle.smith_draw.specs.Drawing.{Draws};
+ghost use Rattle.smith_draw.specs.Granted.{IsGranted};
 ghost use Rattle.smith_draw.specs.Grounding.{standing_in};
 ghost use Rattle.smith_draw.specs.Locals.{locals_at};
 
 use crate::composite_type::draw_val_types;
-use crate::spaces::Spaces;
+use crate::spaces::{Spaces, orderly};
 use crate::standing::Standing;
 use smith_bytes::{Error, Unstructured};
 use smith_config::Config;
@@ -43,9 +44,11 @@ pub fn arbitrary_locals(
     requires { IsSanitized config.now }
     ensures draws { Draws (locals_at config.now (standing_in config.now spaces.now) u.old) result u.old u.new }
     ensures most { IfOk result (λ locals. length locals ≤ 100) }
+    ensures granted { IfOk result (All (IsGranted config.now (standing_in config.now spaces.now))) }
     ensures valid { IfOk result (All (IsValTypeValid (features_of config.now) (length spaces.now.types.now.types))) }
     ensures floats { config.now.allow_floats ≡ false → IfOk result (All IsNoFloat) }
     ensures nullable { config.now.non_nullable_enabled ≡ false → IfOk result (All (λ ty. ¬ IsNonNullable ty)) }
 {
+    orderly(spaces);
     draw_locals(alloc, config, &Standing::over(config, spaces), u)
 }

@@ -1,4 +1,4 @@
-ghost use Rattle.std.specs.Prelude.{◌≡◌, ◌<◌, ◌↔◌, ◌⊎◌, false, IsTrue, Some, IfOk, drop, filter, length, map, ◌++◌, slice_get, ◌||◌, not};
+ghost use Rattle.std.specs.Prelude.{◌≡◌, ◌<◌, ◌↔◌, ◌⊎◌, false, IsTrue, Some, IfOk, drop, filter, length, map, ◌++◌, slice_get, ◌||◌, not, All};
 ghost use Rattle.smith_bytes.specs.Draws.{choose_at};
 ghost use Rattle.smith_types.specs.Subtyping.{IsBelow, IsRefBelow, IsValBelow, IsInRange, IsValInRange};
 ghost use Rattle.smith_types.specs.Matching.{IsStorageMatch, IsFieldMatch, IsFuncMatch, IsStorageInRange, IsFieldInRange, IsFuncInRange};
@@ -9,12 +9,16 @@ ghost use Rattle.smith_types.specs.ValidTypes.{
   IsFuncTypeValid,
   IsHeapTypeShared,
   IsShareable,
+  values_of,
+  values_of_storage,
 };
 ghost use Rattle.smith_types.specs.Grounded.{IsGrounded};
 ghost use Rattle.smith_types.specs.declared.value_type.HeapType.TheVariants.{Abstract, Concrete};
+ghost use Rattle.smith_types.specs.declared.composite_type.CompositeInnerType.TheVariants.{Func};
 ghost use Rattle.smith_config.specs.Features.{features_of};
 ghost use Rattle.smith_draw.specs.Choices.{chosen_at};
 ghost use Rattle.smith_draw.specs.Drawing.{AlwaysDraws, Draws};
+ghost use Rattle.smith_draw.specs.Granted.{IsGranted};
 ghost use Rattle.smith_draw.specs.Grounding.{is_grounded, standing_in};
 ghost use Rattle.smith_draw.specs.Kept.{
   StaysValid,
@@ -370,6 +374,7 @@ pub fn arbitrary_matching_val_type(
 ) -> Result<ValType, Error>
     ensures draws { Draws (matching_val_type_at config.now (standing_in config.now spaces.now) ty u.old) result u.old u.new }
     ensures below { IfOk result (λ drawn. IsValBelow spaces.now.types.now.types drawn ty) }
+    ensures granted { IsGranted config.now (standing_in config.now spaces.now) ty → IfOk result (IsGranted config.now (standing_in config.now spaces.now)) }
     ensures shared { IfOk result (λ drawn. IsShareable spaces.now.types.now.types drawn ↔ IsShareable spaces.now.types.now.types ty) }
     ensures valid { IfOk result (StaysValid (IsValTypeValid (features_of config.now)) (features_of config.now) spaces.now.types.now.types ty) }
     ensures stands { IfOk result (λ drawn. IsValInRange spaces.now.types.now.types ty → IsValInRange spaces.now.types.now.types drawn) }
@@ -390,6 +395,7 @@ pub fn arbitrary_matching_storage_type(
 ) -> Result<StorageType, Error>
     ensures draws { Draws (matching_storage_type_at config.now (standing_in config.now spaces.now) ty u.old) result u.old u.new }
     ensures below { IfOk result (λ drawn. IsStorageMatch spaces.now.types.now.types drawn ty) }
+    ensures granted { All (IsGranted config.now (standing_in config.now spaces.now)) (values_of_storage ty) → IfOk result (λ drawn. All (IsGranted config.now (standing_in config.now spaces.now)) (values_of_storage drawn)) }
     ensures shared { IfOk result (λ drawn. IsStorageShareable spaces.now.types.now.types drawn ↔ IsStorageShareable spaces.now.types.now.types ty) }
     ensures valid { IfOk result (StaysValid (IsStorageValid (features_of config.now)) (features_of config.now) spaces.now.types.now.types ty) }
     ensures stands { IfOk result (λ drawn. IsStorageInRange spaces.now.types.now.types ty → IsStorageInRange spaces.now.types.now.types drawn) }
@@ -410,6 +416,7 @@ pub fn arbitrary_matching_field_type(
 ) -> Result<FieldType, Error>
     ensures draws { Draws (matching_field_type_at config.now (standing_in config.now spaces.now) field u.old) result u.old u.new }
     ensures below { IfOk result (λ drawn. IsFieldMatch spaces.now.types.now.types drawn field) }
+    ensures granted { All (IsGranted config.now (standing_in config.now spaces.now)) (values_of_storage field.element_type) → IfOk result (λ drawn. All (IsGranted config.now (standing_in config.now spaces.now)) (values_of_storage drawn.element_type)) }
     ensures shared { IfOk result (λ drawn. IsStorageShareable spaces.now.types.now.types drawn.element_type ↔ IsStorageShareable spaces.now.types.now.types field.element_type) }
     ensures valid { IfOk result (StaysValid (IsFieldValid (features_of config.now)) (features_of config.now) spaces.now.types.now.types field) }
     ensures stands { IfOk result (λ drawn. IsFieldInRange spaces.now.types.now.types field → IsFieldInRange spaces.now.types.now.types drawn) }
@@ -431,6 +438,7 @@ pub fn arbitrary_matching_func_type(
 ) -> Result<FuncType, Error>
     ensures draws { Draws (matching_func_type_at config.now (standing_in config.now spaces.now) function.now u.old) result u.old u.new }
     ensures below { IfOk result (λ drawn. IsFuncMatch spaces.now.types.now.types drawn function.now) }
+    ensures granted { All (IsGranted config.now (standing_in config.now spaces.now)) function.now.results → IfOk result (λ drawn. All (IsGranted config.now (standing_in config.now spaces.now)) (values_of (Func drawn))) }
     ensures shared { IfOk result (λ drawn. IsFuncShareable spaces.now.types.now.types drawn ↔ IsFuncShareable spaces.now.types.now.types function.now) }
     ensures valid { IfOk result (StaysValid (IsFuncTypeValid (features_of config.now)) (features_of config.now) spaces.now.types.now.types function.now) }
     ensures stands { IfOk result (λ drawn. IsFuncInRange spaces.now.types.now.types function.now → IsFuncInRange spaces.now.types.now.types drawn) }

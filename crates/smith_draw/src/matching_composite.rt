@@ -5,6 +5,7 @@ ghost use Rattle.smith_types.specs.ValidTypes.{values_of, IsValTypeValid, IsShar
 ghost use Rattle.smith_config.specs.Features.{features_of};
 ghost use Rattle.smith_config.specs.Sanitized.{IsSanitized};
 ghost use Rattle.smith_draw.specs.Drawing.{Draws};
+ghost use Rattle.smith_draw.specs.Granted.{IsGranted};
 ghost use Rattle.smith_draw.specs.Grounding.{standing_in};
 ghost use Rattle.smith_draw.specs.Kept.{IsSharingEnabled};
 ghost use Rattle.smith_draw.specs.MatchingComposites.{
@@ -111,6 +112,7 @@ pub fn arbitrary_matching_struct_type(
     requires may_share { IsTrue must_share → IsTrue config.now.shared_everything_threads_enabled }
     ensures draws { Draws (matching_struct_type_at config.now (standing_in config.now spaces.now) must_share limit structure.now u.old) result u.old u.new }
     ensures below { IfOk result (λ drawn. AreFieldsMatched spaces.now.types.now.types drawn.fields structure.now.fields) }
+    ensures granted { All (IsGranted config.now (standing_in config.now spaces.now)) (values_of (Struct structure.now)) → IfOk result (λ drawn. All (IsGranted config.now (standing_in config.now spaces.now)) (values_of (Struct drawn))) }
     ensures valid { length spaces.now.types.now.types ≤ limit → All (IsSharingEnabled (features_of config.now)) spaces.now.types.now.types
         → All (IsValTypeValid (features_of config.now) limit) (values_of (Struct structure.now))
         → IfOk result (λ drawn. All (IsValTypeValid (features_of config.now) limit) (values_of (Struct drawn))) }

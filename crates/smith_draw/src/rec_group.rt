@@ -11,6 +11,7 @@ ghost use Rattle.smith_draw.specs.Callers.{PassesButImports};
 ghost use Rattle.smith_draw.specs.ConstBounds.{HoldsNonNullableField, HoldsUngroundedField};
 ghost use Rattle.smith_draw.specs.Drawing.{AlwaysDraws, Draws, DrawsInto};
 ghost use Rattle.smith_draw.specs.FuncSizes.{HasFewValues};
+ghost use Rattle.smith_draw.specs.Granted.{AreTypesGranted};
 ghost use Rattle.smith_draw.specs.Grounding.{functions_in, over};
 ghost use Rattle.smith_draw.specs.RecGroups.{
   types_left,
@@ -316,6 +317,7 @@ pub fn arbitrary_rec_group(
     ensures valid { AreTypesValid (features_of config.now) types.old → OnOk result (AreTypesValid (features_of config.now) types.new) }
     ensures most { OnOk result (length types.new.types ≤ config.now.max_types) }
     ensures some { OnOk result (allow_empty ≡ false → length types.old.types < length types.new.types) }
+    ensures granted { AreTypesGranted config.now (over (functions_in config.now entities.now) types.old.types) → OnOk result (AreTypesGranted config.now (over (functions_in config.now entities.now) types.new.types)) }
     ensures reach { allow_empty ≡ true → All IsRoot types.old.types → OnOk result (Takes (SpellsAdded config.now types.old) u.old types.new u.new) }
 {
     let _groups = types.types();
@@ -343,6 +345,7 @@ pub fn arbitrary_types(
     ensures few_values { (most : ℕ) → 20 ≤ most → All (HasFewValues most) types.old.types → OnOk result (All (HasFewValues most) types.new.types) }
     ensures nullable { config.now.non_nullable_enabled ≡ false → ¬ HoldsNonNullableField types.old.types → OnOk result (¬ HoldsNonNullableField types.new.types) }
     ensures grounded { ¬ HoldsUngroundedField config.now (over (functions_in config.now entities.now) types.old.types) → OnOk result (¬ HoldsUngroundedField config.now (over (functions_in config.now entities.now) types.new.types)) }
+    ensures granted { AreTypesGranted config.now (over (functions_in config.now entities.now) types.old.types) → OnOk result (AreTypesGranted config.now (over (functions_in config.now entities.now) types.new.types)) }
     ensures reach { config.now.min_types ≡ 0 → types.old ≡ space_of [] → OnOk result (Takes (SpellsSpace config.now) u.old types.new u.new) }
 {
     let _types = types.types();

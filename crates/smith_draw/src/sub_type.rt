@@ -6,6 +6,7 @@ ghost use Rattle.smith_types.specs.ValidTypes.{values_of, IsTypeValid};
 ghost use Rattle.smith_config.specs.Features.{features_of};
 ghost use Rattle.smith_config.specs.Sanitized.{IsSanitized};
 ghost use Rattle.smith_draw.specs.Drawing.{AlwaysDraws, Draws};
+ghost use Rattle.smith_draw.specs.Granted.{HasGranted, AreTypesGranted};
 ghost use Rattle.smith_draw.specs.Grounding.{functions_in, over, standing_in};
 ghost use Rattle.smith_draw.specs.SubTypes.{
   supertypes,
@@ -158,8 +159,10 @@ pub fn arbitrary_sub_type(
     ensures draws { Draws (sub_type_at config.now (standing_in config.now spaces.now) limit u.old) result u.old u.new }
     ensures valid { AreTypesOpen (features_of config.now) limit spaces.now.types.now → IfOk result (IsTypeValid (features_of config.now) spaces.now.types.now.types limit) }
     ensures follows { IfOk result (HasSuperType spaces.now.types.now.types) }
+    ensures granted { AreTypesGranted config.now (standing_in config.now spaces.now) → IfOk result (HasGranted config.now (standing_in config.now spaces.now)) }
     ensures reach { All IsRoot spaces.now.types.now.types → IfOk result (λ drawn. Takes (SpellsSuch (λ t. All (RefersTo config.now spaces.now.types.now.types) (values_of t.composite_type.inner)) (SpellsSubType config.now spaces.now.types.now.types limit)) u.old drawn u.new) }
 {
+    orderly(spaces);
     draw_sub_type(alloc, config, spaces.types, &spaces.entities, limit, u)
 }
 
@@ -182,6 +185,7 @@ pub fn arbitrary_sub_type_of_super_type(
     ensures below { IfOk result (λ drawn. IsSome drawn.supertype) }
     ensures valid { AreTypesOpen (features_of config.now) limit spaces.now.types.now → IfOk result (IsTypeValid (features_of config.now) spaces.now.types.now.types limit) }
     ensures follows { IfOk result (HasSuperType spaces.now.types.now.types) }
+    ensures granted { AreTypesGranted config.now (standing_in config.now spaces.now) → IfOk result (HasGranted config.now (standing_in config.now spaces.now)) }
 {
     orderly(spaces);
     let indices = supertypes(spaces.types);

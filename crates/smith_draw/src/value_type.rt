@@ -13,6 +13,7 @@ ghost use Rattle.smith_types.specs.Grounded.{IsGrounded};
 ghost use Rattle.smith_config.specs.Features.{features_of};
 ghost use Rattle.smith_config.specs.Sanitized.{IsSanitized};
 ghost use Rattle.smith_draw.specs.Drawing.{AlwaysDraws, Draws};
+ghost use Rattle.smith_draw.specs.Granted.{IsGranted};
 ghost use Rattle.smith_draw.specs.Grounding.{standing_in};
 ghost use Rattle.smith_draw.specs.ValueTypes.{
   abstract_heap_types,
@@ -352,6 +353,7 @@ pub fn arbitrary_valtype(
     requires may_share { IsTrue must_share → IsTrue config.now.shared_everything_threads_enabled }
     ensures ok { IsOk result }
     ensures draws { Draws (val_type_at config.now (standing_in config.now spaces.now) must_share limit u.old) result u.old u.new }
+    ensures granted { IfOk result (IsGranted config.now (standing_in config.now spaces.now)) }
     ensures valid { IfOk result (IsValTypeValid (features_of config.now) limit) }
     ensures stands { IfOk result (IsValInRange spaces.now.types.now.types) }
     ensures shared { IsTrue must_share → IfOk result (IsShareable spaces.now.types.now.types) }

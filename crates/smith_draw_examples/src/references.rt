@@ -6,12 +6,13 @@ ghost use Rattle.smith_types.specs.declared.value_type.AbstractHeapType.TheVaria
 ghost use Rattle.smith_types.specs.declared.value_type.HeapType.TheVariants.{Concrete, Exact};
 ghost use Rattle.smith_types.specs.Features.{every_feature};
 ghost use Rattle.smith_types.specs.ExampleFeatures.{usual_features};
-ghost use Rattle.smith_types.specs.ExampleTypes.{final_type, struct, array, empty_struct, plain_func, struct_and_below, constant, plain, nullable, not_null};
+ghost use Rattle.smith_types.specs.ExampleTypes.{final_type, struct, array, giving, taking, empty_struct, plain_func, struct_and_below, constant, plain, nullable, not_null};
 ghost use Rattle.smith_types.specs.declared.composite_type.StorageType.TheVariants.{Val};
 ghost use Rattle.smith_types.specs.ExampleContexts.{context_of};
 ghost use Rattle.smith_config.specs.Config.{default_config};
 ghost use Rattle.smith_draw.specs.ConstBounds.{IsUngrounded, HoldsUngroundedField};
 ghost use Rattle.smith_draw.specs.ExampleConstExprs.{context_of_types};
+ghost use Rattle.smith_draw.specs.Granted.{IsGranted, HasGranted, AreTypesGranted};
 ghost use Rattle.smith_draw.specs.Grounding.{is_grounded};
 ghost use Rattle.smith_draw.specs.ValueTypes.{granted_at, ref_type_at};
 ghost use Rattle.smith_draw.specs.MatchingTypes.{references_offered, matching_ref_type_at};
@@ -59,6 +60,14 @@ fn offered()
     ensures drawn { matching_ref_type_at (record default_config { non_nullable_enabled = true }) (context_of_types struct_and_below) (not_null (plain heap.Any)) (3 ∷ []) ≡ (not_null (Concrete 0), []) }
 {}
 
+#[tactic(auto, unfolding(smith_draw::specs::MatchingTypes::references_offered, smith_draw::specs::MatchingTypes::matching_ref_type_at, smith_draw::specs::Offered::subtypes_offered, smith_draw::specs::Choices::chosen_at, smith_draw::specs::Grounding::is_grounded, smith_draw::specs::Below::is_heap_below, smith_draw::specs::Offered::ancestors, smith_bytes::specs::Draws::range_at, smith_bytes::specs::Draws::digit_count))]
+fn offered_over_functions()
+    ensures below_func { references_offered (record default_config { non_nullable_enabled = true }) (context_of usual_features (final_type plain_func ∷ []) (0 ∷ []) 1) (not_null (plain heap.Func)) ≡ plain heap.Func ∷ Concrete 0 ∷ [] }
+    ensures without_a_function { references_offered (record default_config { non_nullable_enabled = true }) (context_of usual_features (final_type plain_func ∷ []) [] 0) (not_null (plain heap.Func)) ≡ plain heap.Func ∷ [] }
+    ensures exactly { references_offered (record default_config { non_nullable_enabled = true; custom_descriptors_enabled = true }) (context_of every_feature (final_type plain_func ∷ []) (0 ∷ []) 0) (not_null (Concrete 0)) ≡ Concrete 0 ∷ Exact 0 ∷ [] }
+    ensures not_exactly_where_it_is_imported { references_offered (record default_config { non_nullable_enabled = true; custom_descriptors_enabled = true }) (context_of every_feature (final_type plain_func ∷ []) (0 ∷ []) 1) (not_null (Concrete 0)) ≡ Concrete 0 ∷ [] }
+{}
+
 fn ungrounded()
     ensures where_nothing_exists { IsUngrounded (record default_config { non_nullable_enabled = true }) (context_of_types []) (Ref (not_null (plain heap.Any))) }
     ensures to_a_struct { ¬ IsUngrounded (record default_config { non_nullable_enabled = true }) (context_of_types struct_and_below) (Ref (not_null (Concrete 0))) }
@@ -68,4 +77,16 @@ fn ungrounded()
     ensures in_an_element { HoldsUngroundedField (record default_config { non_nullable_enabled = true }) (context_of_types (final_type (array (constant (Val (Ref (not_null (plain heap.Func)))))) ∷ [])) }
     ensures in_a_field_that_is_grounded { ¬ HoldsUngroundedField (record default_config { non_nullable_enabled = true })
         (context_of_types (final_type empty_struct ∷ final_type (struct (constant (Val (Ref (not_null (Concrete 0)))) ∷ [])) ∷ [])) }
+{}
+
+fn granted_types()
+    ensures a_number { IsGranted default_config (context_of_types []) I32 }
+    ensures a_struct { IsGranted (record default_config { non_nullable_enabled = true }) (context_of_types struct_and_below) (Ref (not_null (Concrete 0))) }
+    ensures a_struct_by_default { ¬ IsGranted default_config (context_of_types struct_and_below) (Ref (not_null (Concrete 0))) }
+    ensures giving_a_struct { HasGranted (record default_config { non_nullable_enabled = true }) (context_of_types struct_and_below) (final_type (giving (Ref (not_null (Concrete 0)) ∷ []))) }
+    ensures giving_what_may_be_null { HasGranted default_config (context_of_types []) (final_type (giving (Ref (nullable (plain heap.Any)) ∷ []))) }
+    ensures taking_what_nothing_grounds { ¬ HasGranted (record default_config { non_nullable_enabled = true }) (context_of_types []) (final_type (taking (Ref (not_null (plain heap.Any)) ∷ []))) }
+    ensures holding_it { ¬ HasGranted (record default_config { non_nullable_enabled = true }) (context_of_types []) (final_type (array (constant (Val (Ref (not_null (plain heap.Any))))))) }
+    ensures beside_the_struct { AreTypesGranted (record default_config { non_nullable_enabled = true }) (context_of_types (final_type empty_struct ∷ final_type (giving (Ref (not_null (Concrete 0)) ∷ [])) ∷ [])) }
+    ensures beside_no_struct { ¬ AreTypesGranted (record default_config { non_nullable_enabled = true }) (context_of_types (final_type (taking (Ref (not_null (plain heap.Any)) ∷ [])) ∷ [])) }
 {}

@@ -2,16 +2,17 @@ ghost use Rattle.std.specs.Prelude.{◌≡◌, [], ◌∷◌, true, false, pos, 
 ghost use Rattle.smith_bytes.specs.declared.error.Count.TheVariants as counts;
 ghost use Rattle.smith_bytes.specs.declared.error.Why.TheVariants.{Unmet};
 ghost use Rattle.smith_types.specs.Flags.{funcref};
-ghost use Rattle.smith_types.specs.ExampleTypes.{nullable, plain, shared_type, plain_func};
+ghost use Rattle.smith_types.specs.ExampleTypes.{nullable, not_null, plain, shared_type, plain_func};
 ghost use Rattle.smith_types.specs.declared.value_type.AbstractHeapType.TheVariants as heap;
+ghost use Rattle.smith_types.specs.declared.value_type.HeapType.TheVariants.{Concrete};
 ghost use Rattle.smith_types.specs.declared.value_type.ValType.TheVariants.{I32, Ref};
-ghost use Rattle.smith_types.specs.declared.const_instr.ConstInstr.TheVariants.{I32Const, GlobalGet, RefFunc};
+ghost use Rattle.smith_types.specs.declared.const_instr.ConstInstr.TheVariants.{I32Const, GlobalGet, RefFunc, RefNull};
 ghost use Rattle.smith_types.specs.declared.entity_type.EntityType.TheVariants.{Func};
 ghost use Rattle.smith_types.specs.declared.imports.Imports.TheVariants.{Single};
 ghost use Rattle.smith_spell.specs.ExampleMembers.{final, giving_two, plain_function};
 ghost use Rattle.wasm_smith.specs.Build.{module_at};
 ghost use Rattle.smith_definitions.specs.Defined.{nothing_defined};
-ghost use Rattle.smith_definitions.specs.Definitions.{definitions_at, tags_at, funcs_at, tables_at, memories_at, globals_at};
+ghost use Rattle.smith_definitions.specs.Definitions.{standing_over, definitions_at, tags_at, funcs_at, tables_at, memories_at, globals_at};
 ghost use Rattle.smith_examples.specs.ExampleDefinitions.{several_types, two_of_each, one_of_each_kind, two_at_least_of_each, one_import_of_a_function, beside_globals, up_to_three, no_imports, one_imported_of_each};
 ghost use Rattle.smith_examples.specs.ExampleModules.{empty_module, group_of};
 ghost use Rattle.smith_examples.specs.ExampleParts.{global, import_named, memory, no_function, number, table};
@@ -75,6 +76,14 @@ fn globals()
     ensures a_defined_one_is_not_seen { globals_at (record two_of_each { min_globals = 2; gc_enabled = false }) (beside_globals []) (number ∷ []) ((0, I32Const (pos 7) ∷ []) ∷ []) (0 ∷ 1 ∷ 8 ∷ 0 ∷ 0 ∷ 0 ∷ 1 ∷ 9 ∷ [])
         ≡ ((number ∷ global I32 true ∷ [], (0, I32Const (pos 7) ∷ []) ∷ (1, I32Const (pos 8) ∷ []) ∷ []), 9 ∷ []) }
     ensures enough_imported { globals_at (record two_of_each { min_globals = 1 }) (beside_globals (number ∷ [])) (number ∷ []) [] (0 ∷ 9 ∷ []) ≡ ((number ∷ [], []), 9 ∷ []) }
+{}
+
+#[tactic(auto, unfolding(smith_definitions::specs::Definitions::defined_at, smith_bytes::specs::Growth::grow_at, smith_definitions::specs::Definitions::globals_at, smith_definitions::specs::Definitions::global_at, smith_definitions::specs::Definitions::initialised_at, smith_draw::specs::GlobalTypes::global_type_at, smith_draw::specs::ValueTypes::val_type_at, smith_draw::specs::ValueTypes::ref_type_at, smith_draw::specs::ValueTypes::granted_at, smith_draw::specs::ValueTypes::heap_type_at, smith_draw::specs::ValueTypes::type_index_at, smith_draw::specs::ValueTypes::abstract_heap_type_at, smith_draw::specs::ValueTypes::sharedness_at, smith_draw::specs::Choices::chosen_at, smith_draw::specs::ConstExprs::expression_alone_at, smith_draw::specs::ConstExprs::expression_at, smith_draw::specs::ConstNodes::node_at, smith_draw::specs::Constants::constant_at, smith_draw::specs::ConstOffers::offers, smith_draw::specs::Offered::ancestors, smith_draw::specs::Below::is_heap_below, smith_draw::specs::Grounding::is_grounded, smith_bytes::specs::Draws::choose_at, smith_bytes::specs::Draws::whole_at, smith_bytes::specs::Draws::bool_at, smith_bytes::specs::Draws::range_at, smith_bytes::specs::Draws::digit_count))]
+fn references()
+    ensures over_a_function { globals_at (record two_of_each { min_globals = 1; max_globals = 1; non_nullable_enabled = true }) (standing_over (final plain_function ∷ []) (0 ∷ []) 0 []) [] [] (5 ∷ 1 ∷ 1 ∷ 0 ∷ 9 ∷ [])
+        ≡ ((global (Ref (not_null (Concrete 0))) false ∷ [], (0, RefFunc 0 ∷ []) ∷ []), 9 ∷ []) }
+    ensures over_no_function { globals_at (record two_of_each { min_globals = 1; max_globals = 1; non_nullable_enabled = true }) (standing_over (final plain_function ∷ []) [] 0 []) [] [] (5 ∷ 1 ∷ 1 ∷ 0 ∷ 9 ∷ [])
+        ≡ ((global (Ref (nullable (Concrete 0))) false ∷ [], (0, RefNull (Concrete 0) ∷ []) ∷ []), 9 ∷ []) }
 {}
 
 #[tactic(auto, unfolding(smith_definitions::specs::Definitions::definitions_at, smith_definitions::specs::Definitions::defined_at, smith_bytes::specs::Growth::grow_at, smith_definitions::specs::Definitions::typed_at, smith_definitions::specs::Definitions::tags_at, smith_definitions::specs::Definitions::funcs_at, smith_draw::specs::TypeUses::is_tag_type, smith_draw::specs::TypeUses::is_unshared_function, smith_definitions::specs::Definitions::tables_at, smith_definitions::specs::Definitions::table_at, smith_draw::specs::TableTypes::table_type_at, smith_draw::specs::TableTypes::drawn_elements, smith_draw::specs::Memories::memory64_at, smith_draw::specs::ConstExprs::table_init_at, smith_definitions::specs::Definitions::memories_at, smith_draw::specs::Memories::memtype_at, smith_draw::specs::Memories::shared_memory_at, smith_draw::specs::Memories::page_size_at, smith_draw::specs::Memories::drawn_pages, smith_draw::specs::Memories::likely_pages, smith_definitions::specs::Definitions::globals_at, smith_definitions::specs::Definitions::global_at, smith_definitions::specs::Definitions::initialised_at, smith_draw::specs::GlobalTypes::global_type_at, smith_draw::specs::Limits::limits64_at, smith_draw::specs::Limits::gradually_at, smith_draw::specs::Limits::gradual, smith_draw::specs::Limits::sixth_power, smith_draw::specs::Limits::scaled, smith_draw::specs::ValueTypes::val_type_at, smith_draw::specs::ValueTypes::ref_type_at, smith_draw::specs::ValueTypes::granted_at, smith_draw::specs::ValueTypes::heap_type_at, smith_draw::specs::ValueTypes::type_index_at, smith_draw::specs::ValueTypes::abstract_heap_type_at, smith_draw::specs::ValueTypes::sharedness_at, smith_draw::specs::Choices::chosen_at, smith_draw::specs::ConstExprs::expression_alone_at, smith_draw::specs::ConstExprs::expression_at, smith_draw::specs::ConstNodes::node_at, smith_draw::specs::Constants::constant_at, smith_draw::specs::ConstOffers::offers, smith_draw::specs::Offered::ancestors, smith_draw::specs::Below::is_heap_below, smith_bytes::specs::Draws::choose_at, smith_bytes::specs::Draws::whole_at, smith_bytes::specs::Draws::bool_at, smith_bytes::specs::Draws::range_at, smith_bytes::specs::Draws::digit_count))]

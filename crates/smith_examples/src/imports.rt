@@ -2,6 +2,9 @@ ghost use Rattle.std.specs.Prelude.{◌≡◌, [], ◌∷◌, true, false, None,
 ghost use Rattle.smith_bytes.specs.declared.error.Count.TheVariants as counts;
 ghost use Rattle.smith_bytes.specs.declared.error.Why.TheVariants.{Unmet};
 ghost use Rattle.smith_types.specs.Imports.{imported_spaces};
+ghost use Rattle.smith_types.specs.ExampleTypes.{nullable, not_null};
+ghost use Rattle.smith_types.specs.declared.value_type.HeapType.TheVariants.{Concrete};
+ghost use Rattle.smith_types.specs.declared.value_type.ValType.TheVariants.{Ref};
 ghost use Rattle.smith_types.specs.declared.entity_type.EntityType.TheVariants.{Global, Memory, Func};
 ghost use Rattle.smith_types.specs.declared.entity_type.ExportKind.TheVariants as kind;
 ghost use Rattle.smith_types.specs.declared.imports.Imports.TheVariants.{Single, Compact1, Compact2};
@@ -9,10 +12,10 @@ ghost use Rattle.smith_config.specs.Config.{default_config};
 ghost use Rattle.smith_draw.specs.Choices.{enabled};
 ghost use Rattle.smith_spell.specs.ExampleMembers.{final, taking_a_number, giving_two, plain_function};
 ghost use Rattle.smith_imports.specs.ImportNames.{is_taken, new_name, import_name_at};
-ghost use Rattle.smith_imports.specs.ImportedEntities.{kind_rows, fits, again, sizes};
+ghost use Rattle.smith_imports.specs.ImportedEntities.{kind_rows, entity_at, fits, again, sizes};
 ghost use Rattle.smith_imports.specs.Imported.{MayEnd};
 ghost use Rattle.smith_imports.specs.Importing.{with_filled, imports_at};
-ghost use Rattle.smith_examples.specs.ExampleParts.{number, memory, import_named};
+ghost use Rattle.smith_examples.specs.ExampleParts.{global, number, memory, import_named};
 
 fn drawn_imports()
     ensures of_one_type { imports_at (record default_config { max_imports = 2 }) [] false (1 ∷ 255 ∷ 255 ∷ 255 ∷ 255 ∷ 0 ∷ 0 ∷ 0 ∷ 1 ∷ 1 ∷ 98 ∷ 1 ∷ 0 ∷ 0 ∷ [])
@@ -39,6 +42,15 @@ fn offered_kinds()
     ensures no_tag_with_results { enabled (kind_rows default_config (final giving_two ∷ []) (imported_spaces [])) ≡ kind.Func ∷ kind.Global ∷ kind.Memory ∷ kind.Table ∷ [] }
     ensures no_tag_without_exceptions { enabled (kind_rows (record default_config { exceptions_enabled = false }) (final plain_function ∷ []) (imported_spaces [])) ≡ kind.Func ∷ kind.Global ∷ kind.Memory ∷ kind.Table ∷ [] }
     ensures no_second_memory { enabled (kind_rows default_config [] (imported_spaces (import_named [] (Memory (memory 0 None)) ∷ []))) ≡ kind.Global ∷ kind.Table ∷ [] }
+{}
+
+// A function that is imported grounds references of what is imported after it.
+#[tactic(auto, unfolding(smith_imports::specs::ImportedEntities::entity_at, smith_imports::specs::ImportedEntities::kind_at, smith_imports::specs::ImportedEntities::entity_of_kind_at, smith_draw::specs::TypeUses::is_tag_type, smith_draw::specs::GlobalTypes::global_type_at, smith_draw::specs::ValueTypes::val_type_at, smith_draw::specs::ValueTypes::ref_type_at, smith_draw::specs::ValueTypes::granted_at, smith_draw::specs::ValueTypes::heap_type_at, smith_draw::specs::ValueTypes::type_index_at, smith_draw::specs::ValueTypes::abstract_heap_type_at, smith_draw::specs::ValueTypes::sharedness_at, smith_draw::specs::Choices::chosen_at, smith_draw::specs::Grounding::is_grounded, smith_draw::specs::Below::is_heap_below, smith_draw::specs::Offered::ancestors, smith_bytes::specs::Draws::bool_at, smith_bytes::specs::Draws::range_at, smith_bytes::specs::Draws::digit_count))]
+fn entities()
+    ensures after_a_function { entity_at (record default_config { non_nullable_enabled = true }) (final plain_function ∷ []) (imported_spaces (import_named [] (Func 0) ∷ [])) 0 (2 ∷ 5 ∷ 1 ∷ 1 ∷ 0 ∷ 9 ∷ [])
+        ≡ (Some (Global (global (Ref (not_null (Concrete 0))) false)), 9 ∷ []) }
+    ensures without_a_function { entity_at (record default_config { non_nullable_enabled = true }) (final plain_function ∷ []) (imported_spaces []) 0 (2 ∷ 5 ∷ 1 ∷ 1 ∷ 0 ∷ 9 ∷ [])
+        ≡ (Some (Global (global (Ref (nullable (Concrete 0))) false)), 9 ∷ []) }
 {}
 
 fn sizes_of_imports()

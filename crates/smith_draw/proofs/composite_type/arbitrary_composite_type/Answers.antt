@@ -2,6 +2,7 @@ use Rattle.std.proofs.Common.{refl}
 use Rattle.std.proofs.lemmas.Result.{IfOk-weaker}
 use Rattle.smith_draw.specs.Grounding.{standing_in}
 use Rattle.smith_draw.proofs.ValueTypeLemmas.{values_valid, values_shared}
+use Rattle.smith_draw.proofs.GrantedLemmas.{composite_granted}
 use Rattle.smith_draw.proofs.DrawingLemmas.{of_drawn}
 use Rattle.smith_draw.proofs.CompositeTypeLemmas.{composite_type_drawn}
 use Rattle.smith_draw.proofs.TakenLemmas.{composite_type_taken}
@@ -13,6 +14,7 @@ returns c =
     let drawn = composite_type_drawn c.args.config.now (standing_in c.args.config.now c.args.spaces.now) c.args.limit c.args.u.now c.requires.sanitized in
     record {
       draws = draws;
+      granted = of_drawn _ draws (composite_granted _ _ c.orderly.ensures _ _);
       enabled = of_drawn _ draws drawn.inner.enabled;
       may_be_shared = of_drawn _ draws drawn.shared;
       valid = of_drawn _ draws (values_valid _ _ _ _ _ drawn.inner.values);

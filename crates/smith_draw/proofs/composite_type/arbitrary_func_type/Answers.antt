@@ -2,6 +2,7 @@ use Rattle.std.proofs.Common.{refl}
 use Rattle.std.proofs.lemmas.Result.{IfOk-weaker}
 use Rattle.smith_draw.specs.Grounding.{standing_in}
 use Rattle.smith_draw.proofs.ValueTypeLemmas.{values_shared}
+use Rattle.smith_draw.proofs.GrantedLemmas.{func_granted}
 use Rattle.smith_draw.proofs.DrawingLemmas.{of_drawn}
 use Rattle.smith_draw.proofs.CompositeTypeLemmas.{func_type_drawn, func_type_valid, func_drawn}
 use Rattle.smith_draw.proofs.TakenLemmas.{func_type_taken}
@@ -14,6 +15,7 @@ returns c =
     let inner = func_drawn _ _ _ _ _ drawn in
     record {
       draws = draws;
+      granted = of_drawn _ draws (func_granted _ _ c.orderly.ensures _ _ _);
       valid = of_drawn _ draws (func_type_valid _ _ _ _ _ drawn);
       stands = of_drawn _ draws inner.stands;
       shared = λ must. of_drawn _ draws (values_shared _ _ _ _ _ must inner.values);

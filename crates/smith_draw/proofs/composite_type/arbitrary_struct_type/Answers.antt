@@ -4,6 +4,7 @@ use Rattle.std.proofs.lemmas.List.Elements.{All-weaker}
 use Rattle.smith_types.specs.Matching.{IsFieldInRange}
 use Rattle.smith_draw.specs.Grounding.{standing_in}
 use Rattle.smith_draw.proofs.ValueTypeLemmas.{values_valid, values_shared}
+use Rattle.smith_draw.proofs.GrantedLemmas.{struct_granted}
 use Rattle.smith_draw.proofs.DrawingLemmas.{of_drawn}
 use Rattle.smith_draw.proofs.FieldTypeLemmas.{IsFieldDrawn}
 use Rattle.smith_draw.proofs.CompositeTypeLemmas.{struct_type_drawn, field_values_drawn}
@@ -19,6 +20,7 @@ returns c =
     let values = field_values_drawn config types c.args.must_share c.args.limit _ drawn.fields in
     record {
       draws = draws;
+      granted = of_drawn _ draws (struct_granted _ _ c.orderly.ensures _ _ _);
       few = of_drawn _ draws drawn.few;
       valid = of_drawn _ draws (values_valid _ _ _ _ _ values);
       stands = of_drawn _ draws (All-weaker (IsFieldDrawn config types c.args.must_share c.args.limit) (IsFieldInRange types) (λ field d. d.stands) _ drawn.fields);

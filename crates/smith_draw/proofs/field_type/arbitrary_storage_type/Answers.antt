@@ -1,7 +1,10 @@
 use Rattle.std.proofs.Common.{refl}
+use Rattle.std.specs.Prelude.{All}
 use Rattle.smith_types.specs.ValidTypes.{values_of_storage}
 use Rattle.smith_types.specs.declared.composite_type.StorageType.{StorageType}
+use Rattle.smith_draw.specs.Granted.{IsGranted}
 use Rattle.smith_draw.specs.Grounding.{standing_in}
+use Rattle.smith_draw.proofs.GrantedLemmas.{storage_granted}
 use Rattle.smith_draw.proofs.ValueTypeLemmas.{drawn_is, values_valid, values_shared}
 use Rattle.smith_draw.proofs.FieldTypeLemmas.{IsStorageDrawn, storage_type_drawn}
 use Rattle.smith_draw.proofs.TakenLemmas.{storage_type_taken}
@@ -17,6 +20,7 @@ returns c =
     record {
       ok = refl;
       draws = record { exact = exact; memory = tt; left = c.draw_storage_type.ensures.left };
+      granted = drawn_is (λ (ty : StorageType). All (IsGranted config (standing_in config c.args.spaces.now)) (values_of_storage ty)) _ (storage_granted _ _ c.orderly.ensures _ _ _) exact;
       valid = values_valid config types c.args.must_share c.args.limit values drawn.values;
       stands = drawn.stands;
       shared = λ must. values_shared config types c.args.must_share c.args.limit values must drawn.values;

@@ -2,6 +2,7 @@ use Rattle.smith_draw.specs.Drawing.{Draws}
 use Rattle.smith_draw.specs.Locals.{locals_at}
 use Rattle.smith_draw.specs.Grounding.{standing_in}
 use Rattle.smith_draw.proofs.DrawingLemmas.{of_drawn}
+use Rattle.smith_draw.proofs.GrantedLemmas.{locals_granted}
 use Rattle.smith_draw.proofs.LocalLemmas.{locals_most, locals_valid, locals_no_float, locals_nullable}
 use Rattle.smith_draw.proofs.locals.arbitrary_locals.Goals as goal
 
@@ -13,6 +14,7 @@ returns c =
     record {
       draws = draws;
       most = of_drawn _ draws (locals_most config context c.args.u.now);
+      granted = of_drawn _ draws (locals_granted config context c.orderly.ensures c.args.u.now);
       valid = of_drawn _ draws (locals_valid config context c.args.u.now c.requires);
       floats = λ off. of_drawn _ draws (locals_no_float config context c.args.u.now off);
       nullable = λ off. of_drawn _ draws (locals_nullable config off context c.args.u.now);

@@ -2,6 +2,12 @@ use Rattle.smith_draw.proofs.SharedLemmas.{storage_shareable}
 use Rattle.smith_draw.proofs.MatchingLemmas.{matching_field_match, matching_field_valid}
 use Rattle.smith_draw.proofs.StandingLemmas.{storage_stands}
 use Rattle.smith_draw.proofs.DrawingLemmas.{of_drawn}
+use Rattle.std.specs.Prelude.{All}
+use Rattle.smith_types.specs.ValidTypes.{values_of_storage}
+use Rattle.smith_types.specs.declared.composite_type.FieldType.{FieldType}
+use Rattle.smith_draw.specs.Granted.{IsGranted}
+use Rattle.smith_draw.specs.Grounding.{standing_in}
+use Rattle.smith_draw.proofs.GrantedLemmas.{matching_field_granted}
 use Rattle.smith_draw.proofs.matching.arbitrary_matching_field_type.Goals as goal
 
 pub returns-clause-below : goal.returns-clause-below
@@ -15,3 +21,9 @@ returns-clause-valid c = of_drawn _ (rw c.over-standing.ensures at c.draw_matchi
 
 pub returns-clause-stands : goal.returns-clause-stands
 returns-clause-stands c = of_drawn _ (rw c.over-standing.ensures at c.draw_matching_field_type.ensures) (storage_stands _ _ _ (matching_field_match _ _ _ _).below)
+
+pub returns-clause-granted : goal.returns-clause-granted
+returns-clause-granted c = λ granted.
+    let context = standing_in c.args.config.now c.args.spaces.now in
+    of_drawn (λ (drawn : FieldType). All (IsGranted c.args.config.now context) (values_of_storage drawn.element_type)) (rw c.over-standing.ensures at c.draw_matching_field_type.ensures)
+    (matching_field_granted c.args.config.now context c.orderly.ensures c.args.field c.args.u.now granted)

@@ -2,6 +2,13 @@ use Rattle.smith_draw.proofs.SharedLemmas.{func_shareable}
 use Rattle.smith_draw.proofs.MatchingLemmas.{matching_func_match, matching_func_valid}
 use Rattle.smith_draw.proofs.StandingLemmas.{func_stands}
 use Rattle.smith_draw.proofs.DrawingLemmas.{of_drawn}
+use Rattle.std.specs.Prelude.{All}
+use Rattle.smith_types.specs.ValidTypes.{values_of}
+use Rattle.smith_types.specs.declared.composite_type.FuncType.{FuncType}
+use Rattle.smith_types.specs.declared.composite_type.CompositeInnerType.TheVariants.{Func}
+use Rattle.smith_draw.specs.Granted.{IsGranted}
+use Rattle.smith_draw.specs.Grounding.{standing_in}
+use Rattle.smith_draw.proofs.GrantedLemmas.{matching_func_granted}
 use Rattle.smith_draw.proofs.matching.arbitrary_matching_func_type.Goals as goal
 
 pub returns-clause-below : goal.returns-clause-below
@@ -15,3 +22,9 @@ returns-clause-valid c = of_drawn _ (rw c.over-standing.ensures at c.draw_matchi
 
 pub returns-clause-stands : goal.returns-clause-stands
 returns-clause-stands c = of_drawn _ (rw c.over-standing.ensures at c.draw_matching_func_type.ensures) (func_stands _ c.orderly.ensures _ _ (matching_func_match _ _ _ _))
+
+pub returns-clause-granted : goal.returns-clause-granted
+returns-clause-granted c = λ granted.
+    let context = standing_in c.args.config.now c.args.spaces.now in
+    of_drawn (λ (drawn : FuncType). All (IsGranted c.args.config.now context) (values_of (Func drawn))) (rw c.over-standing.ensures at c.draw_matching_func_type.ensures)
+    (matching_func_granted c.args.config.now context c.orderly.ensures c.args.function.now c.args.u.now granted)

@@ -2,6 +2,9 @@ use Rattle.smith_draw.proofs.SharedLemmas.{val_shareable}
 use Rattle.smith_draw.proofs.MatchingLemmas.{matching_val_below, matching_val_valid}
 use Rattle.smith_draw.proofs.StandingLemmas.{val_stands}
 use Rattle.smith_draw.proofs.DrawingLemmas.{of_drawn}
+use Rattle.smith_draw.specs.Granted.{IsGranted}
+use Rattle.smith_draw.specs.Grounding.{standing_in}
+use Rattle.smith_draw.proofs.FilledLemmas.{matching_value}
 use Rattle.smith_draw.proofs.matching.arbitrary_matching_val_type.Goals as goal
 
 pub returns-clause-below : goal.returns-clause-below
@@ -15,3 +18,8 @@ returns-clause-valid c = of_drawn _ (rw c.over-standing.ensures at c.draw_matchi
 
 pub returns-clause-stands : goal.returns-clause-stands
 returns-clause-stands c = of_drawn _ (rw c.over-standing.ensures at c.draw_matching_val_type.ensures) (val_stands _ _ _ (matching_val_below _ _ _ _))
+
+pub returns-clause-granted : goal.returns-clause-granted
+returns-clause-granted c = λ granted.
+    let context = standing_in c.args.config.now c.args.spaces.now in
+    of_drawn (IsGranted c.args.config.now context) (rw c.over-standing.ensures at c.draw_matching_val_type.ensures) (matching_value c.args.config.now context c.orderly.ensures c.args.ty c.args.u.now granted)

@@ -1,5 +1,12 @@
 use Rattle.smith_draw.proofs.MatchingCompositeLemmas.{matching_struct_match, matching_struct_valid, matching_struct_shareable}
 use Rattle.smith_draw.proofs.DrawingLemmas.{of_drawn}
+use Rattle.std.specs.Prelude.{All}
+use Rattle.smith_types.specs.ValidTypes.{values_of}
+use Rattle.smith_types.specs.declared.composite_type.StructType.{StructType}
+use Rattle.smith_types.specs.declared.composite_type.CompositeInnerType.TheVariants.{Struct}
+use Rattle.smith_draw.specs.Granted.{IsGranted}
+use Rattle.smith_draw.specs.Grounding.{standing_in}
+use Rattle.smith_draw.proofs.GrantedLemmas.{matching_struct_granted}
 use Rattle.smith_draw.proofs.matching_composite.arbitrary_matching_struct_type.Goals as goal
 
 pub returns-clause-below : goal.returns-clause-below
@@ -10,3 +17,9 @@ returns-clause-valid c = λ room sharing old. of_drawn _ (rw c.over-standing.ens
 
 pub returns-clause-shared : goal.returns-clause-shared
 returns-clause-shared c = λ must old. of_drawn _ (rw c.over-standing.ensures at c.draw_matching_struct_type.ensures) (matching_struct_shareable _ _ _ _ _ _ c.requires.sanitized c.requires.may_share c.orderly.ensures must old)
+
+pub returns-clause-granted : goal.returns-clause-granted
+returns-clause-granted c = λ granted.
+    let context = standing_in c.args.config.now c.args.spaces.now in
+    of_drawn (λ (drawn : StructType). All (IsGranted c.args.config.now context) (values_of (Struct drawn))) (rw c.over-standing.ensures at c.draw_matching_struct_type.ensures)
+    (matching_struct_granted c.args.config.now context c.orderly.ensures c.args.must_share c.args.limit c.args.structure.now c.args.u.now granted)

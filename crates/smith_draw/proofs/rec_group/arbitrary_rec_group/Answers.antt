@@ -4,7 +4,9 @@ use Rattle.smith_bytes.specs.declared.error.Count.TheVariants.{Types}
 use Rattle.smith_types.specs.Space.{Space}
 use Rattle.smith_types.specs.ValidTypes.{AreTypesValid}
 use Rattle.smith_config.specs.Features.{features_of}
-use Rattle.smith_draw.specs.Grounding.{functions_in}
+use Rattle.smith_draw.specs.Granted.{AreTypesGranted}
+use Rattle.smith_draw.specs.Grounding.{functions_in, over}
+use Rattle.smith_draw.proofs.GrantedLemmas.{rec_group_granted}
 use Rattle.smith_draw.proofs.DrawingLemmas.{of_state}
 use Rattle.smith_draw.proofs.GroupSizeLemmas.{rec_group_more}
 use Rattle.smith_draw.proofs.RecGroupLemmas.{sound_within, rec_group_valid}
@@ -27,3 +29,8 @@ returns-clause-some c =
 
 pub returns-clause-reach : goal.returns-clause-reach
 returns-clause-reach c = λ may roots. on_ok_weaker c.add_rec_group.result (rec_group_taken c.args.config.now (functions_in c.args.config.now c.args.entities.now) refl _ _ _ _ _ c.requires.sanitized may roots) c.add_rec_group.ensures.exact
+
+pub returns-clause-granted : goal.returns-clause-granted
+returns-clause-granted c = λ all.
+    let context = functions_in c.args.config.now c.args.entities.now in
+    of_state (λ (space : Space). AreTypesGranted c.args.config.now (over context space.types)) c.add_rec_group.ensures (rec_group_granted c.args.config.now context c.args.allow_empty c.args.types.now c.args.u.now c.types-groups.ensures.sound.orderly all)

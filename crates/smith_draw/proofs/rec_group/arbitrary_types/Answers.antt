@@ -10,7 +10,9 @@ use Rattle.smith_draw.proofs.DrawingLemmas.{of_state}
 use Rattle.smith_draw.proofs.RecGroupLemmas.{types_valid, types_most, types_least}
 use Rattle.smith_draw.specs.ConstBounds.{HoldsNonNullableField, HoldsUngroundedField}
 use Rattle.smith_draw.specs.Grounding.{functions_in, over}
+use Rattle.smith_draw.specs.Granted.{AreTypesGranted}
 use Rattle.smith_draw.proofs.FilledLemmas.{types_grounded}
+use Rattle.smith_draw.proofs.GrantedLemmas.{types_granted}
 use Rattle.smith_draw.specs.FuncSizes.{HasFewValues}
 use Rattle.smith_draw.proofs.FloatLemmas.{types_no_float}
 use Rattle.smith_draw.proofs.FuncSizeLemmas.{types_within}
@@ -51,3 +53,8 @@ pub returns-clause-grounded : goal.returns-clause-grounded
 returns-clause-grounded c = λ none.
     let context = functions_in c.args.config.now c.args.entities.now in
     of_state (λ (space : Space). ¬ HoldsUngroundedField c.args.config.now (over context space.types)) c.add_all_types.ensures (types_grounded c.args.config.now context c.args.types.now c.args.u.now c.types-types.ensures.sound.orderly none)
+
+pub returns-clause-granted : goal.returns-clause-granted
+returns-clause-granted c = λ all.
+    let context = functions_in c.args.config.now c.args.entities.now in
+    of_state (λ (space : Space). AreTypesGranted c.args.config.now (over context space.types)) c.add_all_types.ensures (types_granted c.args.config.now context c.args.types.now c.args.u.now c.types-types.ensures.sound.orderly all)

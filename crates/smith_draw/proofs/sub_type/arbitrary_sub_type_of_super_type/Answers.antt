@@ -1,4 +1,6 @@
-use Rattle.smith_draw.specs.Grounding.{functions_in}
+use Rattle.smith_draw.specs.Granted.{HasGranted}
+use Rattle.smith_draw.specs.Grounding.{functions_in, standing_in}
+use Rattle.smith_draw.proofs.GrantedLemmas.{sub_type_of_granted}
 use Rattle.smith_draw.proofs.SupertypeLemmas.{some_listed}
 use Rattle.smith_draw.proofs.SubTypeLemmas.{sub_type_of_valid, sub_type_of_follows, sub_type_of_some}
 use Rattle.smith_draw.proofs.DrawingLemmas.{of_drawn}
@@ -17,4 +19,5 @@ returns c =
       below = of_drawn _ draws (sub_type_of_some _ _ _ _ some);
       valid = λ valid. of_drawn _ draws (sub_type_of_valid _ (functions_in c.args.config.now c.args.spaces.now.entities) _ _ _ c.requires.sanitized c.requires.gc valid some);
       follows = of_drawn _ draws (sub_type_of_follows _ _ _ _ some);
+      granted = λ granted. of_drawn (HasGranted c.args.config.now (standing_in c.args.config.now c.args.spaces.now)) draws (sub_type_of_granted _ _ c.orderly.ensures _ _ _ granted);
     }
