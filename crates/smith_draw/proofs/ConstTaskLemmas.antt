@@ -301,9 +301,9 @@ node_step context config wanted choice node after todo todo' old new chosen othe
 })
 
 -- nothing is offered
-pub choice_refused : (context : Context) (config : Config) (wanted : ValType) (s : State) (e : Error) → MayRefuseConstExpr config context wanted e → (e ≡ errors.EmptyChoose) × ((choose_at (offers config context wanted s.fuel) s.bytes).0 ≡ None) → MayRefuseTask context config (Draw (Value wanted)) s e
+pub choice_refused : (context : Context) (config : Config) (wanted : ValType) (s : State) (e : Error) → MayRefuseConstExpr config context wanted e → (e ≡ errors.EmptyChoose → (choose_at (offers config context wanted s.fuel) s.bytes).0 ≡ None) → MayRefuseTask context config (Draw (Value wanted)) s e
 choice_refused context config wanted s e (inl memory) chosen = inl memory
-choice_refused context config wanted s e (inr (empty, lacks)) (is, none) = inr (empty, record { lacks = lacks; none = λ depth deep. none_chosen context config wanted s depth none deep })
+choice_refused context config wanted s e (inr (empty, lacks)) chosen = inr (empty, record { lacks = lacks; none = λ depth deep. none_chosen context config wanted s depth (chosen empty) deep })
 
 -- a length that is limited is drawn at once
 pub length_step : (context : Context) (config : Config) (task : Task) (operand : Operand) (todo : List Task) (old new : State) → task ≡ Draw operand → operand ≡ Length → config.limit_arrays_in_const_exprs ≡ true → new ≡ length_at old → IsDrawn context (I32 ∷ []) old.made old.fuel new.made new.fuel

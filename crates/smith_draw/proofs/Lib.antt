@@ -44,6 +44,7 @@ pub mod MemoryLemmas
 pub mod BelowLemmas
 pub mod GroundingLemmas
 pub mod KeptGroundLemmas
+pub mod KeptOfferLemmas
 pub mod ReadableLemmas
 pub mod ConstScopeLemmas
 pub mod ConstOfferLemmas

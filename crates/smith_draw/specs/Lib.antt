@@ -3,6 +3,7 @@ pub mod Callers
 pub mod Choices
 pub mod Grounding
 pub mod KeptGrounds
+pub mod KeptOffers
 pub mod ValueTypes
 pub mod FieldTypes
 pub mod CompositeTypes

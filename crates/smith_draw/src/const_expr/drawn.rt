@@ -8,11 +8,13 @@ ghost use Rattle.smith_draw.specs.ConstExprs.{state_of, length_at, expression_al
 ghost use Rattle.smith_draw.specs.ConstBounds.{most_instructions, MayRefuseConstExpr};
 ghost use Rattle.smith_draw.specs.ConstSteps.{IsDrawn, ReadsValue};
 ghost use Rattle.smith_draw.specs.ConstTasks.{IsTaskValid, IsStep, IsGrowthPaid, MayRefuseTask};
+ghost use Rattle.smith_draw.specs.KeptOffers.{AreKeptOffers};
 ghost use Rattle.smith_draw.specs.declared.const_expr.task.Task.TheVariants.{Draw};
 ghost use Rattle.smith_draw.specs.declared.const_expr.node.Operand.TheVariants.{Value};
 
 use super::extended::draw_extended_constant;
 use super::found::choose_offer;
+use super::kept_offers::KeptOffers;
 use super::node::{Operand, draw_node};
 use super::node_choice::{Choice, is_extended};
 use super::scope::Scope;
@@ -25,21 +27,24 @@ use std::alloc::Global;
 pub(super) fn draw_whole_expression(
     alloc: Global,
     scope: &Scope<'_>,
+    kept: &mut KeptOffers,
     wanted: ValType,
     u: &mut Unstructured<'_>,
 ) -> Result<Items<ConstInstr>, Error>
     requires scope { IsScope (context_of scope.now) }
     requires wanted { IsValTypeValid (context_of scope.now).features (length (context_of scope.now).types) wanted }
+    requires kept { AreKeptOffers (context_of scope.now) kept.old }
     ensures exact { IfOk result (λ drawn. expression_alone_at (context_of scope.now) scope.now.config.now scope.now.config.now.const_expr_fuel wanted u.old ≡ Some (drawn, u.new)) }
     ensures none { IfErr result (λ e. e ≡ Error.EmptyChoose → expression_alone_at (context_of scope.now) scope.now.config.now scope.now.config.now.const_expr_fuel wanted u.old ≡ None) }
     ensures typed { IfOk result (IsConstExpr (context_of scope.now) wanted) }
     ensures short { IfOk result (λ drawn. length drawn ≤ most_instructions scope.now.config.now (context_of scope.now).types) }
+    ensures kept { OnOk result (AreKeptOffers (context_of scope.now) kept.new) }
     ensures refusal { IfErr result (MayRefuseConstExpr scope.now.config.now (context_of scope.now) wanted) }
     ensures left { KeepsPieces u.old u.new }
 {
     let mut drawn = Items::new(alloc);
     let mut fuel = scope.config.const_expr_fuel;
-    draw_expression(alloc, scope, wanted, &mut fuel, &mut drawn, u)?;
+    draw_expression(alloc, scope, kept, wanted, &mut fuel, &mut drawn, u)?;
     Ok(drawn)
 }
 
@@ -48,6 +53,7 @@ pub(super) fn draw_whole_expression(
 fn draw_expression(
     alloc: Global,
     scope: &Scope<'_>,
+    kept: &mut KeptOffers,
     wanted: ValType,
     fuel: &mut u32,
     out: &mut Items<ConstInstr>,
@@ -55,15 +61,17 @@ fn draw_expression(
 ) -> Result<(), Error>
     requires scope { IsScope (context_of scope.now) }
     requires wanted { IsValTypeValid (context_of scope.now).features (length (context_of scope.now).types) wanted }
+    requires kept { AreKeptOffers (context_of scope.now) kept.old }
     ensures exact { ReadsValue (context_of scope.now) scope.now.config.now wanted (state_of out.old fuel.old u.old) (state_of out.new fuel.new u.new) result }
     ensures drawn { OnOk result (IsDrawn (context_of scope.now) (wanted ∷ []) out.old fuel.old out.new fuel.new) }
+    ensures kept { OnOk result (AreKeptOffers (context_of scope.now) kept.new) }
     ensures refusal { IfErr result (MayRefuseConstExpr scope.now.config.now (context_of scope.now) wanted) }
     ensures left { KeepsPieces u.old u.new }
 {
     let mut tasks = Vec::new(alloc);
-    draw_choice(alloc, scope, wanted, &mut tasks, fuel, out, u)?;
+    draw_choice(alloc, scope, kept, wanted, &mut tasks, fuel, out, u)?;
     while let Some(task) = tasks.pop() {
-        carry_out(alloc, scope, task, &mut tasks, fuel, out, u)?;
+        carry_out(alloc, scope, kept, task, &mut tasks, fuel, out, u)?;
     }
     Ok(())
 }
@@ -73,6 +81,7 @@ fn draw_expression(
 fn carry_out(
     alloc: Global,
     scope: &Scope<'_>,
+    kept: &mut KeptOffers,
     task: Task,
     tasks: &mut Vec<Task>,
     fuel: &mut u32,
@@ -81,21 +90,23 @@ fn carry_out(
 ) -> Result<(), Error>
     requires scope { IsScope (context_of scope.now) }
     requires valid { IsTaskValid (context_of scope.now) task }
+    requires kept { AreKeptOffers (context_of scope.now) kept.old }
     ensures step { OnOk result (IsStep (context_of scope.now) scope.now.config.now task (reverse tasks.old.items) (state_of out.old fuel.old u.old) (reverse tasks.new.items) (state_of out.new fuel.new u.new)) }
     ensures growth { OnOk result (IsGrowthPaid (context_of scope.now) tasks.old.items fuel.old tasks.new.items fuel.new) }
+    ensures kept { OnOk result (AreKeptOffers (context_of scope.now) kept.new) }
     ensures refusal { IfErr result (MayRefuseTask (context_of scope.now) scope.now.config.now task (state_of out.old fuel.old u.old)) }
     ensures left { KeepsPieces u.old u.new }
 {
     match task {
         Task::Write(instruction) => out.push(instruction),
         Task::Draw(Operand::Value(wanted)) => {
-            draw_choice(alloc, scope, wanted, tasks, fuel, out, u)
+            draw_choice(alloc, scope, kept, wanted, tasks, fuel, out, u)
         }
         Task::Draw(Operand::Length) => {
             if scope.config.limit_arrays_in_const_exprs {
                 return draw_length(fuel, out, u);
             }
-            draw_choice(alloc, scope, ValType::I32, tasks, fuel, out, u)
+            draw_choice(alloc, scope, kept, ValType::I32, tasks, fuel, out, u)
         }
     }
 }
@@ -105,6 +116,7 @@ fn carry_out(
 fn draw_choice(
     alloc: Global,
     scope: &Scope<'_>,
+    kept: &mut KeptOffers,
     wanted: ValType,
     tasks: &mut Vec<Task>,
     fuel: &mut u32,
@@ -113,11 +125,13 @@ fn draw_choice(
 ) -> Result<(), Error>
     requires scope { IsScope (context_of scope.now) }
     requires wanted { IsValTypeValid (context_of scope.now).features (length (context_of scope.now).types) wanted }
+    requires kept { AreKeptOffers (context_of scope.now) kept.old }
     ensures step { OnOk result (IsStep (context_of scope.now) scope.now.config.now (Draw (Value wanted)) (reverse tasks.old.items) (state_of out.old fuel.old u.old) (reverse tasks.new.items) (state_of out.new fuel.new u.new)) }
+    ensures kept { OnOk result (AreKeptOffers (context_of scope.now) kept.new) }
     ensures refusal { IfErr result (MayRefuseTask (context_of scope.now) scope.now.config.now (Draw (Value wanted)) (state_of out.old fuel.old u.old)) }
     ensures left { KeepsPieces u.old u.new }
 {
-    let choice = choose_offer(scope, wanted, *fuel, u)?;
+    let choice = choose_offer(alloc, scope, kept, wanted, *fuel, u)?;
     *fuel = fuel.saturating_sub(1);
     if is_extended(choice) {
         return draw_extended_constant(alloc, wanted, out, u);

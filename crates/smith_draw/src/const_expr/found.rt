@@ -1,4 +1,4 @@
-ghost use Rattle.std.specs.Prelude.{◌≡◌, [], ◌∷◌, length, Some, None, IfOk, IfErr};
+ghost use Rattle.std.specs.Prelude.{◌≡◌, [], ◌∷◌, length, Some, None, IfOk, IfErr, IfSome, OnOk};
 ghost use Rattle.smith_bytes.specs.Source.{KeepsPieces};
 ghost use Rattle.smith_bytes.specs.Draws.{choose_at};
 ghost use Rattle.smith_types.specs.Subtyping.{IsValInRange};
@@ -7,46 +7,76 @@ ghost use Rattle.smith_draw.specs.ConstScopes.{context_of, IsScope};
 ghost use Rattle.smith_draw.specs.ConstOffers.{offers};
 ghost use Rattle.smith_draw.specs.ConstBounds.{MayRefuseConstExpr};
 ghost use Rattle.smith_draw.specs.ConstSteps.{IsFit};
+ghost use Rattle.smith_draw.specs.KeptOffers.{AreKeptOffers, IsWhole};
 
+use super::kept_offers::{KeptOffer, KeptOffers};
 use super::node_choice::Choice;
 use super::offers::past_offers;
 use super::scope::Scope;
 use smith_bytes::{Error, Unstructured};
 use smith_types::ValType;
+use std::alloc::Global;
 
 /// Counts what is offered where a value of the type `wanted` is drawn.
-fn count_offers(scope: &Scope<'_>, wanted: ValType, fuel: u32) -> usize
+fn count_offers(scope: &Scope<'_>, kept: Option<&KeptOffer>, wanted: ValType, fuel: u32) -> usize
     requires scope { IsScope (context_of scope.now) }
     requires upper { IsValInRange (context_of scope.now).types wanted }
+    requires kept { IfSome kept (λ offer. IsWhole (context_of scope.now) wanted offer.now) }
     ensures { result ≡ length (offers scope.now.config.now (context_of scope.now) wanted fuel) }
 {
-    match past_offers(scope, wanted, fuel, usize::MAX) {
+    match past_offers(scope, kept, wanted, fuel, usize::MAX) {
         Ok(rest) => usize::MAX - rest,
         Err(_) => usize::MAX,
     }
 }
 
-/// Chooses among what is offered where a value of the type `wanted` is drawn.
+/// Chooses among what is offered where a value of the type `wanted` is drawn. What the globals and functions offer is kept in `kept`.
 pub(super) fn choose_offer(
+    alloc: Global,
     scope: &Scope<'_>,
+    kept: &mut KeptOffers,
     wanted: ValType,
     fuel: u32,
     u: &mut Unstructured<'_>,
 ) -> Result<Choice, Error>
     requires scope { IsScope (context_of scope.now) }
     requires wanted { IsValTypeValid (context_of scope.now).features (length (context_of scope.now).types) wanted }
+    requires kept { AreKeptOffers (context_of scope.now) kept.old }
+    ensures exact { IfOk result (λ choice. choose_at (offers scope.now.config.now (context_of scope.now) wanted fuel) u.old ≡ (Some choice, u.new)) }
+    ensures none { IfErr result (λ e. e ≡ Error.EmptyChoose → (choose_at (offers scope.now.config.now (context_of scope.now) wanted fuel) u.old).0 ≡ None) }
+    ensures fits { IfOk result (IsFit scope.now.config.now (context_of scope.now) wanted fuel) }
+    ensures kept { OnOk result (AreKeptOffers (context_of scope.now) kept.new) }
+    ensures refusal { IfErr result (MayRefuseConstExpr scope.now.config.now (context_of scope.now) wanted) }
+    ensures left { KeepsPieces u.old u.new }
+{
+    let place = kept.look(alloc, scope, wanted)?;
+    choose_among(scope, kept.covering(scope, place), wanted, fuel, u)
+}
+
+/// Chooses among what is offered where a value of the type `wanted` is drawn. What the globals and functions offer is read from
+/// `kept`, where that is given.
+fn choose_among(
+    scope: &Scope<'_>,
+    kept: Option<&KeptOffer>,
+    wanted: ValType,
+    fuel: u32,
+    u: &mut Unstructured<'_>,
+) -> Result<Choice, Error>
+    requires scope { IsScope (context_of scope.now) }
+    requires wanted { IsValTypeValid (context_of scope.now).features (length (context_of scope.now).types) wanted }
+    requires kept { IfSome kept (λ offer. IsWhole (context_of scope.now) wanted offer.now) }
     ensures exact { IfOk result (λ choice. choose_at (offers scope.now.config.now (context_of scope.now) wanted fuel) u.old ≡ (Some choice, u.new)) }
     ensures none { IfErr result (λ e. (e ≡ Error.EmptyChoose) × ((choose_at (offers scope.now.config.now (context_of scope.now) wanted fuel) u.old).0 ≡ None)) }
     ensures fits { IfOk result (IsFit scope.now.config.now (context_of scope.now) wanted fuel) }
     ensures refusal { IfErr result (MayRefuseConstExpr scope.now.config.now (context_of scope.now) wanted) }
     ensures left { KeepsPieces u.old u.new }
 {
-    let count = count_offers(scope, wanted, fuel);
+    let count = count_offers(scope, kept, wanted, fuel);
     if count == 0 {
         return Err(Error::EmptyChoose);
     }
     let place = u.int_in_range(0..=count - 1);
-    match past_offers(scope, wanted, fuel, place) {
+    match past_offers(scope, kept, wanted, fuel, place) {
         Ok(_) => Err(Error::EmptyChoose),
         Err(choice) => Ok(choice),
     }

@@ -1,6 +1,6 @@
 //! Drawn constant expressions, by a list of tasks under fuel.
 
-ghost use Rattle.std.specs.Prelude.{◌≡◌, ◌≤◌, ◌↔◌, ℕ, Some, None, [], length, IsTrue, IfOk, IfErr, IfSome, IsSome, false, All};
+ghost use Rattle.std.specs.Prelude.{◌≡◌, ◌≤◌, ◌↔◌, ℕ, Some, None, [], length, IsTrue, IfOk, IfErr, IfSome, IsSome, false, All, OnOk};
 ghost use Rattle.std.specs.List.{Contains};
 ghost use Rattle.smith_bytes.specs.Source.{KeepsPieces};
 ghost use Rattle.smith_bytes.specs.Takes.{Takes};
@@ -15,12 +15,14 @@ ghost use Rattle.smith_draw.specs.ConstOffers.{readable_globals};
 ghost use Rattle.smith_draw.specs.ConstExprs.{const_expr_at, table_init_at};
 ghost use Rattle.smith_draw.specs.ConstScopes.{seen_by, IsReadable, AreSpacesValid};
 ghost use Rattle.smith_draw.specs.ConstBounds.{most_instructions, MayRefuseConstExpr};
+ghost use Rattle.smith_draw.specs.KeptOffers.{AreKeptOffers};
 ghost use Rattle.smith_draw.specs.ConstFloats.{GivesNoFloat};
 
 mod constant;
 mod drawn;
 mod extended;
 mod found;
+mod kept_offers;
 mod node;
 mod node_choice;
 mod offers;
@@ -30,6 +32,7 @@ mod task;
 
 use crate::spaces::Spaces;
 use drawn::draw_whole_expression;
+pub use kept_offers::KeptOffers;
 use references::is_below;
 use scope::{Scope, visible_end};
 use smith_bytes::{Error, Unstructured};
@@ -70,6 +73,34 @@ pub fn arbitrary_const_expr(
     ensures reach { wanted ≡ I32 → readable_globals (seen_by config.now spaces.now allow_defined) I32 ≡ [] → IfOk result (λ drawn. Takes (SpellsConstExpr config.now) u.old drawn u.new) }
     ensures left { KeepsPieces u.old u.new }
 {
+    let mut kept = KeptOffers::new(alloc);
+    draw_const_expr(alloc, config, spaces, wanted, allow_defined, &mut kept, u)
+}
+
+/// Draws a constant expression, as [`arbitrary_const_expr`] does. What the globals and functions offer is read from `kept`, and kept
+/// there.
+pub fn draw_const_expr(
+    alloc: Global,
+    config: &Config,
+    spaces: &Spaces<'_>,
+    wanted: ValType,
+    allow_defined: bool,
+    kept: &mut KeptOffers,
+    u: &mut Unstructured<'_>,
+) -> Result<Items<ConstInstr>, Error>
+    requires standing { AreSpacesValid config.now spaces.now }
+    requires wanted { IsValTypeValid (features_of config.now) (length spaces.now.types.now.types) wanted }
+    requires kept { AreKeptOffers (seen_by config.now spaces.now allow_defined) kept.old }
+    ensures exact { IfOk result (λ drawn. const_expr_at config.now (seen_by config.now spaces.now allow_defined) wanted u.old ≡ Some (drawn, u.new)) }
+    ensures none { IfErr result (λ e. e ≡ Error.EmptyChoose → const_expr_at config.now (seen_by config.now spaces.now allow_defined) wanted u.old ≡ None) }
+    ensures typed { IfOk result (IsConstExpr (seen_by config.now spaces.now allow_defined) wanted) }
+    ensures short { IfOk result (λ drawn. length drawn ≤ most_instructions config.now spaces.now.types.now.types) }
+    ensures floats { All HasNoFloat spaces.now.types.now.types → IsNoFloat wanted → IfOk result (All GivesNoFloat) }
+    ensures kept { OnOk result (AreKeptOffers (seen_by config.now spaces.now allow_defined) kept.new) }
+    ensures refusal { IfErr result (MayRefuseConstExpr config.now (standing_in config.now spaces.now) wanted) }
+    ensures reach { wanted ≡ I32 → readable_globals (seen_by config.now spaces.now allow_defined) I32 ≡ [] → IfOk result (λ drawn. Takes (SpellsConstExpr config.now) u.old drawn u.new) }
+    ensures left { KeepsPieces u.old u.new }
+{
     let _types = spaces.types.types();
     let visible = visible_end(config, spaces, allow_defined);
     let scope = Scope {
@@ -77,7 +108,7 @@ pub fn arbitrary_const_expr(
         spaces,
         visible,
     };
-    draw_whole_expression(alloc, &scope, wanted, u)
+    draw_whole_expression(alloc, &scope, kept, wanted, u)
 }
 
 /// Draws the initialiser of a table whose elements are of the type `element`, or none where null will do. The initialiser may

@@ -1,4 +1,4 @@
-ghost use Rattle.std.specs.Prelude.{◌≡◌, ◌<◌, ◌++◌, [], ◌∷◌, length, take, Some, IfOk, IfErr};
+ghost use Rattle.std.specs.Prelude.{◌≡◌, ◌<◌, ◌++◌, [], ◌∷◌, length, take, Some, IfOk, IfErr, IfSome};
 ghost use Rattle.smith_types.specs.Subtyping.{IsValInRange};
 ghost use Rattle.smith_types.specs.Expressions.{unpacked};
 ghost use Rattle.smith_types.specs.Grounded.{is_defaultable, are_defaultable};
@@ -23,10 +23,12 @@ ghost use Rattle.smith_draw.specs.ConstOffers.{
   constant_offers,
   offers,
 };
+ghost use Rattle.smith_draw.specs.KeptOffers.{IsWhole};
 
 // Each function goes past the choices of one kind, and counts `place` from the first of these. The choice at `place` is answered
 // as an `Err`, with which a `?` leaves. Where `place` lies behind the last of these choices, how far is answered.
 
+use super::kept_offers::KeptOffer;
 use super::node_choice::Choice;
 use super::references::{function_reference, gives, i31, is_below};
 use super::scope::Scope;
@@ -40,21 +42,40 @@ use smith_types::{
 #[tactic(auto, unfolding(crate::specs::ConstOffers::past))]
 pub(super) fn past_offers(
     scope: &Scope<'_>,
+    kept: Option<&KeptOffer>,
     wanted: ValType,
     fuel: u32,
     place: usize,
 ) -> Result<usize, Choice>
     requires scope { IsScope (context_of scope.now) }
     requires upper { IsValInRange (context_of scope.now).types wanted }
+    requires kept { IfSome kept (λ offer. IsWhole (context_of scope.now) wanted offer.now) }
     ensures { result ≡ past (offers scope.now.config.now (context_of scope.now) wanted fuel) place }
 {
-    let place = past_globals(scope, wanted, place)?;
+    let place = past_globals(scope, kept, wanted, place)?;
     let place = past_constants(scope, wanted, place)?;
-    past_references(scope, wanted, fuel, place)
+    past_references(scope, kept, wanted, fuel, place)
+}
+
+fn past_globals(
+    scope: &Scope<'_>,
+    kept: Option<&KeptOffer>,
+    wanted: ValType,
+    place: usize,
+) -> Result<usize, Choice>
+    requires scope { IsScope (context_of scope.now) }
+    requires upper { IsValInRange (context_of scope.now).types wanted }
+    requires kept { IfSome kept (λ offer. IsWhole (context_of scope.now) wanted offer.now) }
+    ensures { result ≡ past (each_from (global_offers (context_of scope.now) wanted) 0 (take scope.now.visible (context_of scope.now).globals)) place }
+{
+    match kept {
+        Some(kept) => kept.past_globals(place),
+        None => past_each_global(scope, wanted, place),
+    }
 }
 
 #[tactic(auto, using(crate::proofs::ConstFoundLemmas::past_append, crate::proofs::ConstFoundLemmas::past_front), unfolding(crate::specs::ConstOffers::past))]
-fn past_globals(scope: &Scope<'_>, wanted: ValType, place: usize) -> Result<usize, Choice>
+fn past_each_global(scope: &Scope<'_>, wanted: ValType, place: usize) -> Result<usize, Choice>
     requires scope { IsScope (context_of scope.now) }
     requires upper { IsValInRange (context_of scope.now).types wanted }
     ensures { result ≡ past (each_from (global_offers (context_of scope.now) wanted) 0 (take scope.now.visible (context_of scope.now).globals)) place }
@@ -82,17 +103,19 @@ fn past_constants(scope: &Scope<'_>, wanted: ValType, place: usize) -> Result<us
 #[tactic(auto, using(crate::proofs::ConstFoundLemmas::past_append, crate::proofs::ConstFoundLemmas::past_front), unfolding(crate::specs::ConstOffers::past))]
 fn past_references(
     scope: &Scope<'_>,
+    kept: Option<&KeptOffer>,
     wanted: ValType,
     fuel: u32,
     place: usize,
 ) -> Result<usize, Choice>
     requires scope { IsScope (context_of scope.now) }
     requires upper { IsValInRange (context_of scope.now).types wanted }
+    requires kept { IfSome kept (λ offer. IsWhole (context_of scope.now) wanted offer.now) }
     ensures { result ≡ past (reference_offers scope.now.config.now (context_of scope.now) wanted fuel) place }
 {
     match wanted {
         ValType::Ref(reference) => {
-            let place = past_functions(scope, wanted, place)?;
+            let place = past_functions(scope, kept, wanted, place)?;
             if !scope.config.gc_enabled {
                 return Ok(place);
             }
@@ -102,8 +125,25 @@ fn past_references(
     }
 }
 
+fn past_functions(
+    scope: &Scope<'_>,
+    kept: Option<&KeptOffer>,
+    wanted: ValType,
+    place: usize,
+) -> Result<usize, Choice>
+    requires scope { IsScope (context_of scope.now) }
+    requires upper { IsValInRange (context_of scope.now).types wanted }
+    requires kept { IfSome kept (λ offer. IsWhole (context_of scope.now) wanted offer.now) }
+    ensures { result ≡ past (each_from (function_offers (context_of scope.now) wanted) 0 (context_of scope.now).funcs) place }
+{
+    match kept {
+        Some(kept) => kept.past_funcs(place),
+        None => past_each_function(scope, wanted, place),
+    }
+}
+
 #[tactic(auto, using(crate::proofs::ConstFoundLemmas::past_append, crate::proofs::ConstFoundLemmas::past_front), unfolding(crate::specs::ConstOffers::past))]
-fn past_functions(scope: &Scope<'_>, wanted: ValType, place: usize) -> Result<usize, Choice>
+fn past_each_function(scope: &Scope<'_>, wanted: ValType, place: usize) -> Result<usize, Choice>
     requires scope { IsScope (context_of scope.now) }
     requires upper { IsValInRange (context_of scope.now).types wanted }
     ensures { result ≡ past (each_from (function_offers (context_of scope.now) wanted) 0 (context_of scope.now).funcs) place }

@@ -1,4 +1,4 @@
-ghost use Rattle.std.specs.Prelude.{◌≡◌, ◌<◌, length};
+ghost use Rattle.std.specs.Prelude.{◌≡◌, ◌<◌, ◌&&◌, not, length};
 ghost use Rattle.smith_types.specs.Subtyping.{IsValInRange};
 ghost use Rattle.smith_types.specs.Expressions.{reference_to, created, function_reference};
 ghost use Rattle.smith_types.specs.declared.value_type.HeapType.TheVariants.{Abstract};
@@ -7,7 +7,7 @@ ghost use Rattle.smith_draw.specs.Below.{is_val_below};
 ghost use Rattle.smith_draw.specs.ConstScopes.{context_of};
 
 use super::scope::Scope;
-use smith_types::{AbstractHeapType, HeapType, RefType, TypeSpace, ValType};
+use smith_types::{AbstractHeapType, GlobalType, HeapType, RefType, TypeSpace, ValType};
 
 pub(super) fn is_below(types: &TypeSpace, a: ValType, b: ValType) -> bool
     requires lower { IsValInRange types.now.types a }
@@ -16,6 +16,15 @@ pub(super) fn is_below(types: &TypeSpace, a: ValType, b: ValType) -> bool
 {
     let _types = types.types();
     types.val_type_is_sub_type(a, b)
+}
+
+/// Whether a global of the type `global` is immutable and has values below `wanted`.
+pub(super) fn is_readable(types: &TypeSpace, global: GlobalType, wanted: ValType) -> bool
+    requires lower { IsValInRange types.now.types global.val_type }
+    requires upper { IsValInRange types.now.types wanted }
+    ensures { result ≡ (not global.mutable && is_val_below types.now.types global.val_type wanted) }
+{
+    !global.mutable && is_below(types, global.val_type, wanted)
 }
 
 pub(super) fn i31(shared: bool) -> ValType

@@ -9,13 +9,15 @@ use Rattle.smith_draw.proofs.const_expr.drawn.draw_expression.Goals as goal
 pub loop-task-init : goal.loop-task-init
 loop-task-init c = record {
   carrying = carrying_begun (context_of c.args.scope.now) _ c.args.wanted (reverse c.new-tasks.result.items) _ (state_of c.args.out.now c.args.fuel.now c.args.u.now) (state_of c.draw_choice.new.out c.draw_choice.new.fuel c.draw_choice.new.u) (ap reverse c.new-tasks.ensures.items) c.requires.wanted c.in_ok-draw_choice.ensures.step;
-  kept = c.draw_choice.ensures.left;
+  left = c.draw_choice.ensures.left;
+  kept = c.in_ok-draw_choice.ensures.kept;
 }
 
 pub loop-task-preserved : goal.loop-task-preserved
 loop-task-preserved c = record {
   carrying = carrying_more (context_of c.args.scope.now) _ c.args.wanted c.in-Some.task _ _ _ (state_of c.loop-task.out c.loop-task.fuel c.loop-task.u) _ (rw (popped _ _ _ c.in-Some.ensures.items) at c.loop-task.invariant.carrying) c.in_ok-carry_out.ensures.step;
-  kept = λ whole h. c.carry_out.ensures.left whole (c.loop-task.invariant.kept whole h);
+  left = λ whole h. c.carry_out.ensures.left whole (c.loop-task.invariant.left whole h);
+  kept = c.in_ok-carry_out.ensures.kept;
 }
 
 pub loop-task-smaller : goal.loop-task-smaller

@@ -3,7 +3,7 @@ use Rattle.smith_draw.specs.ConstScopes.{context_of}
 use Rattle.smith_draw.proofs.ConstFoundLemmas.{past_inside, found_chosen}
 use Rattle.smith_draw.proofs.ConstOfferLemmas.{nothing_offered, chosen_fits}
 use Rattle.smith_draw.proofs.ConstExprLemmas.{none_at}
-use Rattle.smith_draw.proofs.const_expr.found.choose_offer.Goals as goal
+use Rattle.smith_draw.proofs.const_expr.found.choose_among.Goals as goal
 
 pub returns-then-count-eq0-clause-none : goal.returns-then-count-eq0-clause-none
 returns-then-count-eq0-clause-none c = (refl, none_at _ _ _ refl (sym c.count_offers-count.ensures ∙ c.if-count-eq0.true))
