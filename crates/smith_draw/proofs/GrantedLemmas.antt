@@ -1,5 +1,5 @@
--- No value of a drawn type is a reference that may not be null and is not grounded, where none is of the type that it matches, and of
--- those that stand.
+-- No value of a drawn type is a reference that may not be null and is not grounded, where none is of the type that it matches and of
+-- the types before it.
 use Rattle.std.proofs.Common.{ℕ, zero, suc, ◌∙◌, Bool, true, false, Some, List, [], ◌∷◌, ◌++◌, length, sym}
 use Rattle.std.specs.Prelude.{All}
 use Rattle.std.specs.List.{AllByRecursion as Each}

@@ -15,6 +15,6 @@ IsGranted config context value = ¬ IsUngrounded config context value
 abbrev pub HasGranted : Config → Context → SubType → Type 0
 HasGranted config context t = All (IsGranted config context) (values_of t.composite_type.inner)
 
--- all types that stand are such types
+-- the types of a context are all such types
 abbrev pub AreTypesGranted : Config → Context → Type 0
 AreTypesGranted config context = All (HasGranted config context) context.types

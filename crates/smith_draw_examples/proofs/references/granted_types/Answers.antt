@@ -1,4 +1,4 @@
-use Rattle.std.proofs.Common.{zero, suc, true, List, [], ◌∷◌, None, refl, ap, ◌∙◌, inl, inr}
+use Rattle.std.proofs.Common.{zero, suc, true, false, List, [], ◌∷◌, None, refl, ap, ◌∙◌, inl, inr}
 use Rattle.std.proofs.lemmas.List.Elements.{All-nil, All-head, All-from_recursion}
 use Rattle.std.proofs.lemmas.Option.{same_Some}
 use Rattle.smith_types.specs.Expressions.{Context}
