@@ -6,6 +6,7 @@ pub mod DefinedLoop
 pub mod DefinedLemmas
 pub mod TypedLemmas
 pub mod DefinedMemoryLemmas
+pub mod KeptOfferLemmas
 pub mod GlobalsLoop
 pub mod GlobalCountLemmas
 pub mod NumberedGlobalLemmas
