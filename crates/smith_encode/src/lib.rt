@@ -7,8 +7,6 @@
 
 mod modules;
 mod sections;
-#[cfg(test)]
-mod tests;
 
 pub use modules::{encode, encode_with_bodies};
 pub use smith_binary::EncodeError;
