@@ -13,12 +13,14 @@ use Rattle.smith_sections.specs.Types.{IsRecGroup, group_at}
 use Rattle.smith_sections.specs.Instructions.{IsIndex}
 use Rattle.smith_sections.specs.Entities.{IsMemoryType, IsTagType}
 use Rattle.smith_sections.specs.Imports.{IsImportGroup, IsImports}
-use Rattle.smith_sections.specs.Definitions.{IsTable, IsGlobal, initialised_table, initialised_global}
+use Rattle.smith_sections.specs.Definitions.{IsTable, IsTableWritten, IsGlobal, initialised_table, initialised_global}
 use Rattle.smith_sections.specs.Exports.{IsExport}
-use Rattle.smith_sections.specs.Elements.{IsElement, element_of}
-use Rattle.smith_sections.specs.Data.{IsData, data_of}
+use Rattle.smith_sections.specs.Elements.{IsElement, IsElementWritten, element_of}
+use Rattle.smith_sections.specs.Data.{IsData, IsDataWritten, data_of}
 use Rattle.smith_sections.specs.Sections.{IsOptionalSection, IsListSection, IsSectionIf}
 use Rattle.smith_sections.specs.Modules.{Contents, IsPreamble, IsStartSection, IsDataCount}
+use Rattle.smith_sections.proofs.ListLemmas.{list_as, list_mapped}
+use Rattle.smith_sections.proofs.SpelledFormLemmas.{element_spelled, data_spelled, table_spelled}
 use Rattle.smith_encode.specs.Around.{IsModuleAround}
 use Rattle.smith_encode.specs.Contents.{defined, contents_of}
 use Rattle.smith_encode.specs.Layout.{is_filled, id_if, writes_types, writes_imports, writes_data_count, section_ids, IsAnySection, HasSections}
@@ -80,6 +82,12 @@ none_mapped f xs e = ap (map f) (not_filled xs e)
 grouped : (groups : List Imports) (piece : List ℕ) → IsList IsImportGroup groups piece → IsImports (flattened groups) piece
 grouped groups piece h = record { groups = groups; grouped = refl; form = h }
 
+-- the section of a list that is written by what its items mean
+mapped_optional : {A B : Type 0} (is_written : Bool) (id : ℕ) (Written : A → List ℕ → Type 0) (Item : B → List ℕ → Type 0) (f : A → B) → ((x : A) (piece : List ℕ) → Written x piece → Item (f x) piece) → (xs : List A) → (is_written ≡ false → map f xs ≡ [])
+    → (piece : List ℕ) → IsSectionIf is_written id (IsList Written xs) piece → IsListSection id Item (map f xs) piece
+mapped_optional is_written id Written Item f weaker xs nothing piece h =
+    optional is_written id (map f xs ≡ []) (IsList Written xs) (IsList Item (map f xs)) nothing (λ p content. list_mapped Item f xs p (list_as Written (λ x. Item (f x)) weaker xs p content)) piece h
+
 -- the sections of a module as it is written are those of its parts
 front_is : (m : Parts) {More Other : List ℕ → Type 0} → ((p : List ℕ) → More p → Other p) → (piece : List ℕ) → Joined (IsFront m) More piece
     → Joined (IsListSection 1 IsRecGroup (contents_of m).types)
@@ -89,7 +97,7 @@ front_is m more piece h =
     (λ p rest. both_as p
     (optional (writes_imports m) 2 ((contents_of m).imports ≡ []) (IsList IsImportGroup m.imports) (IsImports (contents_of m).imports) (λ e. ap (λ (groups : List Imports). flattened groups) (not_filled m.imports (or_false m.encodes_imports (is_filled m.imports) e))) (grouped m.imports))
     (λ q later. both_as q (list_optional (is_filled (contents_of m).functions) 3 IsIndex (contents_of m).functions (not_filled (contents_of m).functions))
-    (λ r last. both_as r (list_optional (is_filled m.defined_tables) 4 IsTable (contents_of m).tables (no_pairs_mapped initialised_table (defined (length m.defined_tables) m.tables) m.defined_tables)) more last) (regrouped later)) (regrouped rest))
+    (λ r last. both_as r (mapped_optional (is_filled m.defined_tables) 4 IsTableWritten IsTable initialised_table table_spelled (zip (defined (length m.defined_tables) m.tables) m.defined_tables) (no_pairs_mapped initialised_table (defined (length m.defined_tables) m.tables) m.defined_tables)) more last) (regrouped later)) (regrouped rest))
     (regrouped h)
 
 middle_is : (m : Parts) {More Other : List ℕ → Type 0} → ((p : List ℕ) → More p → Other p) → (piece : List ℕ) → Joined (IsMiddle m) More piece
@@ -108,10 +116,10 @@ back_is : (m : Parts) (Bodies : List ℕ → Type 0) (piece : List ℕ) → IsBa
     (Joined (IsDataCount (contents_of m).segments) (Joined (IsSectionIf (is_filled m.code) 10 Bodies) (IsListSection 11 IsData (contents_of m).segments)))) piece
 back_is m Bodies piece h =
     both_as piece (λ p start. start)
-    (λ p rest. both_as p (list_optional (is_filled m.elems) 9 IsElement (contents_of m).elements (none_mapped element_of m.elems))
+    (λ p rest. both_as p (mapped_optional (is_filled m.elems) 9 IsElementWritten IsElement element_of element_spelled m.elems (none_mapped element_of m.elems))
     (λ q later. both_as q
     (optional (writes_data_count m) 12 (Unit {0}) (IsUnsigned 32 (length m.segments)) (IsUnsigned 32 (length (contents_of m).segments)) (λ e. tt) (λ c count. subst (λ (n : ℕ). IsUnsigned 32 n c) (sym (length-map m.segments data_of)) count))
-    (λ r last. both_as r (λ s code. code) (list_optional (is_filled m.segments) 11 IsData (contents_of m).segments (none_mapped data_of m.segments)) last)
+    (λ r last. both_as r (λ s code. code) (mapped_optional (is_filled m.segments) 11 IsDataWritten IsData data_of data_spelled m.segments (none_mapped data_of m.segments)) last)
     later) rest)
     h
 
@@ -168,7 +176,7 @@ front_ids : (m : Parts) (ids : List ℕ) {More : List ℕ → Type 0} → ((p : 
 front_ids m ids more piece h =
     one_id (writes_types m) 1 (IsList IsRecGroup (contents_of m).types) _
     (λ p rest. one_id (writes_imports m) 2 (IsList IsImportGroup m.imports) _
-    (λ q later. one_id (is_filled (defined m.num_defined_funcs m.funcs)) 3 (IsList IsIndex (contents_of m).functions) _ (λ r last. one_id (is_filled m.defined_tables) 4 (IsList IsTable (contents_of m).tables) ids more r last) q (regrouped later)) p (regrouped rest))
+    (λ q later. one_id (is_filled (defined m.num_defined_funcs m.funcs)) 3 (IsList IsIndex (contents_of m).functions) _ (λ r last. one_id (is_filled m.defined_tables) 4 (IsList IsTableWritten (zip (defined (length m.defined_tables) m.tables) m.defined_tables)) ids more r last) q (regrouped later)) p (regrouped rest))
     piece
     (regrouped h)
 
@@ -186,8 +194,8 @@ back_ids : (m : Parts) (Bodies : List ℕ → Type 0) (piece : List ℕ) → IsB
 back_ids m Bodies piece h =
     ids_joined (id_if (is_some m.start) 8) _
     (both_as piece (start_id m.start)
-    (one_id (is_filled m.elems) 9 (IsList IsElement (contents_of m).elements) _
-    (one_id (writes_data_count m) 12 (IsUnsigned 32 (length m.segments)) _ (one_id (is_filled m.code) 10 Bodies _ (section_id (is_filled m.segments) 11 (IsList IsData (contents_of m).segments)))))
+    (one_id (is_filled m.elems) 9 (IsList IsElementWritten m.elems) _
+    (one_id (writes_data_count m) 12 (IsUnsigned 32 (length m.segments)) _ (one_id (is_filled m.code) 10 Bodies _ (section_id (is_filled m.segments) 11 (IsList IsDataWritten m.segments)))))
     h)
 
 pub sections_are : (m : Parts) (Bodies : List ℕ → Type 0) (piece : List ℕ) → Joined IsPreamble (Joined (IsFront m) (Joined (IsMiddle m) (IsBack m Bodies))) piece → HasSections (section_ids m) piece

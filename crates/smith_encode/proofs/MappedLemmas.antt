@@ -9,7 +9,7 @@ use Rattle.smith_binary.specs.Numbers.{IsUnsigned}
 use Rattle.smith_binary.specs.Pieces.{IsList}
 use Rattle.smith_sections.specs.Sections.{IsSectionIf}
 use Rattle.smith_sections.specs.Long.{IsLongList, IsLongContent, IsLongSection, IsNeverLong}
-use Rattle.smith_sections.proofs.ListLemmas.{list_mapped}
+use Rattle.smith_sections.proofs.ListLemmas.{list_as, list_mapped}
 
 -- a section of a list by what its items mean
 pub section_mapped : {A B : Type 0} (is_written : Bool) (id : ℕ) (P : B → List ℕ → Type 0) (f : A → B) (xs : List A) (piece : List ℕ) → IsSectionIf is_written id (IsList (λ (x : A). P (f x)) xs) piece → IsSectionIf is_written id (IsList P (map f xs)) piece
@@ -45,6 +45,11 @@ pub long_mapped : {A B : Type 0} (P : B → List ℕ → Type 0) (IsLong : B →
 long_mapped P IsLong f xs (inl (inl many)) = inl (inl (subst (λ (n : ℕ). 2 ^ 32 ≤ n) (sym (length-map xs f)) many))
 long_mapped P IsLong f xs (inl (inr some)) = inl (inr (any_mapped IsLong f xs some))
 long_mapped P IsLong f xs (inr content) = inr (record { piece = content.piece; spelled = list_mapped P f xs content.piece content.spelled; long = content.long })
+
+-- a list is too long where its items are spelled by something else too
+pub long_as : {A : Type 0} {IsLong : Type 0} {P Q : A → List ℕ → Type 0} → ((x : A) (piece : List ℕ) → P x piece → Q x piece) → (xs : List A) → IsLong ⊎ IsLongContent (IsList P xs) → IsLong ⊎ IsLongContent (IsList Q xs)
+long_as weaker xs (inl long) = inl long
+long_as {P = P} {Q = Q} weaker xs (inr content) = inr (record { piece = content.piece; spelled = list_as P Q weaker xs content.piece content.spelled; long = content.long })
 
 -- where no item is
 pub pairs_mapped : {A B : Type 0} (P : B → List ℕ → Type 0) (f : A → B) (xs : List A)

@@ -1,18 +1,22 @@
--- The sections of a module as they are written, in three parts. Nobody has to believe this.
+-- The sections of a module as they are written, in three parts: imports in the groups of the module, tables and segments in one of
+-- their forms.
 use Rattle.std.specs.Prelude.{ℕ, List, length}
+use Rattle.std.specs.List.{zip}
 use Rattle.smith_binary.specs.Numbers.{IsUnsigned}
 use Rattle.smith_binary.specs.Pieces.{Joined, IsList}
+use Rattle.smith_types.specs.declared.code.Code.{Code}
 use Rattle.smith_definitions.specs.Module.{Parts}
 use Rattle.smith_sections.specs.Types.{IsRecGroup}
 use Rattle.smith_sections.specs.Instructions.{IsIndex}
 use Rattle.smith_sections.specs.Entities.{IsMemoryType, IsTagType}
 use Rattle.smith_sections.specs.Imports.{IsImportGroup}
-use Rattle.smith_sections.specs.Definitions.{IsTable, IsGlobal}
+use Rattle.smith_sections.specs.Definitions.{IsTableWritten, IsGlobal}
 use Rattle.smith_sections.specs.Exports.{IsExport}
-use Rattle.smith_sections.specs.Elements.{IsElement}
-use Rattle.smith_sections.specs.Data.{IsData}
+use Rattle.smith_sections.specs.Elements.{IsElementWritten}
+use Rattle.smith_sections.specs.Codes.{IsBody, body_of}
+use Rattle.smith_sections.specs.Data.{IsDataWritten}
 use Rattle.smith_sections.specs.Sections.{IsSectionIf}
-use Rattle.smith_sections.specs.Modules.{IsStartSection}
+use Rattle.smith_sections.specs.Modules.{IsPreamble, IsStartSection}
 use Rattle.smith_encode.specs.Contents.{defined, contents_of}
 use Rattle.smith_encode.specs.Layout.{is_filled, writes_types, writes_imports, writes_data_count}
 
@@ -22,7 +26,7 @@ IsFront m =
     Joined (IsSectionIf (writes_types m) 1 (IsList IsRecGroup (contents_of m).types))
     (Joined (IsSectionIf (writes_imports m) 2 (IsList IsImportGroup m.imports))
     (Joined (IsSectionIf (is_filled (defined m.num_defined_funcs m.funcs)) 3 (IsList IsIndex (contents_of m).functions))
-    (IsSectionIf (is_filled m.defined_tables) 4 (IsList IsTable (contents_of m).tables))))
+    (IsSectionIf (is_filled m.defined_tables) 4 (IsList IsTableWritten (zip (defined (length m.defined_tables) m.tables) m.defined_tables)))))
 
 -- up to the section of the exports
 abbrev pub IsMiddle : Parts → List ℕ → Type 0
@@ -35,6 +39,14 @@ IsMiddle m =
 abbrev pub IsBack : Parts → (List ℕ → Type 0) → List ℕ → Type 0
 IsBack m Bodies =
     Joined (IsStartSection m.start)
-    (Joined (IsSectionIf (is_filled m.elems) 9 (IsList IsElement (contents_of m).elements))
+    (Joined (IsSectionIf (is_filled m.elems) 9 (IsList IsElementWritten m.elems))
     (Joined (IsSectionIf (writes_data_count m) 12 (IsUnsigned 32 (length m.segments)))
-    (Joined (IsSectionIf (is_filled m.code) 10 Bodies) (IsSectionIf (is_filled m.segments) 11 (IsList IsData (contents_of m).segments)))))
+    (Joined (IsSectionIf (is_filled m.code) 10 Bodies) (IsSectionIf (is_filled m.segments) 11 (IsList IsDataWritten m.segments)))))
+
+-- a module as it is written, where this spells the content of the code section
+abbrev pub IsWritten : Parts → (List ℕ → Type 0) → List ℕ → Type 0
+IsWritten m Bodies = Joined IsPreamble (Joined (IsFront m) (Joined (IsMiddle m) (IsBack m Bodies)))
+
+-- the bodies that a module has
+abbrev pub AreOwnBodies : Parts → List ℕ → Type 0
+AreOwnBodies m = IsList (λ (code : Code). IsBody (body_of m.fuel_globals code)) m.code

@@ -7,7 +7,7 @@ ghost use Rattle.smith_sections.specs.Sections.{IsSectionIf};
 ghost use Rattle.smith_encode.specs.Around.{IsModuleAround};
 ghost use Rattle.smith_encode.specs.Contents.{contents_of};
 ghost use Rattle.smith_encode.specs.Layout.{is_filled, section_ids, HasSections};
-ghost use Rattle.smith_encode.specs.Written.{IsFront, IsMiddle, IsBack};
+ghost use Rattle.smith_encode.specs.Written.{IsFront, IsMiddle, IsBack, IsWritten, AreOwnBodies};
 ghost use Rattle.smith_encode.specs.TooLong.{IsTooLong};
 
 use crate::sections::{
@@ -71,6 +71,7 @@ fn write_back<B: Encode>(module: &Module, bodies: &B, sink: &mut Sink) -> Result
 pub fn encode(alloc: Global, module: &Module) -> Result<Vec<u8>, EncodeError>
     ensures spelled { IfOk result (λ bytes. IsModule (contents_of «module».now) bytes.items) }
     ensures sections { IfOk result (λ bytes. HasSections (section_ids «module».now) bytes.items) }
+    ensures written { IfOk result (λ bytes. IsWritten «module».now (AreOwnBodies «module».now) bytes.items) }
     ensures fault { IfErr result (IsFault (IsTooLong «module».now)) }
 {
     let bodies = Listed {
@@ -95,6 +96,7 @@ pub fn encode_with_bodies<B: Encode>(
 ) -> Result<Vec<u8>, EncodeError>
     ensures spelled { IfOk result (λ bytes. IsModuleAround (contents_of «module».now) (IsSectionIf (is_filled «module».now.code) 10 (B.spells bodies.now)) bytes.items) }
     ensures sections { IfOk result (λ bytes. HasSections (section_ids «module».now) bytes.items) }
+    ensures written { IfOk result (λ bytes. IsWritten «module».now (B.spells bodies.now) bytes.items) }
     ensures fault { IfErr result (IsFault (IsTooLong «module».now ⊎ (B.is_long bodies.now ⊎ IsLongContent (B.spells bodies.now)))) }
 {
     let mut sink = Sink::new(alloc);

@@ -1,4 +1,5 @@
 ghost use Rattle.std.specs.Prelude.{◌≡◌, ◌⊎◌, length, OnOk, IfErr};
+ghost use Rattle.std.specs.List.{zip};
 ghost use Rattle.smith_binary.specs.Faults.{IsFault};
 ghost use Rattle.smith_binary.specs.Numbers.{IsUnsigned};
 ghost use Rattle.smith_binary.specs.Pieces.{IsList, Writes};
@@ -6,10 +7,10 @@ ghost use Rattle.smith_sections.specs.Types.{IsRecGroup};
 ghost use Rattle.smith_sections.specs.Instructions.{IsIndex};
 ghost use Rattle.smith_sections.specs.Entities.{IsMemoryType, IsTagType};
 ghost use Rattle.smith_sections.specs.Imports.{IsImportGroup};
-ghost use Rattle.smith_sections.specs.Definitions.{IsTable, IsGlobal};
+ghost use Rattle.smith_sections.specs.Definitions.{IsTableWritten, IsGlobal};
 ghost use Rattle.smith_sections.specs.Exports.{IsExport};
-ghost use Rattle.smith_sections.specs.Elements.{IsElement};
-ghost use Rattle.smith_sections.specs.Data.{IsData};
+ghost use Rattle.smith_sections.specs.Elements.{IsElementWritten};
+ghost use Rattle.smith_sections.specs.Data.{IsDataWritten};
 ghost use Rattle.smith_sections.specs.Long.{IsLongContent};
 ghost use Rattle.smith_sections.specs.Sections.{IsSectionIf};
 ghost use Rattle.smith_sections.specs.Modules.{IsStartSection};
@@ -99,7 +100,7 @@ pub(crate) fn write_functions(module: &Module, sink: &mut Sink) -> Result<(), En
 
 /// Writes the table section.
 pub(crate) fn write_tables(module: &Module, sink: &mut Sink) -> Result<(), EncodeError>
-    ensures writes { OnOk result (Writes (IsSectionIf (is_filled «module».now.defined_tables) 4 (IsList IsTable (contents_of «module».now).tables)) sink.old sink.new) }
+    ensures writes { OnOk result (Writes (IsSectionIf (is_filled «module».now.defined_tables) 4 (IsList IsTableWritten (zip (defined (length «module».now.defined_tables) «module».now.tables) «module».now.defined_tables))) sink.old sink.new) }
     ensures fault { IfErr result (IsFault (IsTooLong «module».now)) }
 {
     let initialisers = module.defined_tables();
@@ -174,7 +175,7 @@ pub(crate) fn write_start(module: &Module, sink: &mut Sink) -> Result<(), Encode
 
 /// Writes the element section.
 pub(crate) fn write_elements(module: &Module, sink: &mut Sink) -> Result<(), EncodeError>
-    ensures writes { OnOk result (Writes (IsSectionIf (is_filled «module».now.elems) 9 (IsList IsElement (contents_of «module».now).elements)) sink.old sink.new) }
+    ensures writes { OnOk result (Writes (IsSectionIf (is_filled «module».now.elems) 9 (IsList IsElementWritten «module».now.elems)) sink.old sink.new) }
     ensures fault { IfErr result (IsFault (IsTooLong «module».now)) }
 {
     let elements = Listed {
@@ -207,7 +208,7 @@ pub(crate) fn write_bodies<B: Encode>(
 
 /// Writes the data section.
 pub(crate) fn write_segments(module: &Module, sink: &mut Sink) -> Result<(), EncodeError>
-    ensures writes { OnOk result (Writes (IsSectionIf (is_filled «module».now.segments) 11 (IsList IsData (contents_of «module».now).segments)) sink.old sink.new) }
+    ensures writes { OnOk result (Writes (IsSectionIf (is_filled «module».now.segments) 11 (IsList IsDataWritten «module».now.segments)) sink.old sink.new) }
     ensures fault { IfErr result (IsFault (IsTooLong «module».now)) }
 {
     let segments = Listed {

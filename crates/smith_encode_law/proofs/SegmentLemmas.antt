@@ -41,7 +41,7 @@ in_range features types (Concrete index) valid = valid.1
 in_range features types (Exact index) valid = valid.1
 
 -- an instruction without operands, alone
-alone : (context : Context) (instruction : ConstInstr) (value wanted : ValType) → HasType context instruction [] value → IsValBelow context.types value wanted → IsTyped context wanted (instruction ∷ [])
+pub alone : (context : Context) (instruction : ConstInstr) (value wanted : ValType) → HasType context instruction [] value → IsValBelow context.types value wanted → IsTyped context wanted (instruction ∷ [])
 alone context instruction value wanted typed below =
     record { value = value; steps = (value ∷ [], one_step context instruction [] value [] [] typed tt, refl); below = below }
 

@@ -1,6 +1,8 @@
 ghost use Rattle.std.specs.Prelude.{IfOk, IfErr};
 ghost use Rattle.smith_binary.specs.Faults.{IsFault};
 ghost use Rattle.smith_encode.specs.Layout.{section_ids, HasSections};
+ghost use Rattle.smith_encode.specs.Written.{IsWritten};
+ghost use Rattle.smith_program_binary.specs.Bodies.{AreBodiesOf};
 ghost use Rattle.smith_program_binary.specs.Long.{IsLongProgram};
 ghost use Rattle.smith_program_binary.specs.Programs.{IsProgramBinary};
 
@@ -21,6 +23,7 @@ use std::alloc::Global;
 pub fn encode(alloc: Global, program: &Program) -> Result<Vec<u8>, EncodeError>
     ensures spelled { IfOk result (λ bytes. IsProgramBinary program.now.«module» program.now.bodies bytes.items) }
     ensures sections { IfOk result (λ bytes. HasSections (section_ids program.now.«module») bytes.items) }
+    ensures written { IfOk result (λ bytes. IsWritten program.now.«module» (AreBodiesOf program.now.«module».fuel_globals program.now.«module».code program.now.bodies) bytes.items) }
     ensures fault { IfErr result (IsFault (IsLongProgram program.now.«module» program.now.bodies)) }
 {
     let bodies = Bodies {

@@ -1,5 +1,5 @@
 -- Data segments: the section Binary Format, Modules, Data Section, of the WebAssembly Core Specification 3.0.
-use Rattle.std.specs.Prelude.{◌≡◌, ℕ, List}
+use Rattle.std.specs.Prelude.{◌≡◌, ◌==◌, ℕ, List, if◌then◌else◌}
 use Rattle.smith_binary.specs.Numbers.{IsUnsigned}
 use Rattle.smith_binary.specs.Pieces.{IsByte, Joined, IsList}
 use Rattle.smith_types.specs.declared.const_instr.ConstInstr.{ConstInstr}
@@ -38,10 +38,14 @@ IsInDataForm named_memory d piece =
     (memory : ℕ) × (offset : List ConstInstr) × (d.mode ≡ active memory offset)
     × Joined (IsIndex memory) (Joined (IsExpression offset) (IsList IsByte d.bytes)) piece
 
+-- the number of a form, then a segment in it
+abbrev pub IsDataIn : DataForm → Data → List ℕ → Type 0
+IsDataIn form d = Joined (IsUnsigned 32 (data_number form)) (IsInDataForm form d)
+
 -- a data segment: the number of a form, then the segment in it
 pub record IsData (d : Data) (piece : List ℕ) : Type 0 where
   pub form : DataForm
-  pub spelled : Joined (IsUnsigned 32 (data_number form)) (IsInDataForm form d) piece
+  pub spelled : IsDataIn form d piece
 
 -- the mode of a data segment in the abstract syntax
 abbrev pub data_mode : DataSegmentKind → DataMode
@@ -51,3 +55,15 @@ data_mode (Active memory offset) = active memory (offset_of offset)
 -- a data segment in the abstract syntax
 abbrev pub data_of : DataSegment → Data
 data_of segment = record { bytes = segment.init; mode = data_mode segment.kind }
+
+-- the form that is written of a segment: that without the memory where it is the first
+abbrev pub active_data_form : ℕ → DataForm
+active_data_form memory = if memory == 0 then first_memory else named_memory
+
+abbrev pub data_form : DataSegmentKind → DataForm
+data_form Passive = no_memory
+data_form (Active memory offset) = active_data_form memory
+
+-- a data segment as it is written
+abbrev pub IsDataWritten : DataSegment → List ℕ → Type 0
+IsDataWritten segment = IsDataIn (data_form segment.kind) (data_of segment)

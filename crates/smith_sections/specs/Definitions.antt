@@ -1,6 +1,6 @@
 -- Definitions of tables, globals and tags: the section Binary Format, Modules, Table Section, Global Section and Tag Section, of the
 -- WebAssembly Core Specification 3.0.
-use Rattle.std.specs.Prelude.{◌≡◌, ℕ, Option, List, [], ◌∷◌, unwrap_or}
+use Rattle.std.specs.Prelude.{◌≡◌, ℕ, Option, Some, None, List, [], ◌∷◌, unwrap_or}
 use Rattle.smith_binary.specs.Pieces.{Is, Joined}
 use Rattle.smith_types.specs.declared.value_type.RefType.{RefType}
 use Rattle.smith_types.specs.declared.const_instr.ConstInstr.{ConstInstr}
@@ -14,9 +14,13 @@ use Rattle.smith_sections.specs.Entities.{IsGlobalType, IsTableType}
 abbrev pub null_of : RefType → List ConstInstr
 null_of reference = RefNull reference.heap_type ∷ []
 
--- a table: two bytes, its type and the expression of its elements; or its type alone, where they are null (Table Section)
+-- two bytes, the type of a table and the expression of its elements
+abbrev pub IsInitialisedTable : TableType → List ConstInstr → List ℕ → Type 0
+IsInitialisedTable ty initial = Joined (Is (0x40 ∷ 0x00 ∷ [])) (Joined (IsTableType ty) (IsExpression initial))
+
+-- a table: with the expression of its elements; or its type alone, where they are null (Table Section)
 pub data IsTable (table : TableType × List ConstInstr) (piece : List ℕ) : Type 0 where
-  initialised : Joined (Is (0x40 ∷ 0x00 ∷ [])) (Joined (IsTableType table.0) (IsExpression table.1)) piece → IsTable table piece
+  initialised : IsInitialisedTable table.0 table.1 piece → IsTable table piece
   null : table.1 ≡ null_of table.0.element_type → IsTableType table.0 piece → IsTable table piece
 
 -- a global: its type, then the expression of its first value (Global Section)
@@ -30,3 +34,11 @@ initialised_table table = (table.0, unwrap_or table.1 (null_of table.0.element_t
 -- a global of a type with the initialiser of its definition, which names its index too
 abbrev pub initialised_global : GlobalType × (ℕ × List ConstInstr) → GlobalType × List ConstInstr
 initialised_global global = (global.0, global.1.1)
+
+-- a table as it is written: its type alone where it has no initialiser
+abbrev pub IsTableAs : TableType → Option (List ConstInstr) → List ℕ → Type 0
+IsTableAs ty None = IsTableType ty
+IsTableAs ty (Some initial) = IsInitialisedTable ty initial
+
+abbrev pub IsTableWritten : TableType × Option (List ConstInstr) → List ℕ → Type 0
+IsTableWritten table = IsTableAs table.0 table.1

@@ -1,8 +1,9 @@
 -- Element segments: the section Binary Format, Modules, Element Section, of the WebAssembly Core Specification 3.0.
-use Rattle.std.specs.Prelude.{◌≡◌, ℕ, Bool, true, false, List, [], ◌∷◌, map, unwrap_or}
+use Rattle.std.specs.Prelude.{◌≡◌, ◌==◌, ℕ, Bool, true, false, not, ◌&&◌, List, [], ◌∷◌, map, unwrap_or, if◌then◌else◌}
 use Rattle.smith_binary.specs.Numbers.{IsUnsigned}
 use Rattle.smith_binary.specs.Pieces.{IsByte, Joined, IsList}
 use Rattle.smith_types.specs.declared.value_type.AbstractHeapType.TheVariants as abstract
+use Rattle.smith_types.specs.declared.value_type.HeapType.{HeapType}
 use Rattle.smith_types.specs.declared.value_type.HeapType.TheVariants.{Abstract}
 use Rattle.smith_types.specs.declared.value_type.RefType.{RefType}
 use Rattle.smith_types.specs.declared.const_instr.ConstInstr.{ConstInstr}
@@ -78,10 +79,14 @@ IsInForm passive_items e piece = (ty : RefType) × (items : List (List ConstInst
 IsInForm table_items e piece = (table : ℕ) × (offset : List ConstInstr) × (ty : RefType) × (items : List (List ConstInstr)) × (e ≡ record { ty = ty; items = items; mode = active table offset }) × Joined (IsIndex table) (Joined (IsExpression offset) (Joined (IsRefType ty) (IsItems items))) piece
 IsInForm declared_items e piece = (ty : RefType) × (items : List (List ConstInstr)) × (e ≡ record { ty = ty; items = items; mode = declared }) × Joined (IsRefType ty) (IsItems items) piece
 
+-- the number of a form, then a segment in it
+abbrev pub IsElementIn : Form → Element → List ℕ → Type 0
+IsElementIn form e = Joined (IsUnsigned 32 (form_number form)) (IsInForm form e)
+
 -- an element segment: the number of a form, then the segment in it
 pub record IsElement (e : Element) (piece : List ℕ) : Type 0 where
   pub form : Form
-  pub spelled : Joined (IsUnsigned 32 (form_number form)) (IsInForm form e) piece
+  pub spelled : IsElementIn form e piece
 
 -- the parts of an element segment in the abstract syntax: functions are of the type `(ref func)`, and a segment that names no table
 -- is over table 0
@@ -105,3 +110,38 @@ element_of segment = record {
   items = element_items segment.items;
   mode = element_mode segment.kind;
 }
+
+-- whether a type is that of references to functions that may be null
+abbrev pub is_func : HeapType → Bool
+is_func (Abstract shared abstract.Func) = not shared
+is_func _ = false
+
+abbrev pub is_func_ref : RefType → Bool
+is_func_ref ty = ty.nullable && is_func ty.heap_type
+
+-- the form that is written of a segment that is copied into a table: that without the table where it is the first, and the items are
+-- functions or of the one type that this form states
+abbrev pub active_funcs_form : ℕ → Form
+active_funcs_form table = if table == 0 then first_funcs else table_funcs
+
+abbrev pub active_items_form : ℕ → RefType → Form
+active_items_form table ty = if (table == 0) && is_func_ref ty then first_items else table_items
+
+-- the form that is written of a segment: a list of functions where it is one
+abbrev pub funcs_form : ElementKind → Form
+funcs_form Passive = passive_funcs
+funcs_form Declared = declared_funcs
+funcs_form (Active table offset) = active_funcs_form (unwrap_or table 0)
+
+abbrev pub items_form : RefType → ElementKind → Form
+items_form ty Passive = passive_items
+items_form ty Declared = declared_items
+items_form ty (Active table offset) = active_items_form (unwrap_or table 0) ty
+
+abbrev pub element_form : Elements → RefType → ElementKind → Form
+element_form (Functions funcs) ty kind = funcs_form kind
+element_form (Expressions items) ty kind = items_form ty kind
+
+-- an element segment as it is written
+abbrev pub IsElementWritten : ElementSegment → List ℕ → Type 0
+IsElementWritten segment = IsElementIn (element_form segment.items segment.ty segment.kind) (element_of segment)

@@ -2,7 +2,7 @@ ghost use Rattle.std.specs.Prelude.{◌≡◌, ◌≤◌, ◌^◌, ℕ, List, le
 ghost use Rattle.smith_binary.specs.Faults.{IsFault};
 ghost use Rattle.smith_binary.specs.Pieces.{IsByte, IsList, Writes};
 ghost use Rattle.smith_sections.specs.Instructions.{offset_of};
-ghost use Rattle.smith_sections.specs.Data.{IsData, data_of};
+ghost use Rattle.smith_sections.specs.Data.{IsDataIn, IsDataWritten, active_data_form, data_of};
 ghost use Rattle.smith_sections.specs.Data.DataMode.{active};
 ghost use Rattle.smith_sections.specs.Long.{IsLongData};
 
@@ -26,7 +26,7 @@ fn write_active_data(
     bytes: &[u8],
     sink: &mut Sink,
 ) -> Result<(), EncodeError>
-    ensures writes { OnOk result (Writes (IsData (record { bytes = bytes.now; mode = active memory (offset_of offset) })) sink.old sink.new) }
+    ensures writes { OnOk result (Writes (IsDataIn (active_data_form memory) (record { bytes = bytes.now; mode = active memory (offset_of offset) })) sink.old sink.new) }
     ensures fault { IfErr result (IsFault (2 ^ 32 ≤ length bytes.now)) }
 {
     if memory == 0 {
@@ -41,7 +41,7 @@ fn write_active_data(
 }
 
 impl Encode for DataSegment {
-    ghost spells = { λ segment. IsData (data_of segment) };
+    ghost spells = { IsDataWritten };
 
     ghost is_long = { λ segment. IsLongData (data_of segment) };
 

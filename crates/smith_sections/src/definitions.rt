@@ -2,7 +2,7 @@ ghost use Rattle.std.specs.Prelude.{◌≡◌, Option, Some, None, unwrap_or, Li
 ghost use Rattle.smith_binary.specs.declared.error.EncodeError.TheVariants.{Memory as OutOfMemory};
 ghost use Rattle.smith_binary.specs.Faults.{IsFault};
 ghost use Rattle.smith_sections.specs.Entities.{IsTagType};
-ghost use Rattle.smith_sections.specs.Definitions.{IsTable, IsGlobal, initialised_table, initialised_global};
+ghost use Rattle.smith_sections.specs.Definitions.{IsTableWritten, IsGlobal, initialised_global};
 ghost use Rattle.smith_sections.specs.Long.{IsNeverLong};
 
 use crate::entities::write_tag_type;
@@ -15,7 +15,7 @@ use smith_types::{ConstInstr, GlobalType, Items, TableType};
 pub struct Tables;
 
 impl EncodePair<TableType, Option<Items<ConstInstr>>> for Tables {
-    ghost spells = { λ _ table. IsTable (initialised_table table) };
+    ghost spells = { λ _ table. IsTableWritten table };
 
     fn encode_pair(
         &self,

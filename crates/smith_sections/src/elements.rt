@@ -1,8 +1,22 @@
-ghost use Rattle.std.specs.Prelude.{◌≡◌, true, false, IsTrue, ℕ, List, OnOk, IfErr};
+ghost use Rattle.std.specs.Prelude.{◌≡◌, ◌==◌, ◌&&◌, false, ℕ, List, OnOk, IfErr};
 ghost use Rattle.smith_binary.specs.Faults.{IsFault};
 ghost use Rattle.smith_binary.specs.Pieces.{Writes};
 ghost use Rattle.smith_sections.specs.Instructions.{offset_of};
-ghost use Rattle.smith_sections.specs.Elements.{IsElement, IsKindFuncs, element_of, element_mode, func_ref, func_items};
+ghost use Rattle.smith_sections.specs.Elements.{
+  IsElementIn,
+  IsElementWritten,
+  IsKindFuncs,
+  active_funcs_form,
+  active_items_form,
+  funcs_form,
+  items_form,
+  is_func,
+  is_func_ref,
+  element_of,
+  element_mode,
+  func_ref,
+  func_items,
+};
 ghost use Rattle.smith_sections.specs.Elements.Mode.{active as at_table};
 ghost use Rattle.smith_sections.specs.Long.{IsLongList, IsNeverLong, IsLongElement};
 
@@ -30,7 +44,7 @@ fn write_active_funcs(
     funcs: &[u32],
     sink: &mut Sink,
 ) -> Result<(), EncodeError>
-    ensures writes { OnOk result (Writes (IsElement (record { ty = func_ref false; items = func_items funcs.now; mode = at_table table (offset_of offset) })) sink.old sink.new) }
+    ensures writes { OnOk result (Writes (IsElementIn (active_funcs_form table) (record { ty = func_ref false; items = func_items funcs.now; mode = at_table table (offset_of offset) })) sink.old sink.new) }
     ensures fault { IfErr result (IsFault (IsLongList IsNeverLong funcs.now)) }
 {
     if table == 0 {
@@ -46,7 +60,7 @@ fn write_active_funcs(
 
 // Writes a segment of the functions `funcs`.
 fn write_funcs(kind: ElementKind, funcs: &[u32], sink: &mut Sink) -> Result<(), EncodeError>
-    ensures writes { OnOk result (Writes (IsElement (record { ty = func_ref false; items = func_items funcs.now; mode = element_mode kind })) sink.old sink.new) }
+    ensures writes { OnOk result (Writes (IsElementIn (funcs_form kind) (record { ty = func_ref false; items = func_items funcs.now; mode = element_mode kind })) sink.old sink.new) }
     ensures fault { IfErr result (IsFault (IsLongList IsNeverLong funcs.now)) }
 {
     match kind {
@@ -64,20 +78,24 @@ fn write_funcs(kind: ElementKind, funcs: &[u32], sink: &mut Sink) -> Result<(), 
     }
 }
 
-// Whether `ty` is the type of references to functions that may be null.
-fn is_func_ref(ty: RefType) -> bool
-    ensures { IsTrue result → ty ≡ func_ref true }
+// Whether `heap_type` is that of functions.
+fn is_func(heap_type: HeapType) -> bool
+    ensures { result ≡ is_func heap_type }
 {
-    match (ty.nullable, ty.heap_type) {
-        (
-            true,
-            HeapType::Abstract {
-                shared: false,
-                ty: AbstractHeapType::Func,
-            },
-        ) => true,
+    match heap_type {
+        HeapType::Abstract { shared, ty } => match ty {
+            AbstractHeapType::Func => !shared,
+            _ => false,
+        },
         _ => false,
     }
+}
+
+// Whether the form without a table and a type is right for a segment of the type `ty` that is copied into the table `table`.
+fn is_short(table: u32, ty: RefType) -> bool
+    ensures { result ≡ ((table == 0) && is_func_ref ty) }
+{
+    table == 0 && ty.nullable && is_func(ty.heap_type)
 }
 
 // Writes a segment that copies `items` of the type `ty` into a table. The form that names the table is for other tables than the
@@ -89,10 +107,10 @@ fn write_active_items(
     items: &[Items<ConstInstr>],
     sink: &mut Sink,
 ) -> Result<(), EncodeError>
-    ensures writes { OnOk result (Writes (IsElement (record { ty = ty; items = items.now; mode = at_table table (offset_of offset) })) sink.old sink.new) }
+    ensures writes { OnOk result (Writes (IsElementIn (active_items_form table ty) (record { ty = ty; items = items.now; mode = at_table table (offset_of offset) })) sink.old sink.new) }
     ensures fault { IfErr result (IsFault (IsLongList IsNeverLong items.now)) }
 {
-    if table == 0 && is_func_ref(ty) {
+    if is_short(table, ty) {
         sink.write_u32(4)?;
         offset.encode(sink)?;
         return write_list(items, sink);
@@ -111,7 +129,7 @@ fn write_items(
     items: &[Items<ConstInstr>],
     sink: &mut Sink,
 ) -> Result<(), EncodeError>
-    ensures writes { OnOk result (Writes (IsElement (record { ty = ty; items = items.now; mode = element_mode kind })) sink.old sink.new) }
+    ensures writes { OnOk result (Writes (IsElementIn (items_form ty kind) (record { ty = ty; items = items.now; mode = element_mode kind })) sink.old sink.new) }
     ensures fault { IfErr result (IsFault (IsLongList IsNeverLong items.now)) }
 {
     match kind {
@@ -132,7 +150,7 @@ fn write_items(
 }
 
 impl Encode for ElementSegment {
-    ghost spells = { λ segment. IsElement (element_of segment) };
+    ghost spells = { IsElementWritten };
 
     ghost is_long = { λ segment. IsLongElement (element_of segment) };
 

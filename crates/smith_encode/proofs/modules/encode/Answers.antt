@@ -1,6 +1,5 @@
-use Rattle.std.proofs.Common.{ℕ, ◌⊎◌, inl, inr, List}
+use Rattle.std.proofs.Common.{◌⊎◌, inl, inr}
 use Rattle.std.proofs.lemmas.Result.{IfOk-weaker}
-use Rattle.smith_binary.specs.Pieces.{IsList}
 use Rattle.smith_definitions.specs.Module.{Parts}
 use Rattle.smith_sections.specs.Codes.{IsBody, body_of}
 use Rattle.smith_sections.specs.Long.{IsLongBody, IsLongContent, IsLongList}
@@ -11,24 +10,24 @@ use Rattle.smith_encode.specs.Around.{IsModuleAround}
 use Rattle.smith_encode.specs.Contents.{contents_of}
 use Rattle.smith_encode.specs.Layout.{is_filled}
 use Rattle.smith_encode.specs.TooLong.{IsTooLong}
+use Rattle.smith_encode.specs.Written.{AreOwnBodies}
 use Rattle.smith_encode.proofs.LayoutLemmas.{around_as, code_section}
 use Rattle.smith_encode.proofs.MappedLemmas.{fault_weaker, long_mapped}
 use Rattle.smith_encode.proofs.modules.encode.Goals as goal
 
--- the content of the code section
-abbrev own : Parts → List ℕ → Type 0
-own m = IsList (λ (code : Code). IsBody (body_of m.fuel_globals code)) m.code
-
 -- its bodies are too long, or other parts are
-too_long : (m : Parts) → IsTooLong m ⊎ (IsLongList (λ (code : Code). IsLongBody (body_of m.fuel_globals code)) m.code ⊎ IsLongContent (own m)) → IsTooLong m
+too_long : (m : Parts) → IsTooLong m ⊎ (IsLongList (λ (code : Code). IsLongBody (body_of m.fuel_globals code)) m.code ⊎ IsLongContent (AreOwnBodies m)) → IsTooLong m
 too_long m (inl other) = other
 too_long m (inr long) = IsTooLong.bodies (long_mapped IsBody IsLongBody (body_of m.fuel_globals) m.code long)
 
 pub returns-clause-spelled : goal.returns-clause-spelled
 returns-clause-spelled c =
     let m = c.args.module.now in
-    IfOk-weaker c.encode_with_bodies.result (λ bytes. IsModuleAround (contents_of m) (IsSectionIf (is_filled m.code) 10 (own m)) bytes.items) (λ bytes. IsModule (contents_of m) bytes.items)
+    IfOk-weaker c.encode_with_bodies.result (λ bytes. IsModuleAround (contents_of m) (IsSectionIf (is_filled m.code) 10 (AreOwnBodies m)) bytes.items) (λ bytes. IsModule (contents_of m) bytes.items)
     (λ bytes. around_as (contents_of m) _ _ (code_section IsBody (body_of m.fuel_globals) m.code) bytes.items) (rw (c.fuel_globals.ensures, c.code.ensures) at c.encode_with_bodies.ensures.spelled)
+
+pub returns-clause-written : goal.returns-clause-written
+returns-clause-written c = rw (c.fuel_globals.ensures, c.code.ensures) at c.encode_with_bodies.ensures.written
 
 pub returns-clause-fault : goal.returns-clause-fault
 returns-clause-fault c = fault_weaker c.encode_with_bodies.result (too_long c.args.module.now) (rw (c.fuel_globals.ensures, c.code.ensures) at c.encode_with_bodies.ensures.fault)

@@ -1,13 +1,13 @@
-use Rattle.std.proofs.lemmas.Result.{on_ok_weaker}
-use Rattle.smith_binary.proofs.WrittenLemmas.{written_as}
 use Rattle.smith_sections.specs.Data.{IsData, data_of}
 use Rattle.smith_sections.specs.Long.{IsLongData}
+use Rattle.smith_sections.proofs.SpelledFormLemmas.{data_spelled}
 use Rattle.smith_encode.specs.TooLong.{IsTooLong}
-use Rattle.smith_encode.proofs.MappedLemmas.{section_mapped, fault_weaker, long_mapped}
+use Rattle.smith_encode.proofs.MappedLemmas.{fault_weaker, long_mapped, long_as}
 use Rattle.smith_encode.proofs.sections.write_segments.Goals as goal
 
 pub returns-clause-writes : goal.returns-clause-writes
-returns-clause-writes c = on_ok_weaker c.write_section_if.result (written_as (section_mapped _ 11 IsData data_of (c.args.module.now.segments))) (rw (c.is_filled.ensures, c.data.ensures) at c.write_section_if.ensures.writes)
+returns-clause-writes c = rw (c.is_filled.ensures, c.data.ensures) at c.write_section_if.ensures.writes
 
 pub returns-clause-fault : goal.returns-clause-fault
-returns-clause-fault c = fault_weaker c.write_section_if.result (λ long. IsTooLong.segments (long_mapped IsData IsLongData data_of (c.args.module.now.segments) long.1)) (rw (c.is_filled.ensures, c.data.ensures) at c.write_section_if.ensures.fault)
+returns-clause-fault c =
+    fault_weaker c.write_section_if.result (λ long. IsTooLong.segments (long_mapped IsData IsLongData data_of c.args.module.now.segments (long_as data_spelled c.args.module.now.segments long.1))) (rw (c.is_filled.ensures, c.data.ensures) at c.write_section_if.ensures.fault)

@@ -17,3 +17,6 @@ returns-clause-spelled c =
 
 pub returns-clause-fault : goal.returns-clause-fault
 returns-clause-fault c = rw (c.fuel_globals.ensures, c.code.ensures, c.as_slice.ensures) at c.encode_with_bodies.ensures.fault
+
+pub returns-clause-written : goal.returns-clause-written
+returns-clause-written c = rw (c.fuel_globals.ensures, c.code.ensures, c.as_slice.ensures) at c.encode_with_bodies.ensures.written

@@ -1,0 +1,22 @@
+-- What is written in one form is spelled as the grammar says.
+use Rattle.std.proofs.Common.{ℕ, Option, Some, None, List, refl}
+use Rattle.smith_types.specs.declared.const_instr.ConstInstr.{ConstInstr}
+use Rattle.smith_types.specs.declared.entity_type.TableType.{TableType}
+use Rattle.smith_types.specs.declared.segments.DataSegment.{DataSegment}
+use Rattle.smith_types.specs.declared.segments.ElementSegment.{ElementSegment}
+use Rattle.smith_sections.specs.Data.{IsData, IsDataWritten, data_form, data_of}
+use Rattle.smith_sections.specs.Definitions.{IsTable, IsTableAs, IsTableWritten, initialised_table}
+use Rattle.smith_sections.specs.Elements.{IsElement, IsElementWritten, element_form, element_of}
+
+pub element_spelled : (segment : ElementSegment) (piece : List ℕ) → IsElementWritten segment piece → IsElement (element_of segment) piece
+element_spelled segment piece h = record { form = element_form segment.items segment.ty segment.kind; spelled = h }
+
+pub data_spelled : (segment : DataSegment) (piece : List ℕ) → IsDataWritten segment piece → IsData (data_of segment) piece
+data_spelled segment piece h = record { form = data_form segment.kind; spelled = h }
+
+spelled_as : (ty : TableType) (initial : Option (List ConstInstr)) (piece : List ℕ) → IsTableAs ty initial piece → IsTable (initialised_table (ty, initial)) piece
+spelled_as ty None piece h = IsTable.null refl h
+spelled_as ty (Some expression) piece h = IsTable.initialised h
+
+pub table_spelled : (table : TableType × Option (List ConstInstr)) (piece : List ℕ) → IsTableWritten table piece → IsTable (initialised_table table) piece
+table_spelled table piece h = spelled_as table.0 table.1 piece h
