@@ -1,5 +1,4 @@
 pub mod ScopeLemmas
-pub mod DrawnBodiesLemmas
 pub mod CountedLemmas
 pub mod WiderLemmas
 pub mod TerminationLemmas

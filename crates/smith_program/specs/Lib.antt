@@ -1,6 +1,5 @@
 pub mod References
 pub mod Bodies
-pub mod DrawnBodies
 pub mod Named
 pub mod Generated
 pub mod Counted
