@@ -9,14 +9,14 @@ use Rattle.smith_types.specs.declared.value_type.ValType.TheVariants.{I32}
 use Rattle.smith_instr.specs.Contexts.{BodyContext, labelled, IsValid, AreValid, AreBelow, IsBlockType}
 use Rattle.smith_instr.specs.Enabled.{is_enabled}
 use Rattle.smith_instr.specs.InstrTypes.{sets, HasInstrType}
-use Rattle.smith_instr.specs.Sequences.{stacked, IsFramed, IsStep, AreTyped, IsBodyTyped, step, block, loop, if_else}
+use Rattle.smith_instr.specs.Sequences.{stacked, IsFramed, IsStep, AreTyped, IsBodyTyped, step, block, loop, if_alone, if_else}
 use Rattle.smith_instr.specs.declared.control.BlockType.{BlockType}
 use Rattle.smith_instr.specs.declared.instr.Instr.{Instr}
 use Rattle.smith_instr.specs.declared.instr.Instr.TheVariants as instr
 use Rattle.smith_instr.proofs.SequenceLemmas.{below_themselves, finished}
 use Rattle.smith_instr.proofs.CompositionLemmas.{typed_append}
 use Rattle.smith_code.specs.Scopes.{context_of, bare, where_stands, widest, most, AreLabels, IsAllowedIn}
-use Rattle.smith_code.specs.Nodes.{block_cost, IsNode, HasHeadType, head_sets, head_instruction, opened, label_of}
+use Rattle.smith_code.specs.Nodes.{block_cost, IsNode, HasHeadType, MayOpen, head_sets, head_instruction, opened, label_of, taken_by}
 use Rattle.smith_code.specs.Drawn.{IsDrawn, IsWritten, IsOpened, IsEnded, IsLeaf}
 use Rattle.smith_code.specs.declared.node.Head.{Head}
 use Rattle.smith_code.specs.declared.node.Head.TheVariants as heads
@@ -296,19 +296,22 @@ plain_drawn {scope = scope} {old = old} head instruction operands results values
     let allowed' : IsAllowedIn scope instruction = rw is at allowed in
     drawn_within (omega arith) (written_drawn instruction operands results values set typed' below valid allowed' local' written)
 
--- a block or loop around what is drawn in it
-enclosed : (opening : Opening) (context : BodyContext) (ty : BlockType) (body : List Instr) (params results values base : List ValType) (set inner after : List ℕ) → IsBlockType context ty params results → AreBelow context results values → AreValid context values → AreValid context base → after ≡ set
+-- a block around what is drawn in it
+enclosed : (opening : Opening) (context : BodyContext) (ty : BlockType) (body : List Instr) (params results values base : List ValType) (set inner after : List ℕ) → IsBlockType context ty params results → MayOpen opening params results → AreValid context results → AreBelow context results values → AreValid context values → AreValid context base → after ≡ set
     → AreTyped (labelled context (label_of opening params results)) body (stacked params set) (stacked results inner)
-    → AreTyped context (opened opening ty ∷ (body ++ instr.End ∷ [])) (stacked (base ++ params) set) (stacked (base ++ values) after)
-enclosed opening.Block context ty body params results values base set inner after fits below valid under left typed =
+    → AreTyped context (opened opening ty ∷ (body ++ instr.End ∷ [])) (stacked (base ++ taken_by opening params) set) (stacked (base ++ values) after)
+enclosed opening.Block context ty body params results values base set inner after fits may given below valid under left typed =
     block refl fits typed (around context params results values base set after below valid left) (finished context (base ++ values) after (joined_valid context base values under valid))
-enclosed opening.Loop context ty body params results values base set inner after fits below valid under left typed =
+enclosed opening.Loop context ty body params results values base set inner after fits may given below valid under left typed =
     loop refl fits typed (around context params results values base set after below valid left) (finished context (base ++ values) after (joined_valid context base values under valid))
+enclosed opening.IfAlone context ty body params results values base set inner after fits may given below valid under left typed =
+    if_alone refl fits typed (record { below = subst (AreBelow context params) may (below_themselves context.types params); valid = given })
+    (around context (params ++ I32 ∷ []) results values base set after below valid left) (finished context (base ++ values) after (joined_valid context base values under valid))
 
-pub enclosed_drawn : {scope : Scope} {old entered inside new : Draft} (opening : Opening) (ty : BlockType) (params results values : List ValType) → IsBlockType (bare scope) ty params results → AreBelow (bare scope) results values → AreValid (bare scope) values
+pub enclosed_drawn : {scope : Scope} {old entered inside new : Draft} (opening : Opening) (ty : BlockType) (params results values : List ValType) → IsBlockType (bare scope) ty params results → MayOpen opening params results → AreValid (bare scope) results → AreBelow (bare scope) results values → AreValid (bare scope) values
     → IsAllowedIn scope (opened opening ty) → length params + length results ≤ widest scope.types.now.types → IsOpened (opened opening ty) (label_of opening params results) old entered → IsDrawn scope params results (length params + length results) entered inside
-    → (height : ℕ) → height ≡ length old.set.items → IsEnded instr.End height inside new → new.labels.items ≡ old.labels.items → IsDrawn scope params values (block_cost scope.types.now.types) old new
-enclosed_drawn {scope = scope} {old = old} {entered = entered} {inside = inside} {new = new} opening ty params results values fits below valid allowed few start drawn height high ended labels =
+    → (height : ℕ) → height ≡ length old.set.items → IsEnded instr.End height inside new → new.labels.items ≡ old.labels.items → IsDrawn scope (taken_by opening params) values (block_cost scope.types.now.types) old new
+enclosed_drawn {scope = scope} {old = old} {entered = entered} {inside = inside} {new = new} opening ty params results values fits may given below valid allowed few start drawn height high ended labels =
     let end : IsEnded instr.End (length old.set.items) inside new = rw high at ended in
     let context = where_stands scope old in
     let none = All-nil (IsValid (bare scope)) in
@@ -325,7 +328,7 @@ enclosed_drawn {scope = scope} {old = old} {entered = entered} {inside = inside}
     record {
       more = opened opening ty ∷ (drawn.more ++ instr.End ∷ []);
       longer = out;
-      typed = λ base under. enclosed opening context ty drawn.more params results values base old.set.items inside.set.items new.set.items fits below valid under left inner;
+      typed = λ base under. enclosed opening context ty drawn.more params results values base old.set.items inside.set.items new.set.items fits may given below valid under left inner;
       allowed = both_allowed scope (opened opening ty ∷ []) (drawn.more ++ instr.End ∷ []) (one_allowed scope (opened opening ty) allowed)
           (both_allowed scope drawn.more (instr.End ∷ []) drawn.allowed (one_allowed scope instr.End (ends_allowed scope)));
       set = [];

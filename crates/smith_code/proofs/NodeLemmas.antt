@@ -1,14 +1,17 @@
 -- Nodes that give what they should.
 use Rattle.std.proofs.Common.{rules, ◌≡◌, ℕ, zero, suc, ◌+◌, ◌-◌, ◌<◌, ◌≤◌, Bool, true, false, List, [], ◌∷◌, ◌++◌, Option, Some, None, length, length-append, get_or, drop, refl, sym, subst, ap, ◌∙◌, arith}
-use Rattle.std.specs.Prelude.{slice_get, All}
+use Rattle.std.specs.Prelude.{slice_get, All, IfSome, if◌then◌else◌}
+use Rattle.std.specs.Cmp.Lexicographic.{pointwise}
 use Rattle.std.specs.List.{list_all, AllZip}
 use Rattle.std.proofs.lemmas.List.{append-nil}
 use Rattle.std.proofs.lemmas.List.Elements.{All-nil, All-append, All-push, All-drop}
 use Rattle.std.proofs.lemmas.List.Sums.{AllPass-from_list_all}
 use Rattle.std.proofs.lemmas.Option.{same_Some, slice_get-get_or, slice_get_within, slice_get_read}
+use Rattle.smith_types.specs.Same.{exact_items, exact_val}
 use Rattle.smith_types.specs.Subtyping.{IsValBelow}
 use Rattle.smith_types.specs.Types.{IsOrderly}
 use Rattle.smith_types.specs.Entities.{IsFuncAt}
+use Rattle.smith_types.specs.contracts.value_type.ValTypePartialEq.TheImpl.{ghosts as val_same}
 use Rattle.smith_types.specs.declared.value_type.ValType.{ValType}
 use Rattle.smith_types.specs.declared.value_type.ValType.TheVariants.{I32, I64, F32, F64, V128, Ref}
 use Rattle.smith_types.specs.declared.composite_type.FuncType.{FuncType}
@@ -29,11 +32,13 @@ use Rattle.smith_instr.specs.declared.memory.MemoryInstr.TheVariants as memory
 use Rattle.smith_instr.specs.declared.numeric.NumericInstr.{NumericInstr}
 use Rattle.smith_instr.proofs.SequenceLemmas.{below_themselves}
 use Rattle.smith_code.specs.Scopes.{context_of, bare, func_size, widest, AreLabels}
-use Rattle.smith_code.specs.Nodes.{IsNode, node_of, setting, blocked}
+use Rattle.smith_code.specs.Nodes.{AreSidesValid, IsNode, MayOpen, blocked, fitting, node_of, opened_by, setting, taken_by}
 use Rattle.smith_code.specs.Offered.{is_addressed, is_callable, is_callable_at, is_first_below, function_at, IsLocalBelow, IsGlobalMutable}
 use Rattle.smith_code.proofs.OfferLemmas.{tested, function_there, addressed}
 use Rattle.smith_code.specs.Rows.{numeric_rows, loads_of}
 use Rattle.smith_code.specs.declared.node.Opening.{Opening}
+use Rattle.smith_code.specs.declared.node.Opening.TheVariants as opening
+use Rattle.smith_code.specs.declared.node.Sides.{Sides}
 use Rattle.smith_code.specs.declared.scope.Scope.{Scope}
 
 three_wide : (types : List SubType) → 3 ≤ widest types
@@ -284,35 +289,63 @@ call_for context set wanted index function orderly params results valid callable
     let less : length (drop 1 function.results) ≡ length function.results - 1 = omega arith in
     rw (← less) (call_node context set (wanted ∷ []) (drop 1 function.results) index function params (one_valid context wanted valid) (All-drop (IsValid context) 1 function.results results) (function_there context index function at) zip (omega arith))
 
+-- what a block takes
+taken_valid : (context : BodyContext) (opening : Opening) (params : List ValType) → AreValid context params → AreValid context (taken_by opening params)
+taken_valid context opening.Block params valid = valid
+taken_valid context opening.Loop params valid = valid
+taken_valid context opening.IfAlone params valid = All-push (IsValid context) params I32 valid tt
+
+taken_few : (opening : Opening) (params : List ValType) → length (taken_by opening params) ≤ length params + 1
+taken_few opening.Block params = omega arith
+taken_few opening.Loop params = omega arith
+taken_few opening.IfAlone params = simp length-append (omega arith)
+
+-- an `if` alone may be opened where its parameters are its results
+alone : (same : Bool) (params results : List ValType) → (same ≡ true → params ≡ results) → IfSome (if same then Some opening.IfAlone else None) (λ opening. MayOpen opening params results)
+alone true params results is = is refl
+alone false params results is = tt
+
+may_open : (opening : Option Opening) (params results : List ValType) → IfSome (fitting opening params results) (λ opening. MayOpen opening params results)
+may_open (Some opening.Block) params results = tt
+may_open (Some opening.Loop) params results = tt
+may_open (Some opening.IfAlone) params results = alone (pointwise val_same.eq params results) params results (exact_items exact_val params results).0
+may_open None params results = tt
+
 -- a block
+opened_node : (context : BodyContext) (set : List ℕ) (values dropped : List ValType) (opening : Option Opening) (ty : BlockType) (sides : Sides) → IfSome opening (λ opening. MayOpen opening sides.params sides.results) → IsBlockType context ty sides.params sides.results
+    → AreBelow context sides.results (values ++ dropped) → AreValid context values → AreValid context dropped → AreSidesValid context.features context.types sides → length dropped ≤ length sides.results → IsNode context set values (opened_by opening ty sides (length dropped))
+opened_node context set values dropped (Some opening) ty sides may fits below given spare valid less = record {
+  results = sides.results;
+  dropped = dropped;
+  typed = λ more. (fits, may, refl, refl);
+  below = below;
+  given = given;
+  spare = spare;
+  drops = refl;
+  sets_local = refl;
+  few = let few = valid.few in let taken = taken_few opening sides.params in omega arith;
+  valid = taken_valid context opening sides.params valid.params;
+  inside = valid;
+}
+opened_node context set values dropped None ty sides may fits below given spare valid less = record {
+  results = sides.results;
+  dropped = dropped;
+  typed = λ more. (fits, refl, refl);
+  below = below;
+  given = given;
+  spare = spare;
+  drops = refl;
+  sets_local = refl;
+  few = let few = valid.few in simp length-append (omega arith);
+  valid = All-push (IsValid context) sides.params I32 valid.params tt;
+  inside = valid;
+}
+
 block_node : (context : BodyContext) (set : List ℕ) (values dropped : List ValType) (opening : Option Opening) (ty : BlockType) (params results : List ValType) → IsBlockType context ty params results → AreBelow context results (values ++ dropped)
     → AreValid context values → AreValid context dropped → AreValid context params → AreValid context results → length params + length results ≤ widest context.types → length dropped ≤ length results → IsNode context set values (blocked opening ty params results (length dropped))
-block_node context set values dropped (Some opening) ty params results fits below given spare params_valid results_valid few less = record {
-  results = results;
-  dropped = dropped;
-  typed = λ more. (fits, refl, refl);
-  below = below;
-  given = given;
-  spare = spare;
-  drops = refl;
-  sets_local = refl;
-  few = omega arith;
-  valid = params_valid;
-  inside = record { params = params_valid; results = results_valid; few = few };
-}
-block_node context set values dropped None ty params results fits below given spare params_valid results_valid few less = record {
-  results = results;
-  dropped = dropped;
-  typed = λ more. (fits, refl, refl);
-  below = below;
-  given = given;
-  spare = spare;
-  drops = refl;
-  sets_local = refl;
-  few = simp length-append (omega arith);
-  valid = All-push (IsValid context) params I32 params_valid tt;
-  inside = record { params = params_valid; results = results_valid; few = few };
-}
+block_node context set values dropped opening ty params results fits below given spare params_valid results_valid few less =
+    opened_node context set values dropped (fitting opening params results) ty (record { params = params; results = results }) (may_open opening params results) fits below given spare
+    (record { params = params_valid; results = results_valid; few = few }) less
 
 pub value_block : (context : BodyContext) (set : List ℕ) (opening : Option Opening) (wanted : ValType) → IsValid context wanted → IsNode context set (wanted ∷ []) (blocked opening (block.Value wanted) [] (wanted ∷ []) 0)
 value_block context set opening wanted valid =

@@ -1,5 +1,5 @@
 -- Which node the bytes choose. The choices, their order and how often each comes are rules of this project.
-use Rattle.std.specs.Prelude.{ℕ, zero, suc, ◌-◌, ◌==◌, min, Bool, true, false, Option, Some, None, option_map, option_and_then, option_to_list, unwrap_or, List, [], ◌∷◌, ◌++◌, length, slice_get, if◌then◌else◌}
+use Rattle.std.specs.Prelude.{ℕ, zero, suc, ◌-◌, ◌==◌, min, Bool, true, false, Option, Some, None, option_map, option_and_then, option_to_list, unwrap_or, List, [], ◌∷◌, ◌++◌, length, slice_get, slice_index_or, if◌then◌else◌}
 use Rattle.smith_bytes.specs.Draws.{bool_at, range_at, choose_at, whole_at}
 use Rattle.smith_types.specs.Features.{Features}
 use Rattle.smith_types.specs.declared.instruction_kind.InstructionKinds.{InstructionKinds}
@@ -70,9 +70,19 @@ call_node context index =
 unfoldable pub call_at : BodyContext → ValType → List ℕ → Chosen
 call_at context wanted bytes = giving (call_node context) (choose_at (offered (is_callable context wanted) (indexed (length context.funcs))) bytes)
 
--- a block, a loop, or neither: an `if`
+-- a block, a loop, an `if` with its `else`, or one without, each in so many places as it is likely
+abbrev pub openings : List (Option Opening)
+openings =
+    Some opening.Block ∷
+    Some opening.Loop ∷
+    None ∷
+    Some opening.Block ∷
+    Some opening.Loop ∷
+    Some opening.IfAlone ∷
+    []
+
 unfoldable pub opening_at : List ℕ → Option Opening × List ℕ
-opening_at bytes = let number = range_at 0 2 bytes in (slice_get (opening.Block ∷ opening.Loop ∷ []) number.0, number.1)
+opening_at bytes = let number = range_at 0 5 bytes in (slice_index_or openings number.0 None, number.1)
 
 -- a block that gives a value of the wanted type
 unfoldable pub block_at : ValType → List ℕ → Chosen

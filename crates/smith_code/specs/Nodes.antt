@@ -1,9 +1,11 @@
 -- Instructions that are chosen, with the operands that are drawn before them.
-use Rattle.std.specs.Prelude.{◌≡◌, ℕ, ◌+◌, ◌*◌, ◌≤◌, ◌<◌, ◌==◌, ◌&&◌, ◌||◌, Bool, Option, Some, None, Result, IfOk, IfSome, List, [], ◌∷◌, ◌++◌, length, option_to_list, All}
+use Rattle.std.specs.Prelude.{◌≡◌, ℕ, ◌+◌, ◌*◌, ◌≤◌, ◌<◌, ◌==◌, ◌&&◌, ◌||◌, Bool, Option, Some, None, Result, IfOk, IfSome, List, [], ◌∷◌, ◌++◌, length, option_to_list, All, if◌then◌else◌}
+use Rattle.std.specs.Cmp.Lexicographic.{pointwise}
 use Rattle.smith_bytes.specs.declared.error.Error.{Error}
 use Rattle.smith_types.specs.Features.{Features}
 use Rattle.smith_types.specs.declared.instruction_kind.InstructionKinds.{InstructionKinds}
 use Rattle.smith_types.specs.ValidTypes.{IsValTypeValid}
+use Rattle.smith_types.specs.contracts.value_type.ValTypePartialEq.TheImpl.{ghosts as val_same}
 use Rattle.smith_types.specs.declared.value_type.ValType.{ValType}
 use Rattle.smith_types.specs.declared.value_type.ValType.TheVariants.{I32}
 use Rattle.smith_types.specs.declared.composite_type.SubType.{SubType}
@@ -26,16 +28,36 @@ use Rattle.smith_code.specs.declared.scope.Scope.{Scope}
 abbrev pub opened : Opening → BlockType → Instr
 opened opening.Block ty = instr.Block ty
 opened opening.Loop ty = instr.Loop ty
+opened opening.IfAlone ty = instr.If ty
 
 abbrev pub label_of : Opening → List ValType → List ValType → List ValType
 label_of opening.Block params results = results
 label_of opening.Loop params results = params
+label_of opening.IfAlone params results = results
+
+-- what it takes: an `if` takes a number above its parameters
+abbrev pub taken_by : Opening → List ValType → List ValType
+taken_by opening.Block params = params
+taken_by opening.Loop params = params
+taken_by opening.IfAlone params = params ++ I32 ∷ []
+
+-- a block of these types may be opened so: an `if` alone leaves what it took (Validation, Control Instructions, if, whose `else` is
+-- then empty; own rule that the types are the same)
+abbrev pub MayOpen : Opening → List ValType → List ValType → Type 0
+MayOpen opening.IfAlone params results = params ≡ results
+MayOpen _ params results = Unit {0}
+
+-- what opens it, if it may; else it is an `if` with its `else`
+abbrev pub fitting : Option Opening → List ValType → List ValType → Option Opening
+fitting (Some opening.IfAlone) params results = if pointwise val_same.eq params results then Some opening.IfAlone else None
+fitting opening params results = opening
 
 -- what comes after the operands of a node takes these, and gives those, where these locals are set
 abbrev pub HasHeadType : BodyContext → List ℕ → Head → List ValType → List ValType → Type 0
 HasHeadType context set (head.Plain instruction) operands results = HasInstrType context set instruction operands results
 HasHeadType context set (head.Enclosed opening ty sides) operands results =
-    IsBlockType context ty sides.params sides.results × (operands ≡ sides.params) × (results ≡ sides.results)
+    IsBlockType context ty sides.params sides.results × MayOpen opening sides.params sides.results
+    × (operands ≡ taken_by opening sides.params) × (results ≡ sides.results)
 HasHeadType context set (head.If ty sides) operands results =
     IsBlockType context ty sides.params sides.results × (operands ≡ sides.params ++ I32 ∷ []) × (results ≡ sides.results)
 
@@ -119,9 +141,11 @@ node_of operands instruction drops = record { operands = operands; head = head.P
 abbrev pub setting : ℕ → ValType → Instr → Node
 setting index value instruction = record { operands = value ∷ []; head = head.Plain instruction; sets = Some index; drops = 0 }
 
--- a node of a block of these sides, of whose results some are dropped: an `if` where there is no other opening
+-- a node of a block of these sides, of whose results some are dropped: an `if` with its `else` where there is no other opening
+abbrev pub opened_by : Option Opening → BlockType → Sides → ℕ → Node
+opened_by (Some opening) ty sides drops =
+    record { operands = taken_by opening sides.params; head = head.Enclosed opening ty sides; sets = None; drops = drops }
+opened_by None ty sides drops = record { operands = sides.params ++ I32 ∷ []; head = head.If ty sides; sets = None; drops = drops }
+
 abbrev pub blocked : Option Opening → BlockType → List ValType → List ValType → ℕ → Node
-blocked (Some opening) ty params results drops =
-    record { operands = params; head = head.Enclosed opening ty (record { params = params; results = results }); sets = None; drops = drops }
-blocked None ty params results drops =
-    record { operands = params ++ I32 ∷ []; head = head.If ty (record { params = params; results = results }); sets = None; drops = drops }
+blocked opening ty params results drops = opened_by (fitting opening params results) ty (record { params = params; results = results }) drops

@@ -18,10 +18,11 @@ use std::alloc::Global;
 fn draw_opening(u: &mut Unstructured<'_>) -> Option<Opening>
     ensures { AlwaysDraws (opening_at u.old) result u.old u.new }
 {
-    match u.int_in_range(0..=2u8) {
-        0 => Some(Opening::Block),
-        1 => Some(Opening::Loop),
-        _ => None,
+    match u.int_in_range(0..=5u8) {
+        0 | 3 => Some(Opening::Block),
+        1 | 4 => Some(Opening::Loop),
+        2 => None,
+        _ => Some(Opening::IfAlone),
     }
 }
 

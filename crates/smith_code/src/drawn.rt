@@ -23,10 +23,12 @@ ghost use Rattle.smith_code.specs.Nodes.{
   IsHeadValid,
   IsNode,
   IsNodeAllowed,
+  MayOpen,
   block_cost,
   head_sets,
   label_of,
   opened,
+  taken_by,
 };
 ghost use Rattle.smith_code.specs.Scopes.{AreLabels, IsAllowedIn, IsScope, bare, where_stands};
 
@@ -132,7 +134,7 @@ fn draw_head(
     }
 }
 
-/// Draws a block or loop whose type has `sides`.
+/// Draws a block, a loop or an `if` alone, whose type has `sides`.
 #[cycle(body)]
 fn draw_enclosed(
     alloc: Global,
@@ -150,7 +152,7 @@ fn draw_enclosed(
     requires allowed { IsAllowedIn scope.now (opened opening ty) }
     requires drops { 0 < length sides.now.params → IsAllowedIn scope.now instr.Drop }
     ensures exact { OnOk result (written instr.End (enclosed_at (drawing_at scope.now.kinds depth) (label_of opening sides.now.params sides.now.results) sides.now (written (opened opening ty) (state_of scope.now draft.old u.old))) ≡ state_of scope.now draft.new u.new) }
-    ensures drawn { (values : List Val) → IsBlockType (bare scope.now) ty sides.now.params sides.now.results → AreBelow (bare scope.now) sides.now.results values → AreValid (bare scope.now) values → OnOk result (IsDrawn scope.now sides.now.params values (block_cost scope.now.types.now.types) draft.old draft.new) }
+    ensures drawn { (values : List Val) → IsBlockType (bare scope.now) ty sides.now.params sides.now.results → MayOpen opening sides.now.params sides.now.results → AreBelow (bare scope.now) sides.now.results values → AreValid (bare scope.now) values → OnOk result (IsDrawn scope.now (taken_by opening sides.now.params) values (block_cost scope.now.types.now.types) draft.old draft.new) }
     ensures less { OnOk result (draft.new.fuel ≤ draft.old.fuel) }
     ensures memory { IfErr result (λ e. e ≡ Error.Memory) }
     ensures left { KeepsPieces u.old u.new }
@@ -168,6 +170,7 @@ fn opened(opening: Opening, ty: BlockType) -> Instr
     match opening {
         Opening::Block => Instr::Block(ty),
         Opening::Loop => Instr::Loop(ty),
+        Opening::IfAlone => Instr::If(ty),
     }
 }
 
@@ -175,7 +178,7 @@ fn label_of<'a>(opening: Opening, sides: &'a Sides) -> &'a [ValType]
     ensures { result.now ≡ label_of opening sides.now.params sides.now.results }
 {
     match opening {
-        Opening::Block => sides.results.as_slice(),
+        Opening::Block | Opening::IfAlone => sides.results.as_slice(),
         Opening::Loop => sides.params.as_slice(),
     }
 }

@@ -9,6 +9,7 @@ ghost use Rattle.smith_code.specs.Nodes.{
   IsHeadAllowed,
   IsNodeAllowed,
   blocked,
+  fitting,
   head_instruction,
   head_params,
   is_drop_allowed,
@@ -31,11 +32,13 @@ pub(crate) struct Sides {
     pub results: Items<ValType>,
 }
 
-/// What opens a block, an `if` aside.
+/// What opens a block in which instructions are drawn once: an `if` with its `else` aside.
 #[derive(Clone, Copy)]
 pub(crate) enum Opening {
     Block,
     Loop,
+    /// An `if` without `else`.
+    IfAlone,
 }
 
 /// What comes after operands.
@@ -43,7 +46,7 @@ pub(crate) enum Opening {
 pub(crate) enum Head {
     /// An instruction.
     Plain(Instr),
-    /// A block or loop, with what is drawn in it.
+    /// A block, a loop or an `if` alone, with what is drawn in it.
     Enclosed(Opening, BlockType, Sides),
     /// An `if` with its `else`.
     If(BlockType, Sides),
@@ -118,8 +121,8 @@ pub(crate) fn setter(
     })
 }
 
-/// Makes the node of a block from `params` to `results`, an `if` where there is no other `opening`, of whose results `drops` are
-/// dropped.
+/// Makes the node of a block from `params` to `results`, an `if` with its `else` where no other `opening` fits, of whose results
+/// `drops` are dropped.
 pub(crate) fn block(
     alloc: Global,
     opening: Option<Opening>,
@@ -136,7 +139,11 @@ pub(crate) fn block(
         results: Items::from_slice(alloc, results)?,
     };
     let mut operands = Items::from_slice(alloc, params)?;
-    let head = match opening {
+    let head = match fitting(opening, &sides) {
+        Some(Opening::IfAlone) => {
+            operands.push(ValType::I32)?;
+            Head::Enclosed(Opening::IfAlone, ty, sides)
+        }
         Some(opening) => Head::Enclosed(opening, ty, sides),
         None => {
             operands.push(ValType::I32)?;
@@ -149,6 +156,21 @@ pub(crate) fn block(
         sets: None,
         drops,
     })
+}
+
+/// The `opening`, if a block of `sides` may have it: an `if` has its `else` where it does not give what it takes.
+fn fitting(opening: Option<Opening>, sides: &Sides) -> Option<Opening>
+    ensures { result ≡ fitting opening sides.now.params sides.now.results }
+{
+    match opening {
+        Some(Opening::IfAlone) => {
+            if sides.params == sides.results {
+                return Some(Opening::IfAlone);
+            }
+            None
+        }
+        other => other,
+    }
 }
 
 /// Whether the instructions of `node`, its operands aside, are allowed in `scope`.
@@ -173,6 +195,9 @@ fn is_head_allowed(scope: &Scope<'_>, head: &Head) -> bool
         }
         Head::Enclosed(Opening::Loop, ty, sides) => {
             is_block_allowed(scope, &Instr::Loop(*ty), sides)
+        }
+        Head::Enclosed(Opening::IfAlone, ty, sides) => {
+            is_block_allowed(scope, &Instr::If(*ty), sides)
         }
         Head::If(ty, sides) => is_block_allowed(scope, &Instr::If(*ty), sides),
     }

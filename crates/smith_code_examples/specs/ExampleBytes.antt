@@ -1,4 +1,4 @@
--- Bytes that the examples speak of, and a context of two functions that give values.
+-- Bytes that the examples speak of, and contexts of functions that give values.
 use Rattle.std.specs.Prelude.{ℕ, List, [], ◌∷◌, ◌++◌, pos}
 use Rattle.smith_types.specs.ExampleTypes.{final_type}
 use Rattle.smith_types.specs.declared.value_type.ValType.{ValType}
@@ -25,3 +25,7 @@ abbrev pub calling : List ValType → BodyContext
 calling results = record (function_of [] results) {
   types = final_type (Func (record { params = []; results = I32 ∷ [] })) ∷ final_type (Func (record { params = I64 ∷ []; results = I32 ∷ I64 ∷ [] })) ∷ [];
 }
+
+-- without parameters, and of this type: a function that gives the i64 that it takes
+abbrev pub keeping : List ValType → BodyContext
+keeping results = record (function_of [] results) { types = final_type (Func (record { params = I64 ∷ []; results = I64 ∷ [] })) ∷ [] }

@@ -83,11 +83,11 @@ draw_head-returns-in-Plain-clause-drawn t c = λ operands given values typed bel
     on_ok_weaker c.write_plain.result (plain_drawn c.args.head c.in-Plain.instruction operands given values c.args.sets c.in-Plain.is typed below valid c.requires.allowed.instruction local) c.write_plain.ensures.written
 
 pub draw_enclosed-returns-clause-drawn : goal.draw_enclosed-returns-clause-drawn
-draw_enclosed-returns-clause-drawn t c = λ values fits below valid.
+draw_enclosed-returns-clause-drawn t c = λ values fits may below valid.
     let sides = c.args.sides.now in
     let start = rw (c.opened.ensures, c.label_of-label.ensures) at c.in_ok-write_opening.ensures.opened in
     let drawn = c.in_ok-draw_inside.ensures.drawn in
-    ok_both c.write_end.result (enclosed_drawn c.args.opening c.args.ty sides.params sides.results values fits below valid c.requires.allowed c.requires.sides.few start drawn c.len-height.result (c.len-height.ensures ∙ c.args.draft.now.set.ok.0))
+    ok_both c.write_end.result (enclosed_drawn c.args.opening c.args.ty sides.params sides.results values fits may c.requires.sides.results below valid c.requires.allowed c.requires.sides.few start drawn c.len-height.result (c.len-height.ensures ∙ c.args.draft.now.set.ok.0))
     c.write_end.ensures.ended (c.write_end.ensures.left_label _ _ (drawn.same ∙ start.labels))
 
 pub draw_if-returns-clause-drawn : goal.draw_if-returns-clause-drawn
