@@ -15,6 +15,7 @@ pub kept_pushed : (config : Config) (standing : Standing) (globals more : List G
     → AreKeptOffers (global_scope config standing globals) kept → AreKeptOffers (global_scope config standing more) kept
 kept_pushed config standing globals more one {kept} longer all = All-weaker (IsKeptOffer before) (IsKeptOffer (global_scope config standing more)) grown kept.kept.items all where
   before = global_scope config standing globals
+
   grown : (offer : KeptOffer) → IsKeptOffer before offer → IsKeptOffer (global_scope config standing more) offer
   grown offer h = record {
     wanted = h.wanted;
