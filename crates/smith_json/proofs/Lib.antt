@@ -1,3 +1,2 @@
 pub mod DigitLemmas
 pub mod MemberLemmas
-pub mod PlaceLemmas

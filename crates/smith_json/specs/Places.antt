@@ -1,7 +1,6 @@
 -- The fields as the code names them.
 use Rattle.std.specs.Prelude.{ℕ, Bool, List, map}
 use Rattle.std.specs.Borrow.{Bor}
-use Rattle.smith_config.specs.declared.config.Config.{Config}
 use Rattle.smith_json.specs.declared.place.Place.{Place}
 use Rattle.smith_json.specs.declared.place.Size.{Size}
 use Rattle.smith_json.specs.declared.place.Word.{Word}
@@ -102,6 +101,6 @@ field_of place.AllowedInstructions = kinds (λ config k. record config { allowed
 field_of place.MemoryOffsetChoices = choices (λ config c. record config { memory_offset_choices = c })
 field_of place.File = file
 
--- a table of the code
-abbrev pub entries : List (Bor (List ℕ) × Place) → Table Place
-entries table = map (λ entry. (entry.0.now, entry.1)) table
+-- the fields of a table of the code
+abbrev pub fields_in : List (Bor (List ℕ) × Place) → Table Field
+fields_in table = map (λ entry. (entry.0.now, field_of entry.1)) table

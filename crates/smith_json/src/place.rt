@@ -1,6 +1,6 @@
 ghost use Rattle.std.specs.Prelude.{◌≡◌, option_map};
 ghost use Rattle.smith_json.specs.Fields.{named, field_named};
-ghost use Rattle.smith_json.specs.Places.{field_of, entries};
+ghost use Rattle.smith_json.specs.Places.{field_of, fields_in};
 
 /// A field of type `usize`.
 #[derive(Clone, Copy)]
@@ -241,7 +241,7 @@ pub(crate) fn place_named(name: &str) -> Option<Place>
 
 /// Finds what stands first under `name`.
 fn found(table: &[(&str, Place)], name: &str) -> Option<Place>
-    ensures { result ≡ named name.now (entries table.now) }
+    ensures { option_map field_of result ≡ named name.now (fields_in table.now) }
 {
     for (other, place) in table {
         if name == *other {
