@@ -1,6 +1,5 @@
 -- The fields of a configuration as a text names them, each with what sets it. Rules of this project.
-use Rattle.std.specs.Prelude.{ℕ, ◌-◌, ◌^◌, Bool, List, [], ◌∷◌, Option, Some, None, cond, codes, option_map}
-use Rattle.std.specs.Option.{option_or}
+use Rattle.std.specs.Prelude.{ℕ, ◌-◌, ◌^◌, Bool, List, [], ◌∷◌, Option, Some, None, cond, codes}
 use Rattle.std.specs.Str.{bytes_eq}
 use Rattle.smith_config.specs.declared.config.Config.{Config}
 use Rattle.smith_config.specs.declared.offset_choices.MemoryOffsetChoices.{MemoryOffsetChoices}
@@ -19,112 +18,6 @@ abbrev pub named : {A : Type 0} → List ℕ → Table A → Option A
 named name [] = None
 named name (entry ∷ entries) = cond (bytes_eq name entry.0) (Some entry.1) (named name entries)
 
--- minimums of type `usize`
-abbrev pub minimums : Table (Setter ℕ)
-minimums =
-    (codes "min-types", λ config n. record config { min_types = n })
-    ∷ (codes "min-imports", λ config n. record config { min_imports = n })
-    ∷ (codes "min-tags", λ config n. record config { min_tags = n })
-    ∷ (codes "min-funcs", λ config n. record config { min_funcs = n })
-    ∷ (codes "min-globals", λ config n. record config { min_globals = n })
-    ∷ (codes "min-exports", λ config n. record config { min_exports = n })
-    ∷ (codes "min-element-segments", λ config n. record config { min_element_segments = n })
-    ∷ (codes "min-elements", λ config n. record config { min_elements = n })
-    ∷ (codes "min-data-segments", λ config n. record config { min_data_segments = n })
-    ∷ []
-
--- maximums of type `usize`
-abbrev pub maximums : Table (Setter ℕ)
-maximums =
-    (codes "max-types", λ config n. record config { max_types = n })
-    ∷ (codes "max-imports", λ config n. record config { max_imports = n })
-    ∷ (codes "max-tags", λ config n. record config { max_tags = n })
-    ∷ (codes "max-funcs", λ config n. record config { max_funcs = n })
-    ∷ (codes "max-globals", λ config n. record config { max_globals = n })
-    ∷ (codes "max-exports", λ config n. record config { max_exports = n })
-    ∷ (codes "max-element-segments", λ config n. record config { max_element_segments = n })
-    ∷ (codes "max-elements", λ config n. record config { max_elements = n })
-    ∷ (codes "max-data-segments", λ config n. record config { max_data_segments = n })
-    ∷ (codes "max-memories", λ config n. record config { max_memories = n })
-    ∷ (codes "max-tables", λ config n. record config { max_tables = n })
-    ∷ (codes "max-instructions", λ config n. record config { max_instructions = n })
-    ∷ (codes "max-aliases", λ config n. record config { max_aliases = n })
-    ∷ (codes "max-components", λ config n. record config { max_components = n })
-    ∷ (codes "max-instances", λ config n. record config { max_instances = n })
-    ∷ (codes "max-modules", λ config n. record config { max_modules = n })
-    ∷ (codes "max-nesting-depth", λ config n. record config { max_nesting_depth = n })
-    ∷ (codes "max-values", λ config n. record config { max_values = n })
-    ∷ []
-
--- the field of type `u8`
-abbrev pub bytes : Table (Setter ℕ)
-bytes =
-    (codes "min-uleb-size", λ config n. record config { min_uleb_size = n })
-    ∷ []
-
--- the fields of type `u32`
-abbrev pub words : Table (Setter ℕ)
-words =
-    (codes "min-memories", λ config n. record config { min_memories = n })
-    ∷ (codes "min-tables", λ config n. record config { min_tables = n })
-    ∷ (codes "max-type-size", λ config n. record config { max_type_size = n })
-    ∷ (codes "const-expr-fuel", λ config n. record config { const_expr_fuel = n })
-    ∷ []
-
--- the fields of type `u64`
-abbrev pub longs : Table (Setter ℕ)
-longs =
-    (codes "max-memory32-bytes", λ config n. record config { max_memory32_bytes = n })
-    ∷ (codes "max-table-elements", λ config n. record config { max_table_elements = n })
-    ∷ []
-
--- the field of type `u128`
-abbrev pub wides : Table (Setter ℕ)
-wides =
-    (codes "max-memory64-bytes", λ config n. record config { max_memory64_bytes = n })
-    ∷ []
-
--- flags of proposals
-abbrev pub proposals : Table (Setter Bool)
-proposals =
-    (codes "reference-types-enabled", λ config b. record config { reference_types_enabled = b })
-    ∷ (codes "gc-enabled", λ config b. record config { gc_enabled = b })
-    ∷ (codes "custom-descriptors-enabled", λ config b. record config { custom_descriptors_enabled = b })
-    ∷ (codes "multi-value-enabled", λ config b. record config { multi_value_enabled = b })
-    ∷ (codes "bulk-memory-enabled", λ config b. record config { bulk_memory_enabled = b })
-    ∷ (codes "simd-enabled", λ config b. record config { simd_enabled = b })
-    ∷ (codes "exceptions-enabled", λ config b. record config { exceptions_enabled = b })
-    ∷ (codes "threads-enabled", λ config b. record config { threads_enabled = b })
-    ∷ (codes "shared-everything-threads-enabled", λ config b. record config { shared_everything_threads_enabled = b })
-    ∷ (codes "memory64-enabled", λ config b. record config { memory64_enabled = b })
-    ∷ (codes "custom-page-sizes-enabled", λ config b. record config { custom_page_sizes_enabled = b })
-    ∷ (codes "extended-const-enabled", λ config b. record config { extended_const_enabled = b })
-    ∷ (codes "compact-imports-enabled", λ config b. record config { compact_imports_enabled = b })
-    ∷ (codes "relaxed-simd-enabled", λ config b. record config { relaxed_simd_enabled = b })
-    ∷ (codes "saturating-float-to-int-enabled", λ config b. record config { saturating_float_to_int_enabled = b })
-    ∷ (codes "sign-extension-ops-enabled", λ config b. record config { sign_extension_ops_enabled = b })
-    ∷ (codes "tail-call-enabled", λ config b. record config { tail_call_enabled = b })
-    ∷ (codes "wide-arithmetic-enabled", λ config b. record config { wide_arithmetic_enabled = b })
-    ∷ (codes "acquire-release-atomics-enabled", λ config b. record config { acquire_release_atomics_enabled = b })
-    ∷ (codes "multibyte-array-access-enabled", λ config b. record config { multibyte_array_access_enabled = b })
-    ∷ (codes "non-nullable-enabled", λ config b. record config { non_nullable_enabled = b })
-    ∷ []
-
--- flags of further rules
-abbrev pub rules : Table (Setter Bool)
-rules =
-    (codes "memory-max-size-required", λ config b. record config { memory_max_size_required = b })
-    ∷ (codes "table-max-size-required", λ config b. record config { table_max_size_required = b })
-    ∷ (codes "limit-arrays-in-const-exprs", λ config b. record config { limit_arrays_in_const_exprs = b })
-    ∷ (codes "allow-start-export", λ config b. record config { allow_start_export = b })
-    ∷ (codes "export-everything", λ config b. record config { export_everything = b })
-    ∷ (codes "allow-floats", λ config b. record config { allow_floats = b })
-    ∷ (codes "disallow-traps", λ config b. record config { disallow_traps = b })
-    ∷ (codes "allow-invalid-funcs", λ config b. record config { allow_invalid_funcs = b })
-    ∷ (codes "canonicalize-nans", λ config b. record config { canonicalize_nans = b })
-    ∷ (codes "generate-custom-sections", λ config b. record config { generate_custom_sections = b })
-    ∷ []
-
 -- what a field takes, and what sets it
 pub data Field : Type 0 where
   whole : ℕ → Setter ℕ → Field
@@ -133,26 +26,102 @@ pub data Field : Type 0 where
   choices : Setter MemoryOffsetChoices → Field
   file : Field
 
--- the fields that are neither numbers nor flags
-abbrev pub others : Table Field
-others =
-    (codes "allowed-instructions", kinds (λ config k. record config { allowed_instructions = k }))
+-- a number is at most what its type holds: `u8`
+abbrev pub byte : Setter ℕ → Field
+byte set = whole (2 ^ 8 - 1) set
+
+-- `u32`
+abbrev pub word : Setter ℕ → Field
+word set = whole (2 ^ 32 - 1) set
+
+-- `u64`
+abbrev pub long : Setter ℕ → Field
+long set = whole (2 ^ 64 - 1) set
+
+-- `usize`
+abbrev pub size : Setter ℕ → Field
+size set = whole (2 ^ 64 - 1) set
+
+-- `u128`
+abbrev pub wide : Setter ℕ → Field
+wide set = whole (2 ^ 128 - 1) set
+
+-- every field, in the order of `Config`
+abbrev pub fields : Table Field
+fields =
+    (codes "min-types", size (λ config n. record config { min_types = n }))
+    ∷ (codes "max-types", size (λ config n. record config { max_types = n }))
+    ∷ (codes "min-imports", size (λ config n. record config { min_imports = n }))
+    ∷ (codes "max-imports", size (λ config n. record config { max_imports = n }))
+    ∷ (codes "min-tags", size (λ config n. record config { min_tags = n }))
+    ∷ (codes "max-tags", size (λ config n. record config { max_tags = n }))
+    ∷ (codes "min-funcs", size (λ config n. record config { min_funcs = n }))
+    ∷ (codes "max-funcs", size (λ config n. record config { max_funcs = n }))
+    ∷ (codes "min-globals", size (λ config n. record config { min_globals = n }))
+    ∷ (codes "max-globals", size (λ config n. record config { max_globals = n }))
+    ∷ (codes "min-exports", size (λ config n. record config { min_exports = n }))
+    ∷ (codes "max-exports", size (λ config n. record config { max_exports = n }))
+    ∷ (codes "min-element-segments", size (λ config n. record config { min_element_segments = n }))
+    ∷ (codes "max-element-segments", size (λ config n. record config { max_element_segments = n }))
+    ∷ (codes "min-elements", size (λ config n. record config { min_elements = n }))
+    ∷ (codes "max-elements", size (λ config n. record config { max_elements = n }))
+    ∷ (codes "min-data-segments", size (λ config n. record config { min_data_segments = n }))
+    ∷ (codes "max-data-segments", size (λ config n. record config { max_data_segments = n }))
+    ∷ (codes "min-memories", word (λ config n. record config { min_memories = n }))
+    ∷ (codes "max-memories", size (λ config n. record config { max_memories = n }))
+    ∷ (codes "min-tables", word (λ config n. record config { min_tables = n }))
+    ∷ (codes "max-tables", size (λ config n. record config { max_tables = n }))
+    ∷ (codes "max-memory32-bytes", long (λ config n. record config { max_memory32_bytes = n }))
+    ∷ (codes "max-memory64-bytes", wide (λ config n. record config { max_memory64_bytes = n }))
+    ∷ (codes "memory-max-size-required", truth (λ config b. record config { memory_max_size_required = b }))
+    ∷ (codes "max-table-elements", long (λ config n. record config { max_table_elements = n }))
+    ∷ (codes "table-max-size-required", truth (λ config b. record config { table_max_size_required = b }))
+    ∷ (codes "max-type-size", word (λ config n. record config { max_type_size = n }))
+    ∷ (codes "const-expr-fuel", word (λ config n. record config { const_expr_fuel = n }))
+    ∷ (codes "limit-arrays-in-const-exprs", truth (λ config b. record config { limit_arrays_in_const_exprs = b }))
+    ∷ (codes "allow-start-export", truth (λ config b. record config { allow_start_export = b }))
+    ∷ (codes "export-everything", truth (λ config b. record config { export_everything = b }))
+    ∷ (codes "allow-floats", truth (λ config b. record config { allow_floats = b }))
+    ∷ (codes "disallow-traps", truth (λ config b. record config { disallow_traps = b }))
+    ∷ (codes "allow-invalid-funcs", truth (λ config b. record config { allow_invalid_funcs = b }))
+    ∷ (codes "reference-types-enabled", truth (λ config b. record config { reference_types_enabled = b }))
+    ∷ (codes "gc-enabled", truth (λ config b. record config { gc_enabled = b }))
+    ∷ (codes "custom-descriptors-enabled", truth (λ config b. record config { custom_descriptors_enabled = b }))
+    ∷ (codes "multi-value-enabled", truth (λ config b. record config { multi_value_enabled = b }))
+    ∷ (codes "bulk-memory-enabled", truth (λ config b. record config { bulk_memory_enabled = b }))
+    ∷ (codes "simd-enabled", truth (λ config b. record config { simd_enabled = b }))
+    ∷ (codes "exceptions-enabled", truth (λ config b. record config { exceptions_enabled = b }))
+    ∷ (codes "threads-enabled", truth (λ config b. record config { threads_enabled = b }))
+    ∷ (codes "shared-everything-threads-enabled", truth (λ config b. record config { shared_everything_threads_enabled = b }))
+    ∷ (codes "memory64-enabled", truth (λ config b. record config { memory64_enabled = b }))
+    ∷ (codes "custom-page-sizes-enabled", truth (λ config b. record config { custom_page_sizes_enabled = b }))
+    ∷ (codes "extended-const-enabled", truth (λ config b. record config { extended_const_enabled = b }))
+    ∷ (codes "compact-imports-enabled", truth (λ config b. record config { compact_imports_enabled = b }))
+    ∷ (codes "relaxed-simd-enabled", truth (λ config b. record config { relaxed_simd_enabled = b }))
+    ∷ (codes "saturating-float-to-int-enabled", truth (λ config b. record config { saturating_float_to_int_enabled = b }))
+    ∷ (codes "sign-extension-ops-enabled", truth (λ config b. record config { sign_extension_ops_enabled = b }))
+    ∷ (codes "tail-call-enabled", truth (λ config b. record config { tail_call_enabled = b }))
+    ∷ (codes "wide-arithmetic-enabled", truth (λ config b. record config { wide_arithmetic_enabled = b }))
+    ∷ (codes "acquire-release-atomics-enabled", truth (λ config b. record config { acquire_release_atomics_enabled = b }))
+    ∷ (codes "multibyte-array-access-enabled", truth (λ config b. record config { multibyte_array_access_enabled = b }))
+    ∷ (codes "non-nullable-enabled", truth (λ config b. record config { non_nullable_enabled = b }))
+    ∷ (codes "allowed-instructions", kinds (λ config k. record config { allowed_instructions = k }))
     ∷ (codes "memory-offset-choices", choices (λ config c. record config { memory_offset_choices = c }))
+    ∷ (codes "max-instructions", size (λ config n. record config { max_instructions = n }))
+    ∷ (codes "canonicalize-nans", truth (λ config b. record config { canonicalize_nans = b }))
+    ∷ (codes "generate-custom-sections", truth (λ config b. record config { generate_custom_sections = b }))
+    ∷ (codes "min-uleb-size", byte (λ config n. record config { min_uleb_size = n }))
+    ∷ (codes "max-aliases", size (λ config n. record config { max_aliases = n }))
+    ∷ (codes "max-components", size (λ config n. record config { max_components = n }))
+    ∷ (codes "max-instances", size (λ config n. record config { max_instances = n }))
+    ∷ (codes "max-modules", size (λ config n. record config { max_modules = n }))
+    ∷ (codes "max-nesting-depth", size (λ config n. record config { max_nesting_depth = n }))
+    ∷ (codes "max-values", size (λ config n. record config { max_values = n }))
     ∷ (codes "available-imports", file)
     ∷ (codes "exports", file)
     ∷ (codes "module-shape", file)
     ∷ []
 
--- the field of a name that is no number
-abbrev pub other_named : List ℕ → Option Field
-other_named name = option_or (option_map truth (named name proposals)) (option_or (option_map truth (named name rules)) (named name others))
-
--- the field of a name; a number is at most what its type holds
+-- the field of a name
 abbrev pub field_named : List ℕ → Option Field
-field_named name =
-    option_or (option_map (whole (2 ^ 64 - 1)) (named name minimums))
-    (option_or (option_map (whole (2 ^ 64 - 1)) (named name maximums))
-    (option_or (option_map (whole (2 ^ 8 - 1)) (named name bytes))
-    (option_or (option_map (whole (2 ^ 32 - 1)) (named name words))
-    (option_or (option_map (whole (2 ^ 64 - 1)) (named name longs))
-    (option_or (option_map (whole (2 ^ 128 - 1)) (named name wides)) (other_named name))))))
+field_named name = named name fields

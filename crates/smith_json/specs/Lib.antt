@@ -1,4 +1,4 @@
 pub mod Fields
-pub mod Lends
+pub mod Places
 pub mod Values
 pub mod Objects

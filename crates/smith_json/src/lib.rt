@@ -4,10 +4,11 @@
 //! names keeps its default, and so does a field whose member is `null`.
 #![tactic(auto)]
 
-mod by_name;
 mod field;
+mod place;
 mod read;
 mod refusal;
+mod set;
 mod value;
 
 pub use field::{FIELDS, Field, FieldKind};

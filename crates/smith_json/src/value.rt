@@ -1,8 +1,9 @@
-ghost use Rattle.std.specs.Prelude.{◌≡◌, ◌≤◌, length, drop, IfOk, IfSome, OnOk};
+ghost use Rattle.std.specs.Prelude.{◌≡◌, ◌≤◌, length, drop, Some, IfOk, IfSome, OnOk};
 ghost use Rattle.std.specs.List.{list_all};
 ghost use Rattle.std.specs.Char.{is_ascii_digit};
 ghost use Rattle.json.specs.Reads.{token_of};
-ghost use Rattle.smith_json.specs.Fields.{named, others, other_named, field_named};
+ghost use Rattle.smith_json.specs.Fields.{field_named};
+ghost use Rattle.smith_json.specs.Places.{field_of};
 ghost use Rattle.smith_json.specs.Values.{
   first,
   unwanted,
@@ -18,8 +19,9 @@ ghost use Rattle.smith_json.specs.Values.{
 };
 ghost use Rattle.smith_json.specs.Objects.{Sets, outcome};
 
-use crate::by_name::{byte, long, maximum, minimum, proposal, rule, wide, word};
+use crate::place::{Flag, Long, Place, Size, Word, place_named};
 use crate::refusal::Fault;
+use crate::set::{set_flag, set_long, set_size, set_word};
 use bitflags::Flags;
 use json::{Reader, Token};
 use smith_config::{Config, MemoryOffsetChoices};
@@ -171,73 +173,116 @@ pub(crate) fn set_field(
     ensures exact { Sets (field_named name.now) config.old reader.old (outcome result config.new reader.new) }
     ensures shorter { length reader.new ≤ length reader.old }
 {
-    if let Some(field) = minimum(config, name) {
-        if let Some(value) = whole(next(reader), usize::MAX as u128)? {
-            *field = value as usize;
-        }
-    } else if let Some(field) = maximum(config, name) {
-        if let Some(value) = whole(next(reader), usize::MAX as u128)? {
-            *field = value as usize;
-        }
-    } else if let Some(field) = byte(config, name) {
-        if let Some(value) = whole(next(reader), u8::MAX as u128)? {
-            *field = value as u8;
-        }
-    } else if let Some(field) = word(config, name) {
-        if let Some(value) = whole(next(reader), u32::MAX as u128)? {
-            *field = value as u32;
-        }
-    } else if let Some(field) = long(config, name) {
-        if let Some(value) = whole(next(reader), u64::MAX as u128)? {
-            *field = value as u64;
-        }
-    } else if let Some(field) = wide(config, name) {
-        if let Some(value) = whole(next(reader), u128::MAX)? {
-            *field = value;
-        }
-    } else {
-        return set_flag(config, name, reader);
+    match place_named(name) {
+        Some(place) => read_field(config, place, reader),
+        None => Err(Fault::UnknownField),
+    }
+}
+
+/// Reads the value of the field at `place`, and sets it.
+fn read_field(config: &mut Config, place: Place, reader: &mut Reader<'_>) -> Result<(), Fault>
+    ensures exact { Sets (Some (field_of place)) config.old reader.old (outcome result config.new reader.new) }
+    ensures shorter { length reader.new ≤ length reader.old }
+{
+    match place {
+        Place::Size(size) => read_size(config, size, reader),
+        Place::Word(word) => read_word(config, word, reader),
+        Place::Long(long) => read_long(config, long, reader),
+        Place::MinUlebSize => read_uleb_size(config, reader),
+        Place::MaxMemory64Bytes => read_memory64_bytes(config, reader),
+        Place::Flag(flag) => read_flag(config, flag, reader),
+        Place::AllowedInstructions => read_instructions(config, reader),
+        Place::MemoryOffsetChoices => read_choices(config, reader),
+        Place::File => no_file(next(reader)),
+    }
+}
+
+/// The same for a field of type `usize`.
+fn read_size(config: &mut Config, size: Size, reader: &mut Reader<'_>) -> Result<(), Fault>
+    ensures exact { Sets (Some (field_of (Place.Size size))) config.old reader.old (outcome result config.new reader.new) }
+    ensures shorter { length reader.new ≤ length reader.old }
+{
+    if let Some(value) = whole(next(reader), usize::MAX as u128)? {
+        set_size(config, size, value as usize);
     }
     Ok(())
 }
 
-/// The same for the fields that are no numbers.
-fn set_flag(config: &mut Config, name: &str, reader: &mut Reader<'_>) -> Result<(), Fault>
-    ensures exact { Sets (other_named name.now) config.old reader.old (outcome result config.new reader.new) }
+/// The same for a field of type `u32`.
+fn read_word(config: &mut Config, word: Word, reader: &mut Reader<'_>) -> Result<(), Fault>
+    ensures exact { Sets (Some (field_of (Place.Word word))) config.old reader.old (outcome result config.new reader.new) }
     ensures shorter { length reader.new ≤ length reader.old }
 {
-    if let Some(field) = proposal(config, name) {
-        if let Some(value) = truth(next(reader))? {
-            *field = value;
-        }
-    } else if let Some(field) = rule(config, name) {
-        if let Some(value) = truth(next(reader))? {
-            *field = value;
-        }
-    } else {
-        return set_other(config, name, reader);
+    if let Some(value) = whole(next(reader), u32::MAX as u128)? {
+        set_word(config, word, value as u32);
     }
     Ok(())
 }
 
-/// The same for the fields that are neither numbers nor flags.
-fn set_other(config: &mut Config, name: &str, reader: &mut Reader<'_>) -> Result<(), Fault>
-    ensures exact { Sets (named name.now others) config.old reader.old (outcome result config.new reader.new) }
+/// The same for a field of type `u64`.
+fn read_long(config: &mut Config, long: Long, reader: &mut Reader<'_>) -> Result<(), Fault>
+    ensures exact { Sets (Some (field_of (Place.Long long))) config.old reader.old (outcome result config.new reader.new) }
     ensures shorter { length reader.new ≤ length reader.old }
 {
-    match name {
-        "allowed-instructions" => {
-            if let Some(kinds) = kinds(next(reader))? {
-                config.allowed_instructions = kinds;
-            }
-        }
-        "memory-offset-choices" => match next(reader) {
-            Token::Null => {}
-            Token::BeginArray => config.memory_offset_choices = weights(reader)?,
-            token => return Err(unwanted(token)),
-        },
-        "available-imports" | "exports" | "module-shape" => no_file(next(reader))?,
-        _ => return Err(Fault::UnknownField),
+    if let Some(value) = whole(next(reader), u64::MAX as u128)? {
+        set_long(config, long, value as u64);
+    }
+    Ok(())
+}
+
+/// The same for the field of type `u8`.
+fn read_uleb_size(config: &mut Config, reader: &mut Reader<'_>) -> Result<(), Fault>
+    ensures exact { Sets (Some (field_of Place.MinUlebSize)) config.old reader.old (outcome result config.new reader.new) }
+    ensures shorter { length reader.new ≤ length reader.old }
+{
+    if let Some(value) = whole(next(reader), u8::MAX as u128)? {
+        config.min_uleb_size = value as u8;
+    }
+    Ok(())
+}
+
+/// The same for the field of type `u128`.
+fn read_memory64_bytes(config: &mut Config, reader: &mut Reader<'_>) -> Result<(), Fault>
+    ensures exact { Sets (Some (field_of Place.MaxMemory64Bytes)) config.old reader.old (outcome result config.new reader.new) }
+    ensures shorter { length reader.new ≤ length reader.old }
+{
+    if let Some(value) = whole(next(reader), u128::MAX)? {
+        config.max_memory64_bytes = value;
+    }
+    Ok(())
+}
+
+/// The same for a flag.
+fn read_flag(config: &mut Config, flag: Flag, reader: &mut Reader<'_>) -> Result<(), Fault>
+    ensures exact { Sets (Some (field_of (Place.Flag flag))) config.old reader.old (outcome result config.new reader.new) }
+    ensures shorter { length reader.new ≤ length reader.old }
+{
+    if let Some(value) = truth(next(reader))? {
+        set_flag(config, flag, value);
+    }
+    Ok(())
+}
+
+/// The same for the set of kinds of instructions.
+fn read_instructions(config: &mut Config, reader: &mut Reader<'_>) -> Result<(), Fault>
+    ensures exact { Sets (Some (field_of Place.AllowedInstructions)) config.old reader.old (outcome result config.new reader.new) }
+    ensures shorter { length reader.new ≤ length reader.old }
+{
+    if let Some(kinds) = kinds(next(reader))? {
+        config.allowed_instructions = kinds;
+    }
+    Ok(())
+}
+
+/// The same for the three weights.
+fn read_choices(config: &mut Config, reader: &mut Reader<'_>) -> Result<(), Fault>
+    ensures exact { Sets (Some (field_of Place.MemoryOffsetChoices)) config.old reader.old (outcome result config.new reader.new) }
+    ensures shorter { length reader.new ≤ length reader.old }
+{
+    match next(reader) {
+        Token::Null => {}
+        Token::BeginArray => config.memory_offset_choices = weights(reader)?,
+        token => return Err(unwanted(token)),
     }
     Ok(())
 }
