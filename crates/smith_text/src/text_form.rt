@@ -5,7 +5,7 @@ use smith_types::Items;
 use std::fmt;
 use std::fmt::Display;
 
-/// Plain data that the text format of the standard has a form for.
+/// Plain data that the text format of the standard has a form for, and texts that are made of such parts.
 pub trait TextForm {
     /// Writes the value in the text format, to `sink`, of which no write has failed.
     ///
@@ -17,7 +17,7 @@ pub trait TextForm {
         ensures fault { S.failed sink.new ≡ is_err result };
 }
 
-/// A text stands for itself.
+/// A text is written as it is.
 impl TextForm for &str {
     fn write_text<S: Sink>(&self, sink: &mut S) -> fmt::Result {
         sink.write_str(self)
@@ -58,6 +58,7 @@ impl<T: TextForm> TextForm for Option<T> {
     }
 }
 
+// Writes each of `values` after a space.
 fn write_each<T: TextForm, S: Sink>(values: &[T], sink: &mut S) -> fmt::Result
     requires open { S.failed sink.old ≡ false }
     ensures fault { S.failed sink.new ≡ is_err result }
