@@ -2,7 +2,7 @@ ghost use Rattle.std.specs.Prelude.{◌≡◌, false, is_err};
 
 use crate::floats::{write_f32, write_f64};
 use crate::sink::Sink;
-use crate::text_form::TextForm;
+use crate::text_form::{Shown, TextForm};
 use smith_types::ConstInstr;
 use std::fmt;
 
@@ -54,25 +54,22 @@ fn write_arguments<S: Sink>(instruction: &ConstInstr, sink: &mut S) -> fmt::Resu
     ensures fault { S.failed sink.new ≡ is_err result }
 {
     match instruction {
-        ConstInstr::I32Const(value) => write!(sink, " {value}"),
-        ConstInstr::I64Const(value) => write!(sink, " {value}"),
+        ConstInstr::I32Const(value) => (" ", Shown(*value)).write_text(sink),
+        ConstInstr::I64Const(value) => (" ", Shown(*value)).write_text(sink),
         ConstInstr::F32Const(bits) => write_f32(*bits, sink),
         ConstInstr::F64Const(bits) => write_f64(*bits, sink),
         ConstInstr::V128Const(bits) => write_lanes(*bits, sink),
-        ConstInstr::RefNull(heap_type) => {
-            sink.write_str(" ")?;
-            heap_type.write_text(sink)
-        }
+        ConstInstr::RefNull(heap_type) => (" ", heap_type).write_text(sink),
         ConstInstr::GlobalGet(index)
         | ConstInstr::RefFunc(index)
         | ConstInstr::StructNew(index)
         | ConstInstr::StructNewDefault(index)
         | ConstInstr::ArrayNew(index)
-        | ConstInstr::ArrayNewDefault(index) => write!(sink, " {index}"),
+        | ConstInstr::ArrayNewDefault(index) => (" ", index).write_text(sink),
         ConstInstr::ArrayNewFixed {
             array_type_index,
             array_size,
-        } => write!(sink, " {array_type_index} {array_size}"),
+        } => ((" ", array_type_index), (" ", array_size)).write_text(sink),
         _ => Ok(()),
     }
 }

@@ -5,14 +5,20 @@ use crate::text_form::TextForm;
 use smith_types::{EntityType, ExportKind, GlobalType, MemoryType, TableType};
 use std::fmt;
 
-// Writes limits. The section Text Format, Limits.
-fn write_limits<S: Sink>(minimum: u64, maximum: Option<u64>, sink: &mut S) -> fmt::Result
-    requires open { S.failed sink.old ≡ false }
-    ensures fault { S.failed sink.new ≡ is_err result }
-{
-    match maximum {
-        Some(maximum) => write!(sink, "{minimum} {maximum}"),
-        None => write!(sink, "{minimum}"),
+// A size at first, and the most that it may become.
+#[derive(Drop)]
+struct Limits {
+    minimum: u64,
+    maximum: Option<u64>,
+}
+
+/// The section Text Format, Limits.
+impl TextForm for Limits {
+    fn write_text<S: Sink>(&self, sink: &mut S) -> fmt::Result {
+        match self.maximum {
+            Some(maximum) => (self.minimum, " ", maximum).write_text(sink),
+            None => self.minimum.write_text(sink),
+        }
     }
 }
 
@@ -24,11 +30,13 @@ fn address_type(is_wide: bool) -> &'static str {
 /// The section Text Format, Table Types; shared tables as the shared-everything-threads proposal writes them.
 impl TextForm for TableType {
     fn write_text<S: Sink>(&self, sink: &mut S) -> fmt::Result {
-        sink.write_str(if self.shared { "shared " } else { "" })?;
-        sink.write_str(address_type(self.table64))?;
-        write_limits(self.minimum, self.maximum, sink)?;
-        sink.write_str(" ")?;
-        self.element_type.write_text(sink)
+        let shared = if self.shared { "shared " } else { "" };
+        let limits = Limits {
+            minimum: self.minimum,
+            maximum: self.maximum,
+        };
+        let address = address_type(self.table64);
+        ((shared, address), limits, (" ", &self.element_type)).write_text(sink)
     }
 }
 
@@ -39,8 +47,8 @@ fn write_page_size<S: Sink>(log2: u32, sink: &mut S) -> fmt::Result
     ensures fault { S.failed sink.new ≡ is_err result }
 {
     match 1u64.checked_shl(log2) {
-        Some(bytes) => write!(sink, " (pagesize {bytes})"),
-        None => write!(sink, " (pagesize 2^{log2})"),
+        Some(bytes) => (" (pagesize ", bytes, ")").write_text(sink),
+        None => (" (pagesize 2^", log2, ")").write_text(sink),
     }
 }
 
@@ -48,11 +56,12 @@ fn write_page_size<S: Sink>(log2: u32, sink: &mut S) -> fmt::Result
 /// writes them.
 impl TextForm for MemoryType {
     fn write_text<S: Sink>(&self, sink: &mut S) -> fmt::Result {
-        sink.write_str(address_type(self.memory64))?;
-        write_limits(self.minimum, self.maximum, sink)?;
-        if self.shared {
-            sink.write_str(" shared")?;
-        }
+        let limits = Limits {
+            minimum: self.minimum,
+            maximum: self.maximum,
+        };
+        let shared = if self.shared { " shared" } else { "" };
+        (address_type(self.memory64), limits, shared).write_text(sink)?;
         match self.page_size_log2 {
             Some(log2) => write_page_size(log2, sink),
             None => Ok(()),
@@ -69,9 +78,7 @@ impl TextForm for GlobalType {
             (true, false) => "(shared ",
             (true, true) => "(shared mut ",
         };
-        sink.write_str(keywords)?;
-        self.val_type.write_text(sink)?;
-        sink.write_str(")")
+        (keywords, &self.val_type, ")").write_text(sink)
     }
 }
 
@@ -85,42 +92,44 @@ fn keyword_of(entity: &EntityType) -> &'static str {
     }
 }
 
-// Writes what comes after the keyword of an external type.
-fn write_details<S: Sink>(entity: &EntityType, sink: &mut S) -> fmt::Result
-    requires open { S.failed sink.old ≡ false }
-    ensures fault { S.failed sink.new ≡ is_err result }
-{
-    match entity {
-        EntityType::Global(global) => global.write_text(sink),
-        EntityType::Table(table) => table.write_text(sink),
-        EntityType::Memory(memory) => memory.write_text(sink),
-        EntityType::Tag(index) | EntityType::Func(index) => write!(sink, "(type {index})"),
+// What comes after the keyword of an external type.
+#[derive(Drop)]
+struct Details<'a>(&'a EntityType);
+
+impl TextForm for Details<'_> {
+    fn write_text<S: Sink>(&self, sink: &mut S) -> fmt::Result {
+        match self.0 {
+            EntityType::Global(global) => global.write_text(sink),
+            EntityType::Table(table) => table.write_text(sink),
+            EntityType::Memory(memory) => memory.write_text(sink),
+            EntityType::Tag(index) | EntityType::Func(index) => {
+                ("(type ", index, ")").write_text(sink)
+            }
+        }
     }
 }
 
 /// The section Text Format, External Types.
 impl TextForm for EntityType {
     fn write_text<S: Sink>(&self, sink: &mut S) -> fmt::Result {
-        sink.write_str("(")?;
-        sink.write_str(keyword_of(self))?;
-        sink.write_str(" ")?;
-        write_details(self, sink)?;
-        sink.write_str(")")
+        let opening = ("(", keyword_of(self), " ");
+        (opening, Details(self), ")").write_text(sink)
     }
 }
 
-/// Writes the type `entity` of an import that has the index `index`. The section Text Format, Imports.
-pub(crate) fn write_import_type<S: Sink>(
-    entity: &EntityType,
-    index: u32,
-    sink: &mut S,
-) -> fmt::Result
-    requires open { S.failed sink.old ≡ false }
-    ensures fault { S.failed sink.new ≡ is_err result }
-{
-    write!(sink, "({} (;{index};) ", keyword_of(entity))?;
-    write_details(entity, sink)?;
-    sink.write_str(")")
+/// The type of an import, with the index that the import has.
+#[derive(Drop)]
+pub(crate) struct Indexed<'a> {
+    pub(crate) entity: &'a EntityType,
+    pub(crate) index: u32,
+}
+
+/// The section Text Format, Imports.
+impl TextForm for Indexed<'_> {
+    fn write_text<S: Sink>(&self, sink: &mut S) -> fmt::Result {
+        let opening = ("(", keyword_of(self.entity), (" (;", self.index, ";) "));
+        (opening, Details(self.entity), ")").write_text(sink)
+    }
 }
 
 /// The keyword of the section Text Format, Exports.

@@ -1,6 +1,6 @@
 ghost use Rattle.std.specs.Prelude.{◌≡◌, false, is_err};
 
-use crate::entities::write_import_type;
+use crate::entities::Indexed;
 use crate::sink::Sink;
 use crate::text_form::TextForm;
 use smith_types::{EntityType, Import, ImportItem, Imports, Items, Name};
@@ -17,8 +17,8 @@ struct NextIndices {
 }
 
 impl NextIndices {
-    // Gives the next index of the kind of `entity`, and counts it.
-    fn take(&mut self, entity: &EntityType) -> u32 {
+    // Gives `entity` with the next index of its kind, and counts that index.
+    fn take<'a>(&mut self, entity: &'a EntityType) -> Indexed<'a> {
         let next = match entity {
             EntityType::Global(_) => &mut self.globals,
             EntityType::Table(_) => &mut self.tables,
@@ -28,7 +28,7 @@ impl NextIndices {
         };
         let index = *next;
         *next = index.saturating_add(1);
-        index
+        Indexed { entity, index }
     }
 }
 
@@ -36,28 +36,12 @@ fn write_single<S: Sink>(import: &Import, indices: &mut NextIndices, sink: &mut 
     requires open { S.failed sink.old ≡ false }
     ensures fault { S.failed sink.new ≡ is_err result }
 {
-    sink.write_str("  (import ")?;
-    import.module.write_text(sink)?;
-    sink.write_str(" ")?;
-    import.name.write_text(sink)?;
-    sink.write_str(" ")?;
-    let index = indices.take(&import.entity_type);
-    write_import_type(&import.entity_type, index, sink)?;
-    sink.write_str(")\n")
+    let ty = indices.take(&import.entity_type);
+    let opening = ("  (import ", &import.module, " ");
+    (opening, &import.name, (" ", ty, ")\n")).write_text(sink)
 }
 
-// Writes an import of a group whose imports have types of their own.
-fn write_item<S: Sink>(item: &ImportItem, index: u32, sink: &mut S) -> fmt::Result
-    requires open { S.failed sink.old ≡ false }
-    ensures fault { S.failed sink.new ≡ is_err result }
-{
-    sink.write_str("    (item ")?;
-    item.name.write_text(sink)?;
-    sink.write_str(" ")?;
-    write_import_type(&item.entity_type, index, sink)?;
-    sink.write_str(")\n")
-}
-
+// Writes a group whose imports have types of their own.
 fn write_typed_group<S: Sink>(
     module: &Name,
     items: &Items<ImportItem>,
@@ -67,26 +51,15 @@ fn write_typed_group<S: Sink>(
     requires open { S.failed sink.old ≡ false }
     ensures fault { S.failed sink.new ≡ is_err result }
 {
-    sink.write_str("  (import ")?;
-    module.write_text(sink)?;
-    sink.write_str("\n")?;
+    ("  (import ", module, "\n").write_text(sink)?;
     for item in items {
-        let index = indices.take(&item.entity_type);
-        write_item(item, index, sink)?;
+        let ty = indices.take(&item.entity_type);
+        ("    (item ", &item.name, (" ", ty, ")\n")).write_text(sink)?;
     }
     sink.write_str("  )\n")
 }
 
-// Writes an import of a group whose imports have one type.
-fn write_name<S: Sink>(name: &Name, index: u32, sink: &mut S) -> fmt::Result
-    requires open { S.failed sink.old ≡ false }
-    ensures fault { S.failed sink.new ≡ is_err result }
-{
-    sink.write_str("    (item ")?;
-    name.write_text(sink)?;
-    writeln!(sink, " (;{index};))")
-}
-
+// Writes a group whose imports have one type.
 fn write_uniform_group<S: Sink>(
     module: &Name,
     entity_type: &EntityType,
@@ -97,16 +70,12 @@ fn write_uniform_group<S: Sink>(
     requires open { S.failed sink.old ≡ false }
     ensures fault { S.failed sink.new ≡ is_err result }
 {
-    sink.write_str("  (import ")?;
-    module.write_text(sink)?;
-    sink.write_str("\n")?;
+    ("  (import ", module, "\n").write_text(sink)?;
     for name in names {
-        let index = indices.take(entity_type);
-        write_name(name, index, sink)?;
+        let ty = indices.take(entity_type);
+        ("    (item ", name, (" (;", ty.index, ";))\n")).write_text(sink)?;
     }
-    sink.write_str("    ")?;
-    entity_type.write_text(sink)?;
-    sink.write_str("\n  )\n")
+    ("    ", entity_type, "\n  )\n").write_text(sink)
 }
 
 fn write_group<S: Sink>(group: &Imports, indices: &mut NextIndices, sink: &mut S) -> fmt::Result

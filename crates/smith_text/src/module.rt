@@ -5,91 +5,92 @@ use crate::imports::write_imports;
 use crate::notes::write_notes;
 use crate::segments::{write_data_segments, write_element_segments};
 use crate::sink::{FromFmt, Sink};
-use crate::text_form::{TextForm, write_each};
+use crate::text_form::{Shown, TextForm};
 use crate::types::write_types;
 use smith_bytes::Error;
+use smith_types::{ConstInstr, ExportKind, GlobalType, Items, MemoryType, Name, TableType};
 use std::alloc::Global;
 use std::fmt;
 use wasm_smith::Module;
 
-// Writes the tables that `module` defines. The section Text Format, Tables. A table without an initialiser has null references.
-fn write_tables<S: Sink>(module: &Module, sink: &mut S) -> fmt::Result
+// Writes those of `tables` that a module defines, the last, with their initialisers. The section Text Format, Tables. A table
+// without an initialiser has null references.
+fn write_tables<S: Sink>(
+    tables: &[TableType],
+    initialisers: &[Option<Items<ConstInstr>>],
+    sink: &mut S,
+) -> fmt::Result
     requires open { S.failed sink.old ≡ false }
     ensures fault { S.failed sink.new ≡ is_err result }
 {
-    let tables = module.tables();
-    let imported = tables.len().saturating_sub(module.defined_tables().len());
+    let imported = tables.len().saturating_sub(initialisers.len());
     let defined = tables.iter().enumerate().skip(imported);
-    for ((index, table), initialiser) in defined.zip(module.defined_tables()) {
-        write!(sink, "  (table (;{index};) ")?;
-        table.write_text(sink)?;
-        if let Some(expression) = initialiser {
-            write_each(expression.as_slice(), sink)?;
-        }
-        sink.write_str(")\n")?;
+    for ((index, table), initialiser) in defined.zip(initialisers) {
+        let opening = ("  (table (;", Shown(index), ";) ");
+        (opening, table, (initialiser, ")\n")).write_text(sink)?;
     }
     Ok(())
 }
 
-// Writes the memories that `module` defines. The section Text Format, Memories.
-fn write_memories<S: Sink>(module: &Module, sink: &mut S) -> fmt::Result
+// Writes those of `memories` that a module defines, the last `defined`. The section Text Format, Memories.
+fn write_memories<S: Sink>(memories: &[MemoryType], defined: usize, sink: &mut S) -> fmt::Result
     requires open { S.failed sink.old ≡ false }
     ensures fault { S.failed sink.new ≡ is_err result }
 {
-    let memories = module.memories();
-    let imported = memories.len().saturating_sub(module.num_defined_memories());
+    let imported = memories.len().saturating_sub(defined);
     for (index, memory) in memories.iter().enumerate().skip(imported) {
-        write!(sink, "  (memory (;{index};) ")?;
-        memory.write_text(sink)?;
-        sink.write_str(")\n")?;
+        let opening = ("  (memory (;", Shown(index), ";) ");
+        (opening, memory, ")\n").write_text(sink)?;
     }
     Ok(())
 }
 
-// Writes the tags that `module` defines. The section Text Format, Tags.
-fn write_tags<S: Sink>(module: &Module, sink: &mut S) -> fmt::Result
+// Writes those of `tags` that a module defines, the last `defined`. The section Text Format, Tags.
+fn write_tags<S: Sink>(tags: &[u32], defined: usize, sink: &mut S) -> fmt::Result
     requires open { S.failed sink.old ≡ false }
     ensures fault { S.failed sink.new ≡ is_err result }
 {
-    let tags = module.tags();
-    let imported = tags.len().saturating_sub(module.num_defined_tags());
+    let imported = tags.len().saturating_sub(defined);
     for (index, ty) in tags.iter().enumerate().skip(imported) {
-        writeln!(sink, "  (tag (;{index};) (type {ty}))")?;
+        let opening = ("  (tag (;", Shown(index), ";) (type ");
+        (opening, ty, "))\n").write_text(sink)?;
     }
     Ok(())
 }
 
-// Writes the globals that `module` defines. The section Text Format, Globals.
-fn write_globals<S: Sink>(module: &Module, sink: &mut S) -> fmt::Result
+// Writes those of `globals` that a module defines, the last, with their indices and initialisers. The section Text Format, Globals.
+fn write_globals<S: Sink>(
+    globals: &[GlobalType],
+    initialisers: &[(u32, Items<ConstInstr>)],
+    sink: &mut S,
+) -> fmt::Result
     requires open { S.failed sink.old ≡ false }
     ensures fault { S.failed sink.new ≡ is_err result }
 {
-    let globals = module.globals();
-    let imported = globals.len().saturating_sub(module.defined_globals().len());
+    let imported = globals.len().saturating_sub(initialisers.len());
     let defined = globals.iter().skip(imported);
-    for (global, (index, initialiser)) in defined.zip(module.defined_globals()) {
-        write!(sink, "  (global (;{index};) ")?;
-        global.write_text(sink)?;
-        write_each(initialiser.as_slice(), sink)?;
-        sink.write_str(")\n")?;
+    for (global, (index, initialiser)) in defined.zip(initialisers) {
+        let opening = ("  (global (;", index, ";) ");
+        (opening, global, (initialiser, ")\n")).write_text(sink)?;
     }
     Ok(())
 }
 
-// Writes the exports and the start function of `module`. The sections Text Format, Exports and Start Function.
-fn write_exports<S: Sink>(module: &Module, sink: &mut S) -> fmt::Result
+// Writes the exports and the start function of a module. The sections Text Format, Exports and Start Function.
+fn write_exports<S: Sink>(
+    exports: &[(Name, ExportKind, u32)],
+    start: Option<u32>,
+    sink: &mut S,
+) -> fmt::Result
     requires open { S.failed sink.old ≡ false }
     ensures fault { S.failed sink.new ≡ is_err result }
 {
-    for (name, kind, index) in module.exports() {
-        sink.write_str("  (export ")?;
-        name.write_text(sink)?;
-        sink.write_str(" (")?;
-        kind.write_text(sink)?;
-        writeln!(sink, " {index}))")?;
+    for (name, kind, index) in exports {
+        let opening = ("  (export ", name, " (");
+        (opening, (kind, " ", index), "))\n").write_text(sink)?;
     }
-    match module.start() {
-        Some(index) => writeln!(sink, "  (start {index})"),
+    match start {
+        Some(index) => ("  (start ", index, ")\n").write_text(sink),
         None => Ok(()),
     }
 }
@@ -111,13 +112,14 @@ pub fn write_with_bodies<B: BodyText, S: Sink>(
     sink.write_str("(module\n")?;
     write_types(module.types(), module.rec_groups(), sink)?;
     write_imports(module.imports(), sink)?;
-    write_tables(module, sink)?;
-    write_memories(module, sink)?;
-    write_tags(module, sink)?;
-    write_globals(module, sink)?;
-    write_exports(module, sink)?;
+    write_tables(module.tables(), module.defined_tables(), sink)?;
+    write_memories(module.memories(), module.num_defined_memories(), sink)?;
+    write_tags(module.tags(), module.num_defined_tags(), sink)?;
+    write_globals(module.globals(), module.defined_globals(), sink)?;
+    write_exports(module.exports(), module.start(), sink)?;
     write_element_segments(module.elems(), sink)?;
-    write_functions(module, bodies, sink)?;
+    let fuel_globals = module.fuel_globals();
+    write_functions(module.funcs(), module.code(), fuel_globals, bodies, sink)?;
     write_data_segments(module.data(), sink)?;
     sink.write_str(")\n")?;
     write_notes(module, sink)

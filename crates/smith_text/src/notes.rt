@@ -1,26 +1,17 @@
 ghost use Rattle.std.specs.Prelude.{◌≡◌, false, is_err};
 
 use crate::sink::Sink;
-use crate::text_form::{TextForm, write_each};
+use crate::text_form::{Shown, TextForm};
 use smith_types::{Code, Instructions};
 use std::fmt;
 use wasm_smith::Module;
-
-/// A number of 64 bits, in decimal.
-impl TextForm for u64 {
-    fn write_text<S: Sink>(&self, sink: &mut S) -> fmt::Result {
-        write!(sink, "{self}")
-    }
-}
 
 // Writes the line of the name `name` that lists `values`.
 fn write_values<T: TextForm, S: Sink>(name: &str, values: &[T], sink: &mut S) -> fmt::Result
     requires open { S.failed sink.old ≡ false }
     ensures fault { S.failed sink.new ≡ is_err result }
 {
-    write!(sink, ";; {name}")?;
-    write_each(values, sink)?;
-    sink.write_str("\n")
+    ((";; ", name), values, "\n").write_text(sink)
 }
 
 // Writes the line of the raw body of the function `index`: its bytes in hexadecimal.
@@ -28,7 +19,7 @@ fn write_raw_body<S: Sink>(index: usize, bytes: &[u8], sink: &mut S) -> fmt::Res
     requires open { S.failed sink.old ≡ false }
     ensures fault { S.failed sink.new ≡ is_err result }
 {
-    write!(sink, ";; raw-body {index} 0x")?;
+    (";; raw-body ", Shown(index), " 0x").write_text(sink)?;
     for byte in bytes {
         write!(sink, "{byte:02x}")?;
     }
@@ -55,18 +46,12 @@ pub(crate) fn write_notes<S: Sink>(module: &Module, sink: &mut S) -> fmt::Result
 {
     let code = module.code();
     let imported = module.funcs().len().saturating_sub(code.len());
-    writeln!(
-        sink,
-        ";; should-encode-types {}",
-        module.should_encode_types()
-    )?;
-    writeln!(
-        sink,
-        ";; should-encode-imports {}",
-        module.should_encode_imports()
-    )?;
-    writeln!(sink, ";; num-imports {}", module.num_imports())?;
-    writeln!(sink, ";; type-size {}", module.type_size())?;
+    let encodes_types = [Shown(module.should_encode_types())];
+    let encodes_imports = [Shown(module.should_encode_imports())];
+    write_values("should-encode-types", &encodes_types, sink)?;
+    write_values("should-encode-imports", &encodes_imports, sink)?;
+    write_values("num-imports", &[Shown(module.num_imports())], sink)?;
+    write_values("type-size", &[module.type_size()], sink)?;
     write_values("fuel-globals", module.fuel_globals(), sink)?;
     write_raw_bodies(imported, code, sink)?;
     write_values("interesting-values32", module.interesting_values32(), sink)?;

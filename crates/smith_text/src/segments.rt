@@ -2,7 +2,7 @@ ghost use Rattle.std.specs.Prelude.{◌≡◌, false, is_err};
 
 use crate::sink::Sink;
 use crate::strings::write_string;
-use crate::text_form::{TextForm, write_each};
+use crate::text_form::{Shown, TextForm};
 use smith_types::{
     AbstractHeapType, ConstInstr, DataSegment, DataSegmentKind, ElementKind, ElementSegment,
     Elements, HeapType, Items, Offset, RefType,
@@ -22,9 +22,9 @@ const FUNCREF: RefType = RefType {
 impl TextForm for Offset {
     fn write_text<S: Sink>(&self, sink: &mut S) -> fmt::Result {
         match self {
-            Offset::Const32(value) => write!(sink, "(i32.const {value})"),
-            Offset::Const64(value) => write!(sink, "(i64.const {value})"),
-            Offset::Global(index) => write!(sink, "(global.get {index})"),
+            Offset::Const32(value) => ("(i32.const ", Shown(*value), ")").write_text(sink),
+            Offset::Const64(value) => ("(i64.const ", Shown(*value), ")").write_text(sink),
+            Offset::Global(index) => ("(global.get ", index, ")").write_text(sink),
         }
     }
 }
@@ -34,21 +34,17 @@ impl TextForm for Offset {
 impl TextForm for ElementKind {
     fn write_text<S: Sink>(&self, sink: &mut S) -> fmt::Result {
         match self {
-            ElementKind::Passive => return Ok(()),
-            ElementKind::Declared => sink.write_str("declare")?,
+            ElementKind::Passive => Ok(()),
+            ElementKind::Declared => sink.write_str("declare "),
             ElementKind::Active {
                 table: None,
                 offset,
-            } => offset.write_text(sink)?,
+            } => (offset, " ").write_text(sink),
             ElementKind::Active {
                 table: Some(table),
                 offset,
-            } => {
-                write!(sink, "(table {table}) ")?;
-                offset.write_text(sink)?;
-            }
+            } => (("(table ", table, ") "), offset, " ").write_text(sink),
         }
-        sink.write_str(" ")
     }
 }
 
@@ -57,13 +53,10 @@ fn write_functions<S: Sink>(ty: &RefType, functions: &[u32], sink: &mut S) -> fm
     requires open { S.failed sink.old ≡ false }
     ensures fault { S.failed sink.new ≡ is_err result }
 {
-    sink.write_str("func")?;
-    if *ty != FUNCREF {
-        sink.write_str(" (;")?;
-        ty.write_text(sink)?;
-        sink.write_str(";)")?;
+    if *ty == FUNCREF {
+        return ("func", functions).write_text(sink);
     }
-    write_each(functions, sink)
+    (("func (;", ty, ";)"), functions).write_text(sink)
 }
 
 fn write_expressions<S: Sink>(
@@ -76,25 +69,26 @@ fn write_expressions<S: Sink>(
 {
     ty.write_text(sink)?;
     for expression in expressions {
-        sink.write_str(" (item")?;
-        write_each(expression.as_slice(), sink)?;
-        sink.write_str(")")?;
+        (" (item", expression, ")").write_text(sink)?;
     }
     Ok(())
 }
 
-// Writes what follows the index of an element segment.
-fn write_element_details<S: Sink>(segment: &ElementSegment, sink: &mut S) -> fmt::Result
-    requires open { S.failed sink.old ≡ false }
-    ensures fault { S.failed sink.new ≡ is_err result }
-{
-    segment.kind.write_text(sink)?;
-    match &segment.items {
-        Elements::Functions(functions) => {
-            write_functions(&segment.ty, functions.as_slice(), sink)
-        }
-        Elements::Expressions(expressions) => {
-            write_expressions(&segment.ty, expressions.as_slice(), sink)
+// What follows the index of an element segment.
+#[derive(Drop)]
+struct ElementDetails<'a>(&'a ElementSegment);
+
+impl TextForm for ElementDetails<'_> {
+    fn write_text<S: Sink>(&self, sink: &mut S) -> fmt::Result {
+        let segment = self.0;
+        segment.kind.write_text(sink)?;
+        match &segment.items {
+            Elements::Functions(functions) => {
+                write_functions(&segment.ty, functions.as_slice(), sink)
+            }
+            Elements::Expressions(expressions) => {
+                write_expressions(&segment.ty, expressions.as_slice(), sink)
+            }
         }
     }
 }
@@ -102,9 +96,7 @@ fn write_element_details<S: Sink>(segment: &ElementSegment, sink: &mut S) -> fmt
 /// The section Text Format, Element Segments.
 impl TextForm for ElementSegment {
     fn write_text<S: Sink>(&self, sink: &mut S) -> fmt::Result {
-        sink.write_str("(elem ")?;
-        write_element_details(self, sink)?;
-        sink.write_str(")")
+        ("(elem ", ElementDetails(self), ")").write_text(sink)
     }
 }
 
@@ -119,29 +111,28 @@ impl TextForm for DataSegmentKind {
         else {
             return Ok(());
         };
-        if *memory_index != 0 {
-            write!(sink, "(memory {memory_index}) ")?;
+        if *memory_index == 0 {
+            return (offset, " ").write_text(sink);
         }
-        offset.write_text(sink)?;
-        sink.write_str(" ")
+        (("(memory ", memory_index, ") "), offset, " ").write_text(sink)
     }
 }
 
-// Writes what follows the index of a data segment.
-fn write_data_details<S: Sink>(segment: &DataSegment, sink: &mut S) -> fmt::Result
-    requires open { S.failed sink.old ≡ false }
-    ensures fault { S.failed sink.new ≡ is_err result }
-{
-    segment.kind.write_text(sink)?;
-    write_string(segment.init.as_slice(), sink)
+// What follows the index of a data segment.
+#[derive(Drop)]
+struct DataDetails<'a>(&'a DataSegment);
+
+impl TextForm for DataDetails<'_> {
+    fn write_text<S: Sink>(&self, sink: &mut S) -> fmt::Result {
+        self.0.kind.write_text(sink)?;
+        write_string(self.0.init.as_slice(), sink)
+    }
 }
 
 /// The section Text Format, Data Segments.
 impl TextForm for DataSegment {
     fn write_text<S: Sink>(&self, sink: &mut S) -> fmt::Result {
-        sink.write_str("(data ")?;
-        write_data_details(self, sink)?;
-        sink.write_str(")")
+        ("(data ", DataDetails(self), ")").write_text(sink)
     }
 }
 
@@ -154,9 +145,8 @@ pub(crate) fn write_element_segments<S: Sink>(
     ensures fault { S.failed sink.new ≡ is_err result }
 {
     for (index, segment) in segments.iter().enumerate() {
-        write!(sink, "  (elem (;{index};) ")?;
-        write_element_details(segment, sink)?;
-        sink.write_str(")\n")?;
+        let opening = ("  (elem (;", Shown(index), ";) ");
+        (opening, ElementDetails(segment), ")\n").write_text(sink)?;
     }
     Ok(())
 }
@@ -167,9 +157,8 @@ pub(crate) fn write_data_segments<S: Sink>(segments: &[DataSegment], sink: &mut 
     ensures fault { S.failed sink.new ≡ is_err result }
 {
     for (index, segment) in segments.iter().enumerate() {
-        write!(sink, "  (data (;{index};) ")?;
-        write_data_details(segment, sink)?;
-        sink.write_str(")\n")?;
+        let opening = ("  (data (;", Shown(index), ";) ");
+        (opening, DataDetails(segment), ")\n").write_text(sink)?;
     }
     Ok(())
 }

@@ -12,7 +12,7 @@ fn write_byte<S: Sink>(byte: u8, sink: &mut S) -> fmt::Result
     match byte {
         b'"' => sink.write_str("\\\""),
         b'\\' => sink.write_str("\\\\"),
-        b' '..=b'~' => write!(sink, "{}", byte as char),
+        b' '..=b'~' => sink.write_fmt(byte as char),
         _ => write!(sink, "\\{byte:02x}"),
     }
 }

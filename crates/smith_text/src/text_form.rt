@@ -1,9 +1,11 @@
 ghost use Rattle.std.specs.Prelude.{◌≡◌, false, is_err};
 
 use crate::sink::Sink;
+use smith_types::Items;
 use std::fmt;
+use std::fmt::Display;
 
-/// Plain data that the text format of the standard has a form for.
+/// Plain data that the text format of the standard has a form for, and texts that are made of such parts.
 pub trait TextForm {
     /// Writes the value in the text format, to `sink`, of which no write has failed.
     ///
@@ -15,38 +17,110 @@ pub trait TextForm {
         ensures fault { S.failed sink.new ≡ is_err result };
 }
 
-/// An index: the standard's section Text Format, Indices.
-impl TextForm for u32 {
+/// A text is written as it is.
+impl TextForm for &str {
     fn write_text<S: Sink>(&self, sink: &mut S) -> fmt::Result {
-        write!(sink, "{self}")
+        sink.write_str(self)
     }
 }
 
-/// Writes each of `items` after a space.
-pub(crate) fn write_each<T: TextForm, S: Sink>(items: &[T], sink: &mut S) -> fmt::Result
+/// A value that is lent is written as the value.
+impl<T: TextForm> TextForm for &T {
+    fn write_text<S: Sink>(&self, sink: &mut S) -> fmt::Result {
+        (**self).write_text(sink)
+    }
+}
+
+/// The two parts, one after the other.
+impl<A: TextForm, B: TextForm> TextForm for (A, B) {
+    fn write_text<S: Sink>(&self, sink: &mut S) -> fmt::Result {
+        self.0.write_text(sink)?;
+        self.1.write_text(sink)
+    }
+}
+
+/// The three parts, one after the other.
+impl<A: TextForm, B: TextForm, C: TextForm> TextForm for (A, B, C) {
+    fn write_text<S: Sink>(&self, sink: &mut S) -> fmt::Result {
+        self.0.write_text(sink)?;
+        self.1.write_text(sink)?;
+        self.2.write_text(sink)
+    }
+}
+
+/// Nothing where there is no value.
+impl<T: TextForm> TextForm for Option<T> {
+    fn write_text<S: Sink>(&self, sink: &mut S) -> fmt::Result {
+        match self {
+            Some(value) => value.write_text(sink),
+            None => Ok(()),
+        }
+    }
+}
+
+// Writes each of `values` after a space.
+fn write_each<T: TextForm, S: Sink>(values: &[T], sink: &mut S) -> fmt::Result
     requires open { S.failed sink.old ≡ false }
     ensures fault { S.failed sink.new ≡ is_err result }
 {
-    for item in items {
+    for item in values {
         sink.write_str(" ")?;
         item.write_text(sink)?;
     }
     Ok(())
 }
 
-/// Writes `opening`, `items` and a closing parenthesis, or nothing where there are no items.
-pub(crate) fn write_list<T: TextForm, S: Sink>(
-    opening: &str,
-    items: &[T],
-    sink: &mut S,
-) -> fmt::Result
-    requires open { S.failed sink.old ≡ false }
-    ensures fault { S.failed sink.new ≡ is_err result }
-{
-    if items.is_empty() {
-        return Ok(());
+/// Each value after a space.
+impl<T: TextForm> TextForm for &[T] {
+    fn write_text<S: Sink>(&self, sink: &mut S) -> fmt::Result {
+        write_each(self, sink)
     }
-    sink.write_str(opening)?;
-    write_each(items, sink)?;
-    sink.write_str(")")
+}
+
+/// Each value after a space.
+impl<T: TextForm> TextForm for Items<T> {
+    fn write_text<S: Sink>(&self, sink: &mut S) -> fmt::Result {
+        self.as_slice().write_text(sink)
+    }
+}
+
+/// What a value prints.
+#[derive(Clone, Copy)]
+pub(crate) struct Shown<D>(pub(crate) D);
+
+impl<D: Copy + Display> TextForm for Shown<D> {
+    fn write_text<S: Sink>(&self, sink: &mut S) -> fmt::Result {
+        sink.write_fmt(self.0)
+    }
+}
+
+/// An index: the standard's section Text Format, Indices.
+impl TextForm for u32 {
+    fn write_text<S: Sink>(&self, sink: &mut S) -> fmt::Result {
+        sink.write_fmt(*self)
+    }
+}
+
+/// A number of 64 bits, in decimal.
+impl TextForm for u64 {
+    fn write_text<S: Sink>(&self, sink: &mut S) -> fmt::Result {
+        sink.write_fmt(*self)
+    }
+}
+
+/// A text that opens a list, the values of the list, and a text that closes it, or nothing where there are no values.
+#[derive(Drop)]
+pub(crate) struct Listed<'a, T>(
+    pub(crate) &'static str,
+    pub(crate) &'a [T],
+    pub(crate) &'static str,
+);
+
+impl<T: TextForm> TextForm for Listed<'_, T> {
+    fn write_text<S: Sink>(&self, sink: &mut S) -> fmt::Result {
+        if self.1.is_empty() {
+            return Ok(());
+        }
+        (self.0, self.1, self.2).write_text(sink)
+    }
 }

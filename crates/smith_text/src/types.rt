@@ -1,7 +1,7 @@
 ghost use Rattle.std.specs.Prelude.{◌≡◌, false, is_err};
 
 use crate::sink::Sink;
-use crate::text_form::{TextForm, write_list};
+use crate::text_form::{Listed, Shown, TextForm};
 use smith_types::{
     ArrayType, CompositeInnerType, CompositeType, FieldType, FuncType, StorageType, StructType,
     SubType,
@@ -26,18 +26,14 @@ impl TextForm for FieldType {
         if !self.mutable {
             return self.element_type.write_text(sink);
         }
-        sink.write_str("(mut ")?;
-        self.element_type.write_text(sink)?;
-        sink.write_str(")")
+        ("(mut ", &self.element_type, ")").write_text(sink)
     }
 }
 
 /// The section Text Format, Composite Types: an array type.
 impl TextForm for ArrayType {
     fn write_text<S: Sink>(&self, sink: &mut S) -> fmt::Result {
-        sink.write_str("(array ")?;
-        self.0.write_text(sink)?;
-        sink.write_str(")")
+        ("(array ", &self.0, ")").write_text(sink)
     }
 }
 
@@ -45,19 +41,17 @@ impl TextForm for ArrayType {
 /// parentheses.
 impl TextForm for StructType {
     fn write_text<S: Sink>(&self, sink: &mut S) -> fmt::Result {
-        sink.write_str("(struct")?;
-        write_list(" (field", self.fields.as_slice(), sink)?;
-        sink.write_str(")")
+        let fields = Listed(" (field", self.fields.as_slice(), ")");
+        ("(struct", fields, ")").write_text(sink)
     }
 }
 
 /// The section Text Format, Composite Types: a function type, with the abbreviations that list its parameters and its results.
 impl TextForm for FuncType {
     fn write_text<S: Sink>(&self, sink: &mut S) -> fmt::Result {
-        sink.write_str("(func")?;
-        write_list(" (param", self.params.as_slice(), sink)?;
-        write_list(" (result", self.results.as_slice(), sink)?;
-        sink.write_str(")")
+        let params = Listed(" (param", self.params.as_slice(), ")");
+        let results = Listed(" (result", self.results.as_slice(), ")");
+        ("(func", params, (results, ")")).write_text(sink)
     }
 }
 
@@ -78,9 +72,7 @@ impl TextForm for CompositeType {
         if !self.shared {
             return self.inner.write_text(sink);
         }
-        sink.write_str("(shared ")?;
-        self.inner.write_text(sink)?;
-        sink.write_str(")")
+        ("(shared ", &self.inner, ")").write_text(sink)
     }
 }
 
@@ -90,16 +82,16 @@ impl TextForm for SubType {
         if self.is_final && self.supertype.is_none() {
             return self.composite_type.write_text(sink);
         }
-        sink.write_str(if self.is_final {
+        let opening = if self.is_final {
             "(sub final "
         } else {
             "(sub "
-        })?;
-        if let Some(index) = self.supertype {
-            write!(sink, "{index} ")?;
+        };
+        let body = (&self.composite_type, ")");
+        match self.supertype {
+            Some(index) => ((opening, index), " ", body).write_text(sink),
+            None => (opening, body).write_text(sink),
         }
-        self.composite_type.write_text(sink)?;
-        sink.write_str(")")
     }
 }
 
@@ -108,9 +100,8 @@ fn write_type<S: Sink>(indent: &str, index: usize, ty: &SubType, sink: &mut S) -
     requires open { S.failed sink.old ≡ false }
     ensures fault { S.failed sink.new ≡ is_err result }
 {
-    write!(sink, "{indent}(type (;{index};) ")?;
-    ty.write_text(sink)?;
-    sink.write_str(")\n")
+    let opening = (indent, "(type (;", Shown(index));
+    (opening, ";) ", (ty, ")\n")).write_text(sink)
 }
 
 // Writes the types of a group of other than one type, of which the first has the index `start`.

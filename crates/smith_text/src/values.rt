@@ -51,13 +51,9 @@ impl TextForm for HeapType {
     fn write_text<S: Sink>(&self, sink: &mut S) -> fmt::Result {
         match self {
             HeapType::Abstract { shared: false, ty } => ty.write_text(sink),
-            HeapType::Abstract { shared: true, ty } => {
-                sink.write_str("(shared ")?;
-                sink.write_str(keyword_of(*ty))?;
-                sink.write_str(")")
-            }
-            HeapType::Concrete(index) => write!(sink, "{index}"),
-            HeapType::Exact(index) => write!(sink, "(exact {index})"),
+            HeapType::Abstract { shared: true, ty } => ("(shared ", ty, ")").write_text(sink),
+            HeapType::Concrete(index) => index.write_text(sink),
+            HeapType::Exact(index) => ("(exact ", index, ")").write_text(sink),
         }
     }
 }
@@ -70,9 +66,8 @@ impl TextForm for RefType {
         {
             return sink.write_str(abbreviation_of(ty));
         }
-        sink.write_str(if self.nullable { "(ref null " } else { "(ref " })?;
-        self.heap_type.write_text(sink)?;
-        sink.write_str(")")
+        let opening = if self.nullable { "(ref null " } else { "(ref " };
+        (opening, &self.heap_type, ")").write_text(sink)
     }
 }
 
