@@ -1,12 +1,25 @@
-use Rattle.std.proofs.Common.{true}
+use Rattle.std.proofs.Common.{◌≡◌, ◌-◌, true, refl, arith}
 use Rattle.std.specs.Prelude.{All}
-use Rattle.std.proofs.lemmas.List.Elements.{All-push}
+use Rattle.std.proofs.lemmas.List.Elements.{All-nil, All-push}
 use Rattle.smith_bytes.proofs.GrowingLoop.{grow_go, grow_stop, grow_full}
 use Rattle.smith_types.specs.Expressions.{IsConstExpr}
 use Rattle.smith_types.specs.declared.value_type.ValType.TheVariants.{Ref}
 use Rattle.smith_draw.specs.ConstFloats.{GivesNoFloat}
 use Rattle.smith_draw.specs.ConstScopes.{seen_by}
+use Rattle.smith_contents.specs.ElementSegments.{drawn_expressions_at}
 use Rattle.smith_contents.proofs.element_items.draw_each_expression.Goals as goal
+
+pub loop-made-init : goal.loop-made-init
+unfolding drawn_expressions_at
+loop-made-init c =
+    let context = seen_by c.args.config.now c.args.spaces.now true in
+    let all : c.args.most - 0 ≡ c.args.most = omega arith in
+    rw c.new-items.ensures (record {
+      growing = record { len = refl; so_far = rw all refl; left = λ whole h. h };
+      typed = All-nil (IsConstExpr context (Ref c.args.ty));
+      floats = λ calm. All-nil (All GivesNoFloat);
+      kept = c.new-kept.ensures context;
+    })
 
 pub returns-then-not-goes_on-clause-exact : goal.returns-then-not-goes_on-clause-exact
 returns-then-not-goes_on-clause-exact c = grow_stop c.loop-made.invariant.growing c.loop-made-test.true c.goes_on.ensures.exact c.if-not-goes_on.true
