@@ -8,15 +8,16 @@ use Rattle.smith_config.specs.declared.config.Config.{Config}
 use Rattle.smith_definitions.specs.Module.{Parts}
 use Rattle.wasm_smith.specs.Generated.{IsGenerated}
 use Rattle.smith_program.specs.Bodies.{AreDrawnBodies}
+use Rattle.smith_program.specs.DrawnBodies.{bodies_at}
 use Rattle.smith_program.specs.Generated.{IsProgram}
 use Rattle.smith_program.specs.declared.program.Body.{Body}
 use Rattle.smith_program.specs.declared.program.Program.{Program}
 
 -- a module and its bodies
-pub program_made : (given : Config) (bytes after left : List ℕ) (m : Parts) (bodies : List Body) → IsGenerated false given bytes (Ok m) after → AreDrawnBodies m bodies → KeepsPieces after left
+pub program_made : (given : Config) (bytes after left : List ℕ) (m : Parts) (bodies : List Body) → IsGenerated false given bytes (Ok m) after → AreDrawnBodies m bodies → bodies_at m after ≡ (bodies, left) → KeepsPieces after left
     → IsProgram given bytes (Ok (record { «module» = m; bodies = bodies })) left
-program_made given bytes after left m bodies generated drawn kept = record {
-  modules = record { after = after; generated = generated; source = kept };
+program_made given bytes after left m bodies generated drawn exact kept = record {
+  programs = record { of = record { after = after; generated = generated; source = kept }; exact = exact };
   bodies = drawn;
   refusals = tt;
   source = kept bytes generated.source;
@@ -27,7 +28,7 @@ pub module_refused : (given : Config) (bytes left : List ℕ) (answer : Result P
     → IsProgram given bytes answer left
 module_refused given bytes left (Ok program) e generated passed = absurd passed
 module_refused given bytes left (Err y) e generated passed = record {
-  modules = tt;
+  programs = tt;
   bodies = tt;
   refusals = inl (subst (λ (x : Error). IsGenerated false given bytes (Err x) left) (sym passed) generated);
   source = generated.source;
@@ -38,7 +39,7 @@ pub bodies_refused : (given : Config) (bytes after left : List ℕ) (m : Parts) 
     → IsProgram given bytes answer left
 bodies_refused given bytes after left m (Ok program) e generated passed memory kept = absurd passed
 bodies_refused given bytes after left m (Err y) e generated passed memory kept = record {
-  modules = tt;
+  programs = tt;
   bodies = tt;
   refusals = inr (record { is = passed ∙ memory; m = m; of = record { after = after; generated = generated; source = kept } });
   source = kept bytes generated.source;

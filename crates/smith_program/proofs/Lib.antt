@@ -1,4 +1,5 @@
 pub mod ScopeLemmas
+pub mod DrawnBodiesLemmas
 pub mod CountedLemmas
 pub mod WiderLemmas
 pub mod TerminationLemmas

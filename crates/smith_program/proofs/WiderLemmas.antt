@@ -1,6 +1,5 @@
 -- A body is typed as it was where its module has more globals.
 use Rattle.std.proofs.Common.{ℕ, List, ◌++◌}
-use Rattle.std.specs.Prelude.{All}
 use Rattle.std.proofs.lemmas.List.Elements.{All-weaker}
 use Rattle.smith_types.specs.declared.entity_type.GlobalType.{GlobalType}
 use Rattle.smith_types.specs.declared.value_type.ValType.{ValType}

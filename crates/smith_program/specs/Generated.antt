@@ -7,6 +7,7 @@ use Rattle.smith_config.specs.declared.config.Config.{Config}
 use Rattle.smith_definitions.specs.Module.{Parts}
 use Rattle.wasm_smith.specs.Generated.{IsGenerated}
 use Rattle.smith_program.specs.Bodies.{AreDrawnBodies}
+use Rattle.smith_program.specs.DrawnBodies.{bodies_at}
 use Rattle.smith_program.specs.declared.program.Program.{Program}
 
 -- a module that `Module::new` gives, and the bytes after it, of which some are left
@@ -14,6 +15,11 @@ pub record IsModuleOf (given : Config) (bytes left : List ℕ) (m : Parts) : Typ
   pub after : List ℕ
   pub generated : IsGenerated false given bytes (Ok m) after
   pub source : KeepsPieces after left
+
+-- such a module, and the bodies that the bytes after it give
+pub record IsProgramOf (given : Config) (bytes left : List ℕ) (program : Program) : Type 0 where
+  pub of : IsModuleOf given bytes left program.«module»
+  pub exact : bodies_at program.«module» of.after ≡ (program.bodies, left)
 
 -- want of memory for the bodies of a module that is given
 pub record LacksMemory (given : Config) (bytes left : List ℕ) (e : Error) : Type 0 where
@@ -23,7 +29,7 @@ pub record LacksMemory (given : Config) (bytes left : List ℕ) (e : Error) : Ty
 
 -- the answer for a configuration and the bytes of the source, of which some are left: a refusal is that of the module, or of its bodies
 pub record IsProgram (given : Config) (bytes : List ℕ) (answer : Result Program Error) (left : List ℕ) : Type 0 where
-  pub modules : IfOk answer (λ program. IsModuleOf given bytes left program.«module»)
+  pub programs : IfOk answer (IsProgramOf given bytes left)
   pub bodies : IfOk answer (λ program. AreDrawnBodies program.«module» program.bodies)
   pub refusals : IfErr answer (λ e. IsGenerated false given bytes (Err e) left ⊎ LacksMemory given bytes left e)
   pub source : IsPiece bytes left

@@ -7,7 +7,9 @@ ghost use Rattle.smith_definitions.specs.Module.{IsValid, module_features, modul
 ghost use Rattle.smith_instr.specs.Enabled.{IsEnabled};
 ghost use Rattle.smith_instr.specs.Sequences.{IsBodyTyped};
 ghost use Rattle.smith_program.specs.Bodies.{AreDrawnBodies, HasDefinedType, IsDrawnAt, IsOfBody, function_context};
+ghost use Rattle.smith_program.specs.DrawnBodies.{bodies_at, one_at};
 ghost use Rattle.smith_program.specs.Named.{IsNamed};
+ghost use Rattle.smith_code.specs.Bodies.{body_at};
 ghost use Rattle.smith_code.specs.Scopes.{most};
 
 use crate::program::Body;
@@ -33,6 +35,7 @@ pub fn draw_bodies(
 ) -> Result<Items<Body>, Error>
     requires valid { IsValid «module».now }
     ensures bodies { IfOk result (AreDrawnBodies «module».now) }
+    ensures exact { IfOk result (λ bodies. bodies_at «module».now u.old ≡ (bodies, u.new)) }
     ensures refusal { IfErr result (λ e. e ≡ Error.Memory) }
     ensures left { KeepsPieces u.old u.new }
 {
@@ -61,6 +64,7 @@ fn draw_each(
     requires valid { IsValid «module».now }
     requires named { IsNamed «module».now named.now }
     ensures bodies { IfOk result (AreDrawnBodies «module».now) }
+    ensures exact { IfOk result (λ bodies. bodies_at «module».now u.old ≡ (bodies, u.new)) }
     ensures refusal { IfErr result (λ e. e ≡ Error.Memory) }
     ensures left { KeepsPieces u.old u.new }
 {
@@ -83,6 +87,7 @@ fn draw_one(
     requires named { IsNamed «module».now named.now }
     requires inside { place < length «module».now.code }
     ensures body { IfOk result (λ body. (code : Defined) → slice_get «module».now.code place ≡ Some code → IsOfBody (IsDrawnAt «module».now place code) code body) }
+    ensures exact { IfOk result (λ body. (code : Defined) → slice_get «module».now.code place ≡ Some code → one_at «module».now place code u.old ≡ (body, u.new)) }
     ensures refusal { IfErr result (λ e. e ≡ Error.Memory) }
     ensures left { KeepsPieces u.old u.new }
 {
@@ -133,6 +138,7 @@ fn draw_instructions(
     ensures typed { IfOk result (IsBodyTyped (function_context «module».now function.now code.now.locals)) }
     ensures enabled { IfOk result (All (IsEnabled (module_features «module».now) «module».now.config.allowed_instructions)) }
     ensures short { IfOk result (λ body. length body ≤ 1 + length function.now.results + most «module».now.types * «module».now.config.max_instructions) }
+    ensures exact { IfOk result (λ body. body_at «module».now.config.allowed_instructions (function_context «module».now function.now code.now.locals) «module».now.config.max_instructions u.old ≡ (body, u.new)) }
     ensures refusal { IfErr result (λ e. e ≡ Error.Memory) }
     ensures left { KeepsPieces u.old u.new }
 {

@@ -2,7 +2,7 @@ use Rattle.smith_program.proofs.GeneratedLemmas.{program_made, module_refused, b
 use Rattle.smith_program.proofs.program.Program.new.Goals as goal
 
 pub returns : goal.returns
-returns c = program_made c.args.config c.args.u.now c.new.new.u c.draw_bodies.new.u _ _ c.in_ok-module.ensures c.in_ok-bodies.ensures.bodies c.draw_bodies.ensures.left
+returns c = program_made c.args.config c.args.u.now c.new.new.u c.draw_bodies.new.u _ _ c.in_ok-module.ensures c.in_ok-bodies.ensures.bodies c.in_ok-bodies.ensures.exact c.draw_bodies.ensures.left
 
 pub returns-in_err-module : goal.returns-in_err-module
 returns-in_err-module c =
