@@ -11,6 +11,7 @@ ghost use Rattle.smith_draw.specs.ConstBounds.{IsUngrounded, MayRefuseConstExpr}
 ghost use Rattle.smith_draw.specs.ConstFloats.{GivesNoFloat};
 ghost use Rattle.smith_draw.specs.ConstScopes.{AreSpacesValid, seen_by};
 ghost use Rattle.smith_draw.specs.Drawing.{AlwaysDraws, Draws};
+ghost use Rattle.smith_draw.specs.KeptOffers.{AreKeptOffers};
 ghost use Rattle.smith_imports.specs.Steps.{Gives};
 ghost use Rattle.smith_contents.specs.DrawnElements.{IsOffered, FitsTable, AreItemsFit, MayDrawElements, MayHoldItems, MayRefuseFunctions, MayRefuseItems, HasUngroundedElements};
 ghost use Rattle.smith_contents.specs.ElementSegments.{
@@ -31,7 +32,9 @@ use crate::element_kinds::{KindChoice, is_funcref};
 use crate::offered_indices::OfferedIndices;
 use smith_bytes::{Count, Error, Unstructured, Why, goes_on};
 use smith_config::Config;
-use smith_draw::{Spaces, Standing, arbitrary_const_expr, draw_matching_ref_type, draw_ref_type};
+use smith_draw::{
+    KeptOffers, Spaces, Standing, draw_const_expr, draw_matching_ref_type, draw_ref_type,
+};
 use smith_types::{ConstInstr, Elements, Items, RefType, SubType, ValType};
 use std::alloc::Global;
 
@@ -196,17 +199,20 @@ fn draw_expression_item(
     config: &Config,
     spaces: &Spaces<'_>,
     ty: RefType,
+    kept: &mut KeptOffers,
     u: &mut Unstructured<'_>,
 ) -> Result<Items<ConstInstr>, Error>
     requires references { IsTrue config.now.reference_types_enabled }
     requires may { MayHoldItems config.now spaces.now ty }
+    requires kept { AreKeptOffers (seen_by config.now spaces.now true) kept.old }
     ensures exact { IfOk result (λ drawn. expression_item_at config.now (seen_by config.now spaces.now true) ty u.old ≡ (drawn, u.new)) }
     ensures typed { IfOk result (IsConstExpr (seen_by config.now spaces.now true) (Ref ty)) }
     ensures floats { All HasNoFloat spaces.now.types.now.types → IfOk result (All GivesNoFloat) }
+    ensures kept { OnOk result (AreKeptOffers (seen_by config.now spaces.now true) kept.new) }
     ensures refusal { IfErr result (MayRefuseConstExpr config.now (standing_in config.now spaces.now) (Ref ty)) }
     ensures left { KeepsPieces u.old u.new }
 {
-    arbitrary_const_expr(alloc, config, spaces, ValType::Ref(ty), true, u)
+    draw_const_expr(alloc, config, spaces, ValType::Ref(ty), true, kept, u)
 }
 
 #[tactic(auto, unfolding(crate::specs::ElementSegments::drawn_expressions_at))]
@@ -226,12 +232,13 @@ fn draw_each_expression(
     ensures refusal { IfErr result (MayRefuseConstExpr config.now (standing_in config.now spaces.now) (Ref ty)) }
     ensures left { KeepsPieces u.old u.new }
 {
+    let mut kept = KeptOffers::new(alloc);
     let mut items = Items::new(alloc);
     for made in 0..most {
         if !goes_on(u, made, config.min_elements) {
             return Ok(items);
         }
-        items.push(draw_expression_item(alloc, config, spaces, ty, u)?)?;
+        items.push(draw_expression_item(alloc, config, spaces, ty, &mut kept, u)?)?;
     }
     Ok(items)
 }

@@ -19,6 +19,7 @@ loop-made-preserved c =
       growing = grow_go c.loop-made.invariant.growing c.loop-made-test.true c.goes_on.ensures.exact c.if-not-goes_on.false item.exact c.in_ok-push.ensures.ok c.goes_on.ensures.left item.left;
       typed = rw c.in_ok-push.ensures.ok (All-push (IsConstExpr context (Ref c.args.ty)) c.loop-made.items _ c.loop-made.invariant.typed item.typed);
       floats = λ calm. rw c.in_ok-push.ensures.ok (All-push (All GivesNoFloat) c.loop-made.items _ (c.loop-made.invariant.floats calm) (item.floats calm));
+      kept = item.kept;
     }
 
 pub returns-clause-exact : goal.returns-clause-exact

@@ -6,6 +6,7 @@ use Rattle.smith_types.specs.Floats.{HasNoFloat}
 use Rattle.smith_types.specs.declared.value_type.ValType.TheVariants.{Ref}
 use Rattle.smith_draw.specs.ConstFloats.{GivesNoFloat}
 use Rattle.smith_draw.specs.ConstScopes.{seen_by}
+use Rattle.smith_draw.specs.KeptOffers.{AreKeptOffers}
 use Rattle.smith_contents.specs.ElementSegments.{expression_item_at, drawn_expressions_at}
 use Rattle.smith_contents.proofs.element_items.draw_each_expression.Given as goal
 
@@ -16,4 +17,5 @@ invariant-loop-made l =
       growing : IsGrowing (λ _. expression_item_at l.config context l.ty) l.config.min_elements l.most l.made l.items l.fn.u l.u (drawn_expressions_at l.config context l.ty l.most l.fn.u);
       typed : All (IsConstExpr context (Ref l.ty)) l.items;
       floats : All HasNoFloat l.spaces.types.now.types → All (All GivesNoFloat) l.items;
+      kept : AreKeptOffers context l.kept;
     }
