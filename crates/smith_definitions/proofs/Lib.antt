@@ -7,6 +7,7 @@ pub mod DefinedLemmas
 pub mod TypedLemmas
 pub mod DefinedMemoryLemmas
 pub mod GlobalsLoop
+pub mod KeptOfferLemmas
 pub mod GlobalCountLemmas
 pub mod NumberedGlobalLemmas
 pub mod DefinedTablesLoop

@@ -11,6 +11,7 @@ ghost use Rattle.smith_config.specs.Sanitized.{IsSanitized};
 ghost use Rattle.smith_draw.specs.ConstFloats.{GivesNoFloat};
 ghost use Rattle.smith_draw.specs.ConstScopes.{AreSpacesValid, seen_by};
 ghost use Rattle.smith_draw.specs.Grounding.{standing_in};
+ghost use Rattle.smith_draw.specs.KeptOffers.{AreKeptOffers};
 ghost use Rattle.smith_definitions.specs.Defined.{IsFilled, MayInitialise, MayRefuseDrawn, AreGlobalsDefined, drawn_over};
 ghost use Rattle.smith_definitions.specs.Definitions.{standing_among, initialised_at, globals_at};
 ghost use Rattle.smith_definitions.specs.NumberedGlobals.{SpellsGlobals};
@@ -18,7 +19,7 @@ ghost use Rattle.smith_definitions.specs.NumberedGlobals.{SpellsGlobals};
 use crate::past_full::ask_past_full;
 use smith_bytes::{Error, Unstructured, goes_on};
 use smith_config::Config;
-use smith_draw::{Entities, Spaces, Standing, arbitrary_const_expr, draw_global_type};
+use smith_draw::{Entities, KeptOffers, Spaces, Standing, draw_const_expr, draw_global_type};
 use smith_types::{ConstInstr, GlobalType, Items, TypeSpace};
 use std::alloc::Global;
 
@@ -29,21 +30,24 @@ fn draw_initialised_global(
     config: &Config,
     spaces: &Spaces<'_>,
     standing: &Standing<'_>,
+    kept: &mut KeptOffers,
     u: &mut Unstructured<'_>,
 ) -> Result<(GlobalType, (u32, Items<ConstInstr>)), Error>
     requires sanitized { IsSanitized config.now }
     requires spaces { AreSpacesValid config.now spaces.now }
     requires standing { standing.now ≡ standing_in config.now spaces.now }
+    requires kept { AreKeptOffers (seen_by config.now spaces.now true) kept.old }
     ensures exact { IfOk result (λ drawn. initialised_at config.now (seen_by config.now spaces.now true) u.old ≡ (drawn, u.new)) }
     ensures valid { IfOk result (λ drawn. IsGlobalValid (features_of config.now) spaces.now.types.now.types drawn.0) }
     ensures initialised { IfOk result (λ drawn. IsConstExpr (seen_by config.now spaces.now true) drawn.0.val_type drawn.1.1) }
     ensures floats { config.now.allow_floats ≡ false → IfOk result (λ drawn. IsNoFloat drawn.0.val_type) }
     ensures constants { config.now.allow_floats ≡ false → All HasNoFloat spaces.now.types.now.types → IfOk result (λ drawn. All GivesNoFloat drawn.1.1) }
+    ensures kept { OnOk result (AreKeptOffers (seen_by config.now spaces.now true) kept.new) }
     ensures refusal { IfErr result (MayRefuseDrawn config.now (standing_in config.now spaces.now)) }
     ensures left { KeepsPieces u.old u.new }
 {
     let global = draw_global_type(config, standing, u);
-    let initial = arbitrary_const_expr(alloc, config, spaces, global.val_type, true, u)?;
+    let initial = draw_const_expr(alloc, config, spaces, global.val_type, true, kept, u)?;
     let index = spaces.entities.globals.len() as u32;
     Ok((global, (index, initial)))
 }
@@ -78,6 +82,7 @@ fn push_globals<'a>(
 {
     let before = globals.len();
     let least = config.min_globals.saturating_sub(before);
+    let mut kept = KeptOffers::new(alloc);
     for made in 0..config.max_globals.saturating_sub(before) {
         if !goes_on(u, made, least) {
             return Ok(());
@@ -94,6 +99,7 @@ fn push_globals<'a>(
             config,
             &Spaces { types, entities },
             standing,
+            &mut kept,
             u,
         )?;
         globals.push(global)?;

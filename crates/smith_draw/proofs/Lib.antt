@@ -43,6 +43,7 @@ pub mod BelowLemmas
 pub mod GroundingLemmas
 pub mod KeptGroundLemmas
 pub mod KeptOfferLemmas
+pub mod KeptGrowthLemmas
 pub mod ReadableLemmas
 pub mod ConstScopeLemmas
 pub mod ConstOfferLemmas
