@@ -44,7 +44,7 @@ all_in_range types all = record {
       inner_in_range types t.composite_type.inner (subst (λ (t : SubType). All (IsValInRange types) (values_of t.composite_type.inner)) same (all i t inside));
 }
 
-value_in_range : (features : Features) (types : List SubType) (value : ValType) → IsValTypeValid features (length types) value → IsValInRange types value
+pub value_in_range : (features : Features) (types : List SubType) (value : ValType) → IsValTypeValid features (length types) value → IsValInRange types value
 value_in_range features types (Ref reference) h = heap_in_range reference.heap_type h.1.heap_type where
   heap_in_range : (heap : HeapType) → IsHeapTypeValid features (length types) heap → IsInRange types heap
   heap_in_range (Abstract shared ty) h = tt
