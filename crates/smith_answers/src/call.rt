@@ -175,6 +175,7 @@ pub(crate) enum SpaceCall {
     Size,
     Matches,
     Pushed,
+    Added,
     Listed,
 }
 
@@ -182,7 +183,7 @@ pub(crate) enum SpaceCall {
 pub(crate) const RECORDED: &str = "recorded";
 
 // Each call by its name.
-static CALLS: [(&str, Call); 80] = [
+static CALLS: [(&str, Call); 81] = [
     ("Module::new", Call::Module(ModuleCall::New)),
     (
         "Module::new_internal",
@@ -413,6 +414,7 @@ static CALLS: [(&str, Call); 80] = [
     ("TypeSpace::depth", Call::Space(SpaceCall::Depth)),
     ("TypeSpace::size_of", Call::Space(SpaceCall::Size)),
     ("TypeSpace::push_type", Call::Space(SpaceCall::Pushed)),
+    ("add_type", Call::Space(SpaceCall::Added)),
     ("list_types", Call::Space(SpaceCall::Listed)),
     ("clone", Call::Copies),
     (RECORDED, Call::Recorded),

@@ -215,20 +215,21 @@ pub struct Config {
     /// false.
     pub non_nullable_enabled: bool,
 
-    /// The kinds of instructions that bodies may hold. Default all. Kept without effect: bodies
-    /// hold no drawn instruction.
+    /// The kinds of instructions that bodies may hold. Default all. No effect on a module, whose
+    /// bodies hold no drawn instruction; those of a program hold such kinds alone.
     pub allowed_instructions: InstructionKinds,
 
     /// The weights by which the offset of a memory access lies inside the memory. Kept without
-    /// effect: bodies hold no drawn instruction.
+    /// effect: offsets are chosen without weights.
     pub memory_offset_choices: MemoryOffsetChoices,
 
-    /// The greatest number of instructions in a body. Default 100. Kept without effect: bodies
-    /// hold no drawn instruction.
+    /// The number of instructions with operands, or with others inside, that are chosen for a body
+    /// of a program. Default 100; where 0, each of these bodies is `unreachable`. No effect on a
+    /// module, whose bodies hold no drawn instruction.
     pub max_instructions: usize,
 
-    /// Whether NaN results get one bit pattern. Default false. Kept without effect: bodies hold no
-    /// drawn instruction.
+    /// Whether NaN results get one bit pattern. Default false. Kept without effect: no result is
+    /// changed.
     pub canonicalize_nans: bool,
 
     /// Whether custom sections are made. Default false. Kept without effect: a module here has no

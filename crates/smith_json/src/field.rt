@@ -343,7 +343,7 @@ pub static FIELDS: [Field; 71] = [
     Field {
         name: "max-instructions",
         kind: FieldKind::Whole(64),
-        about: "The greatest number of instructions in a body.",
+        about: "The number of instructions with operands, or with others inside, that are chosen for a body.",
     },
     Field {
         name: "canonicalize-nans",

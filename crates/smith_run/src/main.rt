@@ -17,15 +17,13 @@ use crate::program::{exit_status, run_words};
 use crate::run::RunFault;
 use crate::sink::FromWrite;
 use crate::source::FromRead;
-use std::io::ErrorKind;
 use std::process::ExitCode;
 use std::{env, io};
-use wasm_smith::Error;
 
 fn main(rt: HostRuntime) -> ExitCode {
     let asked = match read_words(&rt) {
         Ok(asked) => asked,
-        Err(error) => return tell_unread(&rt, &error),
+        Err(_) => return tell_unread(&rt),
     };
     let mut source = FromRead::new(rt.stdin());
     let mut sink = FromWrite::new(rt.stdout());
@@ -36,17 +34,13 @@ fn main(rt: HostRuntime) -> ExitCode {
     ExitCode::from(exit_status(&ended))
 }
 
-/// Tells that the words weren't read: for want of memory as a module is refused, else as a failed read.
-fn tell_unread(rt: &HostRuntime, error: &io::Error) -> ExitCode {
-    if error.kind() == ErrorKind::OutOfMemory {
-        let _ = print!(rt; "{}", line::line(&Err(Error::Memory)));
-    } else {
-        let _ = eprintln!(rt; "{}", RunFault::Read);
-    }
+/// Tells that the words weren't read.
+fn tell_unread(rt: &HostRuntime) -> ExitCode {
+    let _ = eprintln!(rt; "{}", RunFault::Read);
     ExitCode::FAILURE
 }
 
-/// Reads the words after the program's name. A word that isn't UTF-8 is a failure.
+/// Reads the words after the program's name. A word that isn't UTF-8 is a failure, and so is want of memory.
 fn read_words(rt: &HostRuntime) -> io::Result<Vec<String>> {
     let words = env::args(rt)?.skip(1).collect(rt.alloc())?;
     Ok(words)

@@ -1,6 +1,7 @@
 ghost use Rattle.std.specs.Prelude.{◌<◌, ◌^◌, IsTrue, IfOk};
 ghost use Rattle.smith_types.specs.Matching.{IsInnerInRange};
 ghost use Rattle.smith_types.specs.Sizes.{IsTyped, size_in};
+ghost use Rattle.smith_types.specs.Space.{MayFollow};
 
 use crate::answers::spaces::types_of;
 use crate::answers::told::{tell_refusal, tell_types, tell_values};
@@ -10,7 +11,8 @@ use crate::case::Case;
 use crate::fault::Fault;
 use crate::shape_parts::entity_of;
 use crate::shapes::shape_named;
-use smith_draw::{TypeUse, list_types};
+use smith_bytes::Error;
+use smith_draw::{TypeUse, add_type, list_types};
 use smith_types::{
     CompositeInnerType, CompositeType, EntityType, Items, StandingValue, SubType, TypeSpace,
     all_values_hold,
@@ -25,7 +27,7 @@ pub(crate) fn answer_space(
     answer: &mut String,
 ) -> Result<(), Fault> {
     match call {
-        SpaceCall::Pushed => answer_pushed(alloc, case, answer),
+        SpaceCall::Pushed | SpaceCall::Added => answer_pushed(alloc, case, call, answer),
         _ => answer_over(alloc, &types_of(alloc, case)?, case, call, answer),
     }
 }
@@ -125,26 +127,47 @@ fn composite_at<'a>(
 }
 
 // The index of each type of the case as it is added, and then the types in their groups.
-fn answer_pushed(alloc: Global, case: &Case, answer: &mut String) -> Result<(), Fault> {
+fn answer_pushed(
+    alloc: Global,
+    case: &Case,
+    call: SpaceCall,
+    answer: &mut String,
+) -> Result<(), Fault> {
     at_most(case, 0)?;
     let Some(name) = &case.types else {
         return Err(Fault::UnknownTypes);
     };
     let shape = shape_named(alloc, name.as_str())?;
-    push_groups(alloc, shape.groups.as_slice(), answer)
+    push_groups(alloc, shape.groups.as_slice(), call, answer)
 }
 
-fn push_groups(alloc: Global, groups: &[Items<SubType>], answer: &mut String) -> Result<(), Fault> {
+fn push_groups(
+    alloc: Global,
+    groups: &[Items<SubType>],
+    call: SpaceCall,
+    answer: &mut String,
+) -> Result<(), Fault> {
     let mut types = TypeSpace::new(alloc);
     for group in groups {
-        push_group(alloc, group.as_slice(), &mut types, answer)?;
+        push_group(alloc, group.as_slice(), call, &mut types, answer)?;
     }
     tell_types(&types, answer)
+}
+
+// Adds the type `added`, which may follow, by `call`.
+fn push(call: SpaceCall, types: &mut TypeSpace, added: SubType) -> Result<u32, Error>
+    requires { MayFollow types.old.types added }
+{
+    match call {
+        SpaceCall::Added => add_type(types, added),
+        _ => types.push_type(added),
+    }
 }
 
 fn push_group(
     alloc: Global,
     group: &[SubType],
+    call: SpaceCall,
     types: &mut TypeSpace,
     answer: &mut String,
 ) -> Result<(), Fault> {
@@ -153,7 +176,7 @@ fn push_group(
         if !types.may_follow(&added) {
             return Err(Fault::NotCallable("a type may not follow"));
         }
-        let index = types.push_type(added)?;
+        let index = push(call, types, added)?;
         writeln!(answer, "index {index}")?;
     }
     Ok(types.push_group()?)
