@@ -6,7 +6,7 @@ ghost use Rattle.smith_config.specs.Faults.{counts, minimum_of, maximum_of, IsBo
 use crate::Config;
 use smith_bytes::{ConfigFault, Count};
 
-/// Every fault, in the order in which faults are looked for.
+/// All faults, in the order of the check.
 const FAULTS: [ConfigFault; 24] = [
     ConfigFault::MinAboveMax(Count::Types),
     ConfigFault::MinAboveMax(Count::Imports),
@@ -44,10 +44,10 @@ const MEMORY32_BYTES: u64 = 1 << 32;
 const MEMORY64_BYTES: u128 = 1 << 64;
 
 impl Config {
-    /// Looks for what is out of range or contradicts itself, and gives the first fault: first over
-    /// all pairs of a minimum and a maximum, then over the maximums, each in the order of [`Count`],
-    /// then over the bytes of memories. The pair of imports is left out where a shape fixes the
-    /// imports, the pair of exports where a shape fixes the exports or everything is exported.
+    /// Checks that no field is out of range and that no two contradict each other, and returns the
+    /// first fault. Pairs of a minimum and a maximum come first, then maximums, each in the order of
+    /// [`Count`], then the bytes of memories. The pair of imports is not checked if a shape fixes the
+    /// imports, and the pair of exports if a shape fixes the exports or everything is exported.
     pub fn check(&self) -> Result<(), ConfigFault>
         ensures passes { IsOk result ↔ Passes self.now }
         ensures fault { IfErr result (λ fault. IsFirstFault self.now fault) }
@@ -63,7 +63,7 @@ impl Config {
         Ok(())
     }
 
-    /// Whether the configuration has no fault, without a look for the first fault.
+    /// Whether the configuration has no fault.
     fn passes(&self) -> bool
         ensures { IsTrue result ↔ Passes self.now }
     {

@@ -4,12 +4,12 @@ ghost use Rattle.smith_config.specs.Config.{default_config};
 use crate::{MemoryOffsetChoices, Shape};
 use smith_types::InstructionKinds;
 
-/// What may be asked of a module: how much of each kind, which proposals, and which further rules.
+/// The configuration of a module: the number of items of each kind, the proposals, and further rules.
 ///
-/// `Config::default()` asks for a module of moderate size with the finished proposals on. A field
-/// is changed by a struct update: `Config { max_types: 3, ..Config::default() }`. Fields that
-/// contradict one another are settled by [`Config::sanitize`], fields out of range are found by
-/// [`Config::check`]; every generator call does both first.
+/// `Config::default()` describes a module of moderate size with the finished proposals on. A struct
+/// update changes a field: `Config { max_types: 3, ..Config::default() }`. [`Config::sanitize`]
+/// settles fields that contradict each other, and [`Config::check`] finds fields out of range. The
+/// calls that make a whole module do both first; drawing calls require it of their caller.
 ///
 /// Counts cover the whole index space: imported items, and items that the module defines. A
 /// maximum is at most `2^31`, and a minimum at most its maximum.
@@ -19,7 +19,7 @@ pub struct Config {
     pub min_types: usize,
 
     /// The greatest number of types. Default 100. Functions and tags need function types, so 0
-    /// leaves out functions and tags too, but for those that a shape brings.
+    /// leaves out functions and tags too, except those of a shape.
     pub max_types: usize,
 
     /// The least number of imports, compact groups counted by their items. Default 0. A number
@@ -279,7 +279,7 @@ pub struct Config {
     pub exports: Option<Shape>,
 
     /// The first types of a module, and all its imports and exports, in order. Default none. Empty
-    /// groups of imports are left out, and without compact imports each import stands alone. For
+    /// groups of imports are left out, and each import is alone in its group without compact imports. For
     /// each export an item is defined that has the same type, for an export of an import too; a
     /// definition that nothing exports has no effect. The rest is drawn. The minimums of imports and
     /// exports, `export_everything`, `available_imports` and `exports` are without effect beside the

@@ -1,4 +1,4 @@
-//! What may be asked of a generated module.
+//! The configuration of a generated module, and its checks.
 #![tactic(auto)]
 
 mod arbitrary;

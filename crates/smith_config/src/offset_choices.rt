@@ -4,15 +4,15 @@ ghost use Rattle.smith_config.specs.OffsetChoices.{default_choices, zero_choices
 use std::str::FromStr;
 use thiserror::Error;
 
-/// The weights by which the offset of a memory access lies inside the minimum of the memory, between
-/// the minimum and the maximum, and past the maximum. Each weight is read against the sum of the
-/// three. Default (90, 9, 1).
+/// Weights of where the offset of a memory access lies: below the minimum of the memory, between its
+/// minimum and its maximum, and past its maximum. Each weight is relative to the sum of the three.
+/// Default (90, 9, 1).
 ///
-/// As text the weights stand in the order of the fields, with commas between them.
+/// The text form lists the weights in the order of the fields, separated by commas.
 #[derive(Clone, Copy, Debug, PartialEq, Eq)]
 pub struct MemoryOffsetChoices(pub u32, pub u32, pub u32);
 
-/// Why a text is no [`MemoryOffsetChoices`].
+/// Reasons why a text is not a [`MemoryOffsetChoices`].
 #[derive(Clone, Copy, Debug, PartialEq, Eq, Error)]
 pub enum OffsetChoicesFault {
     /// The text has fewer than three parts, all of them numbers.

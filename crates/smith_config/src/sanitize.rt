@@ -4,8 +4,8 @@ ghost use Rattle.smith_config.specs.Sanitized.{sanitized, IsSanitized, IsLowered
 use crate::Config;
 
 impl Config {
-    /// Turns off what other fields rule out, lowers `max_tables` to 1 without reference types, and
-    /// sets `available_imports` and `exports` to none beside a module shape.
+    /// Turns off each field that another field rules out, lowers `max_tables` to 1 without reference
+    /// types, and clears `available_imports` and `exports` if there is a module shape.
     pub fn sanitize(&mut self)
         ensures exact { self.new ≡ sanitized self.old }
         ensures sound { IsSanitized self.new }

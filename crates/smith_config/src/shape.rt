@@ -2,11 +2,10 @@ use smith_types::{
     Exact, ExportKind, GlobalType, Imports, Items, MemoryType, Name, SubType, TableType,
 };
 
-/// What a module is asked to have: the types, imports, definitions and exports of a module, without bodies.
+/// Required parts of a module: types, imports, definitions and exports, without bodies.
 ///
-/// Which parts of a shape a module has is told by the field of `Config` that holds the shape. A
-/// definition counts only by the exports that name it: a module has an item of its own for each
-/// export.
+/// The field of `Config` that holds the shape says which of these parts a module has. A definition
+/// matters only through the exports that name it: a module defines an item of its own for each export.
 #[derive(Debug, Drop, PartialEq)]
 pub struct Shape {
     /// The types in their recursive groups.

@@ -1,4 +1,4 @@
-//! What keeps a shape from being handed in, one file a fault: the first in the order of [`ShapeFault`] is told.
+//! The check of a shape, one file per fault. The first fault in the order of [`ShapeFault`] is reported.
 
 ghost use Rattle.std.specs.Prelude.{◌≡◌, OnOk, IfOk, IfErr, MatchOption};
 ghost use Rattle.smith_types.specs.IndexSpaces.{spaces_in};
@@ -31,12 +31,12 @@ use std::alloc::Global;
 use types::are_types_sound;
 
 impl Shape {
-    /// Looks for what keeps the shape from being handed in for the use `which`, with the configuration `config`, and gives the
-    /// first fault in the order of [`ShapeFault`], as an error that names `which`.
+    /// Checks the shape for the use `which` under the configuration `config`. The error names `which` and the first fault in the
+    /// order of [`ShapeFault`].
     ///
-    /// The call takes memory of `alloc`, unless a list of the shape is too long. The time is linear in the shape, but for names,
-    /// which go through a set, and for supertypes: each is looked for in steps that grow with the logarithm of the depth of a
-    /// type.
+    /// Takes memory from `alloc`, unless a list of the shape is too long. The time is linear in the shape, except for names,
+    /// which go through a set, and for supertypes, each of which takes a number of steps that grows with the logarithm of the
+    /// depth of its type.
     pub fn check(&self, alloc: Global, which: Which, config: &Config) -> Result<(), Error>
         ensures passes { OnOk result (IsShapeValid which config.now self.now) }
         ensures refused { IfErr result (IsRefused which config.now self.now) }

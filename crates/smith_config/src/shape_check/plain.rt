@@ -9,7 +9,7 @@ use smith_types::{
     all_named_values_hold,
 };
 
-/// Whether the types of a shape for exports are plain; other uses take any type.
+/// Whether the types of a shape for exports are plain. Other uses take any type.
 pub(crate) fn is_plain_enough(which: Which, space: &TypeSpace, spaces: &IndexSpaces) -> bool
     ensures { IsTrue result ↔ (which ≡ Exports → ArePlain space.now.types (spaces_in spaces.now)) }
 {
@@ -42,7 +42,7 @@ fn is_type_plain(ty: &SubType) -> bool
         && matches!(&ty.composite_type.inner, CompositeInnerType::Func(_))
 }
 
-/// The test whether a value type is no concrete reference.
+/// Tests whether a value type is not a concrete reference.
 #[derive(Clone, Copy)]
 struct NotConcrete;
 

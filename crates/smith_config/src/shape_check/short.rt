@@ -11,7 +11,8 @@ use smith_types::{CompositeInnerType, Imports, Items, SubType};
 /// The greatest length of a list of a shape.
 const MOST: usize = 1 << 29;
 
-/// Whether no list of `shape` is too long, nor are the types or the imports of all groups together. Takes no memory.
+/// Whether no list of `shape` is too long, and neither are the types or the imports of all its groups
+/// together. Takes no memory.
 pub(crate) fn is_short(shape: &Shape) -> bool
     ensures { IsTrue result ↔ IsShort shape.now }
 {

@@ -13,7 +13,7 @@ use smith_types::{
     ValidValue, WasmFeatures, all_named_values_hold, are_types_valid,
 };
 
-/// Whether the types of `space`, and what refers to types in `spaces`, are valid where every feature is on.
+/// Whether the types of `space`, and the entities of `spaces` that refer to types, are valid with every feature on.
 pub(crate) fn are_types_sound(space: &TypeSpace, spaces: &IndexSpaces) -> bool
     ensures { IsTrue result ↔ AreTypesSound space.now (spaces_in spaces.now) }
 {
