@@ -29,7 +29,7 @@ use Rattle.smith_draw.specs.FieldTypes.{storage_type_at, field_type_at}
 use Rattle.smith_draw.specs.Locals.{locals_at}
 use Rattle.smith_draw.specs.MatchingTypes.{each_at, super_val_type_at, matching_val_type_at, matching_storage_type_at, matching_field_type_at, matching_func_type_at}
 use Rattle.smith_draw.specs.MatchingComposites.{matching_struct_type_at, matching_inner_at, matching_composite_type_at}
-use Rattle.smith_draw.specs.RecGroups.{rec_group_at, types_at}
+use Rattle.smith_draw.specs.RecGroups.{clone_rec_group_at, rec_group_at, types_at}
 use Rattle.smith_draw.specs.SubTypes.{is_final_at, root_type_at, sub_type_below_at, sub_type_of_at, sub_type_at}
 use Rattle.smith_draw.specs.ValueTypes.{sharedness_at, val_type_at}
 use Rattle.smith_draw.proofs.FieldTypeLemmas.{values_of_fields}
@@ -37,7 +37,7 @@ use Rattle.smith_draw.proofs.SharedLemmas.{each_join}
 use Rattle.smith_draw.proofs.MatchingLemmas.{all_stay, super_ref_nullable}
 use Rattle.smith_draw.proofs.MatchingCompositeLemmas.{fields_of_values}
 use Rattle.smith_draw.proofs.FilledLemmas.{IsFilledField, val_type_filled, storage_of_number, field_drawn, struct_drawn, matching_value, matching_storage, matching_field, matching_struct, later_ungrounded}
-use Rattle.smith_draw.proofs.KeptTypeLemmas.{sub_type_of_has, sub_type_has, rec_group_has, types_have}
+use Rattle.smith_draw.proofs.KeptTypeLemmas.{sub_type_of_has, sub_type_has, cloned, rec_group_has, types_have}
 
 -- what each drawn item has, whatever it is drawn for, all have
 each_drawn : {A : Type 0} (P : A → Type 0) (draw : A → List ℕ → A × List ℕ) → ((x : A) (bytes : List ℕ) → P (draw x bytes).0) → (xs : List A) (bytes : List ℕ) → Each P (each_at draw xs bytes).0
@@ -177,6 +177,9 @@ module _ (config : Config) (context : Context) where
 
   one_more : (types : List SubType) (limit : ℕ) (bytes : List ℕ) → IsOrderly types → All (IsGrantedAmong types) types → IsGrantedAmong types (sub_type_at config (over context types) limit bytes).0
   one_more types limit bytes orderly all = sub_type_granted config (over context types) orderly limit bytes all
+
+  pub clone_granted : (allow_empty : Bool) (space : Space) (bytes : List ℕ) → IsOrderly space.types → AreTypesGranted config (over context space.types) → AreTypesGranted config (over context (clone_rec_group_at config allow_empty space bytes).1.0.types)
+  clone_granted allow_empty space bytes orderly all = (cloned IsGrantedAmong later_granted config context one_more allow_empty space bytes (record { orderly = orderly; each = all })).each
 
   pub rec_group_granted : (allow_empty : Bool) (space : Space) (bytes : List ℕ) → IsOrderly space.types → AreTypesGranted config (over context space.types) → AreTypesGranted config (over context (rec_group_at config context allow_empty space bytes).0.types)
   rec_group_granted allow_empty space bytes orderly all = (rec_group_has IsGrantedAmong later_granted config context one_more allow_empty space bytes (record { orderly = orderly; each = all })).each

@@ -87,7 +87,7 @@ module _ (P : List SubType → SubType → Type 0) (stays : (types more : List S
         let size = group_size_at config allow_empty (types_left config space) bytes in
         types_until space.types (length space.types + size.0) size.1 now
 
-    cloned : (allow_empty : Bool) (space : Space) (bytes : List ℕ) → AllHave P space.types → AllHave P (clone_rec_group_at config allow_empty space bytes).1.0.types
+    pub cloned : (allow_empty : Bool) (space : Space) (bytes : List ℕ) → AllHave P space.types → AllHave P (clone_rec_group_at config allow_empty space bytes).1.0.types
     unfolding clone_rec_group_at
     cloned allow_empty space bytes now =
         let group = chosen_at (record { start = 0; end = 0 }) space.groups bytes in

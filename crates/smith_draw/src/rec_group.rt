@@ -1,6 +1,7 @@
 ghost use Rattle.std.specs.Prelude.{◌≡◌, ℕ, ◌≤◌, ◌<◌, ◌+◌, ◌-◌, ◌^◌, ◌++◌, ◌∷◌, [], true, false, length, take, drop, Some, slice_get, slice_index_or, IsTrue, OnOk, OnErr, IfOk, IfErr, All};
 ghost use Rattle.smith_bytes.specs.Source.{KeepsPieces};
 ghost use Rattle.smith_bytes.specs.Takes.{Takes};
+ghost use Rattle.smith_types.specs.Expressions.{Context};
 ghost use Rattle.smith_types.specs.Floats.{HasNoFloat};
 ghost use Rattle.smith_types.specs.Space.{MayFollow};
 ghost use Rattle.smith_types.specs.ValidTypes.{AreTypesValid};
@@ -289,6 +290,7 @@ pub fn clone_rec_group(
     ensures valid { AreTypesValid (features_of config.now) types.old → OnOk result (AreTypesValid (features_of config.now) types.new) }
     ensures most { OnOk result (length types.new.types ≤ config.now.max_types) }
     ensures kept { IfOk result (λ added. added ≡ false → types.new ≡ types.old) }
+    ensures granted { (context : Context) → AreTypesGranted config.now (over context types.old.types) → OnOk result (AreTypesGranted config.now (over context types.new.types)) }
     ensures memory { IfErr result (λ e. e ≡ Error.Memory) }
     ensures left { KeepsPieces u.old u.new }
 {

@@ -5,6 +5,9 @@ use Rattle.smith_bytes.specs.declared.error.Count.TheVariants.{Types}
 use Rattle.smith_types.specs.Space.{Space}
 use Rattle.smith_types.specs.ValidTypes.{AreTypesValid}
 use Rattle.smith_config.specs.Features.{features_of}
+use Rattle.smith_draw.specs.Granted.{AreTypesGranted}
+use Rattle.smith_draw.specs.Grounding.{over}
+use Rattle.smith_draw.proofs.GrantedLemmas.{clone_granted}
 use Rattle.smith_draw.proofs.GroupSizeLemmas.{clone_rec_group_most}
 use Rattle.smith_draw.proofs.RecGroupLemmas.{sound_within, clone_rec_group_valid}
 use Rattle.smith_draw.proofs.rec_group.clone_rec_group.Goals as goal
@@ -24,3 +27,8 @@ pub returns-clause-most : goal.returns-clause-most
 returns-clause-most c =
     drawn_space (λ (space : Space). length space.types ≤ c.args.config.now.max_types) c.clone_group.result _ _ _
     (clone_rec_group_most _ _ _ _ (sound_within _ c.types-groups.ensures.sound) c.requires.some c.requires.room) c.clone_group.ensures.exact
+
+pub returns-clause-granted : goal.returns-clause-granted
+returns-clause-granted c = λ context all.
+    drawn_space (λ (space : Space). AreTypesGranted c.args.config.now (over context space.types)) c.clone_group.result _ _ _
+    (clone_granted c.args.config.now context _ _ _ c.types-groups.ensures.sound.orderly all) c.clone_group.ensures.exact
