@@ -100,7 +100,7 @@ pub record AreSpacesWithin (config : Config) (spaces : IndexSpaces) : Type 0 whe
 abbrev pub HasNoFloatValue : GlobalType → Type 0
 HasNoFloatValue global = IsNoFloat global.val_type
 
--- the elements of a table may be null, or are grounded if `non_nullable_enabled` is set
+-- the elements of a table are nullable, or `non_nullable_enabled` is set and they are grounded
 abbrev pub HasGroundedElements : Config → Context → TableType → Type 0
 HasGroundedElements config context table = ¬ IsUngrounded config context (Ref table.element_type)
 
