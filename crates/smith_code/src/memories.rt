@@ -17,7 +17,7 @@ use smith_instr::{Instr, Load, MemArg, MemoryInstr, Store};
 use smith_types::ValType;
 use std::alloc::Global;
 
-/// The loads that give a value of the type `wanted`.
+/// Lists the loads that produce a value of the type `wanted`.
 fn loads_of<'a>(wanted: ValType) -> &'a [Load]
     ensures { result.now ≡ loads_of wanted }
 {
@@ -60,14 +60,15 @@ fn stores<'a>() -> &'a [Store]
     ]
 }
 
-/// Where a memory is accessed, and whether its addresses have 64 bits.
+/// Memory, offset and alignment of an access, and whether its addresses have 64 bits.
 #[derive(Clone, Copy)]
 struct Access {
     at: MemArg,
     wide: bool,
 }
 
-/// Draws where one of the memories is accessed, at an alignment of at most `2 ^ log2_bytes`, or none where there is no memory.
+/// Draws an access to one of the memories, with an alignment of at most `2 ^ log2_bytes`. Returns
+/// none if there is no memory.
 fn draw_access(scope: &Scope<'_>, log2_bytes: u32, u: &mut Unstructured<'_>) -> Option<Access>
     requires scope { IsScope (bare scope.now) }
     ensures exact { access_at scope.now.memories.now log2_bytes u.old ≡ (result, u.new) }
@@ -106,14 +107,14 @@ fn draw_offset(wide: bool, u: &mut Unstructured<'_>) -> u64
     offset as u64
 }
 
-/// The type of an address of a memory.
+/// Returns the type of the addresses of a memory: of 64 bits if `wide` is set, else of 32 bits.
 fn address(wide: bool) -> ValType
     ensures { result ≡ address wide }
 {
     if wide { ValType::I64 } else { ValType::I32 }
 }
 
-/// The memories whose addresses are of a wanted type.
+/// Memories whose addresses have a wanted type.
 #[derive(Clone, Copy)]
 struct AddressOffer<'a> {
     scope: &'a Scope<'a>,
@@ -150,7 +151,7 @@ fn is_address(value: ValType, wide: bool) -> bool
     }
 }
 
-/// Chooses a memory whose addresses are of the type `wanted`.
+/// Chooses a memory whose addresses have the type `wanted`, if there is one.
 fn choose_addressed(scope: &Scope<'_>, wanted: ValType, u: &mut Unstructured<'_>) -> Option<u32>
     requires scope { IsScope (bare scope.now) }
     ensures exact { choose_at (offered (is_addressed (bare scope.now) wanted) (indexed (length scope.now.memories.now))) u.old ≡ (result, u.new) }
@@ -162,7 +163,7 @@ fn choose_addressed(scope: &Scope<'_>, wanted: ValType, u: &mut Unstructured<'_>
     Some(index as u32)
 }
 
-/// Chooses a load that gives a value of the type `wanted`.
+/// Chooses a load that produces a value of the type `wanted`, if there is one.
 pub(crate) fn choose_load(
     alloc: Global,
     scope: &Scope<'_>,
@@ -194,7 +195,7 @@ pub(crate) fn choose_load(
     Ok(Some(node))
 }
 
-/// Chooses a store, or `nop` where there is no memory.
+/// Chooses a store, or `nop` if there is no memory.
 pub(crate) fn choose_store(
     alloc: Global,
     scope: &Scope<'_>,
@@ -231,7 +232,8 @@ fn store_of(
     plain(alloc, &operands, Instr::Store(op, access.at), 0)
 }
 
-/// Chooses the size or the growth of a memory, which gives a value of the type `wanted`.
+/// Chooses `memory.size` or `memory.grow` of a memory whose addresses have the type `wanted`, if
+/// there is one.
 pub(crate) fn choose_memory(
     alloc: Global,
     scope: &Scope<'_>,
