@@ -1,7 +1,7 @@
 use Rattle.std.proofs.Common.{◌≡◌, drop}
 use Rattle.smith_json.specs.Fields.{named}
 use Rattle.smith_json.specs.Places.{fields_in}
-use Rattle.smith_json.proofs.place.found.Given as goal
+use Rattle.smith_json.proofs.field.found.Given as goal
 
 -- nothing before stands under the name
 abbrev pub invariant-loop-other : goal.invariant-loop-other
