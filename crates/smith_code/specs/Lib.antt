@@ -3,6 +3,7 @@ pub mod Nodes
 pub mod Drawn
 pub mod Offered
 pub mod Rows
+pub mod Chosen
 pub mod Choices
 pub mod Leaves
 pub mod Bodies
