@@ -12,3 +12,4 @@ pub mod ChoiceLemmas
 pub mod ExactLemmas
 pub mod TargetLemmas
 pub mod LeafChoiceLemmas
+pub mod ReferenceChoiceLemmas

@@ -21,6 +21,7 @@ use Rattle.smith_instr.specs.declared.numeric.NumericInstr.{NumericInstr}
 use Rattle.smith_code.specs.Chosen.{Chosen, giving}
 use Rattle.smith_code.specs.Nodes.{blocked, is_node_allowed, node_of, setting}
 use Rattle.smith_code.specs.Offered.{func_in, function_at, is_addressed, is_callable, is_local_below, is_mutable, is_target, label_count, offered}
+use Rattle.smith_code.specs.ReferenceChoices.{reference_value_at, select_typed_node}
 use Rattle.smith_code.specs.Rows.{loads_of, numeric_rows, stores}
 use Rattle.smith_code.specs.Scopes.{indexed}
 use Rattle.smith_code.specs.declared.families.StatementFamily.{StatementFamily}
@@ -161,6 +162,8 @@ value_families =
     value.Load ∷
     value.Load ∷
     value.Memory ∷
+    value.SelectTyped ∷
+    value.Reference ∷
     []
 
 -- a value of a family: none of a leaf
@@ -174,6 +177,8 @@ value_of context wanted value.Block bytes = block_at wanted bytes
 value_of context wanted value.Leaving bytes = leaving_at context bytes
 value_of context wanted value.Load bytes = load_at context wanted bytes
 value_of context wanted value.Memory bytes = memory_at context wanted bytes
+value_of context wanted value.SelectTyped bytes = (Some (select_typed_node wanted), bytes)
+value_of context wanted value.Reference bytes = reference_value_at context wanted bytes
 
 unfoldable pub value_choice_at : BodyContext → ValType → List ℕ → Chosen
 value_choice_at context wanted bytes = let family = chosen_at value.Leaf value_families bytes in value_of context wanted family.0 family.1

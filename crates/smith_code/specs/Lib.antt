@@ -4,6 +4,7 @@ pub mod Drawn
 pub mod Offered
 pub mod Rows
 pub mod Chosen
+pub mod ReferenceChoices
 pub mod Choices
 pub mod Leaves
 pub mod Bodies

@@ -27,6 +27,7 @@ use crate::locals::choose_local;
 use crate::memories::{choose_load, choose_memory, choose_store};
 use crate::node::{Node, is_node_allowed, plain, setter};
 use crate::numeric::{choose_numeric, choose_select};
+use crate::reference_values::{choose_reference_value, choose_select_typed};
 use crate::scope::{Draft, Scope, indexed};
 use smith_bytes::{Error, Unstructured};
 use smith_draw::choose;
@@ -88,6 +89,8 @@ fn choose_value(
         ValueFamily::Leaving => choose_leaving_for(alloc, scope, wanted, draft, u),
         ValueFamily::Load => choose_load(alloc, scope, wanted, draft, u),
         ValueFamily::Memory => choose_memory(alloc, scope, wanted, draft, u),
+        ValueFamily::SelectTyped => choose_select_typed(alloc, wanted),
+        ValueFamily::Reference => choose_reference_value(alloc, scope, wanted, draft, u),
     }
 }
 

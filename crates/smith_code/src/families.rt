@@ -17,6 +17,9 @@ pub(crate) enum ValueFamily {
     Load,
     /// The size of a memory, or its growth.
     Memory,
+    SelectTyped,
+    /// An instruction on references.
+    Reference,
 }
 
 /// What may be a statement.
@@ -68,6 +71,8 @@ pub(crate) fn value_families<'a>() -> &'a [ValueFamily]
         ValueFamily::Load,
         ValueFamily::Load,
         ValueFamily::Memory,
+        ValueFamily::SelectTyped,
+        ValueFamily::Reference,
     ]
 }
 

@@ -15,6 +15,7 @@ mod memories;
 mod node;
 mod numeric;
 mod offer;
+mod reference_values;
 mod references;
 mod rows;
 mod scope;
