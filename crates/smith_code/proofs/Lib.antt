@@ -13,3 +13,4 @@ pub mod ExactLemmas
 pub mod TargetLemmas
 pub mod LeafChoiceLemmas
 pub mod ReferenceChoiceLemmas
+pub mod CallLemmas

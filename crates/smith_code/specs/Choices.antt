@@ -18,6 +18,7 @@ use Rattle.smith_instr.specs.declared.memory.Store.{Store}
 use Rattle.smith_instr.specs.declared.memory.Store.TheVariants as store
 use Rattle.smith_instr.specs.declared.memory.MemoryInstr.TheVariants as memory
 use Rattle.smith_instr.specs.declared.numeric.NumericInstr.{NumericInstr}
+use Rattle.smith_code.specs.CallChoices.{by_reference_at, indirect_at, tail_call_at}
 use Rattle.smith_code.specs.Chosen.{Chosen, giving}
 use Rattle.smith_code.specs.Nodes.{blocked, is_node_allowed, node_of, setting}
 use Rattle.smith_code.specs.Offered.{func_in, function_at, is_addressed, is_callable, is_local_below, is_mutable, is_target, label_count, offered}
@@ -32,6 +33,7 @@ use Rattle.smith_code.specs.declared.memories.Access.{Access}
 use Rattle.smith_code.specs.declared.node.Node.{Node}
 use Rattle.smith_code.specs.declared.node.Opening.{Opening}
 use Rattle.smith_code.specs.declared.node.Opening.TheVariants as opening
+use Rattle.smith_code.specs.declared.outcomes.Outcome.TheVariants as outcome
 
 -- a numeric instruction whose first result is of the wanted type; what it gives besides is dropped
 abbrev pub numeric_node : NumericInstr → Option Node
@@ -164,6 +166,9 @@ value_families =
     value.Memory ∷
     value.SelectTyped ∷
     value.Reference ∷
+    value.CallIndirect ∷
+    value.CallRef ∷
+    value.TailCall ∷
     []
 
 -- a value of a family: none of a leaf
@@ -179,6 +184,9 @@ value_of context wanted value.Load bytes = load_at context wanted bytes
 value_of context wanted value.Memory bytes = memory_at context wanted bytes
 value_of context wanted value.SelectTyped bytes = (Some (select_typed_node wanted), bytes)
 value_of context wanted value.Reference bytes = reference_value_at context wanted bytes
+value_of context wanted value.CallIndirect bytes = indirect_at context (outcome.Wanted wanted) bytes
+value_of context wanted value.CallRef bytes = by_reference_at context (outcome.Wanted wanted) bytes
+value_of context wanted value.TailCall bytes = tail_call_at context bytes
 
 unfoldable pub value_choice_at : BodyContext → ValType → List ℕ → Chosen
 value_choice_at context wanted bytes = let family = chosen_at value.Leaf value_families bytes in value_of context wanted family.0 family.1
@@ -291,6 +299,9 @@ statement_families =
     statement.Store ∷
     statement.Unreachable ∷
     statement.LocalSet ∷
+    statement.CallIndirect ∷
+    statement.CallRef ∷
+    statement.TailCall ∷
     []
 
 -- a statement of a family: none of `nop`
@@ -306,6 +317,9 @@ statement_of context statement.Table bytes = table_at context bytes
 statement_of context statement.Store bytes = store_at context bytes
 statement_of context statement.Unreachable bytes = (Some (node_of [] instr.Unreachable 0), bytes)
 statement_of context statement.LocalSet bytes = set_at context bytes
+statement_of context statement.CallIndirect bytes = indirect_at context outcome.Dropped bytes
+statement_of context statement.CallRef bytes = by_reference_at context outcome.Dropped bytes
+statement_of context statement.TailCall bytes = tail_call_at context bytes
 
 -- the node that was chosen, or `nop`
 abbrev pub or_nop : Chosen → Node × List ℕ

@@ -5,6 +5,7 @@ pub mod Offered
 pub mod Rows
 pub mod Chosen
 pub mod ReferenceChoices
+pub mod CallChoices
 pub mod Choices
 pub mod Leaves
 pub mod Bodies

@@ -20,6 +20,9 @@ ghost use Rattle.smith_code.specs.Scopes.{AreLabels, IsScope, bare, where_stands
 
 use crate::blocks::{choose_any_block, choose_block};
 use crate::branches::{choose_branch, choose_leaving, choose_table};
+use crate::calls::{
+    choose_any_by_reference, choose_any_indirect, choose_by_reference, choose_indirect,
+};
 use crate::families::{StatementFamily, ValueFamily, statement_families, value_families};
 use crate::funcs::{choose_callable, function_of};
 use crate::globals::choose_mutable;
@@ -27,8 +30,10 @@ use crate::locals::choose_local;
 use crate::memories::{choose_load, choose_memory, choose_store};
 use crate::node::{Node, is_node_allowed, plain, setter};
 use crate::numeric::{choose_numeric, choose_select};
+use crate::outcomes::Outcome;
 use crate::reference_values::{choose_reference_value, choose_select_typed};
 use crate::scope::{Draft, Scope, indexed};
+use crate::tail_calls::{choose_any_tail_call, choose_tail_call};
 use smith_bytes::{Error, Unstructured};
 use smith_draw::choose;
 use smith_instr::Instr;
@@ -91,6 +96,13 @@ fn choose_value(
         ValueFamily::Memory => choose_memory(alloc, scope, wanted, draft, u),
         ValueFamily::SelectTyped => choose_select_typed(alloc, wanted),
         ValueFamily::Reference => choose_reference_value(alloc, scope, wanted, draft, u),
+        ValueFamily::CallIndirect => {
+            choose_indirect(alloc, scope, Outcome::Wanted(wanted), draft, u)
+        }
+        ValueFamily::CallRef => {
+            choose_by_reference(alloc, scope, Outcome::Wanted(wanted), draft, u)
+        }
+        ValueFamily::TailCall => choose_tail_call(alloc, scope, draft, u),
     }
 }
 
@@ -186,6 +198,9 @@ pub(crate) fn choose_statement(
         StatementFamily::Store => choose_store(alloc, scope, draft, u),
         StatementFamily::Unreachable => plain(alloc, &[], Instr::Unreachable, 0),
         StatementFamily::LocalSet => choose_set(alloc, scope, draft, u),
+        StatementFamily::CallIndirect => choose_any_indirect(alloc, scope, draft, u),
+        StatementFamily::CallRef => choose_any_by_reference(alloc, scope, draft, u),
+        StatementFamily::TailCall => choose_any_tail_call(alloc, scope, draft, u),
     }
 }
 

@@ -20,6 +20,10 @@ pub(crate) enum ValueFamily {
     SelectTyped,
     /// An instruction on references.
     Reference,
+    CallIndirect,
+    CallRef,
+    /// A call that does not come back.
+    TailCall,
 }
 
 /// What may be a statement.
@@ -39,6 +43,10 @@ pub(crate) enum StatementFamily {
     Store,
     Unreachable,
     LocalSet,
+    CallIndirect,
+    CallRef,
+    /// A call that does not come back.
+    TailCall,
 }
 
 /// What may give a value without operands.
@@ -73,6 +81,9 @@ pub(crate) fn value_families<'a>() -> &'a [ValueFamily]
         ValueFamily::Memory,
         ValueFamily::SelectTyped,
         ValueFamily::Reference,
+        ValueFamily::CallIndirect,
+        ValueFamily::CallRef,
+        ValueFamily::TailCall,
     ]
 }
 
@@ -97,6 +108,9 @@ pub(crate) fn statement_families<'a>() -> &'a [StatementFamily]
         StatementFamily::Store,
         StatementFamily::Unreachable,
         StatementFamily::LocalSet,
+        StatementFamily::CallIndirect,
+        StatementFamily::CallRef,
+        StatementFamily::TailCall,
     ]
 }
 

@@ -4,10 +4,12 @@
 mod blocks;
 mod body;
 mod branches;
+mod calls;
 mod choices;
 mod drawn;
 mod families;
 mod funcs;
+mod function_tables;
 mod globals;
 mod leaf;
 mod locals;
@@ -15,10 +17,12 @@ mod memories;
 mod node;
 mod numeric;
 mod offer;
+mod outcomes;
 mod reference_values;
 mod references;
 mod rows;
 mod scope;
+mod tail_calls;
 mod written;
 
 pub use body::draw_body;
