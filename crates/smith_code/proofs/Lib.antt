@@ -14,3 +14,4 @@ pub mod TargetLemmas
 pub mod LeafChoiceLemmas
 pub mod ReferenceChoiceLemmas
 pub mod CallLemmas
+pub mod NullLemmas

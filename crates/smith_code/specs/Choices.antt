@@ -21,6 +21,7 @@ use Rattle.smith_instr.specs.declared.numeric.NumericInstr.{NumericInstr}
 use Rattle.smith_code.specs.CallChoices.{by_reference_at, indirect_at, tail_call_at}
 use Rattle.smith_code.specs.Chosen.{Chosen, giving}
 use Rattle.smith_code.specs.Nodes.{blocked, is_node_allowed, node_of, setting}
+use Rattle.smith_code.specs.NullChoices.{br_on_null_value_at, null_branch_at}
 use Rattle.smith_code.specs.Offered.{func_in, function_at, is_addressed, is_callable, is_local_below, is_mutable, is_target, label_count, offered}
 use Rattle.smith_code.specs.ReferenceChoices.{reference_value_at, select_typed_node}
 use Rattle.smith_code.specs.Rows.{loads_of, numeric_rows, stores}
@@ -169,6 +170,7 @@ value_families =
     value.CallIndirect ∷
     value.CallRef ∷
     value.TailCall ∷
+    value.NullBranch ∷
     []
 
 -- a value of a family: none of a leaf
@@ -187,6 +189,7 @@ value_of context wanted value.Reference bytes = reference_value_at context wante
 value_of context wanted value.CallIndirect bytes = indirect_at context (outcome.Wanted wanted) bytes
 value_of context wanted value.CallRef bytes = by_reference_at context (outcome.Wanted wanted) bytes
 value_of context wanted value.TailCall bytes = tail_call_at context bytes
+value_of context wanted value.NullBranch bytes = br_on_null_value_at context wanted bytes
 
 unfoldable pub value_choice_at : BodyContext → ValType → List ℕ → Chosen
 value_choice_at context wanted bytes = let family = chosen_at value.Leaf value_families bytes in value_of context wanted family.0 family.1
@@ -302,6 +305,7 @@ statement_families =
     statement.CallIndirect ∷
     statement.CallRef ∷
     statement.TailCall ∷
+    statement.NullBranch ∷
     []
 
 -- a statement of a family: none of `nop`
@@ -320,6 +324,7 @@ statement_of context statement.LocalSet bytes = set_at context bytes
 statement_of context statement.CallIndirect bytes = indirect_at context outcome.Dropped bytes
 statement_of context statement.CallRef bytes = by_reference_at context outcome.Dropped bytes
 statement_of context statement.TailCall bytes = tail_call_at context bytes
+statement_of context statement.NullBranch bytes = null_branch_at context bytes
 
 -- the node that was chosen, or `nop`
 abbrev pub or_nop : Chosen → Node × List ℕ

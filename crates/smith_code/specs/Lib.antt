@@ -6,6 +6,7 @@ pub mod Rows
 pub mod Chosen
 pub mod ReferenceChoices
 pub mod CallChoices
+pub mod NullChoices
 pub mod Choices
 pub mod Leaves
 pub mod Bodies

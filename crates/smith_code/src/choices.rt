@@ -29,6 +29,7 @@ use crate::globals::choose_mutable;
 use crate::locals::choose_local;
 use crate::memories::{choose_load, choose_memory, choose_store};
 use crate::node::{Node, is_node_allowed, plain, setter};
+use crate::null_branches::{choose_kept, choose_null_branch};
 use crate::numeric::{choose_numeric, choose_select};
 use crate::outcomes::Outcome;
 use crate::reference_values::{choose_reference_value, choose_select_typed};
@@ -103,6 +104,7 @@ fn choose_value(
             choose_by_reference(alloc, scope, Outcome::Wanted(wanted), draft, u)
         }
         ValueFamily::TailCall => choose_tail_call(alloc, scope, draft, u),
+        ValueFamily::NullBranch => choose_kept(alloc, scope, wanted, draft, u),
     }
 }
 
@@ -201,6 +203,7 @@ pub(crate) fn choose_statement(
         StatementFamily::CallIndirect => choose_any_indirect(alloc, scope, draft, u),
         StatementFamily::CallRef => choose_any_by_reference(alloc, scope, draft, u),
         StatementFamily::TailCall => choose_any_tail_call(alloc, scope, draft, u),
+        StatementFamily::NullBranch => choose_null_branch(alloc, scope, draft, u),
     }
 }
 

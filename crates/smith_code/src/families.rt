@@ -24,6 +24,8 @@ pub(crate) enum ValueFamily {
     CallRef,
     /// A call that does not come back.
     TailCall,
+    /// A branch on null that may come back.
+    NullBranch,
 }
 
 /// What may be a statement.
@@ -47,6 +49,8 @@ pub(crate) enum StatementFamily {
     CallRef,
     /// A call that does not come back.
     TailCall,
+    /// A branch on null, or on a reference that is not null.
+    NullBranch,
 }
 
 /// What may give a value without operands.
@@ -84,6 +88,7 @@ pub(crate) fn value_families<'a>() -> &'a [ValueFamily]
         ValueFamily::CallIndirect,
         ValueFamily::CallRef,
         ValueFamily::TailCall,
+        ValueFamily::NullBranch,
     ]
 }
 
@@ -111,6 +116,7 @@ pub(crate) fn statement_families<'a>() -> &'a [StatementFamily]
         StatementFamily::CallIndirect,
         StatementFamily::CallRef,
         StatementFamily::TailCall,
+        StatementFamily::NullBranch,
     ]
 }
 

@@ -15,6 +15,7 @@ mod leaf;
 mod locals;
 mod memories;
 mod node;
+mod null_branches;
 mod numeric;
 mod offer;
 mod outcomes;

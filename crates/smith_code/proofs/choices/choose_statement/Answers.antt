@@ -52,3 +52,6 @@ returns-in-CallRef-clause-exact c = ok_by c.choose_any_by_reference.result _ _ _
 
 pub returns-in-TailCall-clause-exact : goal.returns-in-TailCall-clause-exact
 returns-in-TailCall-clause-exact c = ok_by c.choose_any_tail_call.result _ _ _ (statement_by (where_stands c.args.scope.now c.args.draft.now) c.args.u.now _ c.statement_families.result.now c.choose.result statement.TailCall c.statement_families.ensures (c.choose.ensures.exact statement.Nop) c.in-TailCall.is) c.choose_any_tail_call.ensures.exact
+
+pub returns-in-NullBranch-clause-exact : goal.returns-in-NullBranch-clause-exact
+returns-in-NullBranch-clause-exact c = ok_by c.choose_null_branch.result _ _ _ (statement_by (where_stands c.args.scope.now c.args.draft.now) c.args.u.now _ c.statement_families.result.now c.choose.result statement.NullBranch c.statement_families.ensures (c.choose.ensures.exact statement.Nop) c.in-NullBranch.is) c.choose_null_branch.ensures.exact

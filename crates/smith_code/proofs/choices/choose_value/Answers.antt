@@ -45,3 +45,6 @@ returns-in-CallRef-clause-exact c = ok_by c.choose_by_reference.result _ _ _ (va
 
 pub returns-in-TailCall-clause-exact : goal.returns-in-TailCall-clause-exact
 returns-in-TailCall-clause-exact c = ok_by c.choose_tail_call.result _ _ _ (value_by (where_stands c.args.scope.now c.args.draft.now) c.args.wanted c.args.u.now _ c.value_families.result.now c.choose.result value.TailCall c.value_families.ensures (c.choose.ensures.exact value.Leaf) c.in-TailCall.is) c.choose_tail_call.ensures.exact
+
+pub returns-in-NullBranch-clause-exact : goal.returns-in-NullBranch-clause-exact
+returns-in-NullBranch-clause-exact c = ok_by c.choose_kept.result _ _ _ (value_by (where_stands c.args.scope.now c.args.draft.now) c.args.wanted c.args.u.now _ c.value_families.result.now c.choose.result value.NullBranch c.value_families.ensures (c.choose.ensures.exact value.Leaf) c.in-NullBranch.is) c.choose_kept.ensures.exact
