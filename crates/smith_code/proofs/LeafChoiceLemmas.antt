@@ -10,7 +10,7 @@ use Rattle.smith_instr.specs.Contexts.{BodyContext}
 use Rattle.smith_instr.specs.Enabled.{is_enabled}
 use Rattle.smith_instr.specs.declared.instr.Instr.{Instr}
 use Rattle.smith_instr.specs.declared.instr.Instr.TheVariants as instr
-use Rattle.smith_code.specs.Choices.{giving}
+use Rattle.smith_code.specs.Chosen.{giving}
 use Rattle.smith_code.specs.Leaves.{any_leaf_at, constant_at, leaf_at, leaf_choice_at, leaf_families, leaf_of, named_at, or_constant}
 use Rattle.smith_code.specs.Offered.{is_reference, offered}
 use Rattle.smith_code.specs.declared.families.LeafFamily.{LeafFamily}

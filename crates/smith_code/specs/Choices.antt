@@ -1,5 +1,5 @@
 -- Which node the bytes choose. The choices, their order and how often each comes are rules of this project.
-use Rattle.std.specs.Prelude.{ℕ, zero, suc, ◌-◌, ◌==◌, min, Bool, true, false, Option, Some, None, option_map, option_and_then, option_to_list, unwrap_or, List, [], ◌∷◌, ◌++◌, length, slice_get, slice_index_or, if◌then◌else◌}
+use Rattle.std.specs.Prelude.{ℕ, zero, suc, ◌-◌, ◌==◌, Bool, true, false, Option, Some, None, option_map, option_to_list, unwrap_or, List, [], ◌∷◌, ◌++◌, length, slice_get, slice_index_or, if◌then◌else◌}
 use Rattle.smith_bytes.specs.Draws.{bool_at, range_at, choose_at, whole_at}
 use Rattle.smith_types.specs.Features.{Features}
 use Rattle.smith_types.specs.declared.instruction_kind.InstructionKinds.{InstructionKinds}
@@ -18,8 +18,12 @@ use Rattle.smith_instr.specs.declared.memory.Store.{Store}
 use Rattle.smith_instr.specs.declared.memory.Store.TheVariants as store
 use Rattle.smith_instr.specs.declared.memory.MemoryInstr.TheVariants as memory
 use Rattle.smith_instr.specs.declared.numeric.NumericInstr.{NumericInstr}
+use Rattle.smith_code.specs.CallChoices.{by_reference_at, indirect_at, tail_call_at}
+use Rattle.smith_code.specs.Chosen.{Chosen, giving}
 use Rattle.smith_code.specs.Nodes.{blocked, is_node_allowed, node_of, setting}
-use Rattle.smith_code.specs.Offered.{func_in, function_at, is_addressed, is_callable, is_local_below, is_mutable, is_target, offered}
+use Rattle.smith_code.specs.NullChoices.{br_on_null_value_at, null_branch_at}
+use Rattle.smith_code.specs.Offered.{func_in, function_at, is_addressed, is_callable, is_local_below, is_mutable, is_target, label_count, offered}
+use Rattle.smith_code.specs.ReferenceChoices.{reference_value_at, select_typed_node}
 use Rattle.smith_code.specs.Rows.{loads_of, numeric_rows, stores}
 use Rattle.smith_code.specs.Scopes.{indexed}
 use Rattle.smith_code.specs.declared.families.StatementFamily.{StatementFamily}
@@ -30,14 +34,7 @@ use Rattle.smith_code.specs.declared.memories.Access.{Access}
 use Rattle.smith_code.specs.declared.node.Node.{Node}
 use Rattle.smith_code.specs.declared.node.Opening.{Opening}
 use Rattle.smith_code.specs.declared.node.Opening.TheVariants as opening
-
--- a node that is chosen, if one is, and the bytes that are left
-abbrev pub Chosen : Type 0
-Chosen = Option Node × List ℕ
-
--- what an item that was drawn gives, if it gives anything
-abbrev pub giving : {A B : Type 0} → (A → Option B) → Option A × List ℕ → Option B × List ℕ
-giving give drawn = (option_and_then give drawn.0, drawn.1)
+use Rattle.smith_code.specs.declared.outcomes.Outcome.TheVariants as outcome
 
 -- a numeric instruction whose first result is of the wanted type; what it gives besides is dropped
 abbrev pub numeric_node : NumericInstr → Option Node
@@ -87,10 +84,6 @@ opening_at bytes = let number = range_at 0 5 bytes in (slice_index_or openings n
 -- a block that gives a value of the wanted type
 unfoldable pub block_at : ValType → List ℕ → Chosen
 block_at wanted bytes = let opening = opening_at bytes in (Some (blocked opening.0 (block.Value wanted) [] (wanted ∷ []) 0), opening.1)
-
--- the innermost labels may be chosen
-abbrev pub label_count : BodyContext → ℕ
-label_count context = min (length context.labels) 64
 
 -- a label: 0 where there is none
 abbrev pub label_at : BodyContext → List ℕ → ℕ × List ℕ
@@ -172,6 +165,12 @@ value_families =
     value.Load ∷
     value.Load ∷
     value.Memory ∷
+    value.SelectTyped ∷
+    value.Reference ∷
+    value.CallIndirect ∷
+    value.CallRef ∷
+    value.TailCall ∷
+    value.NullBranch ∷
     []
 
 -- a value of a family: none of a leaf
@@ -185,6 +184,12 @@ value_of context wanted value.Block bytes = block_at wanted bytes
 value_of context wanted value.Leaving bytes = leaving_at context bytes
 value_of context wanted value.Load bytes = load_at context wanted bytes
 value_of context wanted value.Memory bytes = memory_at context wanted bytes
+value_of context wanted value.SelectTyped bytes = (Some (select_typed_node wanted), bytes)
+value_of context wanted value.Reference bytes = reference_value_at context wanted bytes
+value_of context wanted value.CallIndirect bytes = indirect_at context (outcome.Wanted wanted) bytes
+value_of context wanted value.CallRef bytes = by_reference_at context (outcome.Wanted wanted) bytes
+value_of context wanted value.TailCall bytes = tail_call_at context bytes
+value_of context wanted value.NullBranch bytes = br_on_null_value_at context wanted bytes
 
 unfoldable pub value_choice_at : BodyContext → ValType → List ℕ → Chosen
 value_choice_at context wanted bytes = let family = chosen_at value.Leaf value_families bytes in value_of context wanted family.0 family.1
@@ -297,6 +302,10 @@ statement_families =
     statement.Store ∷
     statement.Unreachable ∷
     statement.LocalSet ∷
+    statement.CallIndirect ∷
+    statement.CallRef ∷
+    statement.TailCall ∷
+    statement.NullBranch ∷
     []
 
 -- a statement of a family: none of `nop`
@@ -312,6 +321,10 @@ statement_of context statement.Table bytes = table_at context bytes
 statement_of context statement.Store bytes = store_at context bytes
 statement_of context statement.Unreachable bytes = (Some (node_of [] instr.Unreachable 0), bytes)
 statement_of context statement.LocalSet bytes = set_at context bytes
+statement_of context statement.CallIndirect bytes = indirect_at context outcome.Dropped bytes
+statement_of context statement.CallRef bytes = by_reference_at context outcome.Dropped bytes
+statement_of context statement.TailCall bytes = tail_call_at context bytes
+statement_of context statement.NullBranch bytes = null_branch_at context bytes
 
 -- the node that was chosen, or `nop`
 abbrev pub or_nop : Chosen → Node × List ℕ

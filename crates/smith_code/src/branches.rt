@@ -93,7 +93,7 @@ impl<'a> Offer for TargetOffer<'a> {
 }
 
 /// Whether `values` are below `wanted`, one by one.
-fn are_below(scope: &Scope<'_>, values: &[ValType], wanted: &[ValType]) -> bool
+pub(crate) fn are_below(scope: &Scope<'_>, values: &[ValType], wanted: &[ValType]) -> bool
     requires scope { IsScope (bare scope.now) }
     requires values { AreValid (bare scope.now) values.now }
     requires wanted { AreValid (bare scope.now) wanted.now }

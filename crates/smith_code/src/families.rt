@@ -17,6 +17,15 @@ pub(crate) enum ValueFamily {
     Load,
     /// The size of a memory, or its growth.
     Memory,
+    SelectTyped,
+    /// An instruction on references.
+    Reference,
+    CallIndirect,
+    CallRef,
+    /// A call that does not come back.
+    TailCall,
+    /// A branch on null that may come back.
+    NullBranch,
 }
 
 /// What may be a statement.
@@ -36,6 +45,12 @@ pub(crate) enum StatementFamily {
     Store,
     Unreachable,
     LocalSet,
+    CallIndirect,
+    CallRef,
+    /// A call that does not come back.
+    TailCall,
+    /// A branch on null, or on a reference that is not null.
+    NullBranch,
 }
 
 /// What may give a value without operands.
@@ -68,6 +83,12 @@ pub(crate) fn value_families<'a>() -> &'a [ValueFamily]
         ValueFamily::Load,
         ValueFamily::Load,
         ValueFamily::Memory,
+        ValueFamily::SelectTyped,
+        ValueFamily::Reference,
+        ValueFamily::CallIndirect,
+        ValueFamily::CallRef,
+        ValueFamily::TailCall,
+        ValueFamily::NullBranch,
     ]
 }
 
@@ -92,6 +113,10 @@ pub(crate) fn statement_families<'a>() -> &'a [StatementFamily]
         StatementFamily::Store,
         StatementFamily::Unreachable,
         StatementFamily::LocalSet,
+        StatementFamily::CallIndirect,
+        StatementFamily::CallRef,
+        StatementFamily::TailCall,
+        StatementFamily::NullBranch,
     ]
 }
 

@@ -4,20 +4,26 @@
 mod blocks;
 mod body;
 mod branches;
+mod calls;
 mod choices;
 mod drawn;
 mod families;
 mod funcs;
+mod function_tables;
 mod globals;
 mod leaf;
 mod locals;
 mod memories;
 mod node;
+mod null_branches;
 mod numeric;
 mod offer;
+mod outcomes;
+mod reference_values;
 mod references;
 mod rows;
 mod scope;
+mod tail_calls;
 mod written;
 
 pub use body::draw_body;

@@ -3,7 +3,8 @@ ghost use Rattle.smith_bytes.specs.Draws.{choose_at, whole_at};
 ghost use Rattle.smith_bytes.specs.Source.{KeepsPieces};
 ghost use Rattle.smith_instr.specs.Contexts.{IsValid, address};
 ghost use Rattle.smith_instr.specs.MemoryTypes.{IsAccess, stored};
-ghost use Rattle.smith_code.specs.Choices.{access_at, giving, growth_node, load_at, memory_at, or_nop, store_at, store_node};
+ghost use Rattle.smith_code.specs.Choices.{access_at, growth_node, load_at, memory_at, or_nop, store_at, store_node};
+ghost use Rattle.smith_code.specs.Chosen.{giving};
 ghost use Rattle.smith_code.specs.Nodes.{IsNode, IsOffer};
 ghost use Rattle.smith_code.specs.Offered.{is_address, is_addressed, offered};
 ghost use Rattle.smith_code.specs.Rows.{loads_of, stores};
@@ -106,8 +107,8 @@ fn draw_offset(wide: bool, u: &mut Unstructured<'_>) -> u64
     offset as u64
 }
 
-/// The type of an address of a memory.
-fn address(wide: bool) -> ValType
+/// The type of an address of a memory or a table.
+pub(crate) fn address(wide: bool) -> ValType
     ensures { result ≡ address wide }
 {
     if wide { ValType::I64 } else { ValType::I32 }

@@ -7,8 +7,8 @@ use Rattle.std.proofs.lemmas.List.Elements.{All-append, All-from_recursion, recu
 use Rattle.std.proofs.lemmas.Option.{slice_get_within, slice_get-get_or, slice_get_read, get_or_from_slice_get}
 use Rattle.smith_types.specs.Features.{Features}
 use Rattle.smith_types.specs.Space.{Space}
-use Rattle.smith_types.specs.Entities.{IsFuncAt, IsFuncValid, IsGlobalValid}
-use Rattle.smith_types.specs.ValidTypes.{IsValTypeValid, IsGroupValid, AreTypesValid, values_of}
+use Rattle.smith_types.specs.Entities.{IsFuncAt, IsFuncValid, IsGlobalValid, IsTableValid}
+use Rattle.smith_types.specs.ValidTypes.{IsRefTypeValid, IsValTypeValid, IsGroupValid, AreTypesValid, values_of}
 use Rattle.smith_types.specs.declared.code.Code.{Code}
 use Rattle.smith_types.specs.declared.code.Instructions.{Instructions}
 use Rattle.smith_types.specs.declared.code.Instructions.TheVariants.{Arbitrary, Unreachable}
@@ -17,6 +17,7 @@ use Rattle.smith_types.specs.declared.composite_type.CompositeInnerType.TheVaria
 use Rattle.smith_types.specs.declared.composite_type.FuncType.{FuncType}
 use Rattle.smith_types.specs.declared.composite_type.SubType.{SubType}
 use Rattle.smith_types.specs.declared.entity_type.GlobalType.{GlobalType}
+use Rattle.smith_types.specs.declared.entity_type.TableType.{TableType}
 use Rattle.smith_types.specs.declared.value_type.ValType.{ValType}
 use Rattle.smith_types.proofs.ValidityLemmas.{ends_within, group_at}
 use Rattle.smith_types.proofs.EntityGrowthLemmas.{IsValTypeValid-later}
@@ -64,11 +65,13 @@ pub module_scope : (m : Parts) → IsValid m → (index : ℕ) (function : FuncT
 module_scope m valid index function there locals locals_valid =
     let features = module_features m in
     let P = IsValTypeValid features (length m.types) in
+    let R = IsRefTypeValid features (length m.types) in
     let (params, results) = func_values features (module_types m) valid.types index function there in
     record {
       orderly = valid.types.orderly;
       funcs = valid.entities.funcs;
       globals = All-weaker (IsGlobalValid features m.types) (λ (global : GlobalType). P global.val_type) (λ (global : GlobalType) (h : IsGlobalValid features m.types global). h.value) m.globals valid.entities.globals;
+      tables = All-weaker (IsTableValid features m.types) (λ (table : TableType). R table.element_type) (λ (table : TableType) (h : IsTableValid features m.types table). h.element) m.tables valid.entities.tables;
       locals = All-append P function.params locals params locals_valid;
       results = results;
       results_few = let wide = func_wide m.types index function there in omega arith;

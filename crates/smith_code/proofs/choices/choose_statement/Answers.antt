@@ -43,3 +43,15 @@ returns-in-Leaving-clause-exact c = ok_by c.choose_leaving.result _ _ _ (stateme
 
 pub returns-in-Table-clause-exact : goal.returns-in-Table-clause-exact
 returns-in-Table-clause-exact c = ok_by c.choose_table.result _ _ _ (statement_by (where_stands c.args.scope.now c.args.draft.now) c.args.u.now _ c.statement_families.result.now c.choose.result statement.Table c.statement_families.ensures (c.choose.ensures.exact statement.Nop) c.in-Table.is) (ok_node c.choose_table.result _ _ c.choose_table.ensures.exact)
+
+pub returns-in-CallIndirect-clause-exact : goal.returns-in-CallIndirect-clause-exact
+returns-in-CallIndirect-clause-exact c = ok_by c.choose_any_indirect.result _ _ _ (statement_by (where_stands c.args.scope.now c.args.draft.now) c.args.u.now _ c.statement_families.result.now c.choose.result statement.CallIndirect c.statement_families.ensures (c.choose.ensures.exact statement.Nop) c.in-CallIndirect.is) c.choose_any_indirect.ensures.exact
+
+pub returns-in-CallRef-clause-exact : goal.returns-in-CallRef-clause-exact
+returns-in-CallRef-clause-exact c = ok_by c.choose_any_by_reference.result _ _ _ (statement_by (where_stands c.args.scope.now c.args.draft.now) c.args.u.now _ c.statement_families.result.now c.choose.result statement.CallRef c.statement_families.ensures (c.choose.ensures.exact statement.Nop) c.in-CallRef.is) c.choose_any_by_reference.ensures.exact
+
+pub returns-in-TailCall-clause-exact : goal.returns-in-TailCall-clause-exact
+returns-in-TailCall-clause-exact c = ok_by c.choose_any_tail_call.result _ _ _ (statement_by (where_stands c.args.scope.now c.args.draft.now) c.args.u.now _ c.statement_families.result.now c.choose.result statement.TailCall c.statement_families.ensures (c.choose.ensures.exact statement.Nop) c.in-TailCall.is) c.choose_any_tail_call.ensures.exact
+
+pub returns-in-NullBranch-clause-exact : goal.returns-in-NullBranch-clause-exact
+returns-in-NullBranch-clause-exact c = ok_by c.choose_null_branch.result _ _ _ (statement_by (where_stands c.args.scope.now c.args.draft.now) c.args.u.now _ c.statement_families.result.now c.choose.result statement.NullBranch c.statement_families.ensures (c.choose.ensures.exact statement.Nop) c.in-NullBranch.is) c.choose_null_branch.ensures.exact
