@@ -1,5 +1,5 @@
 -- Which node the bytes choose. The choices, their order and how often each comes are rules of this project.
-use Rattle.std.specs.Prelude.{ℕ, zero, suc, ◌-◌, ◌==◌, min, Bool, true, false, Option, Some, None, option_map, option_and_then, option_to_list, unwrap_or, List, [], ◌∷◌, ◌++◌, length, slice_get, slice_index_or, if◌then◌else◌}
+use Rattle.std.specs.Prelude.{ℕ, zero, suc, ◌-◌, ◌==◌, min, Bool, true, false, Option, Some, None, option_map, option_to_list, unwrap_or, List, [], ◌∷◌, ◌++◌, length, slice_get, slice_index_or, if◌then◌else◌}
 use Rattle.smith_bytes.specs.Draws.{bool_at, range_at, choose_at, whole_at}
 use Rattle.smith_types.specs.Features.{Features}
 use Rattle.smith_types.specs.declared.instruction_kind.InstructionKinds.{InstructionKinds}
@@ -18,10 +18,13 @@ use Rattle.smith_instr.specs.declared.memory.Store.{Store}
 use Rattle.smith_instr.specs.declared.memory.Store.TheVariants as store
 use Rattle.smith_instr.specs.declared.memory.MemoryInstr.TheVariants as memory
 use Rattle.smith_instr.specs.declared.numeric.NumericInstr.{NumericInstr}
+use Rattle.smith_code.specs.BulkChoices.{bulk_at}
+use Rattle.smith_code.specs.Chosen.{Chosen, giving}
 use Rattle.smith_code.specs.Nodes.{blocked, is_node_allowed, node_of, setting}
 use Rattle.smith_code.specs.Offered.{func_in, function_at, is_addressed, is_callable, is_local_below, is_mutable, is_target, offered}
 use Rattle.smith_code.specs.Rows.{loads_of, numeric_rows, stores}
 use Rattle.smith_code.specs.Scopes.{indexed}
+use Rattle.smith_code.specs.TableChoices.{table_change_at, table_value_at}
 use Rattle.smith_code.specs.declared.families.StatementFamily.{StatementFamily}
 use Rattle.smith_code.specs.declared.families.StatementFamily.TheVariants as statement
 use Rattle.smith_code.specs.declared.families.ValueFamily.{ValueFamily}
@@ -30,14 +33,6 @@ use Rattle.smith_code.specs.declared.memories.Access.{Access}
 use Rattle.smith_code.specs.declared.node.Node.{Node}
 use Rattle.smith_code.specs.declared.node.Opening.{Opening}
 use Rattle.smith_code.specs.declared.node.Opening.TheVariants as opening
-
--- a node that is chosen, if one is, and the bytes that are left
-abbrev pub Chosen : Type 0
-Chosen = Option Node × List ℕ
-
--- what an item that was drawn gives, if it gives anything
-abbrev pub giving : {A B : Type 0} → (A → Option B) → Option A × List ℕ → Option B × List ℕ
-giving give drawn = (option_and_then give drawn.0, drawn.1)
 
 -- a numeric instruction whose first result is of the wanted type; what it gives besides is dropped
 abbrev pub numeric_node : NumericInstr → Option Node
@@ -172,6 +167,7 @@ value_families =
     value.Load ∷
     value.Load ∷
     value.Memory ∷
+    value.Table ∷
     []
 
 -- a value of a family: none of a leaf
@@ -185,6 +181,7 @@ value_of context wanted value.Block bytes = block_at wanted bytes
 value_of context wanted value.Leaving bytes = leaving_at context bytes
 value_of context wanted value.Load bytes = load_at context wanted bytes
 value_of context wanted value.Memory bytes = memory_at context wanted bytes
+value_of context wanted value.Table bytes = table_value_at context wanted bytes
 
 unfoldable pub value_choice_at : BodyContext → ValType → List ℕ → Chosen
 value_choice_at context wanted bytes = let family = chosen_at value.Leaf value_families bytes in value_of context wanted family.0 family.1
@@ -297,6 +294,8 @@ statement_families =
     statement.Store ∷
     statement.Unreachable ∷
     statement.LocalSet ∷
+    statement.TableChange ∷
+    statement.Bulk ∷
     []
 
 -- a statement of a family: none of `nop`
@@ -312,6 +311,8 @@ statement_of context statement.Table bytes = table_at context bytes
 statement_of context statement.Store bytes = store_at context bytes
 statement_of context statement.Unreachable bytes = (Some (node_of [] instr.Unreachable 0), bytes)
 statement_of context statement.LocalSet bytes = set_at context bytes
+statement_of context statement.TableChange bytes = table_change_at context bytes
+statement_of context statement.Bulk bytes = bulk_at context bytes
 
 -- the node that was chosen, or `nop`
 abbrev pub or_nop : Chosen → Node × List ℕ

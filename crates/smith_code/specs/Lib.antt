@@ -3,6 +3,10 @@ pub mod Nodes
 pub mod Drawn
 pub mod Offered
 pub mod Rows
+pub mod Chosen
+pub mod Items
+pub mod TableChoices
+pub mod BulkChoices
 pub mod Choices
 pub mod Leaves
 pub mod Bodies

@@ -20,6 +20,7 @@ ghost use Rattle.smith_code.specs.Scopes.{AreLabels, IsScope, bare, where_stands
 
 use crate::blocks::{choose_any_block, choose_block};
 use crate::branches::{choose_branch, choose_leaving, choose_table};
+use crate::bulk::choose_bulk;
 use crate::families::{StatementFamily, ValueFamily, statement_families, value_families};
 use crate::funcs::{choose_callable, function_of};
 use crate::globals::choose_mutable;
@@ -28,6 +29,7 @@ use crate::memories::{choose_load, choose_memory, choose_store};
 use crate::node::{Node, is_node_allowed, plain, setter};
 use crate::numeric::{choose_numeric, choose_select};
 use crate::scope::{Draft, Scope, indexed};
+use crate::tables::{choose_table_change, choose_table_value};
 use smith_bytes::{Error, Unstructured};
 use smith_draw::choose;
 use smith_instr::Instr;
@@ -88,6 +90,7 @@ fn choose_value(
         ValueFamily::Leaving => choose_leaving_for(alloc, scope, wanted, draft, u),
         ValueFamily::Load => choose_load(alloc, scope, wanted, draft, u),
         ValueFamily::Memory => choose_memory(alloc, scope, wanted, draft, u),
+        ValueFamily::Table => choose_table_value(alloc, scope, wanted, draft, u),
     }
 }
 
@@ -183,6 +186,8 @@ pub(crate) fn choose_statement(
         StatementFamily::Store => choose_store(alloc, scope, draft, u),
         StatementFamily::Unreachable => plain(alloc, &[], Instr::Unreachable, 0),
         StatementFamily::LocalSet => choose_set(alloc, scope, draft, u),
+        StatementFamily::TableChange => choose_table_change(alloc, scope, draft, u),
+        StatementFamily::Bulk => choose_bulk(alloc, scope, draft, u),
     }
 }
 

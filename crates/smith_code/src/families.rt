@@ -17,6 +17,8 @@ pub(crate) enum ValueFamily {
     Load,
     /// The size of a memory, or its growth.
     Memory,
+    /// An element of a table, its size, or its growth.
+    Table,
 }
 
 /// What may be a statement.
@@ -36,6 +38,9 @@ pub(crate) enum StatementFamily {
     Store,
     Unreachable,
     LocalSet,
+    TableChange,
+    /// An instruction on many bytes of a memory, or on a data segment.
+    Bulk,
 }
 
 /// What may give a value without operands.
@@ -68,6 +73,7 @@ pub(crate) fn value_families<'a>() -> &'a [ValueFamily]
         ValueFamily::Load,
         ValueFamily::Load,
         ValueFamily::Memory,
+        ValueFamily::Table,
     ]
 }
 
@@ -92,6 +98,8 @@ pub(crate) fn statement_families<'a>() -> &'a [StatementFamily]
         StatementFamily::Store,
         StatementFamily::Unreachable,
         StatementFamily::LocalSet,
+        StatementFamily::TableChange,
+        StatementFamily::Bulk,
     ]
 }
 

@@ -4,11 +4,13 @@
 mod blocks;
 mod body;
 mod branches;
+mod bulk;
 mod choices;
 mod drawn;
 mod families;
 mod funcs;
 mod globals;
+mod items;
 mod leaf;
 mod locals;
 mod memories;
@@ -18,6 +20,7 @@ mod offer;
 mod references;
 mod rows;
 mod scope;
+mod tables;
 mod written;
 
 pub use body::draw_body;
