@@ -3,12 +3,16 @@ pub mod OfferLemmas
 pub mod AmongLemmas
 pub mod ReferenceLemmas
 pub mod NodeLemmas
+pub mod PlainLemmas
 pub mod RowLemmas
 pub mod LeafLemmas
 pub mod DrawnLemmas
 pub mod ResultLemmas
 pub mod BodyLemmas
 pub mod ChoiceLemmas
+pub mod ItemLemmas
+pub mod TableLemmas
+pub mod BulkLemmas
 pub mod ExactLemmas
 pub mod TargetLemmas
 pub mod LeafChoiceLemmas

@@ -153,7 +153,7 @@ pub target_there : (scope : Scope) (labels : List (List ValType)) (taken : List 
     → is_target (bare scope).types labels taken index ≡ true → IsTaken (context_of scope labels) taken index
 target_there scope labels taken index orderly is = target_at scope labels taken index (slice_get labels index) orderly refl is
 
-is_this_address : (wanted : ValType) (wide : Bool) → is_address wanted wide ≡ true → wanted ≡ address wide
+pub is_this_address : (wanted : ValType) (wide : Bool) → is_address wanted wide ≡ true → wanted ≡ address wide
 is_this_address I32 true is = cc
 is_this_address I32 false is = refl
 is_this_address I64 true is = refl

@@ -1,5 +1,5 @@
 -- Which node the bytes choose. The choices, their order and how often each comes are rules of this project.
-use Rattle.std.specs.Prelude.{ℕ, zero, suc, ◌-◌, ◌==◌, Bool, true, false, Option, Some, None, option_map, option_to_list, unwrap_or, List, [], ◌∷◌, ◌++◌, length, slice_get, slice_index_or, if◌then◌else◌}
+use Rattle.std.specs.Prelude.{ℕ, zero, suc, ◌-◌, ◌==◌, min, Bool, true, false, Option, Some, None, option_map, option_to_list, unwrap_or, List, [], ◌∷◌, ◌++◌, length, slice_get, slice_index_or, if◌then◌else◌}
 use Rattle.smith_bytes.specs.Draws.{bool_at, range_at, choose_at, whole_at}
 use Rattle.smith_types.specs.Features.{Features}
 use Rattle.smith_types.specs.declared.instruction_kind.InstructionKinds.{InstructionKinds}
@@ -18,6 +18,7 @@ use Rattle.smith_instr.specs.declared.memory.Store.{Store}
 use Rattle.smith_instr.specs.declared.memory.Store.TheVariants as store
 use Rattle.smith_instr.specs.declared.memory.MemoryInstr.TheVariants as memory
 use Rattle.smith_instr.specs.declared.numeric.NumericInstr.{NumericInstr}
+use Rattle.smith_code.specs.BulkChoices.{bulk_at}
 use Rattle.smith_code.specs.CallChoices.{by_reference_at, indirect_at, tail_call_at}
 use Rattle.smith_code.specs.Chosen.{Chosen, giving}
 use Rattle.smith_code.specs.Nodes.{blocked, is_node_allowed, node_of, setting}
@@ -26,6 +27,7 @@ use Rattle.smith_code.specs.Offered.{func_in, function_at, is_addressed, is_call
 use Rattle.smith_code.specs.ReferenceChoices.{reference_value_at, select_typed_node}
 use Rattle.smith_code.specs.Rows.{loads_of, numeric_rows, stores}
 use Rattle.smith_code.specs.Scopes.{indexed}
+use Rattle.smith_code.specs.TableChoices.{table_change_at, table_value_at}
 use Rattle.smith_code.specs.declared.families.StatementFamily.{StatementFamily}
 use Rattle.smith_code.specs.declared.families.StatementFamily.TheVariants as statement
 use Rattle.smith_code.specs.declared.families.ValueFamily.{ValueFamily}
@@ -165,6 +167,7 @@ value_families =
     value.Load ∷
     value.Load ∷
     value.Memory ∷
+    value.Table ∷
     value.SelectTyped ∷
     value.Reference ∷
     value.CallIndirect ∷
@@ -184,6 +187,7 @@ value_of context wanted value.Block bytes = block_at wanted bytes
 value_of context wanted value.Leaving bytes = leaving_at context bytes
 value_of context wanted value.Load bytes = load_at context wanted bytes
 value_of context wanted value.Memory bytes = memory_at context wanted bytes
+value_of context wanted value.Table bytes = table_value_at context wanted bytes
 value_of context wanted value.SelectTyped bytes = (Some (select_typed_node wanted), bytes)
 value_of context wanted value.Reference bytes = reference_value_at context wanted bytes
 value_of context wanted value.CallIndirect bytes = indirect_at context (outcome.Wanted wanted) bytes
@@ -302,6 +306,8 @@ statement_families =
     statement.Store ∷
     statement.Unreachable ∷
     statement.LocalSet ∷
+    statement.TableChange ∷
+    statement.Bulk ∷
     statement.CallIndirect ∷
     statement.CallRef ∷
     statement.TailCall ∷
@@ -321,6 +327,8 @@ statement_of context statement.Table bytes = table_at context bytes
 statement_of context statement.Store bytes = store_at context bytes
 statement_of context statement.Unreachable bytes = (Some (node_of [] instr.Unreachable 0), bytes)
 statement_of context statement.LocalSet bytes = set_at context bytes
+statement_of context statement.TableChange bytes = table_change_at context bytes
+statement_of context statement.Bulk bytes = bulk_at context bytes
 statement_of context statement.CallIndirect bytes = indirect_at context outcome.Dropped bytes
 statement_of context statement.CallRef bytes = by_reference_at context outcome.Dropped bytes
 statement_of context statement.TailCall bytes = tail_call_at context bytes

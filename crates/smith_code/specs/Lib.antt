@@ -4,6 +4,9 @@ pub mod Drawn
 pub mod Offered
 pub mod Rows
 pub mod Chosen
+pub mod Items
+pub mod TableChoices
+pub mod BulkChoices
 pub mod ReferenceChoices
 pub mod CallChoices
 pub mod NullChoices

@@ -73,6 +73,7 @@ pub record IsScope (context : BodyContext) : Type 0 where
   pub funcs : All (IsFuncValid context.types) context.funcs
   pub globals : All (λ (global : GlobalType). IsValTypeValid context.features (length context.types) global.val_type) context.globals
   pub tables : All (λ (table : TableType). IsRefValid context table.element_type) context.tables
+  pub elements : All (IsRefValid context) context.elements
   pub locals : AreValid context context.locals
   pub results : AreValid context context.results
   pub results_few : length context.results ≤ widest context.types

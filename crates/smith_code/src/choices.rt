@@ -20,6 +20,7 @@ ghost use Rattle.smith_code.specs.Scopes.{AreLabels, IsScope, bare, where_stands
 
 use crate::blocks::{choose_any_block, choose_block};
 use crate::branches::{choose_branch, choose_leaving, choose_table};
+use crate::bulk::choose_bulk;
 use crate::calls::{
     choose_any_by_reference, choose_any_indirect, choose_by_reference, choose_indirect,
 };
@@ -34,6 +35,7 @@ use crate::numeric::{choose_numeric, choose_select};
 use crate::outcomes::Outcome;
 use crate::reference_values::{choose_reference_value, choose_select_typed};
 use crate::scope::{Draft, Scope, indexed};
+use crate::tables::{choose_table_change, choose_table_value};
 use crate::tail_calls::{choose_any_tail_call, choose_tail_call};
 use smith_bytes::{Error, Unstructured};
 use smith_draw::choose;
@@ -95,6 +97,7 @@ fn choose_value(
         ValueFamily::Leaving => choose_leaving_for(alloc, scope, wanted, draft, u),
         ValueFamily::Load => choose_load(alloc, scope, wanted, draft, u),
         ValueFamily::Memory => choose_memory(alloc, scope, wanted, draft, u),
+        ValueFamily::Table => choose_table_value(alloc, scope, wanted, draft, u),
         ValueFamily::SelectTyped => choose_select_typed(alloc, wanted),
         ValueFamily::Reference => choose_reference_value(alloc, scope, wanted, draft, u),
         ValueFamily::CallIndirect => {
@@ -200,6 +203,8 @@ pub(crate) fn choose_statement(
         StatementFamily::Store => choose_store(alloc, scope, draft, u),
         StatementFamily::Unreachable => plain(alloc, &[], Instr::Unreachable, 0),
         StatementFamily::LocalSet => choose_set(alloc, scope, draft, u),
+        StatementFamily::TableChange => choose_table_change(alloc, scope, draft, u),
+        StatementFamily::Bulk => choose_bulk(alloc, scope, draft, u),
         StatementFamily::CallIndirect => choose_any_indirect(alloc, scope, draft, u),
         StatementFamily::CallRef => choose_any_by_reference(alloc, scope, draft, u),
         StatementFamily::TailCall => choose_any_tail_call(alloc, scope, draft, u),

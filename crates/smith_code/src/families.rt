@@ -17,6 +17,8 @@ pub(crate) enum ValueFamily {
     Load,
     /// The size of a memory, or its growth.
     Memory,
+    /// An element of a table, its size, or its growth.
+    Table,
     SelectTyped,
     /// An instruction on references.
     Reference,
@@ -45,6 +47,9 @@ pub(crate) enum StatementFamily {
     Store,
     Unreachable,
     LocalSet,
+    TableChange,
+    /// An instruction on many bytes of a memory, or on a data segment.
+    Bulk,
     CallIndirect,
     CallRef,
     /// A call that does not come back.
@@ -83,6 +88,7 @@ pub(crate) fn value_families<'a>() -> &'a [ValueFamily]
         ValueFamily::Load,
         ValueFamily::Load,
         ValueFamily::Memory,
+        ValueFamily::Table,
         ValueFamily::SelectTyped,
         ValueFamily::Reference,
         ValueFamily::CallIndirect,
@@ -113,6 +119,8 @@ pub(crate) fn statement_families<'a>() -> &'a [StatementFamily]
         StatementFamily::Store,
         StatementFamily::Unreachable,
         StatementFamily::LocalSet,
+        StatementFamily::TableChange,
+        StatementFamily::Bulk,
         StatementFamily::CallIndirect,
         StatementFamily::CallRef,
         StatementFamily::TailCall,

@@ -4,6 +4,7 @@
 mod blocks;
 mod body;
 mod branches;
+mod bulk;
 mod calls;
 mod choices;
 mod drawn;
@@ -11,6 +12,7 @@ mod families;
 mod funcs;
 mod function_tables;
 mod globals;
+mod items;
 mod leaf;
 mod locals;
 mod memories;
@@ -23,6 +25,7 @@ mod reference_values;
 mod references;
 mod rows;
 mod scope;
+mod tables;
 mod tail_calls;
 mod written;
 

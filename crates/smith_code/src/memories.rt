@@ -3,6 +3,7 @@ ghost use Rattle.smith_bytes.specs.Draws.{choose_at, whole_at};
 ghost use Rattle.smith_bytes.specs.Source.{KeepsPieces};
 ghost use Rattle.smith_instr.specs.Contexts.{IsValid, address};
 ghost use Rattle.smith_instr.specs.MemoryTypes.{IsAccess, stored};
+ghost use Rattle.smith_instr.specs.ReferenceTypes.{narrower};
 ghost use Rattle.smith_code.specs.Choices.{access_at, growth_node, load_at, memory_at, or_nop, store_at, store_node};
 ghost use Rattle.smith_code.specs.Chosen.{giving};
 ghost use Rattle.smith_code.specs.Nodes.{IsNode, IsOffer};
@@ -114,6 +115,13 @@ pub(crate) fn address(wide: bool) -> ValType
     if wide { ValType::I64 } else { ValType::I32 }
 }
 
+/// The type of a size that both of two memories or tables can have.
+pub(crate) fn narrower(one: bool, other: bool) -> ValType
+    ensures { result ≡ narrower one other }
+{
+    if one { address(other) } else { ValType::I32 }
+}
+
 /// The memories whose addresses are of a wanted type.
 #[derive(Clone, Copy)]
 struct AddressOffer<'a> {
@@ -141,7 +149,8 @@ impl<'a> Offer for AddressOffer<'a> {
     }
 }
 
-fn is_address(value: ValType, wide: bool) -> bool
+/// Whether the addresses of a memory or a table, of 64 bits where it is `wide`, are of the type `value`.
+pub(crate) fn is_address(value: ValType, wide: bool) -> bool
     ensures { result ≡ is_address value wide }
 {
     match value {

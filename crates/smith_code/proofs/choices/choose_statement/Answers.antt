@@ -44,6 +44,12 @@ returns-in-Leaving-clause-exact c = ok_by c.choose_leaving.result _ _ _ (stateme
 pub returns-in-Table-clause-exact : goal.returns-in-Table-clause-exact
 returns-in-Table-clause-exact c = ok_by c.choose_table.result _ _ _ (statement_by (where_stands c.args.scope.now c.args.draft.now) c.args.u.now _ c.statement_families.result.now c.choose.result statement.Table c.statement_families.ensures (c.choose.ensures.exact statement.Nop) c.in-Table.is) (ok_node c.choose_table.result _ _ c.choose_table.ensures.exact)
 
+pub returns-in-TableChange-clause-exact : goal.returns-in-TableChange-clause-exact
+returns-in-TableChange-clause-exact c = ok_by c.choose_table_change.result _ _ _ (statement_by (where_stands c.args.scope.now c.args.draft.now) c.args.u.now _ c.statement_families.result.now c.choose.result statement.TableChange c.statement_families.ensures (c.choose.ensures.exact statement.Nop) c.in-TableChange.is) c.choose_table_change.ensures.exact
+
+pub returns-in-Bulk-clause-exact : goal.returns-in-Bulk-clause-exact
+returns-in-Bulk-clause-exact c = ok_by c.choose_bulk.result _ _ _ (statement_by (where_stands c.args.scope.now c.args.draft.now) c.args.u.now _ c.statement_families.result.now c.choose.result statement.Bulk c.statement_families.ensures (c.choose.ensures.exact statement.Nop) c.in-Bulk.is) c.choose_bulk.ensures.exact
+
 pub returns-in-CallIndirect-clause-exact : goal.returns-in-CallIndirect-clause-exact
 returns-in-CallIndirect-clause-exact c = ok_by c.choose_any_indirect.result _ _ _ (statement_by (where_stands c.args.scope.now c.args.draft.now) c.args.u.now _ c.statement_families.result.now c.choose.result statement.CallIndirect c.statement_families.ensures (c.choose.ensures.exact statement.Nop) c.in-CallIndirect.is) c.choose_any_indirect.ensures.exact
 

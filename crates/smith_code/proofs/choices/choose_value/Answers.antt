@@ -31,6 +31,9 @@ returns-in-Load-clause-exact c = ok_by c.choose_load.result _ _ _ (value_by (whe
 pub returns-in-Memory-clause-exact : goal.returns-in-Memory-clause-exact
 returns-in-Memory-clause-exact c = ok_by c.choose_memory.result _ _ _ (value_by (where_stands c.args.scope.now c.args.draft.now) c.args.wanted c.args.u.now _ c.value_families.result.now c.choose.result value.Memory c.value_families.ensures (c.choose.ensures.exact value.Leaf) c.in-Memory.is) c.choose_memory.ensures.exact
 
+pub returns-in-Table-clause-exact : goal.returns-in-Table-clause-exact
+returns-in-Table-clause-exact c = ok_by c.choose_table_value.result _ _ _ (value_by (where_stands c.args.scope.now c.args.draft.now) c.args.wanted c.args.u.now _ c.value_families.result.now c.choose.result value.Table c.value_families.ensures (c.choose.ensures.exact value.Leaf) c.in-Table.is) c.choose_table_value.ensures.exact
+
 pub returns-in-SelectTyped-clause-exact : goal.returns-in-SelectTyped-clause-exact
 returns-in-SelectTyped-clause-exact c = ok_like _ c.choose_select_typed.result (value_by (where_stands c.args.scope.now c.args.draft.now) c.args.wanted c.args.u.now _ c.value_families.result.now c.choose.result value.SelectTyped c.value_families.ensures (c.choose.ensures.exact value.Leaf) c.in-SelectTyped.is) c.choose_select_typed.ensures.exact
 
