@@ -1,7 +1,8 @@
 use smith_text::{FromFmt, TextForm};
+use std::alloc::Global;
 use std::fmt;
 use std::test::Fail;
-use wasm_smith::{Config, Module, Unstructured};
+use wasm_smith::{Config, Error, Module, Unstructured};
 
 /// Fails at the write of the number `fails_at`, and counts all writes.
 #[derive(Drop)]
@@ -31,21 +32,27 @@ fn written<T: TextForm>(value: &T, fails_at: usize) -> (usize, bool) {
     (writer.writes, ended)
 }
 
-#[test]
-fn a_failed_write_is_the_last(rt: HostRuntime) -> Result<(), Fail> {
-    let input = [1, 1, 1, 1, 0, 0, 0, 0, 0, 0, 1, 0, 0, 0, 0, 0, 1];
-    let module = Module::new(
-        rt.alloc(),
-        Config::default(),
-        &mut Unstructured::new(&input),
-    )?;
-    let (all, ended) = written(&module, usize::MAX);
-    assert!(rt; !ended);
+// Fails unless each write of `value` is the last where it fails, and ends the text.
+fn failed_writes_are_last<T: TextForm>(value: &T) -> Result<(), Fail> {
+    let (all, ended) = written(value, usize::MAX);
+    if ended {
+        return Err(Fail::new(format_args!("a write fails by itself")));
+    }
     for fails_at in 0..all {
-        assert_eq!(rt;
-            written(&module, fails_at),
-            (fails_at.saturating_add(1), true)
-        );
+        if written(value, fails_at) != (fails_at.saturating_add(1), true) {
+            return Err(Fail::new(format_args!("the write {fails_at} isn't the last")));
+        }
     }
     Ok(())
+}
+
+const INPUT: &[u8] = &[1, 1, 1, 1, 0, 0, 0, 0, 0, 0, 1, 0, 0, 0, 0, 0, 1];
+
+fn module(alloc: Global) -> Result<Module, Error> {
+    Module::new(alloc, Config::default(), &mut Unstructured::new(INPUT))
+}
+
+#[test]
+fn a_failed_write_is_the_last(rt: HostRuntime) -> Result<(), Fail> {
+    failed_writes_are_last(&module(rt.alloc())?)
 }

@@ -9,7 +9,7 @@ use smith_types::{
 use std::alloc::Global;
 use std::test::Fail;
 
-/// Fails unless `value` is written as `wanted`.
+// Fails unless `value` is written as `wanted`.
 fn is_written<T: TextForm>(alloc: Global, value: &T, wanted: &str) -> Result<(), Fail> {
     let mut text = String::new(alloc);
     value.write_text(&mut FromFmt::new(&mut text))?;
@@ -20,12 +20,21 @@ fn is_written<T: TextForm>(alloc: Global, value: &T, wanted: &str) -> Result<(),
     }
 }
 
-/// Fails unless each value is written as the text beside it.
+// Fails unless each value is written as the text beside it.
 fn are_written<T: TextForm>(alloc: Global, cases: &[(T, &str)]) -> Result<(), Fail> {
     for (value, wanted) in cases {
         is_written(alloc, value, wanted)?;
     }
     Ok(())
+}
+
+// Fails unless a value was made, and is written as `wanted`.
+fn is_made<T: TextForm + Drop>(
+    alloc: Global,
+    made: Result<T, Error>,
+    wanted: &str,
+) -> Result<(), Fail> {
+    is_written(alloc, &made?, wanted)
 }
 
 const fn heap(shared: bool, ty: AbstractHeapType) -> HeapType {
@@ -265,13 +274,16 @@ fn sub_type(
     is_final: bool,
     supertype: Option<u32>,
     shared: bool,
-    inner: CompositeInnerType,
-) -> SubType {
-    SubType {
+    inner: Result<CompositeInnerType, Error>,
+) -> Result<SubType, Error> {
+    Ok(SubType {
         is_final,
         supertype,
-        composite_type: CompositeType { inner, shared },
-    }
+        composite_type: CompositeType {
+            inner: inner?,
+            shared,
+        },
+    })
 }
 
 fn function(
@@ -292,54 +304,60 @@ fn structure(alloc: Global, fields: &[FieldType]) -> Result<CompositeInnerType, 
 }
 
 #[test]
-fn types_are_written(rt: HostRuntime) -> Result<(), Fail> {
+fn types_of_functions_are_written(rt: HostRuntime) -> Result<(), Fail> {
+    let alloc = rt.alloc();
+    let none = function(alloc, &[], &[]);
+    is_made(alloc, sub_type(true, None, false, none), "(func)")?;
+    let some = function(alloc, &[ValType::I32, ValType::I64], &[ValType::F32]);
+    is_made(
+        alloc,
+        sub_type(true, None, false, some),
+        "(func (param i32 i64) (result f32))",
+    )
+}
+
+#[test]
+fn types_of_aggregates_are_written(rt: HostRuntime) -> Result<(), Fail> {
     let alloc = rt.alloc();
     let bytes = CompositeInnerType::Array(ArrayType(field(true, StorageType::I8)));
     let fields = [
         field(false, StorageType::I16),
         field(true, StorageType::Val(ValType::F64)),
     ];
-    are_written(
+    is_made(
         alloc,
-        &[
-            (
-                sub_type(true, None, false, function(alloc, &[], &[])?),
-                "(func)",
-            ),
-            (
-                sub_type(
-                    true,
-                    None,
-                    false,
-                    function(alloc, &[ValType::I32, ValType::I64], &[ValType::F32])?,
-                ),
-                "(func (param i32 i64) (result f32))",
-            ),
-            (
-                sub_type(false, None, false, bytes),
-                "(sub (array (mut i8)))",
-            ),
-            (
-                sub_type(true, Some(0), true, structure(alloc, &fields)?),
-                "(sub final 0 (shared (struct (field i16 (mut f64)))))",
-            ),
-            (
-                sub_type(false, Some(12), false, structure(alloc, &[])?),
-                "(sub 12 (struct))",
-            ),
-        ],
+        sub_type(false, None, false, Ok(bytes)),
+        "(sub (array (mut i8)))",
+    )?;
+    is_made(
+        alloc,
+        sub_type(true, Some(0), true, structure(alloc, &fields)),
+        "(sub final 0 (shared (struct (field i16 (mut f64)))))",
+    )?;
+    is_made(
+        alloc,
+        sub_type(false, Some(12), false, structure(alloc, &[])),
+        "(sub 12 (struct))",
     )
 }
 
-fn element_segment(kind: ElementKind, heap_type: HeapType, items: Elements) -> ElementSegment {
-    ElementSegment {
+fn element_segment(
+    kind: ElementKind,
+    heap_type: HeapType,
+    items: Result<Elements, Error>,
+) -> Result<ElementSegment, Error> {
+    Ok(ElementSegment {
         kind,
         ty: RefType {
             nullable: true,
             heap_type,
         },
-        items,
-    }
+        items: items?,
+    })
+}
+
+fn functions(alloc: Global, indices: &[u32]) -> Result<Elements, Error> {
+    Ok(Elements::Functions(Items::from_slice(alloc, indices)?))
 }
 
 fn one_expression(alloc: Global, expression: &[ConstInstr]) -> Result<Elements, Error> {
@@ -348,49 +366,56 @@ fn one_expression(alloc: Global, expression: &[ConstInstr]) -> Result<Elements, 
     Ok(Elements::Expressions(expressions))
 }
 
+const FUNC: HeapType = HeapType::Abstract {
+    shared: false,
+    ty: AbstractHeapType::Func,
+};
+
+const FIRST: ElementKind = ElementKind::Active {
+    table: None,
+    offset: Offset::Const32(-1),
+};
+
+const NAMED: ElementKind = ElementKind::Active {
+    table: Some(0),
+    offset: Offset::Global(2),
+};
+
 #[test]
-fn element_segments_are_written(rt: HostRuntime) -> Result<(), Fail> {
+fn segments_of_functions_are_written(rt: HostRuntime) -> Result<(), Fail> {
     let alloc = rt.alloc();
-    let func = heap(false, AbstractHeapType::Func);
-    let first = ElementKind::Active {
-        table: None,
-        offset: Offset::Const32(-1),
-    };
-    let named = ElementKind::Active {
-        table: Some(0),
-        offset: Offset::Global(2),
-    };
-    let functions = Elements::Functions(Items::from_slice(alloc, &[0, 3])?);
-    let typed = Elements::Functions(Items::from_slice(alloc, &[5])?);
-    let i31 = one_expression(alloc, &[ConstInstr::I32Const(1), ConstInstr::RefI31])?;
-    are_written(
+    is_made(
         alloc,
-        &[
-            (
-                element_segment(ElementKind::Passive, func, functions),
-                "(elem func 0 3)",
-            ),
-            (
-                element_segment(ElementKind::Declared, HeapType::Concrete(1), typed),
-                "(elem declare func (;(ref null 1);) 5)",
-            ),
-            (
-                element_segment(first, func, Elements::Functions(Items::new(alloc))),
-                "(elem (i32.const -1) func)",
-            ),
-            (
-                element_segment(named, heap(false, AbstractHeapType::Eq), i31),
-                "(elem (table 0) (global.get 2) eqref (item i32.const 1 ref.i31))",
-            ),
-            (
-                element_segment(
-                    ElementKind::Passive,
-                    func,
-                    Elements::Expressions(Items::new(alloc)),
-                ),
-                "(elem funcref)",
-            ),
-        ],
+        element_segment(ElementKind::Passive, FUNC, functions(alloc, &[0, 3])),
+        "(elem func 0 3)",
+    )?;
+    let typed = functions(alloc, &[5]);
+    is_made(
+        alloc,
+        element_segment(ElementKind::Declared, HeapType::Concrete(1), typed),
+        "(elem declare func (;(ref null 1);) 5)",
+    )?;
+    is_made(
+        alloc,
+        element_segment(FIRST, FUNC, functions(alloc, &[])),
+        "(elem (i32.const -1) func)",
+    )
+}
+
+#[test]
+fn segments_of_expressions_are_written(rt: HostRuntime) -> Result<(), Fail> {
+    let alloc = rt.alloc();
+    let i31 = one_expression(alloc, &[ConstInstr::I32Const(1), ConstInstr::RefI31]);
+    is_made(
+        alloc,
+        element_segment(NAMED, heap(false, AbstractHeapType::Eq), i31),
+        "(elem (table 0) (global.get 2) eqref (item i32.const 1 ref.i31))",
+    )?;
+    let none = Elements::Expressions(Items::new(alloc));
+    is_made(
+        alloc,
+        element_segment(ElementKind::Passive, FUNC, Ok(none)),
+        "(elem funcref)",
     )
 }
 
@@ -401,30 +426,34 @@ fn data_segment(alloc: Global, kind: DataSegmentKind, bytes: &[u8]) -> Result<Da
     })
 }
 
+const fn active(memory_index: u32) -> DataSegmentKind {
+    DataSegmentKind::Active {
+        memory_index,
+        offset: Offset::Const64(-1),
+    }
+}
+
 #[test]
 fn data_segments_and_names_are_written(rt: HostRuntime) -> Result<(), Fail> {
     let alloc = rt.alloc();
-    let active = |memory_index| DataSegmentKind::Active {
-        memory_index,
-        offset: Offset::Const64(-1),
-    };
-    are_written(
+    is_made(
         alloc,
-        &[
-            (
-                data_segment(alloc, DataSegmentKind::Passive, &[])?,
-                "(data \"\")",
-            ),
-            (
-                data_segment(alloc, active(0), b" ~\x7f\x1f")?,
-                "(data (i64.const -1) \" ~\\7f\\1f\")",
-            ),
-            (
-                data_segment(alloc, active(1), &[0, 255])?,
-                "(data (memory 1) (i64.const -1) \"\\00\\ff\")",
-            ),
-        ],
+        data_segment(alloc, DataSegmentKind::Passive, &[]),
+        "(data \"\")",
     )?;
-    let name = Name::from_text(alloc, "a\"b\\c\n'é")?;
-    is_written(alloc, &name, "\"a\\\"b\\\\c\\0a'\\c3\\a9\"")
+    is_made(
+        alloc,
+        data_segment(alloc, active(0), b" ~\x7f\x1f"),
+        "(data (i64.const -1) \" ~\\7f\\1f\")",
+    )?;
+    is_made(
+        alloc,
+        data_segment(alloc, active(1), &[0, 255]),
+        "(data (memory 1) (i64.const -1) \"\\00\\ff\")",
+    )?;
+    is_made(
+        alloc,
+        Name::from_text(alloc, "a\"b\\c\n'é"),
+        "\"a\\\"b\\\\c\\0a'\\c3\\a9\"",
+    )
 }
