@@ -37,7 +37,7 @@ at_root types orderly i le None e = e
 at_root types orderly i le (Some s) e = let before = supertype_before types orderly i s e in absurd (omega arith)
 
 -- as many as the index suffice
-within_enough : (types : List SubType) → IsOrderly types → (n m i : ℕ) → i ≤ n → i ≤ m → ancestors_within n types i ≡ ancestors_within m types i
+pub within_enough : (types : List SubType) → IsOrderly types → (n m i : ℕ) → i ≤ n → i ≤ m → ancestors_within n types i ≡ ancestors_within m types i
 within_enough types orderly zero m i le le' = sym (within_none types m i (at_root types orderly i le (supertype_at types i) refl))
 within_enough types orderly (suc n) zero i le le' = within_none types (suc n) i (at_root types orderly i le' (supertype_at types i) refl)
 within_enough types orderly (suc n) (suc m) i le le' =

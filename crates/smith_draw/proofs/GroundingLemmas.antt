@@ -105,7 +105,7 @@ reference_within types index true true h = h
 reference_within types index true false h = h
 reference_within types index false descriptors h = h
 
-within_reference : (types : List SubType) (index : ℕ) (defined descriptors : Bool) → index < length types → IsValInRange types (cond defined (reference_to (cond descriptors (Exact index) (Concrete index))) (reference_to (Concrete index)))
+pub within_reference : (types : List SubType) (index : ℕ) (defined descriptors : Bool) → index < length types → IsValInRange types (cond defined (reference_to (cond descriptors (Exact index) (Concrete index))) (reference_to (Concrete index)))
 within_reference types index true true h = h
 within_reference types index true false h = h
 within_reference types index false descriptors h = h
