@@ -1,4 +1,4 @@
--- Which exports are drawn where everything is exported. Rules of this project.
+-- The exports that are drawn if everything is exported. Rules of this project.
 use Rattle.std.specs.Prelude.{ℕ, ◌+◌, nat_lt, List, [], ◌∷◌, ◌++◌, Result, Ok, Err, if◌then◌else◌}
 use Rattle.smith_bytes.specs.declared.error.Why.{Why}
 use Rattle.smith_bytes.specs.declared.error.Why.TheVariants.{TypeSize}
@@ -8,7 +8,8 @@ use Rattle.smith_config.specs.declared.config.Config.{Config}
 use Rattle.smith_contents.specs.Exporting.{Export, export_name_at, exported_size, free_exports_at}
 use Rattle.smith_contents.specs.ExportedItems.{Item, every_item}
 
--- exports of these items behind others, each with a name; where imports and exports together pass the type size, none
+-- exports of these items after others, each with a name; refused if imports and exports together
+-- exceed the type size
 unfoldable pub exports_of : Config → List SubType → IndexSpaces → ℕ → List Item → List Export → List ℕ → Result (List Export × List ℕ) Why
 exports_of config types spaces imports [] exports bytes = Ok (exports, bytes)
 exports_of config types spaces imports (item ∷ items) exports bytes =
@@ -21,7 +22,8 @@ exports_of config types spaces imports (item ∷ items) exports bytes =
 unfoldable pub everything_at : Config → List SubType → IndexSpaces → ℕ → List ℕ → Result (List Export × List ℕ) Why
 everything_at config types spaces imports bytes = exports_of config types spaces imports (every_item spaces) [] bytes
 
--- the exports of a module, beside what its imports add to the type size: of every item where that is asked for, else drawn freely
+-- the exports of a module, given the amount that its imports add to the type size: of every item if
+-- the configuration says so, else drawn freely
 unfoldable pub exports_at : Config → List SubType → IndexSpaces → ℕ → List ℕ → Result (List Export × List ℕ) Why
 exports_at config types spaces imports bytes =
     if config.export_everything then everything_at config types spaces imports bytes

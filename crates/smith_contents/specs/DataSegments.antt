@@ -1,4 +1,4 @@
--- Which data segments the bytes give. Rules of this project.
+-- The data segments that the bytes produce. Rules of this project.
 use Rattle.std.specs.Prelude.{ℕ, ◌+◌, ◌-◌, ◌*◌, ◌^◌, ◌≤◌, ◌==◌, ◌&&◌, not, min, nat_lt, Bool, true, false, List, [], ◌∷◌, ◌++◌, None, length, take, slice_index, Result, Ok, Err, if◌then◌else◌}
 use Rattle.std.specs.Int.{cast_signed, w32, w64}
 use Rattle.smith_bytes.specs.declared.error.Count.TheVariants as counts
@@ -20,8 +20,8 @@ use Rattle.smith_draw.specs.Choices.{chosen_at}
 use Rattle.smith_draw.specs.ConstOffers.{offered_if, readable_globals}
 use Rattle.smith_draw.specs.Offsets.{offset_at}
 
--- whether a memory counts as one that segments are copied into: always where its minimum is above 0, else for one of eleven
--- numbers
+-- whether segments may be copied into a memory: always if its minimum is above 0, else for one of
+-- eleven numbers
 unfoldable pub counts_at : MemoryType → List ℕ → Bool × List ℕ
 counts_at memory bytes =
     if nat_lt 0 memory.minimum then (true, bytes)
@@ -31,37 +31,39 @@ counts_at memory bytes =
 abbrev pub Indexed : Type 0
 Indexed = ℕ × MemoryType
 
--- behind those that count so far, the memories that count of those from an index on
+-- the memories so far, followed by those that segments may be copied into of the memories from an
+-- index on
 unfoldable pub counting_at : List Indexed → ℕ → List MemoryType → List ℕ → List Indexed × List ℕ
 counting_at so_far index [] bytes = (so_far, bytes)
 counting_at so_far index (memory ∷ memories) bytes =
     let counts = counts_at memory bytes in
     counting_at (so_far ++ offered_if counts.0 (index, memory)) (index + 1) memories counts.1
 
--- the memories that segments are copied into, and the globals that may tell an offset of 32 bits, and of 64
+-- the memories that segments are copied into, and the globals that offsets of 32 and of 64 bits may
+-- be read from
 pub record Targets : Type 0 where
   pub memories : List Indexed
   pub globals32 : List ℕ
   pub globals64 : List ℕ
 
--- a memory's pages are of 64 KiB or fewer bytes
+-- a memory's pages have at most 64 KiB
 abbrev pub HasPages : Indexed → Type 0
 HasPages one = page_log2 one.1.page_size_log2 ≤ 16
 
--- the globals that may tell an offset: none with `disallow_traps`
+-- the globals that an offset may be read from: none with `disallow_traps`
 abbrev pub offset_globals : Config → Context → Bool → List ℕ
 offset_globals config context wide = if config.disallow_traps then [] else readable_globals context (address_type wide)
 
--- what segments are copied into, and the globals that may tell where
+-- the memories that segments are copied into, and the globals that offsets may be read from
 abbrev pub targets_of : Config → Context → List Indexed → Targets
 targets_of config context memories =
     record { memories = memories; globals32 = offset_globals config context false; globals64 = offset_globals config context true }
 
--- the globals that may tell an offset of this width
+-- the globals that an offset of this width may be read from
 abbrev pub globals_for : Targets → Bool → List ℕ
 globals_for targets wide = if wide then targets.globals64 else targets.globals32
 
--- the least bytes of a memory, and its greatest address by its width
+-- the least number of bytes of a memory, and its greatest address by its width
 abbrev pub least_bytes : MemoryType → ℕ
 least_bytes memory = memory.minimum * 2 ^ page_log2 memory.page_size_log2
 
@@ -72,14 +74,16 @@ last_address wide = addresses wide - 1
 abbrev pub constant_offset : Bool → ℕ → Offset
 constant_offset wide address = if wide then Const64 (cast_signed w64 address) else Const32 (cast_signed w32 address)
 
--- where a number of bytes begins: with `disallow_traps` within the least bytes, else up to the greatest address
+-- the address of the first of a number of bytes: with `disallow_traps` within the least bytes, else
+-- up to the greatest address
 unfoldable pub address_at : Bool → MemoryType → ℕ → List ℕ → ℕ × List ℕ
 address_at no_traps memory size bytes =
     let last = last_address memory.memory64 in
     let inside = min (least_bytes memory) last in
     offset_at inside (if no_traps then inside else last) size bytes
 
--- a constant offset, and what is copied there: with `disallow_traps` no more than the least bytes, and low enough to fit
+-- a constant offset, and the bytes copied there: with `disallow_traps` no more than the least
+-- bytes, and low enough to fit
 unfoldable pub constant_at : Bool → MemoryType → List ℕ → List ℕ → (Offset × List ℕ) × List ℕ
 constant_at no_traps memory init bytes =
     let address = address_at no_traps memory (length init) bytes in
@@ -87,7 +91,7 @@ constant_at no_traps memory init bytes =
     if no_traps then ((constant_offset memory.memory64 (min address.0 (least_bytes memory - length kept)), kept), address.1)
     else ((constant_offset memory.memory64 address.0, init), address.1)
 
--- a constant offset, or one of the globals that may tell it; and what is copied there
+-- a constant offset, or one of the globals that it may be read from; and the bytes copied there
 unfoldable pub placed_at : Bool → List ℕ → MemoryType → List ℕ → List ℕ → (Offset × List ℕ) × List ℕ
 placed_at no_traps globals memory init bytes =
     let place = range_at 0 (length globals) bytes in
@@ -106,7 +110,8 @@ active_at config targets init bytes =
     let placed = placed_at config.disallow_traps (globals_for targets memory.memory64) memory init target.1 in
     (record { kind = Active target.0.0 placed.0.0; init = placed.0.1 }, placed.1)
 
--- whether a segment is passive: only with bulk memory, and there where no memory counts or a bool says so
+-- whether a segment is passive: only with bulk memory, and then if no memory may be copied into or
+-- a drawn bool says so
 unfoldable pub passive_at : Config → Targets → List ℕ → Bool × List ℕ
 passive_at config targets bytes =
     if config.bulk_memory_enabled then (if length targets.memories == 0 then (true, bytes) else bool_at bytes)
@@ -121,8 +126,8 @@ segment_at config targets bytes =
 unfoldable pub segments_at : Config → Targets → List ℕ → List DataSegment × List ℕ
 segments_at config targets bytes = grow_at (λ _. segment_at config targets) config.min_data_segments config.max_data_segments [] bytes
 
--- the data segments beside these memories, in a context that tells the visible globals; none where there is no bulk memory and
--- no memory counts
+-- the data segments for these memories, in a context with the visible globals; none if there is no
+-- bulk memory and no memory may be copied into
 unfoldable pub data_at : Config → Context → List MemoryType → List ℕ → Result (List DataSegment × List ℕ) Why
 data_at config context memories bytes =
     let counting = counting_at [] 0 memories bytes in

@@ -1,4 +1,4 @@
--- Which bodies the bytes give. Rules of this project.
+-- The bodies that the bytes produce. Rules of this project.
 use Rattle.std.specs.Prelude.{ℕ, Bool, false, List, [], take, drop, if◌then◌else◌}
 use Rattle.smith_bytes.specs.Draws.{bool_at, len_at}
 use Rattle.smith_bytes.specs.Growth.{grow_at}
@@ -9,11 +9,11 @@ use Rattle.smith_types.specs.declared.code.Instructions.TheVariants.{Unreachable
 use Rattle.smith_config.specs.declared.config.Config.{Config}
 use Rattle.smith_draw.specs.Locals.{locals_at}
 
--- a length, then as many raw bytes
+-- a length, then that number of raw bytes
 unfoldable pub raw_bytes_at : List ℕ → Instructions × List ℕ
 raw_bytes_at bytes = let len = len_at bytes in (Arbitrary (take len.0 len.1), drop len.0 len.1)
 
--- whether a body is raw bytes: where bodies may be invalid, a bool says so
+-- whether a body is raw bytes: if bodies may be invalid, a drawn bool says so
 unfoldable pub is_raw_at : Config → List ℕ → Bool × List ℕ
 is_raw_at config bytes = if config.allow_invalid_funcs then bool_at bytes else (false, bytes)
 
@@ -23,7 +23,7 @@ instructions_at config bytes =
     let raw = is_raw_at config bytes in
     if raw.0 then raw_bytes_at raw.1 else (Unreachable, raw.1)
 
--- the locals of a body over these types and functions, then what it does
+-- the locals of a body over these types and functions, then its instructions
 unfoldable pub body_at : Config → Context → List ℕ → Code × List ℕ
 body_at config context bytes =
     let locals = locals_at config context bytes in

@@ -1,4 +1,4 @@
--- What element segments are drawn over, and what each keeps. Rules of this project.
+-- Requirements of the step of element segments, and its invariants. Rules of this project.
 use Rattle.std.specs.Prelude.{◌≡◌, ◌⊎◌, ℕ, ◌<◌, ◌≤◌, ◌^◌, false, IsTrue, IsSome, IsSomeAnd, Option, Some, List, length, slice_get, All}
 use Rattle.std.specs.List.{Any}
 use Rattle.smith_bytes.specs.declared.error.Count.TheVariants as counts
@@ -34,13 +34,13 @@ use Rattle.smith_contents.specs.Held.{expressions_of}
 use Rattle.smith_contents.specs.declared.element_kinds.KindChoice.{KindChoice}
 use Rattle.smith_contents.specs.declared.element_kinds.KindChoice.TheVariants as choice
 
--- a valid table that a segment may be copied into, if it names it so
+-- a valid table that a segment may be copied into, if the segment names it in this way
 pub record IsTarget (config : Config) (types : List SubType) (tables : List TableType) (index : Option ℕ) (table : TableType) : Type 0 where
   pub valid : IsTableValid (features_of config) types table
   pub stands : slice_get tables (table_index index) ≡ Some table
   pub named : IsSome index → IsTrue config.bulk_memory_enabled
 
--- a kind that is offered beside these tables
+-- a kind that is offered with these tables
 abbrev pub IsOffered : Config → List SubType → List TableType → KindChoice → Type 0
 IsOffered config types tables (choice.Active index table) = IsTarget config types tables index table
 IsOffered config types tables _ = IsTrue config.bulk_memory_enabled
@@ -53,17 +53,19 @@ pub record MayDrawElements (config : Config) (spaces : Spaces) : Type 0 where
   pub tables : All (IsTableValid (features_of config) spaces.types.now.types) spaces.entities.tables.now
   pub few_tables : length spaces.entities.tables.now < 2 ^ 32
 
--- the minimum of the table, if a segment is copied into one, is not above what its addresses reach
+-- the minimum of the table, if a segment is copied into one, is at most the number of elements that
+-- its addresses reach
 abbrev pub FitsAddresses : KindChoice → Type 0
 FitsAddresses (choice.Active index table) = table.minimum ≤ most_elements table.table64
 FitsAddresses _ = Unit {0}
 
--- an offset into a table, and with `disallow_traps` how many items end within the least elements from it on
+-- an offset into a table, and with `disallow_traps` a number of items that end within the least
+-- elements from it on
 pub record IsPlaced (config : Config) (context : Context) (table : TableType) (offset : Offset) (hint : Option ℕ) : Type 0 where
   pub valid : IsOffsetValid context table.table64 offset
   pub inside : IsTrue config.disallow_traps → IsSomeAnd hint (λ most. IsOffsetInside offset most table.minimum)
 
--- the kind of a segment is the one that was chosen, placed where it is copied into a table
+-- the kind of a segment is the one that was chosen, with an offset if it is copied into a table
 abbrev pub IsKindDrawn : Config → Context → KindChoice → ElementKind × Option ℕ → Type 0
 IsKindDrawn config context choice.Passive drawn = drawn.0 ≡ element.Passive
 IsKindDrawn config context choice.Declared drawn = drawn.0 ≡ element.Declared
@@ -80,42 +82,43 @@ pub record MayHoldItems (config : Config) (spaces : Spaces) (ty : RefType) : Typ
   pub valid : IsRefTypeValid (features_of config) (length spaces.types.now.types) ty
   pub enabled : IsElementEnabled (features_of config) ty
 
--- items of a type: valid, enough, and without a float's constant where no type holds a float
+-- items of a type: valid, enough, and without a float constant if no type holds a float
 pub record AreItemsFit (config : Config) (context : Context) (ty : RefType) (items : Elements) : Type 0 where
   pub valid : AreItemsValid context ty items
   pub enough : HasItems config context.types context.funcs items
   pub floats : All HasNoFloat context.types → All (All GivesNoFloat) (expressions_of items)
 
--- a segment may stand in the module: it is valid, has enough items without a float, and with `disallow_traps` what is copied
--- fits
+-- a segment fits into the module: it is valid, has enough items, none with a float, and with
+-- `disallow_traps` the items it copies fit
 pub record IsElementFit (config : Config) (context : Context) (tables : List TableType) (segment : ElementSegment) : Type 0 where
   pub valid : IsElementValid context tables segment
   pub inside : IsTrue config.disallow_traps → IsElementInside tables segment
   pub enough : HasItems config context.types context.funcs segment.items
   pub floats : All HasNoFloat context.types → All (All GivesNoFloat) (expressions_of segment.items)
 
--- the elements of a table may not be null, and, where `non_nullable_enabled` is set, are not grounded
+-- the elements of some table are not nullable, and are not grounded or `non_nullable_enabled` is
+-- off
 abbrev pub HasUngroundedElements : Config → Context → List TableType → Type 0
 HasUngroundedElements config context tables = Any (λ (table : TableType). IsUngrounded config context (Ref table.element_type)) tables
 
--- where there may be nothing to choose from for an item of a segment: a field of a type, or an element of a table, is such a
--- reference
+-- there may be nothing to choose from for an item of a segment: a field of a type, or an element of
+-- a table, is such a reference
 abbrev pub MayLackItem : Config → Context → List TableType → Type 0
 MayLackItem config context tables = HoldsUngroundedField config context ⊎ HasUngroundedElements config context tables
 
--- when items that are functions are refused: memory runs out, or more are asked for than may be
+-- errors of items that are functions: lack of memory, or more are required than may be
 abbrev pub MayRefuseFunctions : Config → Error → Type 0
 MayRefuseFunctions config e = (e ≡ Memory) ⊎ ((e ≡ IncorrectFormat (Unmet counts.Elements)) × (0 < config.min_elements))
 
--- when items of a type are refused: so, or there is nothing to choose from
+-- errors of items of a type: the same, or there is nothing to choose from
 abbrev pub MayRefuseItems : Config → Context → RefType → Error → Type 0
 MayRefuseItems config context ty e = MayRefuseFunctions config e ⊎ ((e ≡ EmptyChoose) × MayLack config context (Ref ty))
 
--- when a segment beside these tables is refused
+-- errors of a segment with these tables
 abbrev pub MayRefuseSegment : Config → Context → List TableType → Error → Type 0
 MayRefuseSegment config context tables e = MayRefuseFunctions config e ⊎ ((e ≡ EmptyChoose) × MayLackItem config context tables)
 
--- when element segments are refused: one of them is, or no kind is offered
+-- errors of the step of element segments: those of a segment, or no kind is offered
 abbrev pub MayRefuseElements : Config → Context → List TableType → Error → Type 0
 MayRefuseElements config context tables e =
     MayRefuseSegment config context tables e

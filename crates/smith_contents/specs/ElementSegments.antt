@@ -1,4 +1,4 @@
--- Which element segments the bytes give. Rules of this project.
+-- The element segments that the bytes produce. Rules of this project.
 use Rattle.std.specs.Prelude.{ℕ, zero, suc, ◌-◌, min, Bool, true, false, not, ◌&&◌, ◌==◌, nat_lt, Option, Some, None, option_to_list, unwrap_or, List, [], ◌∷◌, ◌++◌, length, slice_get, sum_by, Result, Ok, Err, if◌then◌else◌}
 use Rattle.std.specs.Int.{cast_signed, w32, w64}
 use Rattle.std.specs.List.{list_any}
@@ -38,22 +38,23 @@ use Rattle.smith_imports.specs.Steps.{◌>>=◌}
 pub use Rattle.smith_contents.specs.declared.element_kinds.KindChoice.{KindChoice}
 use Rattle.smith_contents.specs.declared.element_kinds.KindChoice.TheVariants as choice
 
--- a heap type of any functions that are not shared
+-- the heap type `func`, unshared
 abbrev pub is_plain_func : HeapType → Bool
 is_plain_func (Abstract shared heap.Func) = not shared
 is_plain_func _ = false
 
--- whether references are to functions that are not shared, and may be null
+-- whether references are nullable, and have the unshared heap type `func`
 abbrev pub is_funcref : RefType → Bool
 is_funcref reference = reference.nullable && is_plain_func reference.heap_type
 
--- whether segments may be copied into a table: where its minimum is above 0, else in one of eleven cases
+-- whether segments may be copied into a table: always if its minimum is above 0, else in one of
+-- eleven cases
 unfoldable pub is_offered_at : TableType → List ℕ → Bool × List ℕ
 is_offered_at table bytes =
     if nat_lt 0 table.minimum then (true, bytes)
     else (let chance = range_at 0 10 bytes in (chance.0 == 0, chance.1))
 
--- the first table is offered without its index where it is of functions
+-- the first table is offered without its index if it is of functions
 abbrev pub with_unnamed : ℕ → TableType → List KindChoice → List KindChoice
 with_unnamed index table choices =
     if (index == 0) && is_funcref table.element_type then choices ++ choice.Active None table ∷ [] else choices
@@ -62,14 +63,14 @@ with_unnamed index table choices =
 abbrev pub with_named : Config → ℕ → TableType → List KindChoice → List KindChoice
 with_named config index table choices = if config.bulk_memory_enabled then choices ++ choice.Active (Some index) table ∷ [] else choices
 
--- behind these kinds those of the tables from an index on
+-- these kinds, followed by those of the tables from an index on
 unfoldable pub table_kinds_at : Config → List KindChoice → ℕ → List TableType → List ℕ → List KindChoice × List ℕ
 table_kinds_at config choices index [] bytes = (choices, bytes)
 table_kinds_at config choices index (table ∷ tables) bytes =
     let offered = is_offered_at table bytes in
     table_kinds_at config (if offered.0 then with_named config index table (with_unnamed index table choices) else choices) (suc index) tables offered.1
 
--- the kinds that need no table
+-- the kinds without a table
 abbrev pub kept_kinds : Config → List KindChoice
 kept_kinds config = if config.bulk_memory_enabled then choice.Passive ∷ choice.Declared ∷ [] else []
 
@@ -89,15 +90,15 @@ most_offset config table = if config.disallow_traps then table.minimum else most
 abbrev pub constant_offset : TableType → ℕ → Offset
 constant_offset table offset = if table.table64 then Const64 (cast_signed w64 offset) else Const32 (cast_signed w32 offset)
 
--- how many elements fit between an offset and the minimum, where a segment is to fit: with `disallow_traps`, and without it in ten
--- of eleven cases where it can
+-- the number of elements between an offset and the minimum, if they are to fit: with
+-- `disallow_traps`, and without it in ten of eleven cases in which they can
 unfoldable pub hint_at : Config → TableType → ℕ → List ℕ → Option ℕ × List ℕ
 hint_at config table offset bytes =
     if config.disallow_traps then (Some (table.minimum - offset), bytes)
     else if nat_lt table.minimum offset then (None, bytes)
     else (let chance = range_at 0 10 bytes in (if chance.0 == 0 then None else Some (table.minimum - offset), chance.1))
 
--- a constant offset, and how many elements are to fit behind it, if that is limited
+-- a constant offset, and the number of elements that must fit after it, if that is limited
 unfoldable pub constant_offset_at : Config → TableType → List ℕ → (Offset × Option ℕ) × List ℕ
 constant_offset_at config table bytes =
     let offset = offset_at table.minimum (most_offset config table) 0 bytes in
@@ -116,7 +117,7 @@ table_offset_at config context table bytes =
     let chosen = chosen_at 0 globals wanted.1 in
     if wanted.0 then ((Global chosen.0, None), chosen.1) else constant_offset_at config table wanted.1
 
--- a segment of a kind, with how many elements are to fit, if that is limited
+-- a segment of a kind, with the number of elements that must fit, if that is limited
 unfoldable pub kind_at : Config → Context → KindChoice → List ℕ → (ElementKind × Option ℕ) × List ℕ
 kind_at config context choice.Passive bytes = ((element.Passive, None), bytes)
 kind_at config context choice.Declared bytes = ((element.Declared, None), bytes)
@@ -124,12 +125,13 @@ kind_at config context (choice.Active index table) bytes =
     let offset = table_offset_at config context table bytes in
     ((element.Active index offset.0.0, offset.0.1), offset.1)
 
--- the type of the items: one below that of the table's elements, and any where there is no table
+-- the type of the items: a subtype of that of the table's elements, or any type if there is no
+-- table
 unfoldable pub item_type_at : Config → Context → KindChoice → List ℕ → RefType × List ℕ
 item_type_at config context (choice.Active index table) bytes = matching_ref_type_at config context table.element_type bytes
 item_type_at config context _ bytes = ref_type_at config context false (length context.types) bytes
 
--- the most items of a segment, behind `total` items in all segments before
+-- the greatest number of items of a segment after segments of `total` items
 abbrev pub most_items : Config → Option ℕ → ℕ → ℕ
 most_items config hint total = min (unwrap_or hint config.max_elements) (config.max_elements - total)
 
@@ -137,22 +139,23 @@ most_items config hint total = min (unwrap_or hint config.max_elements) (config.
 abbrev pub is_unshared_type : List SubType → ℕ → Bool
 is_unshared_type types index = list_any (λ (t : SubType). not t.composite_type.shared) (option_to_list (slice_get types index))
 
--- the functions whose types are not shared, by their indices
+-- the indices of the functions whose types are not shared
 abbrev pub unshared_funcs : List SubType → List ℕ → List ℕ
 unshared_funcs types funcs = places_from (is_unshared_type types) 0 funcs
 
--- whether items are listed as functions: always without reference types, and else of functions where a bool says so
+-- whether items are listed as functions: always without reference types, else if they are of
+-- functions and a drawn bool says so
 unfoldable pub are_functions_at : Config → RefType → List ℕ → Bool × List ℕ
 are_functions_at config ty bytes =
     if not config.reference_types_enabled then (true, bytes)
     else if is_funcref ty then bool_at bytes
     else (false, bytes)
 
--- at most `most` items among these functions
+-- at most `most` items of these functions
 unfoldable pub chosen_functions_at : Config → List ℕ → ℕ → List ℕ → List ℕ × List ℕ
 chosen_functions_at config funcs most bytes = grow_at (λ _. chosen_at 0 funcs) config.min_elements most [] bytes
 
--- functions that are not shared; none, however many are asked for, where there is none
+-- functions that are not shared; none, whatever the minimum is, if there is no such function
 unfoldable pub functions_at : Config → Context → ℕ → List ℕ → Result (List ℕ × List ℕ) Why
 functions_at config context most bytes =
     let funcs = unshared_funcs context.types context.funcs in
@@ -168,7 +171,7 @@ expression_item_at config context ty bytes = unwrap_or (const_expr_at config con
 unfoldable pub drawn_expressions_at : Config → Context → RefType → ℕ → List ℕ → List (List ConstInstr) × List ℕ
 drawn_expressions_at config context ty most bytes = grow_at (λ _. expression_item_at config context ty) config.min_elements most [] bytes
 
--- the same, refused where `most` items are fewer than are asked for
+-- the same, refused if `most` items are fewer than required
 unfoldable pub expressions_at : Config → Context → RefType → ℕ → List ℕ → Result (List (List ConstInstr) × List ℕ) Why
 expressions_at config context ty most bytes =
     if nat_lt most config.min_elements then Err (Unmet counts.Elements) else Ok (drawn_expressions_at config context ty most bytes)
@@ -184,11 +187,11 @@ items_at config context ty most bytes =
       expressions ← expressions_at config context ty most listed.1
       Ok (Expressions expressions.0, expressions.1))
 
--- how many items segments hold together
+-- the number of items that segments hold together
 abbrev pub items_in : List ElementSegment → ℕ
 items_in segments = sum_by (λ (segment : ElementSegment). item_count segment.items) segments
 
--- a segment of one of these kinds, behind `total` items in all segments before
+-- a segment of one of these kinds, after segments of `total` items
 unfoldable pub element_segment_at : Config → Context → List KindChoice → ℕ → List ℕ → Result (ElementSegment × List ℕ) Why
 element_segment_at config context kinds total bytes = do
   let chosen = chosen_at choice.Passive kinds bytes
@@ -197,7 +200,7 @@ element_segment_at config context kinds total bytes = do
   items ← items_at config context ty.0 (most_items config kind.0.1 total) ty.1
   Ok (record { kind = kind.0.0; ty = ty.0; items = items.0 }, items.1)
 
--- at most `most` segments of these kinds behind those that are made
+-- at most `most` segments of these kinds, after those made before
 unfoldable pub element_segments_at : Config → Context → List KindChoice → ℕ → List ElementSegment → List ℕ → Result (List ElementSegment × List ℕ) Why
 element_segments_at config context kinds zero made bytes = Ok (made, bytes)
 element_segments_at config context kinds (suc most) made bytes =
@@ -207,7 +210,8 @@ element_segments_at config context kinds (suc most) made bytes =
       element_segments_at config context kinds most (made ++ segment.0 ∷ []) segment.1)
     else Ok (made, go.1)
 
--- the element segments of a module with these tables; where no kind is offered, none, and too few are refused
+-- the element segments of a module with these tables; none if no kind is offered, refused if some
+-- are required
 unfoldable pub elements_at : Config → Context → List TableType → List ℕ → Result (List ElementSegment × List ℕ) Why
 elements_at config context tables bytes =
     let kinds = kinds_at config tables bytes in

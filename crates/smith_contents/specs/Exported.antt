@@ -1,4 +1,4 @@
--- What the step of exports needs and keeps, and when it may refuse. Rules of this project.
+-- Requirements, invariants and refusals of the step of exports. Rules of this project.
 use Rattle.std.specs.Prelude.{◌≡◌, true, false, ℕ, ◌+◌, ◌*◌, ◌^◌, ◌<◌, ◌≤◌, ◌⊎◌, List, length, All}
 use Rattle.smith_bytes.specs.declared.error.Error.{Error}
 use Rattle.smith_bytes.specs.declared.error.Error.TheVariants as errors
@@ -25,27 +25,29 @@ pub record IsIndexed (spaces : IndexSpaces) : Type 0 where
   pub globals : length spaces.globals < 2 ^ 32
   pub tags : length spaces.tags < 2 ^ 32
 
--- a type whose functions have a size that has 32 bits, with one more
+-- a type whose functions have a size that, plus 1, has 32 bits
 abbrev pub IsSized : SubType → Type 0
 IsSized t = value_count t.composite_type.inner + 2 < 2 ^ 32
 
--- items of index spaces may be exported over these types: sizes of functions, and indices, have 32 bits
+-- items of index spaces may be exported over these types: sizes of functions, and indices, have 32
+-- bits
 pub record MayExport (types : List SubType) (spaces : IndexSpaces) : Type 0 where
   pub sized : All IsSized types
   pub funcs : All (IsFuncValid types) spaces.funcs
   pub few : IsIndexed spaces
 
--- the size of a function, and one more, is at most `most`
+-- the size of a function, plus 1, is at most `most`
 abbrev pub IsFuncWithin : List SubType → ℕ → ℕ → Type 0
 IsFuncWithin types most func = size_in types (entity.Func func) + 1 ≤ most
 
--- items may be offered for exports, where no function has a greater size, with one more
+-- items may be offered for exports, and the size of each function, plus 1, is at most `most`
 pub record MayOffer (types : List SubType) (spaces : IndexSpaces) (most : ℕ) : Type 0 where
   pub items : MayExport types spaces
   pub within : All (IsFuncWithin types most) spaces.funcs
 
--- exports may be drawn beside what the imports add to the type size: there are as many tables, memories and globals as are
--- asked for, and without shapes function types are small, and an import adds at most 42
+-- exports may be drawn, given the amount that the imports add to the type size: the minimums of
+-- tables, memories and globals are met, and without shapes function types are small, and an import
+-- adds at most 42
 pub record MayExportFreely (config : Config) (types : List SubType) (spaces : IndexSpaces) (imports : ℕ) : Type 0 where
   pub items : MayExport types spaces
   pub ordered : config.min_exports ≤ config.max_exports
@@ -56,11 +58,12 @@ pub record MayExportFreely (config : Config) (types : List SubType) (spaces : In
   pub memories : config.min_memories ≤ length spaces.memories
   pub globals : config.min_globals ≤ length spaces.globals
 
--- an item stands in index spaces
+-- an item exists in index spaces
 abbrev pub IsStanding : IndexSpaces → ExportKind → ℕ → Type 0
 IsStanding spaces of_kind index = (ty : EntityType) × IsEntityAt spaces of_kind index ty
 
--- an item that may be exported where `left` of the type size is left: it stands, and its size and one more is below `left`
+-- an item may be exported if `left` of the type size is left: it exists, and its size plus 1 is
+-- below `left`
 pub record IsCandidate (types : List SubType) (spaces : IndexSpaces) (left : ℕ) (of_kind : ExportKind) (index : ℕ) : Type 0 where
   pub stands : IsStanding spaces of_kind index
   pub fits : item_size types spaces of_kind index + 1 < left
@@ -71,37 +74,40 @@ pub record AreExportsFit (config : Config) (types : List SubType) (spaces : Inde
   pub type_size : size ≡ imports + exported_size types spaces exports
   pub within : size ≤ config.max_type_size
 
--- exports that are drawn freely: no more than may be
+-- exports that are drawn freely: no more than the maximum
 pub record AreExported (config : Config) (types : List SubType) (spaces : IndexSpaces) (imports : ℕ) (exports : List Export) (size : ℕ) : Type 0 where
   pub fit : AreExportsFit config types spaces imports exports size
   pub most : length exports ≤ config.max_exports
 
--- where no table, no memory and no global is asked for, so that there may be nothing to export
+-- no table, no memory and no global is required, so that there may be nothing to export
 pub record MayHaveNoExports (config : Config) : Type 0 where
   pub tables : config.min_tables ≡ 0
   pub memories : config.min_memories ≡ 0
   pub globals : config.min_globals ≡ 0
 
--- where exports may end, without shapes, before there are as many as are asked for: they may be too large together, or there may
--- be no item
+-- exports may end below the minimum without shapes: they may be too large together, or there may be
+-- no item
 abbrev pub MayRunOut : Config → Type 0
 MayRunOut config = (config.max_type_size ≤ 42 * (config.max_imports + config.min_exports)) ⊎ MayHaveNoExports config
 
--- when exports that are drawn freely may be refused: for want of memory, or where a minimum above zero may stay unmet
+-- errors of exports that are drawn freely: lack of memory, or a minimum above zero that may stay
+-- unmet
 abbrev pub MayRefuseFree : Config → Error → Type 0
 MayRefuseFree config e = (e ≡ errors.Memory) ⊎ ((e ≡ errors.IncorrectFormat (Unmet counts.Exports)) × (0 < config.min_exports) × (HasNoShapes config → MayRunOut config))
 
--- when the exports of every item may be refused: for want of memory, or where they are too large together
+-- errors of the exports of every item: lack of memory, or exports that are too large together
 abbrev pub MayRefuseAll : Error → Type 0
 MayRefuseAll e = (e ≡ errors.Memory) ⊎ (e ≡ errors.IncorrectFormat TypeSize)
 
--- exports may be drawn beside what the imports add to the type size, where no shape fixes them
+-- exports may be drawn, given the amount that the imports add to the type size, and no shape fixes
+-- them
 pub record MayDrawExports (config : Config) (types : List SubType) (spaces : IndexSpaces) (imports : ℕ) : Type 0 where
   pub not_fixed : FixesExports config → ⊥
   pub items : MayExport types spaces
   pub within : imports ≤ config.max_type_size
   pub freely : config.export_everything ≡ false → MayExportFreely config types spaces imports
 
--- when exports may be refused: as those of every item where everything is exported, else as those that are drawn freely
+-- errors of the step of exports: those of every item if everything is exported, else those of
+-- exports that are drawn freely
 abbrev pub MayRefuseExports : Config → Error → Type 0
 MayRefuseExports config e = ((config.export_everything ≡ true) × MayRefuseAll e) ⊎ ((config.export_everything ≡ false) × MayRefuseFree config e)

@@ -1,4 +1,4 @@
--- The items of index spaces, and that each of them is exported. Rules of this project.
+-- The items of index spaces, and the property that each of them is exported. Rules of this project.
 use Rattle.std.specs.Prelude.{◌≡◌, ℕ, zero, suc, List, [], ◌∷◌, ◌++◌, length, map}
 use Rattle.smith_types.specs.Imports.{IndexSpaces}
 use Rattle.smith_types.specs.declared.entity_type.ExportKind.{ExportKind}
@@ -12,7 +12,7 @@ Item = ExportKind × ℕ
 abbrev pub item_of : List ℕ × ExportKind × ℕ → Item
 item_of one = (one.1, one.2)
 
--- the kind and each index below a number, in order
+-- the kind and each of `count` indices from a start on, in order
 abbrev pub numbered_from : ExportKind → ℕ → ℕ → List Item
 numbered_from of_kind start zero = []
 numbered_from of_kind start (suc count) = (of_kind, start) ∷ numbered_from of_kind (suc start) count

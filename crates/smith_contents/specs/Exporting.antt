@@ -1,4 +1,4 @@
--- Which exports are drawn. Rules of this project.
+-- The exports that are drawn. Rules of this project.
 use Rattle.std.specs.Prelude.{◌≡◌, ℕ, zero, suc, ◌+◌, ◌-◌, Bool, ◌&&◌, max, nat_lt, List, [], ◌∷◌, ◌++◌, length, slice_get, sum_by, Result, Ok, Err, if◌then◌else◌}
 use Rattle.std.specs.Fmt.{decimal}
 use Rattle.std.specs.HashSet.{HashSet, contains_text, hash_set_len}
@@ -42,18 +42,19 @@ abbrev pub longest_export : List Export → ℕ
 longest_export [] = 0
 longest_export (one ∷ exports) = max (length one.0) (longest_export exports)
 
--- the name of an export beside others: a text of at most 1000 bytes, and behind it the number of these exports as often as it
--- takes until no export has the name
+-- the name of an export after others: a text of at most 1000 bytes, to which the number of these
+-- exports is appended until no export has the name
 unfoldable pub export_name_at : List Export → List ℕ → List ℕ × List ℕ
 export_name_at exports bytes =
     let text = text_at 1000 bytes in
     (new_name (is_exported exports) (decimal (length exports)) (longest_export exports + 1) text.0, text.1)
 
--- whether the size of a function of a type, and one more, is below what is left of the type size
+-- whether the size of a function of a type, plus 1, is below the rest of the type size
 abbrev pub is_func_below : List SubType → ℕ → ℕ → Bool
 is_func_below types left func = nat_lt (size_in types (entity.Func func) + 1) left
 
--- the indices of the items of a kind whose size, and one more, is below what is left of the type size; tags are not offered
+-- the indices of the items of a kind whose size, plus 1, is below the rest of the type size; tags
+-- are not offered
 abbrev pub candidates : List SubType → IndexSpaces → ℕ → ExportKind → List ℕ
 candidates types spaces left kind.Func = places_from (is_func_below types left) 0 spaces.funcs
 candidates types spaces left kind.Table = places_from (λ table. nat_lt 2 left) 0 spaces.tables
@@ -61,7 +62,7 @@ candidates types spaces left kind.Memory = places_from (λ memory. nat_lt 2 left
 candidates types spaces left kind.Global = places_from (λ global. nat_lt 2 left) 0 spaces.globals
 candidates types spaces left kind.Tag = []
 
--- a kind, with whether it has a candidate
+-- a kind, and whether it has a candidate
 abbrev pub candidate_row : List SubType → IndexSpaces → ℕ → ExportKind → ExportKind × Bool
 candidate_row types spaces left of_kind = (of_kind, nat_lt 0 (length (candidates types spaces left of_kind)))
 
@@ -75,7 +76,7 @@ candidate_rows types spaces left =
 abbrev pub offered_kinds : List SubType → IndexSpaces → ℕ → List ExportKind
 offered_kinds types spaces left = enabled (candidate_rows types spaces left)
 
--- an export beside others: its name, its kind among those that have a candidate, and one of these
+-- an export after others: its name, its kind among those that have a candidate, and one of these
 unfoldable pub export_at : List SubType → IndexSpaces → ℕ → List Export → List ℕ → Export × List ℕ
 export_at types spaces left exports bytes =
     let name = export_name_at exports bytes in
@@ -83,17 +84,17 @@ export_at types spaces left exports bytes =
     let index = chosen_at 0 (candidates types spaces left of_kind.0) of_kind.1 in
     ((name.0, of_kind.0, index.0), index.1)
 
--- the size of an item: of a function that of its type
+-- the size of an item: that of its type for a function, else 1
 abbrev pub item_size : List SubType → IndexSpaces → ExportKind → ℕ → ℕ
 item_size types spaces kind.Func index = unwrap_or (option_map (λ func. size_in types (entity.Func func)) (slice_get spaces.funcs index)) 1
 item_size types spaces _ index = 1
 
--- what exports add to the type size: the sizes of their items, and one more each
+-- the amount that exports add to the type size: the sizes of their items, and one more each
 abbrev pub exported_size : List SubType → IndexSpaces → List Export → ℕ
 exported_size types spaces exports = sum_by (λ (one : Export). item_size types spaces one.1 one.2 + 1) exports
 
--- at most `most` exports more, behind others, beside what the imports add to the type size: without asking while there are
--- too few, and while there is a candidate
+-- at most `most` more exports after others, given the amount that the imports add to the type size:
+-- without a draw while there are too few, and while there is a candidate
 unfoldable pub exports_from : Config → List SubType → IndexSpaces → ℕ → ℕ → List Export → List ℕ → List Export × List ℕ
 exports_from config types spaces imports zero exports bytes = (exports, bytes)
 exports_from config types spaces imports (suc most) exports bytes =
@@ -104,7 +105,7 @@ exports_from config types spaces imports (suc most) exports bytes =
     then exports_from config types spaces imports most (exports ++ one.0 ∷ []) one.1
     else (exports, go.1)
 
--- the exports that are drawn freely; where they end before there are as many as are asked for, none
+-- the exports that are drawn freely; refused if they end below the minimum
 unfoldable pub free_exports_at : Config → List SubType → IndexSpaces → ℕ → List ℕ → Result (List Export × List ℕ) Why
 free_exports_at config types spaces imports bytes =
     let drawn = exports_from config types spaces imports config.max_exports [] bytes in

@@ -1,4 +1,4 @@
--- What element segments and bodies hold. Rules of this project.
+-- Contents of element segments and bodies. Rules of this project.
 use Rattle.std.specs.Prelude.{◌≡◌, ℕ, ◌≤◌, ◌⊎◌, IsTrue, List, [], Some, slice_get, All}
 use Rattle.smith_types.specs.Kinds.{shared}
 use Rattle.smith_types.specs.Segments.{item_count}
@@ -15,15 +15,15 @@ abbrev pub expressions_of : Elements → List (List ConstInstr)
 expressions_of (Functions functions) = []
 expressions_of (Expressions expressions) = expressions
 
--- no function is there that an element of functions might be: each is of a shared type
+-- no function can be an item that lists a function: each is of a shared type
 abbrev pub HasNoCandidates : List SubType → List ℕ → Type 0
 HasNoCandidates types funcs = All (λ index. (t : SubType) × (slice_get types index ≡ Some t) × IsTrue (shared t)) funcs
 
--- as many items as are asked for, or an empty list of functions where there is no candidate
+-- at least the minimum number of items, or an empty list of functions if there is no candidate
 abbrev pub HasItems : Config → List SubType → List ℕ → Elements → Type 0
 HasItems config types funcs items = (config.min_elements ≤ item_count items) ⊎ ((items ≡ Functions []) × HasNoCandidates types funcs)
 
--- instructions that are raw bytes, before which no check can stand
+-- instructions that are raw bytes, before which no check can be placed
 abbrev pub IsRaw : Instructions → Type 0
 IsRaw Unreachable = ⊥
 IsRaw (Arbitrary bytes) = Unit {0}

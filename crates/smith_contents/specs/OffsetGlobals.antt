@@ -5,17 +5,17 @@ use Rattle.smith_types.specs.declared.value_type.ValType.{ValType}
 use Rattle.smith_types.specs.declared.value_type.ValType.TheVariants.{I32, I64}
 use Rattle.smith_draw.specs.ConstOffers.{each_from, offered_if}
 
--- the type of the addresses of this width
+-- whether a type is that of the addresses of this width
 abbrev pub is_address : Bool → ValType → Bool
 is_address wide I32 = not wide
 is_address wide I64 = wide
 is_address wide _ = false
 
--- a global that tells an offset of this width where it is visible
+-- whether an offset of this width may be read from a global if it is visible
 abbrev pub tells_offset : Bool → GlobalType → Bool
 tells_offset wide global = not global.mutable && is_address wide global.val_type
 
--- the indices from a start on of those of these globals that tell an offset
+-- the indices, from a start on, of those of these globals that an offset may be read from
 abbrev pub telling_from : Bool → ℕ → List GlobalType → List ℕ
 telling_from wide start globals = each_from (λ index (global : GlobalType). offered_if (tells_offset wide global) index) start globals
 

@@ -1,4 +1,4 @@
--- Which bytes spell passive data segments. Rules of this project.
+-- The bytes that spell passive data segments. Rules of this project.
 use Rattle.std.specs.Prelude.{◌≡◌, ℕ, List, map, if◌then◌else◌}
 use Rattle.smith_bytes.specs.Spelling.{Listed}
 use Rattle.smith_types.specs.declared.segments.DataSegment.{DataSegment}
@@ -6,11 +6,11 @@ use Rattle.smith_types.specs.declared.segments.DataSegmentKind.TheVariants.{Pass
 use Rattle.smith_config.specs.declared.config.Config.{Config}
 use Rattle.smith_spell.specs.Spelling.{SpellsBytes}
 
--- bytes that are copied nowhere
+-- bytes that are not copied anywhere
 abbrev pub passive_data : List ℕ → DataSegment
 passive_data bytes = record { kind = Passive; init = bytes }
 
--- passive segments, one for each byte list; none, without a byte, where there is no bulk memory
+-- passive segments, one for each byte list; none, without a byte, if there is no bulk memory
 pub record SpellsPassive (config : Config) (segments : List DataSegment) (piece : List ℕ) : Type 0 where
   pub lists : List (List ℕ)
   pub are : segments ≡ map (λ bytes. passive_data bytes) lists

@@ -1,4 +1,4 @@
--- Which function starts a module. Rules of this project.
+-- The function that starts a module. Rules of this project.
 use Rattle.std.specs.Prelude.{ℕ, Bool, false, ◌&&◌, nat_lt, List, length, Option, Some, None, if◌then◌else◌}
 use Rattle.smith_bytes.specs.Draws.{bool_at}
 use Rattle.smith_types.specs.declared.composite_type.SubType.{SubType}
@@ -7,11 +7,13 @@ use Rattle.smith_draw.specs.Choices.{chosen_at}
 use Rattle.smith_draw.specs.TypeUses.{places_from}
 use Rattle.smith_spell.specs.Spelling.{is_start_type}
 
--- the indices of the functions that may start a module, imported ones too: those that take and give nothing
+-- the indices of the functions that may start a module, imported ones too: those without parameters
+-- and results
 abbrev pub start_funcs : List SubType → List ℕ → List ℕ
 start_funcs types funcs = places_from (is_start_type types) 0 funcs
 
--- whether one of a number of functions starts the module: where that is allowed and there is one, a bool says so
+-- whether one of a number of functions starts the module: if that is allowed and there is one, a
+-- drawn bool says so
 unfoldable pub start_wanted_at : Config → ℕ → List ℕ → Bool × List ℕ
 start_wanted_at config count bytes = if config.allow_start_export && nat_lt 0 count then bool_at bytes else (false, bytes)
 

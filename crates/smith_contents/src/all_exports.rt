@@ -28,7 +28,8 @@ fn count_items(spaces: &IndexSpaces) -> usize
         + spaces.tags.len()
 }
 
-/// Finds the item at `place` among all of `spaces`: functions come first, then tables, memories, globals and tags, each by index.
+/// Finds the item at `place` among all items of `spaces`: functions first, then tables, memories,
+/// globals and tags, each by index.
 fn item_at(spaces: &IndexSpaces, place: usize) -> (ExportKind, u32)
     requires few { IsIndexed (spaces_in spaces.now) }
     requires within { place < length (every_item (spaces_in spaces.now)) }
@@ -53,7 +54,8 @@ fn item_at(spaces: &IndexSpaces, place: usize) -> (ExportKind, u32)
     (ExportKind::Tag, (place - tags) as u32)
 }
 
-/// Draws an export of each item of `spaces`, in order, unless the exports are too large together.
+/// Draws an export of each item of `spaces`, in order. Refuses if imports and exports together
+/// exceed the maximum type size.
 #[tactic(auto, unfolding(crate::specs::AllExports::everything_at))]
 fn push_exports(
     alloc: Global,

@@ -16,7 +16,7 @@ use smith_draw::{KeptGrounds, Spaces, Standing, draw_locals};
 use smith_types::{Code, Instructions, Items};
 use std::alloc::Global;
 
-/// Draws a length, and takes that number of bytes.
+/// Draws a length, and takes that number of bytes as a raw body.
 #[tactic(auto, unfolding(crate::specs::DrawnBodies::raw_bytes_at))]
 fn draw_raw_bytes(alloc: Global, u: &mut Unstructured<'_>) -> Result<Instructions, Error>
     ensures { Draws (raw_bytes_at u.old) result u.old u.new }
@@ -26,7 +26,8 @@ fn draw_raw_bytes(alloc: Global, u: &mut Unstructured<'_>) -> Result<Instruction
     Ok(Instructions::Arbitrary(Items::from_slice(alloc, bytes)?))
 }
 
-/// Draws whether a body is raw bytes, where `config` allows invalid bodies.
+/// Draws whether a body is raw bytes. Returns false without a draw if `config` does not allow
+/// invalid bodies.
 #[tactic(auto, unfolding(crate::specs::DrawnBodies::is_raw_at))]
 fn is_raw(config: &Config, u: &mut Unstructured<'_>) -> bool
     ensures { AlwaysDraws (is_raw_at config.now u.old) result u.old u.new }
@@ -114,8 +115,8 @@ fn draw_bodies(
     draw_over(alloc, config, spaces, &grounds, count, u)
 }
 
-/// Draws the bodies of `count` functions: locals over the types and functions of `spaces`, then `unreachable`, or raw bytes where
-/// `config` allows these.
+/// Draws the bodies of `count` functions. Each has locals over the types and functions of `spaces`,
+/// then `unreachable`, or raw bytes if `config` allows invalid bodies.
 ///
 /// `config` is sanitised.
 pub fn arbitrary_bodies(

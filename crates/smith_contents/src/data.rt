@@ -60,7 +60,8 @@ fn constant_offset(wide: bool, address: u64) -> Offset
     Offset::Const32((address as u32).cast_signed())
 }
 
-/// Draws the address at which `size` bytes begin.
+/// Draws the address of the first of `size` bytes in `memory`. With `no_traps` the address is at
+/// most the least number of bytes of `memory`.
 #[tactic(auto, unfolding(crate::specs::DataSegments::address_at))]
 fn draw_address(no_traps: bool, memory: MemoryType, size: usize, u: &mut Unstructured<'_>) -> u64
     requires { page_log2 memory.page_size_log2 ≤ 16 }
@@ -83,7 +84,9 @@ fn cut(init: Items<u8>, most: u128) -> Items<u8>
     Items::from_vec(bytes)
 }
 
-/// Draws a constant offset for `init`, of which what fits is kept with `disallow_traps`.
+/// Draws a constant offset for `init` into `memory`, and returns it with `init`. With `no_traps`,
+/// `init` is cut to the least number of bytes of `memory`, and the offset is lowered until all of
+/// it fits.
 #[tactic(auto, unfolding(crate::specs::DataSegments::constant_at))]
 fn draw_constant(
     no_traps: bool,
@@ -106,7 +109,7 @@ fn draw_constant(
     (constant_offset(memory.memory64, fitting), kept)
 }
 
-/// Draws an offset for `init`: a constant, or one of `globals`.
+/// Draws an offset for `init`: a constant, or the value of one of `globals`.
 #[tactic(auto, unfolding(crate::specs::DataSegments::placed_at))]
 fn draw_offset(
     no_traps: bool,
@@ -152,7 +155,7 @@ fn draw_active(
     }
 }
 
-/// Draws whether a segment is passive, which needs bulk memory.
+/// Draws whether a segment is passive, which requires bulk memory.
 #[tactic(auto, unfolding(crate::specs::DataSegments::passive_at))]
 fn is_passive(config: &Config, targets: &Targets<'_>, u: &mut Unstructured<'_>) -> bool
     ensures draws { AlwaysDraws (passive_at config.now targets.now u.old) result u.old u.new }
@@ -237,16 +240,17 @@ fn draw_data(
     draw_segments(alloc, config, &targets, u)
 }
 
-/// Draws the data segments: at least `min_data_segments` and at most `max_data_segments` of `config`. Active segments are copied
-/// into memories of `spaces`, at constant offsets or at the values of globals. The standard's section Validation, Data Segments.
+/// Draws the data segments: at least `min_data_segments` and at most `max_data_segments` of
+/// `config`. Active segments are copied into memories of `spaces`, at constant offsets or at the
+/// values of globals. The standard's section Validation, Data Segments.
 ///
-/// `config` passes its check. The types of `spaces` are valid, and its functions, globals and memories are valid over them, each
-/// fewer than 2^32, with imported globals among its globals.
+/// `config` passes its check. The types of `spaces` are valid, and its functions, globals and
+/// memories are valid over them, each fewer than 2^32. The imported globals are among its globals.
 ///
 /// # Errors
 ///
-/// `Unmet(DataSegments)` where `config` asks for segments without bulk memory, and no memory may be copied into. A memory without
-/// pages may be copied into only where the bytes say so.
+/// `Unmet(DataSegments)` if `config` requires segments, bulk memory is off, and no memory may be
+/// copied into. A memory with a minimum of 0 may be copied into only if a drawn number says so.
 pub fn arbitrary_data(
     alloc: Global,
     config: &Config,

@@ -15,15 +15,15 @@ use smith_types::MemoryType;
 use std::alloc::Global;
 use std::marker::Model;
 
-/// The memories that segments may be copied into, and the globals that may tell where.
+/// Memories that segments may be copied into, and globals that offsets may be read from.
 #[derive(Drop)]
 pub(crate) struct Targets<'a> {
     memories: &'a [MemoryType],
-    /// Those of `memories` that segments may be copied into.
+    /// Indices of those of `memories` that segments may be copied into.
     offered: OfferedIndices,
-    /// The globals that may tell an offset into a memory of 32 bits.
+    /// Globals whose value may be the offset into a memory of 32-bit addresses.
     globals32: OffsetGlobals<'a>,
-    /// The globals that may tell an offset into a memory of 64 bits.
+    /// Globals whose value may be the offset into a memory of 64-bit addresses.
     globals64: OffsetGlobals<'a>,
 }
 
@@ -40,7 +40,8 @@ impl<'a> Model for Targets<'a> {
 }
 
 impl<'a> Targets<'a> {
-    /// Counts the globals of `spaces` that may tell where, beside those of its memories whose indices are `offered`.
+    /// Counts the globals of `spaces` that offsets may be read from. Segments may be copied into
+    /// those of its memories whose indices are `offered`.
     pub(crate) fn new(
         config: &Config,
         spaces: &'a Spaces<'_>,
@@ -59,14 +60,15 @@ impl<'a> Targets<'a> {
         }
     }
 
-    /// Whether segments may be copied into no memory.
+    /// Whether there is no memory that segments may be copied into.
     pub(crate) fn is_empty(&self) -> bool
         ensures { IsTrue result ↔ (length self.now.memories ≡ 0) }
     {
         self.offered.is_empty()
     }
 
-    /// Chooses a memory that segments may be copied into, of which there is at least one, and gives its index with it.
+    /// Draws a memory that segments may be copied into, of which there is at least one. Returns its
+    /// index and its type.
     #[tactic(auto, unfolding(smith_draw::specs::Choices::chosen_at))]
     pub(crate) fn choose(&self, u: &mut Unstructured<'_>) -> (u32, MemoryType)
         requires { 0 < length self.now.memories }
@@ -76,7 +78,8 @@ impl<'a> Targets<'a> {
         (index, self.memories[index as usize])
     }
 
-    /// The globals that may tell an offset: of 64 bits where `wide` is set, else of 32 bits.
+    /// Returns the globals that an offset may be read from: of 64 bits if `wide` is set, else of 32
+    /// bits.
     pub(crate) fn globals_for(&self, wide: bool) -> &OffsetGlobals<'a>
         ensures { result.now ≡ globals_for self.now wide }
     {
@@ -87,7 +90,8 @@ impl<'a> Targets<'a> {
     }
 }
 
-/// Draws whether segments may be copied into `memory`: always where its minimum is above 0, else in one of eleven cases.
+/// Draws whether segments may be copied into `memory`: yes without a draw if its minimum is above
+/// 0, else if a number drawn from 0 to 10 is 0.
 #[tactic(auto, unfolding(crate::specs::DataSegments::counts_at))]
 fn is_target(memory: MemoryType, u: &mut Unstructured<'_>) -> bool
     ensures { AlwaysDraws (counts_at memory u.old) result u.old u.new }

@@ -77,7 +77,7 @@ pub(crate) fn draw_item_type(
     draw_type_for(alloc, config, standing, choice, u)
 }
 
-/// Whether the type at `index` is not shared.
+/// Whether the type at `index` exists and is not shared.
 fn is_unshared_type(types: &[SubType], index: u32) -> bool
     ensures { result ≡ is_unshared_type types.now index }
 {
@@ -87,7 +87,8 @@ fn is_unshared_type(types: &[SubType], index: u32) -> bool
     }
 }
 
-/// Offers those functions of `funcs` whose types are not shared. There are fewer than 2^32 functions.
+/// Offers the indices of those of `funcs` whose types are not shared. There are fewer than 2^32
+/// functions.
 fn offer_unshared(alloc: Global, types: &[SubType], funcs: &[u32]) -> Result<OfferedIndices, Error>
     requires few { length funcs.now < 2 ^ 32 }
     ensures exact { IfOk result (λ unshared. unshared.offered ≡ unshared_funcs types.now funcs.now) }
@@ -104,7 +105,8 @@ fn offer_unshared(alloc: Global, types: &[SubType], funcs: &[u32]) -> Result<Off
     Ok(unshared)
 }
 
-/// Draws whether items of the type `ty` are listed as functions.
+/// Draws whether items of the type `ty` are listed as functions. Draws only if reference types are
+/// on and `ty` is `funcref`.
 #[tactic(auto, unfolding(crate::specs::ElementSegments::are_functions_at))]
 fn are_functions(config: &Config, ty: RefType, u: &mut Unstructured<'_>) -> bool
     ensures draws { AlwaysDraws (are_functions_at config.now ty u.old) result u.old u.new }
@@ -119,7 +121,7 @@ fn are_functions(config: &Config, ty: RefType, u: &mut Unstructured<'_>) -> bool
     false
 }
 
-/// Refuses where `most` items are fewer than `config` asks for in a segment.
+/// Refuses if `most` items are fewer than `config` requires in a segment.
 fn ask_enough(config: &Config, most: usize) -> Result<(), Error>
     ensures enough { OnOk result (config.now.min_elements ≤ most) }
     ensures unmet { IfErr result (λ e. (e ≡ Error.IncorrectFormat (Why.Unmet Count.Elements)) × (most < config.now.min_elements)) }
@@ -130,7 +132,7 @@ fn ask_enough(config: &Config, most: usize) -> Result<(), Error>
     Ok(())
 }
 
-/// Chooses at most `most` items among the functions `funcs`.
+/// Draws at most `most` items of the functions `funcs`.
 #[tactic(auto, unfolding(crate::specs::ElementSegments::chosen_functions_at))]
 fn choose_functions(
     alloc: Global,

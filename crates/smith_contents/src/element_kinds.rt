@@ -14,18 +14,18 @@ use smith_draw::Spaces;
 use smith_types::{AbstractHeapType, HeapType, RefType, TableType};
 use std::alloc::Global;
 
-/// A kind of element segment that may be chosen.
+/// Kind of element segment that may be drawn.
 #[derive(Clone, Copy)]
 pub(crate) enum KindChoice {
-    /// Kept for instructions that name the segment.
+    /// Available to instructions that name the segment.
     Passive,
-    /// Kept to declare the functions that the segment names.
+    /// Declares the functions that the segment names.
     Declared,
-    /// Copied into a table of this type, which the segment names by its index, or doesn't name where the table is the first.
+    /// Copied into a table of this type. The index is left out only for the first table.
     Active(Option<u32>, TableType),
 }
 
-/// Whether `heap_type` is that of any functions that are not shared.
+/// Whether `heap_type` is `func`, unshared.
 fn is_plain_func(heap_type: HeapType) -> bool
     ensures { result ≡ is_plain_func heap_type }
 {
@@ -38,14 +38,15 @@ fn is_plain_func(heap_type: HeapType) -> bool
     }
 }
 
-/// Whether `reference` may be null and is to functions that are not shared.
+/// Whether `reference` is nullable and has the unshared heap type `func`.
 pub(crate) fn is_funcref(reference: RefType) -> bool
     ensures { result ≡ is_funcref reference }
 {
     reference.nullable && is_plain_func(reference.heap_type)
 }
 
-/// Draws whether segments may be copied into `table`: always where its minimum is above 0, else in one of eleven cases.
+/// Draws whether segments may be copied into `table`: yes without a draw if its minimum is above 0,
+/// else if a number drawn from 0 to 10 is 0.
 #[tactic(auto, unfolding(crate::specs::ElementSegments::is_offered_at))]
 fn is_offered(table: &TableType, u: &mut Unstructured<'_>) -> bool
     ensures { AlwaysDraws (is_offered_at table.now u.old) result u.old u.new }
@@ -81,7 +82,7 @@ fn draw_tables(
     Ok(offered)
 }
 
-/// Offers kinds of element segments beside the tables of `spaces`.
+/// Draws the kinds of element segments that are possible with the tables of `spaces`.
 pub(crate) fn offer_kinds<'a>(
     alloc: Global,
     config: &'a Config,

@@ -14,7 +14,8 @@ use smith_config::Config;
 use smith_draw::{Spaces, arbitrary_offset};
 use smith_types::{ElementKind, Offset, TableType};
 
-/// The greatest constant offset into `table`.
+/// Returns the greatest constant offset into `table`: its minimum with `disallow_traps`, else the
+/// greatest address.
 fn most_offset(config: &Config, table: &TableType) -> u64
     requires { table.now.minimum ≤ most_elements table.now.table64 }
     ensures exact { result ≡ most_offset config.now table.now }
@@ -44,7 +45,8 @@ fn constant_offset(table: &TableType, offset: u64) -> Offset
     Offset::Const32((offset as u32).cast_signed())
 }
 
-/// Draws how many elements are to fit between `offset` and the minimum of `table`, or no limit.
+/// Draws the number of elements that must fit, or no limit. A limit is the number of elements
+/// between `offset` and the minimum of `table`.
 #[tactic(auto, unfolding(crate::specs::ElementSegments::hint_at))]
 fn draw_hint(
     config: &Config,
@@ -117,7 +119,8 @@ fn draw_table_offset(
     (Offset::Global(globals.choose(u)), None)
 }
 
-/// Draws the mode of a segment of the kind `choice`, and how many elements are to fit, or no limit.
+/// Draws the mode of a segment of the kind `choice`, and the number of elements that must fit, or
+/// no limit.
 #[tactic(auto, unfolding(crate::specs::ElementSegments::kind_at))]
 pub(crate) fn draw_kind(
     config: &Config,

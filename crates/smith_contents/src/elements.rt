@@ -26,7 +26,8 @@ use smith_draw::{KeptGrounds, Spaces, Standing};
 use smith_types::{ElementSegment, Elements, Items};
 use std::alloc::Global;
 
-/// The greatest number of items of a segment, behind `total` items in all segments before, within `hint` if that is given.
+/// Returns the greatest number of items of a segment after segments of `total` items, within `hint`
+/// if there is one.
 fn most_items(config: &Config, hint: Option<u64>, total: usize) -> usize
     requires { total ≤ config.now.max_elements }
     ensures exact { result ≡ most_items config.now hint total }
@@ -39,7 +40,7 @@ fn most_items(config: &Config, hint: Option<u64>, total: usize) -> usize
     }
 }
 
-/// Draws a segment of one of `kinds`, behind `total` items in all segments before.
+/// Draws a segment of one of `kinds`, after segments of `total` items.
 #[tactic(auto, unfolding(crate::specs::ElementSegments::element_segment_at), using(crate::proofs::ElementItemLemmas::segment_refused))]
 fn draw_segment(
     alloc: Global,
@@ -111,7 +112,7 @@ fn draw_segments(
     Ok(segments)
 }
 
-/// Gives no segment, and refuses where `config` asks for segments.
+/// Returns no segment. Refuses if `config` requires segments.
 fn none(alloc: Global, config: &Config) -> Result<Items<ElementSegment>, Error>
     ensures none { IfOk result (λ segments. (segments ≡ []) × (config.now.min_element_segments ≡ 0)) }
     ensures unmet { IfErr result (λ e. (e ≡ Error.IncorrectFormat (Why.Unmet Count.ElementSegments)) × (0 < config.now.min_element_segments)) }
@@ -146,19 +147,23 @@ fn draw_elements(
     draw_segments(alloc, config, spaces, &standing, &kinds, u)
 }
 
-/// Draws the element segments: at least `min_element_segments` and at most `max_element_segments` of `config`, each of at least
-/// `min_elements` items, and all together of at most `max_elements`. A segment that lists functions is empty where each function
-/// of `spaces` has a shared type. The standard's section Validation, Element Segments.
+/// Draws the element segments: at least `min_element_segments` and at most `max_element_segments`
+/// of `config`. Each has at least `min_elements` items, and together they have at most
+/// `max_elements`. A segment that lists functions is empty if all functions of `spaces` have shared
+/// types. The standard's section Validation, Element Segments.
 ///
-/// `config` is sanitised and passes its check. The types of `spaces` are valid, and its functions, tables and globals are valid
-/// over them, each fewer than 2^32, with imported globals among its globals.
+/// `config` is sanitised and passes its check. The types of `spaces` are valid, and its functions,
+/// tables and globals are valid over them, each fewer than 2^32. The imported globals are among its
+/// globals.
 ///
 /// # Errors
 ///
-/// `Unmet(ElementSegments)` where `config` asks for segments without bulk memory, and no table may be copied into;
-/// `Unmet(Elements)` where a segment may have fewer than `min_elements` items; `EmptyChoose` where nothing gives an item, which
-/// comes only where a field of a type, or an element of a table, is a reference that may not be null, and, where `config` has
-/// references that aren't nullable, none that a struct type or a function of `spaces` grounds.
+/// - `Unmet(ElementSegments)` if `config` requires segments, bulk memory is off, and no table may
+///   be copied into.
+/// - `Unmet(Elements)` if the limit of a segment is below `min_elements`.
+/// - `EmptyChoose` if no expression has the type of an item. This requires a field of a type, or an
+///   element of a table, whose reference type is not nullable. With `non_nullable_enabled`, it also
+///   requires that no struct type and no function of `spaces` grounds that type.
 pub fn arbitrary_elements(
     alloc: Global,
     config: &Config,

@@ -15,7 +15,7 @@ use smith_types::{EntityType, ExportKind, IndexSpaces, TypeSpace};
 /// The size of a table, a memory or a global, plus 1.
 const SIZE_OF_OTHER: u32 = 2;
 
-/// The size of a function of the type `func`, plus 1.
+/// Returns the size of a function of the type `func`, plus 1.
 fn func_size(types: &TypeSpace, func: u32) -> u32
     requires sized { All IsSized types.now.types }
     requires valid { IsFuncValid types.now.types func }
@@ -33,7 +33,7 @@ fn is_func_below(types: &TypeSpace, left: u32, func: u32) -> bool
     func_size(types, func) < left
 }
 
-/// The greatest size of a function of `funcs`, plus 1: 0 where there is no function.
+/// Returns the greatest size of a function of `funcs`, plus 1, or 0 if there is no function.
 pub(crate) fn most_of_funcs(types: &TypeSpace, funcs: &[u32]) -> u32
     requires sized { All IsSized types.now.types }
     requires valid { All (IsFuncValid types.now.types) funcs.now }
@@ -64,7 +64,8 @@ fn count_funcs(types: &TypeSpace, funcs: &[u32], left: u32) -> usize
     count
 }
 
-/// Finds the index of the function at `place` among those of `funcs` whose size, plus 1, is below `left`.
+/// Finds the index of the function at `place` among those of `funcs` whose size, plus 1, is below
+/// `left`.
 fn func_at(types: &TypeSpace, funcs: &[u32], left: u32, mut place: usize) -> u32
     requires sized { All IsSized types.now.types }
     requires valid { All (IsFuncValid types.now.types) funcs.now }
@@ -83,8 +84,8 @@ fn func_at(types: &TypeSpace, funcs: &[u32], left: u32, mut place: usize) -> u32
     0
 }
 
-/// Counts the functions of `funcs` that may be exported. The size of each function, plus 1, is at most `most`: where `left` is
-/// above `most`, no function is looked at.
+/// Counts the functions of `funcs` that may be exported. The size of each function, plus 1, is at
+/// most `most`, so no function is examined if `left` is above `most`.
 fn count_func_candidates(types: &TypeSpace, funcs: &[u32], most: u32, left: u32) -> usize
     requires sized { All IsSized types.now.types }
     requires valid { All (IsFuncValid types.now.types) funcs.now }
@@ -119,7 +120,7 @@ fn count_others(count: usize, left: u32) -> usize
     if left > SIZE_OF_OTHER { count } else { 0 }
 }
 
-/// Counts the items of the kind `kind` that may be exported where `left` of the type size is left.
+/// Counts the items of the kind `kind` that may be exported if `left` of the type size is left.
 fn count_candidates(
     types: &TypeSpace,
     spaces: &IndexSpaces,
@@ -158,7 +159,7 @@ fn candidate_at(
     }
 }
 
-/// Chooses an item of the kind `kind` among those that may be exported, and gives its index.
+/// Draws the index of an item of the kind `kind` that may be exported.
 #[tactic(auto, unfolding(smith_draw::specs::Choices::chosen_at))]
 pub(crate) fn choose_candidate(
     types: &TypeSpace,
@@ -178,7 +179,7 @@ pub(crate) fn choose_candidate(
     candidate_at(types, spaces, most, left, kind, place)
 }
 
-/// Gives `kind`, with whether an item of that kind may be exported.
+/// Returns `kind`, and whether an item of that kind may be exported.
 fn candidate_row(
     types: &TypeSpace,
     spaces: &IndexSpaces,
@@ -210,7 +211,7 @@ fn candidate_rows(
     ]
 }
 
-/// Whether an item may be exported where `left` of the type size is left.
+/// Whether an item may be exported if `left` of the type size is left.
 pub(crate) fn has_candidates(types: &TypeSpace, spaces: &IndexSpaces, most: u32, left: u32) -> bool
     requires { MayOffer types.now.types (spaces_in spaces.now) most }
     ensures { result ≡ nat_lt 0 (length (offered_kinds types.now.types (spaces_in spaces.now) left)) }
@@ -218,7 +219,7 @@ pub(crate) fn has_candidates(types: &TypeSpace, spaces: &IndexSpaces, most: u32,
     count_enabled(&candidate_rows(types, spaces, most, left)) > 0
 }
 
-/// Chooses a kind among those of which an item may be exported.
+/// Draws a kind of which an item may be exported.
 pub(crate) fn choose_export_kind(
     types: &TypeSpace,
     spaces: &IndexSpaces,

@@ -7,7 +7,7 @@ use smith_types::Name;
 use std::alloc::Global;
 use std::collections::HashSet;
 
-/// Draws the name of an export, which is new among `names`, and added.
+/// Draws the name of an export, which is not in `names` before, and adds it.
 pub(crate) fn draw_export_name(
     alloc: Global,
     names: &mut HashSet<String>,

@@ -5,16 +5,17 @@ ghost use Rattle.smith_contents.specs.Exported.{MayExport};
 
 use smith_types::{EntityType, ExportKind, IndexSpaces, Items, Name, TypeSpace};
 
-/// The exports of a module, and the type size that it has with them.
+/// Exports of a module, and its type size with them.
 #[derive(Drop)]
 pub struct Exports {
     /// The name of each export, and the kind and the index of its item.
     pub exports: Items<(Name, ExportKind, u32)>,
-    /// What the imports and the exports add to the type size of the module.
+    /// The amount that imports and exports add to the type size of the module.
     pub type_size: u32,
 }
 
-/// The size of the item of the kind `kind` at `index`: that of its type for a function, else 1.
+/// Returns the size of the item of the kind `kind` at `index`: that of its type for a function,
+/// else 1.
 pub(crate) fn item_size(
     types: &TypeSpace,
     spaces: &IndexSpaces,

@@ -21,8 +21,8 @@ use smith_types::{ExportKind, IndexSpaces, Items, Name, TypeSpace};
 use std::alloc::Global;
 use std::collections::HashSet;
 
-/// Draws an export of an item of `spaces` that may be exported where `left` of the type size is left. The size of each function,
-/// plus 1, is at most `most`.
+/// Draws an export of an item of `spaces` that may be exported if `left` of the type size is left.
+/// The size of each function, plus 1, is at most `most`.
 #[tactic(auto, unfolding(crate::specs::Exporting::export_at))]
 fn draw_export(
     alloc: Global,
@@ -49,7 +49,8 @@ fn draw_export(
     Ok((name, kind, index))
 }
 
-/// Draws exports of items of `spaces`, while there is room and an item that may be exported.
+/// Draws exports of items of `spaces`, until there is no room, a drawn bool ends them, or no item
+/// may be exported.
 fn push_exports(
     alloc: Global,
     config: &Config,
@@ -108,8 +109,8 @@ fn draw_exports(
     Ok(drawn)
 }
 
-/// Draws exports of items of `spaces`: at least `min_exports` and at most `max_exports` of `config`. The imports add
-/// `imports_size` to the type size.
+/// Draws exports of items of `spaces`: at least `min_exports` and at most `max_exports` of
+/// `config`. The imports add `imports_size` to the type size.
 fn draw_free_exports(
     alloc: Global,
     config: &Config,
@@ -132,20 +133,23 @@ fn draw_free_exports(
     draw_exports(alloc, config, types, spaces, imports_size, u)
 }
 
-/// Draws the exports of a module: an export of every item of `spaces` where `config` exports everything, else at least
-/// `min_exports` and at most `max_exports`. The imports add `imports_size` to the type size.
+/// Draws the exports of a module: an export of every item of `spaces` if `config` exports
+/// everything, else at least `min_exports` and at most `max_exports`. The imports add
+/// `imports_size` to the type size.
 ///
-/// No shape of `config` fixes the exports, and `imports_size` is at most `max_type_size`. Each index space of `spaces` has fewer
-/// than 2^32 items, its functions are of function types among `types`, and a function type has fewer than 2^32 - 2 parameters
-/// and results together.
+/// No shape of `config` fixes the exports, and `imports_size` is at most `max_type_size`. Each
+/// index space of `spaces` has fewer than 2^32 items, its functions have function types of `types`,
+/// and a function type has fewer than 2^32 - 2 parameters and results together.
 ///
-/// Unless everything is exported, `min_exports` is at most `max_exports`, and `spaces` has the tables, memories and globals that
-/// `config` asks for at least. Where `config` has no shape either, a function type has at most 20 parameters and 20 results, and
-/// `imports_size` is at most 42 for each import that `config` allows.
+/// Unless everything is exported, `min_exports` is at most `max_exports`, and `spaces` has at least
+/// the minimum number of tables, memories and globals of `config`. If `config` has no shape either,
+/// a function type has at most 20 parameters and 20 results, and `imports_size` is at most 42 for
+/// each import that `config` allows.
 ///
 /// # Errors
 ///
-/// `TypeSize` where the exports of everything would pass the type size; `Unmet(Exports)` where others end below the minimum.
+/// - `TypeSize` if the exports of everything would exceed the maximum type size.
+/// - `Unmet(Exports)` if the exports otherwise end below the minimum.
 pub fn arbitrary_exports(
     alloc: Global,
     config: &Config,

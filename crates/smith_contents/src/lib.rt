@@ -1,4 +1,4 @@
-//! The contents of a module behind its definitions: exports, a start function, segments and bodies.
+//! The contents of a module after its definitions: exports, a start function, segments and bodies.
 #![tactic(auto)]
 
 mod all_exports;

@@ -7,14 +7,14 @@ use smith_types::Items;
 use std::alloc::Global;
 use std::marker::Model;
 
-/// The indices below an end that are offered, in order: all but those that are left out.
+/// Offered indices, in order: all indices below an end, except those left out.
 ///
-/// Only what is left out takes memory.
+/// Only an index that is left out takes memory.
 #[derive(Drop)]
 pub(crate) struct OfferedIndices {
     /// The number of offered indices.
     count: u32,
-    /// How many offered indices are below each index that is left out.
+    /// The number of offered indices below each index that is left out.
     skipped: Items<u32>,
 }
 
@@ -29,7 +29,7 @@ impl Model for OfferedIndices {
 }
 
 impl OfferedIndices {
-    /// Begins with no index. Takes no memory.
+    /// Makes an empty list of indices. Takes no memory.
     pub(crate) fn new(alloc: Global) -> Self
         ensures { result ≡ record { end = 0; offered = [] } }
     {
@@ -57,7 +57,7 @@ impl OfferedIndices {
         self.skipped.push(below)
     }
 
-    /// The number of offered indices.
+    /// Returns the number of offered indices.
     pub(crate) fn len(&self) -> usize
         ensures exact { result ≡ length self.now.offered }
         ensures few { result < 2 ^ 32 }
@@ -84,7 +84,7 @@ impl OfferedIndices {
         place as u32 + below as u32
     }
 
-    /// Chooses an offered index, of which there is at least one.
+    /// Draws an offered index, of which there is at least one.
     #[tactic(auto, unfolding(smith_draw::specs::Choices::chosen_at))]
     pub(crate) fn choose(&self, u: &mut Unstructured<'_>) -> u32
         requires { 0 < length self.now.offered }

@@ -11,13 +11,13 @@ use smith_config::Config;
 use smith_types::TableType;
 use std::marker::Model;
 
-/// The kinds of element segments that are offered, in order: those that need no table, the first table without its index, and
-/// tables by their indices.
+/// Kinds of element segments that are offered, in order: those without a table, the first table
+/// without its index, and tables by their indices.
 #[derive(Drop)]
 pub(crate) struct OfferedKinds<'a> {
     config: &'a Config,
     tables: &'a [TableType],
-    /// Those of `tables` that segments may be copied into.
+    /// Indices of those of `tables` that segments may be copied into.
     offered: OfferedIndices,
 }
 
@@ -50,7 +50,7 @@ impl<'a> OfferedKinds<'a> {
         }
     }
 
-    /// The number of kinds.
+    /// Returns the number of kinds.
     fn len(&self) -> usize
         ensures { result ≡ length self.now }
     {
@@ -85,7 +85,7 @@ impl<'a> OfferedKinds<'a> {
         named_at(self.tables, &self.offered, place - kept - unnamed)
     }
 
-    /// Chooses a kind, of which there is at least one.
+    /// Draws a kind, of which there is at least one.
     #[tactic(auto, unfolding(smith_draw::specs::Choices::chosen_at))]
     pub(crate) fn choose(&self, u: &mut Unstructured<'_>) -> KindChoice
         requires { 0 < length self.now }
@@ -96,7 +96,7 @@ impl<'a> OfferedKinds<'a> {
     }
 }
 
-/// Counts the kinds that need no table, which need bulk memory.
+/// Counts the kinds without a table, which require bulk memory.
 fn count_kept(config: &Config) -> usize
     ensures kinds { result ≡ length (kept_kinds config.now) }
     ensures few { result < 3 }
@@ -104,7 +104,7 @@ fn count_kept(config: &Config) -> usize
     if config.bulk_memory_enabled { 2 } else { 0 }
 }
 
-/// The kind at `place` among those that need no table.
+/// Returns the kind at `place` among those without a table.
 fn kept_at(place: usize) -> KindChoice
     ensures first { place ≡ 0 → result ≡ KindChoice.Passive }
     ensures second { place ≡ 1 → result ≡ KindChoice.Declared }
@@ -116,7 +116,7 @@ fn kept_at(place: usize) -> KindChoice
     }
 }
 
-/// Counts 1 where the first of `tables` is offered without its index, else 0.
+/// Returns 1 if the first of `tables` is offered without its index, else 0.
 fn count_unnamed(tables: &[TableType], offered: &OfferedIndices) -> usize
     requires { All (λ index. index < length tables.now) offered.now.offered }
     ensures kinds { result ≡ length (unnamed_kinds tables.now offered.now.offered) }
@@ -135,7 +135,8 @@ fn count_unnamed(tables: &[TableType], offered: &OfferedIndices) -> usize
     }
 }
 
-/// The kind of the table at `place` among those of `tables` whose indices are `offered`, by its index.
+/// Returns the kind, with its index, of the table at `place` among those of `tables` whose indices
+/// are `offered`.
 fn named_at(tables: &[TableType], offered: &OfferedIndices, place: usize) -> KindChoice
     requires within { All (λ index. index < length tables.now) offered.now.offered }
     requires inside { place < length offered.now.offered }

@@ -12,16 +12,16 @@ use smith_draw::Spaces;
 use smith_types::{GlobalType, ValType};
 use std::marker::Model;
 
-/// The indices of the globals that an offset may be read from, in order.
+/// Indices of the globals that an offset may be read from, in order.
 ///
-/// Takes no memory: the globals are counted, and one of them is found by another walk.
+/// Takes no memory: the globals are counted, and each search passes over them again.
 #[derive(Drop)]
 pub(crate) struct OffsetGlobals<'a> {
-    /// The globals that may be read, of any type.
+    /// The globals that a segment may read, of any type.
     globals: &'a [GlobalType],
-    /// Whether an offset has 64 bits, not 32.
+    /// Whether an offset has 64 bits instead of 32.
     wide: bool,
-    /// The number of those of `globals` that tell such an offset.
+    /// The number of those of `globals` that such an offset may be read from.
     count: usize,
 }
 
@@ -37,8 +37,8 @@ impl<'a> Model for OffsetGlobals<'a> {
 }
 
 impl<'a> OffsetGlobals<'a> {
-    /// Counts the globals of `spaces` that an offset may be read from: of 64 bits where `wide` is set, else of 32 bits. There are
-    /// none with `disallow_traps`.
+    /// Counts the globals of `spaces` that an offset may be read from: of 64 bits if `wide` is set,
+    /// else of 32 bits. There are none with `disallow_traps`.
     pub(crate) fn new(config: &Config, spaces: &'a Spaces<'_>, wide: bool) -> OffsetGlobals<'a>
         requires { AreSpacesValid config.now spaces.now }
         ensures exact { result ≡ offset_globals config.now (seen_by config.now spaces.now true) wide }
@@ -54,14 +54,14 @@ impl<'a> OffsetGlobals<'a> {
         }
     }
 
-    /// The number of these globals.
+    /// Returns the number of these globals.
     pub(crate) fn len(&self) -> usize
         ensures { result ≡ length self.now }
     {
         self.count
     }
 
-    /// Finds the global at `place`.
+    /// Finds the index of the global at `place`.
     pub(crate) fn at(&self, place: usize) -> u32
         requires { place < length self.now }
         ensures { result ≡ slice_index_or self.now place 0 }
@@ -69,7 +69,7 @@ impl<'a> OffsetGlobals<'a> {
         find_telling(self.globals, self.wide, place)
     }
 
-    /// Chooses one of these globals, of which there is at least one.
+    /// Draws the index of one of these globals, of which there is at least one.
     #[tactic(auto, unfolding(smith_draw::specs::Choices::chosen_at))]
     pub(crate) fn choose(&self, u: &mut Unstructured<'_>) -> u32
         requires { 0 < length self.now }
@@ -80,7 +80,8 @@ impl<'a> OffsetGlobals<'a> {
     }
 }
 
-/// The end of the globals that a segment may read: the imported ones, with garbage collection all.
+/// Returns the number of globals that a segment may read: the imported ones, or all with garbage
+/// collection.
 fn visible_end(config: &Config, spaces: &Spaces<'_>) -> usize
     requires { AreSpacesValid config.now spaces.now }
     ensures exact { result ≡ visible_end config.now spaces.now true }
@@ -93,7 +94,8 @@ fn visible_end(config: &Config, spaces: &Spaces<'_>) -> usize
     entities.imported_globals
 }
 
-/// The globals that an offset may be read from where they have its type: none with `disallow_traps`.
+/// Returns the globals that an offset may be read from if they have its type: none with
+/// `disallow_traps`.
 fn read_globals<'a>(config: &Config, spaces: &'a Spaces<'_>) -> &'a [GlobalType]
     requires { AreSpacesValid config.now spaces.now }
     ensures exact { (wide : Bool) → telling_from wide 0 result.now ≡ offset_globals config.now (seen_by config.now spaces.now true) wide }
@@ -107,7 +109,8 @@ fn read_globals<'a>(config: &Config, spaces: &'a Spaces<'_>) -> &'a [GlobalType]
     &globals[..visible]
 }
 
-/// Whether `global` tells an offset, where it is visible: of 64 bits where `wide` is set, else of 32 bits.
+/// Whether an offset may be read from `global` if it is visible: of 64 bits if `wide` is set, else
+/// of 32 bits.
 fn tells_offset(global: GlobalType, wide: bool) -> bool
     ensures { result ≡ tells_offset wide global }
 {
@@ -121,7 +124,8 @@ fn tells_offset(global: GlobalType, wide: bool) -> bool
     }
 }
 
-/// Counts those of `globals` that tell an offset: of 64 bits where `wide` is set, else of 32 bits.
+/// Counts those of `globals` that an offset may be read from: of 64 bits if `wide` is set, else of
+/// 32 bits.
 fn count_telling(globals: &[GlobalType], wide: bool) -> usize
     ensures exact { result ≡ length (telling_from wide 0 globals.now) }
     ensures within { result ≤ length globals.now }
@@ -136,7 +140,8 @@ fn count_telling(globals: &[GlobalType], wide: bool) -> usize
     count
 }
 
-/// Finds the index at `place` among those of `globals` that [`count_telling`] counts, and 0 behind their end.
+/// Finds the index at `place` among those of `globals` that [`count_telling`] counts. Returns 0
+/// past their end.
 fn find_telling(globals: &[GlobalType], wide: bool, place: usize) -> u32
     requires { length globals.now < 2 ^ 32 }
     ensures { result ≡ slice_index_or (telling_from wide 0 globals.now) place 0 }

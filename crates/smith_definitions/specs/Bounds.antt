@@ -1,4 +1,5 @@
--- How much a module has: its type size, the most and the least of each kind. Rules of this project.
+-- Sizes of a module: its type size, and the maximum and minimum of each kind. Rules of this
+-- project.
 use Rattle.std.specs.Prelude.{◌≡◌, ℕ, ◌+◌, ◌≤◌, ◌⊎◌, max, false, ◌||◌, is_some, ⊤, List, [], ◌++◌, Option, option_map, unwrap_or, length, slice_get, sum_by, All, if◌then◌else◌}
 use Rattle.std.specs.List.{Contains}
 use Rattle.smith_bytes.specs.declared.error.Count.{Count}
@@ -21,7 +22,8 @@ use Rattle.smith_contents.specs.Held.{HasItems}
 use Rattle.smith_imports.specs.ShapeImports.{count_in}
 use Rattle.smith_definitions.specs.Module.{Parts}
 
--- how many items of a kind a module has, imported ones among them; of elements those of all segments together
+-- the number of items of a kind in a module, imported ones included; elements are those of all
+-- segments together
 abbrev pub count_of : Parts → Count → ℕ
 count_of m counts.Types = length m.types
 count_of m counts.Imports = m.num_imports
@@ -35,7 +37,8 @@ count_of m counts.ElementSegments = length m.elems
 count_of m counts.Elements = sum_by (λ (segment : ElementSegment). item_count segment.items) m.elems
 count_of m counts.DataSegments = length m.segments
 
--- whether an exported item is one of a kind; a function or a tag of a shape for exports brings a type too
+-- the number that an exported item adds to a count; a function or a tag of a shape for exports adds
+-- a type too
 abbrev pub counts_as : Count → ExportKind → ℕ
 counts_as counts.Tags kind.Tag = 1
 counts_as counts.Funcs kind.Func = 1
@@ -46,26 +49,28 @@ counts_as counts.Types kind.Tag = 1
 counts_as counts.Types kind.Func = 1
 counts_as _ _ = 0
 
--- how many items of a kind the exports of a shape bring
+-- the number of items of a kind that the exports of a shape add
 abbrev pub exported_of : Count → Shape → ℕ
 exported_of count shape = sum_by (λ (one : List ℕ × ExportKind × ℕ). counts_as count one.1) shape.exports
 
--- how many items of a kind a module shape brings: its types, its imports, and what it imports and exports of the kind
+-- the number of items of a kind that a module shape adds: its types, its imports, and the imports
+-- and exports of the kind
 abbrev pub brought_by_module : Count → Shape → ℕ
 brought_by_module counts.Types shape = length (shape_types shape)
 brought_by_module counts.Imports shape = length (shape_imports shape)
 brought_by_module count shape = count_in (imported_spaces (shape_imports shape)) count + exported_of count shape
 
--- of available imports only the types are there for certain
+-- available imports add only their types for certain
 abbrev pub brought_by_imports : Count → Shape → ℕ
 brought_by_imports counts.Types shape = length (shape_types shape)
 brought_by_imports count shape = 0
 
--- a number of a shape, 0 where it is not given
+-- a number of a shape, 0 without a shape
 abbrev pub where_given : (Shape → ℕ) → Option Shape → ℕ
 where_given of_shape given = unwrap_or (option_map of_shape given) 0
 
--- what the shapes of a configuration may bring of a kind past its maximum, and what they add to it
+-- the number of items of a kind that the shapes may have past the maximum, and the number that they
+-- add to it
 abbrev pub brought : Config → Count → ℕ
 brought config count =
     let used = shapes_of config in
@@ -74,13 +79,15 @@ brought config count =
 abbrev pub added : Config → Count → ℕ
 added config count = where_given (exported_of count) (shapes_of config).exports
 
--- where the maximum of a kind is asked: that of exports not where a shape fixes them, or everything is exported
+-- the maximum of a kind applies: that of exports unless a shape fixes them, or everything is
+-- exported
 abbrev pub HasMost : Config → Count → Type 0
 HasMost config counts.Exports = (FixesExports config → ⊥) × (config.export_everything ≡ false)
 HasMost config count = ⊤
 
--- where the minimum of a kind is asked of the whole module: that of imports not where a shape fixes them, that of exports
--- neither where everything is exported; that of elements is asked of each segment
+-- the minimum of a kind applies to the whole module: that of imports unless a shape fixes them,
+-- that of exports unless a shape fixes them or everything is exported; that of elements applies to
+-- each segment
 abbrev pub HasLeast : Config → Count → Type 0
 HasLeast config counts.Imports = FixesImports config → ⊥
 HasLeast config counts.Exports = (FixesExports config → ⊥) × (config.export_everything ≡ false)
@@ -91,20 +98,21 @@ HasLeast config count = ⊤
 abbrev pub import_size : Parts → Import → ℕ
 import_size m one = size_in m.types one.entity_type
 
--- the size of an export: of a function that of its type
+-- the size of an export: that of its type for a function, else 1
 abbrev pub export_size : Parts → ExportKind → ℕ → ℕ
 export_size m kind.Func index = unwrap_or (option_map (λ func. size_in m.types (entity.Func func)) (slice_get m.funcs index)) 1
 export_size m _ index = 1
 
--- what imports add to the type size: nothing where a module shape fixes them, else their sizes, and one more each where they
--- are drawn freely
+-- the amount that imports add to the type size: nothing if a module shape fixes them, else their
+-- sizes, and one more each if they are drawn freely
 abbrev pub imports_size : Config → Parts → ℕ
 imports_size config m =
     if is_some config.module_shape then 0
     else if is_some config.available_imports then sum_by (import_size m) (flattened m.imports)
     else sum_by (λ one. import_size m one + 1) (flattened m.imports)
 
--- what exports add to the type size: nothing where a shape fixes them, else their sizes and one more each
+-- the amount that exports add to the type size: nothing if a shape fixes them, else their sizes and
+-- one more each
 abbrev pub exports_size : Config → Parts → ℕ
 exports_size config m =
     if is_some config.module_shape || is_some config.exports then 0
@@ -129,7 +137,7 @@ pub record KeepsBounds (config : Config) (m : Parts) : Type 0 where
 abbrev pub HasEnough : Config → Parts → ElementSegment → Type 0
 HasEnough config m segment = HasItems config m.types m.funcs segment.items
 
--- no fewer than the configuration asks for
+-- no fewer than the configuration requires
 pub record MeetsMinimums (config : Config) (m : Parts) : Type 0 where
   pub least : (count : Count) → HasLeast config count → minimum_of config count ≤ count_of m count
   pub elements : All (HasEnough config m) m.elems

@@ -1,4 +1,5 @@
--- Interesting values as they are collected: in any order, and maybe more than once. Rules of this project.
+-- Interesting values as they are collected: in any order, some maybe more than once. Rules of this
+-- project.
 use Rattle.std.specs.Prelude.{◌≡◌, ◌⊎◌, ℕ, ◌+◌, ◌*◌, ◌^◌, ◌<◌, ◌≤◌, List, [], ◌∷◌, ◌++◌, length, get_or}
 use Rattle.std.specs.List.{All, Any, Contains}
 use Rattle.std.specs.List.Sorted.{IsStrictlyIncreasing}
@@ -6,19 +7,19 @@ use Rattle.smith_types.specs.declared.entity_type.TableType.{TableType}
 use Rattle.smith_types.specs.declared.entity_type.MemoryType.{MemoryType}
 use Rattle.smith_definitions.specs.InterestingValues.{IsNearPower, IsPattern, IsFloatEdge, IsNearTable, IsNearMemory}
 
--- numbers of which this holds, all of them and no other
+-- numbers with this property, all of them and no other
 pub record AreExactly (Holds : ℕ → Type 0) (numbers : List ℕ) : Type 0 where
   pub each : All Holds numbers
   pub whole : (n : ℕ) → Holds n → Contains numbers n
 
--- a number of 64 bits of which this holds, and a number of 32 bits that is the low half of one
+-- a number of 64 bits with this property, and a number of 32 bits that is the low half of one
 abbrev pub Wide : (ℕ → Type 0) → ℕ → Type 0
 Wide Holds n = (n < 2 ^ 64) × Holds n
 
 abbrev pub Narrow : (ℕ → Type 0) → ℕ → Type 0
 Narrow Holds n = (n < 2 ^ 32) × ((high : ℕ) × Wide Holds (high * 2 ^ 32 + n))
 
--- new is old with those of 64 bits of which this holds, and nothing else
+-- `new` is `old` followed by those of 64 bits with this property, and nothing else
 pub record Adds (Holds : ℕ → Type 0) (old new : List ℕ) : Type 0 where
   pub more : List ℕ
   pub parts : new ≡ old ++ more
@@ -47,14 +48,15 @@ IsNearBytes limit n = (n ≡ limit) ⊎ Any (λ distance. IsBeside limit distanc
 abbrev pub IsNearLimit : List TableType → List MemoryType → ℕ → Type 0
 IsNearLimit tables memories n = Any (IsNearTable n) tables ⊎ Any (IsNearMemory n) memories
 
--- made holds what numbers hold, each once, in ascending order
+-- `made` holds the numbers of `numbers`, each once, in ascending order
 pub record IsInOrder (numbers made : List ℕ) : Type 0 where
   pub ascending : IsStrictlyIncreasing made
   pub keeps : (n : ℕ) → Contains numbers n → Contains made n
   pub adds_none : (n : ℕ) → Contains made n → Contains numbers n
 
--- where a number belongs in a list in ascending order: what is before a first place is below it, what is at a second place or later is
--- above it, and between them is the number itself, if the list has it
+-- the place of a number in a list in ascending order: numbers before the first place are below it,
+-- those from the second place on are above it, and between them is the number itself, if the list
+-- has it
 pub record IsPlaceOf (numbers : List ℕ) (number before after : ℕ) : Type 0 where
   pub ordered : before ≤ after
   pub fits : after ≤ length numbers
@@ -62,7 +64,7 @@ pub record IsPlaceOf (numbers : List ℕ) (number before after : ℕ) : Type 0 w
   pub same : (k : ℕ) → before ≤ k → k < after → get_or numbers k 0 ≡ number
   pub above : (k : ℕ) → after ≤ k → k < length numbers → number < get_or numbers k 0
 
--- a number is added to what is made, after those of the rest that are below it; those above it are left
+-- a number is added to `made`, after those of the rest that are below it; those above it are left
 pub record IsPut (made rest : List ℕ) (number : ℕ) (new left : List ℕ) : Type 0 where
   pub front : List ℕ
   pub same : List ℕ

@@ -1,4 +1,4 @@
--- What holds of an index space once its definitions stand behind its imports.
+-- Properties of an index space with its definitions after its imports.
 use Rattle.std.specs.Prelude.{◌≡◌, ℕ, ◌+◌, ◌-◌, ◌<◌, ◌≤◌, ◌^◌, ◌⊎◌, max, Option, Some, List, [], ◌++◌, map, length, slice_get, All, if◌then◌else◌}
 use Rattle.std.specs.List.{flat_map}
 use Rattle.smith_bytes.specs.declared.error.Error.{Error}
@@ -29,19 +29,20 @@ use Rattle.smith_definitions.specs.Promises.{initial_of}
 use Rattle.smith_definitions.specs.Refusals.{MayRefuse}
 use Rattle.smith_definitions.specs.declared.definitions.Definitions.{Definitions}
 
--- items that stood before come first, and there are as many items as these bounds say, or as stood before
+-- the items before come first, and the number of items is within these bounds, or is the number
+-- before
 pub record IsFilled {A : Type 0} (least most : ℕ) (before space : List A) : Type 0 where
   pub extends : Extends before space
   pub enough : least ≤ length space
   pub within : length space ≤ max most (length before)
 
--- of each item that was added behind those that stood before this holds
+-- each item that was added after those before has this property
 pub record AreAdded {A : Type 0} (Holds : A → Type 0) (before space : List A) : Type 0 where
   pub more : List A
   pub parts : space ≡ before ++ more
   pub each : All Holds more
 
--- the indices of all entities have 32 bits, with `more` entities more of each kind
+-- the indices of all entities have 32 bits, with `more` additional entities of each kind
 pub record HasRoom (spaces : IndexSpaces) (more : ℕ) : Type 0 where
   pub tags : length spaces.tags + more < 2 ^ 32
   pub funcs : length spaces.funcs + more < 2 ^ 32
@@ -49,7 +50,7 @@ pub record HasRoom (spaces : IndexSpaces) (more : ℕ) : Type 0 where
   pub memories : length spaces.memories + more < 2 ^ 32
   pub globals : length spaces.globals + more < 2 ^ 32
 
--- what initialisers may refer to is valid
+-- the types, functions and globals that initialisers may refer to are valid
 pub record MayInitialise (config : Config) (space : Space) (standing : Standing) : Type 0 where
   pub passes : Passes config
   pub sanitized : IsSanitized config
@@ -60,11 +61,11 @@ pub record MayInitialise (config : Config) (space : Space) (standing : Standing)
   pub few_funcs : length standing.funcs < 2 ^ 32
   pub few_globals : length standing.imported_globals < 2 ^ 32
 
--- what is drawn is over these types and functions
+-- the context of drawn entities over these types and functions
 abbrev pub drawn_over : Config → Standing → Context
 drawn_over config standing = without_globals (table_scope config standing)
 
--- the same beside entities, of which those functions are imported that are not defined
+-- the same with entities; the functions that are not defined are imported
 abbrev pub drawn_beside : Config → List SubType → IndexSpaces → Definitions → Context
 drawn_beside config types spaces defined = record {
   features = features_of config;
@@ -76,11 +77,12 @@ drawn_beside config types spaces defined = record {
   visible = 0;
 }
 
--- why an initialiser that is drawn may be refused: for want of memory, or where there may be nothing to choose from
+-- errors of an initialiser that is drawn: lack of memory, or there may be nothing to choose from
 abbrev pub MayRefuseDrawn : Config → Context → Error → Type 0
 MayRefuseDrawn config context e = (e ≡ errors.Memory) ⊎ ((e ≡ errors.EmptyChoose) × HoldsUngroundedField config context)
 
--- what the initialisers of tables may refer to, over spaces whose globals are the imported ones
+-- the types, functions and globals that initialisers of tables may refer to, over spaces whose
+-- globals are the imported ones
 abbrev pub standing_of : Spaces → Standing
 standing_of spaces = record {
   types = spaces.types.now.types;
@@ -89,14 +91,14 @@ standing_of spaces = record {
   imported_globals = spaces.entities.globals.now;
 }
 
--- an initialiser is that of the global of this index, which stands behind the imported ones
+-- an initialiser is that of the global of this index, which comes after the imported ones
 pub record IsGlobalInitialised (config : Config) (standing : Standing) (globals : List GlobalType) (place index : ℕ) (initial : List ConstInstr) : Type 0 where
   pub in_order : index ≡ length standing.imported_globals + place
   pub global : GlobalType
   pub stands : slice_get globals index ≡ Some global
   pub initialised : IsConstExpr (context_at config standing globals (if config.gc_enabled then index else length standing.imported_globals)) global.val_type initial
 
--- each initialiser is that of a global behind the imported ones
+-- each initialiser is that of a global after the imported ones
 pub record AreGlobalsDefined (config : Config) (standing : Standing) (globals : List GlobalType) (initials : List (ℕ × List ConstInstr)) : Type 0 where
   pub count : length globals ≡ length standing.imported_globals + length initials
   pub each : (place index : ℕ) (initial : List ConstInstr) → slice_get initials place ≡ Some (index, initial) → IsGlobalInitialised config standing globals place index initial
@@ -105,14 +107,14 @@ pub record AreGlobalsDefined (config : Config) (standing : Standing) (globals : 
 abbrev pub nothing_defined : Definitions
 nothing_defined = record { num_tags = 0; num_funcs = 0; tables = []; num_memories = 0; globals = [] }
 
--- what is defined is not more than what stands
+-- no more is defined than exists
 pub record AreWithin (spaces : IndexSpaces) (defined : Definitions) : Type 0 where
   pub tags : defined.num_tags ≤ length spaces.tags
   pub funcs : defined.num_funcs ≤ length spaces.funcs
   pub memories : defined.num_memories ≤ length spaces.memories
   pub globals : length defined.globals ≤ length spaces.globals
 
--- items may be defined behind these entities, of which some are defined already
+-- items may be defined after these entities, of which some are defined already
 pub record MayDefine (config : Config) (space : Space) (spaces : IndexSpaces) (defined : Definitions) : Type 0 where
   pub passes : Passes config
   pub sanitized : IsSanitized config
@@ -124,15 +126,16 @@ pub record MayDefine (config : Config) (space : Space) (spaces : IndexSpaces) (d
   pub room : HasRoom spaces 0
   pub within : AreWithin spaces defined
 
--- why definitions may be refused: so may a module be, or an initialiser that is drawn
+-- errors of definitions: those of a module, or those of an initialiser that is drawn
 abbrev pub MayRefuseDefined : Config → Context → Error → Type 0
 MayRefuseDefined config context e = MayRefuse config e ⊎ MayRefuseDrawn config context e
 
--- what initialisers refer to, once functions are defined
+-- the types, functions and globals that initialisers refer to, after functions are defined
 abbrev pub standing_in : List SubType → IndexSpaces → IndexSpaces → Standing
 standing_in types imported spaces = standing_over types spaces.funcs (length imported.funcs) imported.globals
 
--- what stands of a module behind these imports is valid: types, entities, and initialisers, each at its place
+-- the parts of a module after these imports are valid: types, entities, and initialisers, each at
+-- its place
 pub record StandsBehind (config : Config) (imported : IndexSpaces) (space : Space) (spaces : IndexSpaces) (defined : Definitions) : Type 0 where
   pub types : AreTypesValid (features_of config) space
   pub entities : AreEntitiesValid (features_of config) space.types spaces
@@ -148,7 +151,7 @@ pub record StandsBehind (config : Config) (imported : IndexSpaces) (space : Spac
   pub each_global : (place index : ℕ) (initial : List ConstInstr) → slice_get defined.globals place ≡ Some (index, initial)
       → IsGlobalInitialised config (standing_in space.types imported spaces) spaces.globals place index initial
 
--- index spaces have as much behind what stood before as the configuration asks for and allows
+-- index spaces have, after the items before, as many as the configuration requires and allows
 pub record AreFilled (config : Config) (before spaces : IndexSpaces) : Type 0 where
   pub tags : IsFilled config.min_tags config.max_tags before.tags spaces.tags
   pub funcs : IsFilled config.min_funcs config.max_funcs before.funcs spaces.funcs
@@ -158,13 +161,13 @@ pub record AreFilled (config : Config) (before spaces : IndexSpaces) : Type 0 wh
   pub each_table : AreAdded (IsTableWithin config) before.tables spaces.tables
   pub each_memory : AreAdded (IsMemoryWithin config) before.memories spaces.memories
 
--- index spaces hold what is defined behind what stood before, valid beside whatever was imported
+-- index spaces have definitions after the items before, valid whatever was imported
 pub record AreDefinedMore (config : Config) (space : Space) (before : IndexSpaces) (so_far : Definitions) (spaces : IndexSpaces) (defined : Definitions) : Type 0 where
   pub filled : AreFilled config before spaces
   pub grounded : AreAdded (HasGroundedElements config (drawn_beside config space.types spaces defined)) before.tables spaces.tables
   pub stands : (imported : IndexSpaces) → StandsBehind config imported space before so_far → StandsBehind config imported space spaces defined
 
--- no global and no constant of what is defined is a float's
+-- no global and no constant of the definitions is a float
 pub record HaveNoFloats (spaces : IndexSpaces) (defined : Definitions) : Type 0 where
   pub globals : All HasNoFloatValue spaces.globals
   pub tables : All (All GivesNoFloat) (flat_map initial_of defined.tables)

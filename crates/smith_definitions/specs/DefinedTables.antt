@@ -1,4 +1,5 @@
--- What the step of tables keeps as it defines tables behind those that stand. Rules of this project.
+-- Invariants of the step of tables while it defines tables after those before. Rules of this
+-- project.
 use Rattle.std.specs.Prelude.{◌≡◌, Option, List, ◌++◌, map, All}
 use Rattle.smith_types.specs.Entities.{IsTableValid}
 use Rattle.smith_types.specs.Floats.{HasNoFloat}
@@ -22,7 +23,7 @@ pub record IsTableFit (config : Config) (standing : Standing) (one : Table) : Ty
   pub initialised : IsTableInitialised (table_scope config standing) one.0 one.1
   pub floats : All HasNoFloat standing.types → All (All GivesNoFloat) (initial_of one.1)
 
--- behind the tables that stood before stand those that were drawn, each with its initialiser, if it has one
+-- the tables before are followed by those that were drawn, each with its initialiser, if it has one
 pub record AreTablesDrawn (config : Config) (standing : Standing) (before space : List TableType) (old initials : List (Option (List ConstInstr))) : Type 0 where
   pub drawn : List Table
   pub tables : space ≡ before ++ map (λ (one : Table). one.0) drawn

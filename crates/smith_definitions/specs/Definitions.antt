@@ -1,4 +1,5 @@
--- Which items of each kind are defined behind those that stand, and which bytes they take. Rules of this project.
+-- The items of each kind that are defined after those before, and the bytes they take. Rules of
+-- this project.
 use Rattle.std.specs.Prelude.{ℕ, ◌+◌, ◌-◌, ◌&&◌, ◌==◌, nat_lt, nat_le, Option, Some, List, [], ◌++◌, map, take, length, Result, Ok, Err, if◌then◌else◌, unwrap_or}
 use Rattle.smith_bytes.specs.declared.error.Count.{Count}
 use Rattle.smith_bytes.specs.declared.error.Count.TheVariants as counts
@@ -26,33 +27,33 @@ use Rattle.smith_imports.specs.Steps.{◌>>=◌}
 use Rattle.smith_definitions.specs.declared.definitions.Definitions.{Definitions}
 use Rattle.smith_draw.specs.declared.type_use.TypeUse.TheVariants as uses
 
--- the items of a kind that are defined behind `before` that stand: one is drawn after another until there are as many as are
--- asked for, then while a bool asks for another; where some stood before and some may be, that bool is drawn once more when
--- no more may be
+-- the items of a kind that are defined after `before` items: they are drawn one after another until
+-- the minimum is met, then while a drawn bool says so; if there were items before and the maximum
+-- is above 0, that bool is drawn once more at the maximum
 unfoldable pub defined_at : {A : Type 0} → (List A → List ℕ → A × List ℕ) → ℕ → ℕ → ℕ → List ℕ → List A × List ℕ
 defined_at draw least most before bytes =
     let grown = grow_at draw (least - before) (most - before) [] bytes in
     if (nat_lt 0 before && nat_lt 0 most) && nat_le most (before + length grown.0) then (grown.0, (bool_at grown.1).1) else grown
 
--- items behind those that stood before
+-- items after those before
 abbrev pub behind : {A : Type 0} → List A → List A × List ℕ → List A × List ℕ
 behind before drawn = (before ++ drawn.0, drawn.1)
 
--- tags or functions behind those that stood before, each by the index of its type, which is chosen among these; where there is
--- none to choose, none is defined, and too few are refused
+-- tags or functions after those before, each given by the index of its type, which is drawn from
+-- these; if there is none, none is defined, and too few are refused
 unfoldable pub typed_at : Count → List ℕ → ℕ → ℕ → List ℕ → List ℕ → Result (List ℕ × List ℕ) Why
 typed_at count choices least most before bytes =
     if length choices == 0 then (if nat_lt (length before) least then Err (Unmet count) else Ok (before, bytes))
     else Ok (behind before (defined_at (λ _. chosen_at 0 choices) least most (length before) bytes))
 
--- the types that tags may have: function types without results, where exceptions are enabled
+-- the types that tags may have: function types without results, if exceptions are enabled
 abbrev pub tag_types : Config → List SubType → List ℕ
 tag_types config types = if config.exceptions_enabled then types_for uses.Tag types else []
 
 unfoldable pub tags_at : Config → List SubType → List ℕ → List ℕ → Result (List ℕ × List ℕ) Why
 tags_at config types before bytes = typed_at counts.Tags (tag_types config types) config.min_tags config.max_tags before bytes
 
--- functions have types of functions that are not shared
+-- the types of functions are function types that are not shared
 unfoldable pub funcs_at : Config → List SubType → List ℕ → List ℕ → Result (List ℕ × List ℕ) Why
 funcs_at config types before bytes = typed_at counts.Funcs (types_for uses.DefinedFunc types) config.min_funcs config.max_funcs before bytes
 
@@ -60,23 +61,23 @@ unfoldable pub memories_at : Config → List MemoryType → List ℕ → List Me
 memories_at config before bytes =
     behind before (defined_at (λ _. memtype_at config) config.min_memories config.max_memories (length before) bytes)
 
--- what initialisers may refer to: types, functions, and globals, the imported ones of which come first
+-- the types, functions and globals that initialisers may refer to; imported globals come first
 pub record Standing : Type 0 where
   pub types : List SubType
   pub funcs : List ℕ
   pub imported_funcs : ℕ
   pub imported_globals : List GlobalType
 
--- what stands, of these
+-- the same, of these parts
 abbrev pub standing_over : List SubType → List ℕ → ℕ → List GlobalType → Standing
 standing_over types funcs imported_funcs imported_globals =
     record { types = types; funcs = funcs; imported_funcs = imported_funcs; imported_globals = imported_globals }
 
--- what stands, by how many of the functions and globals are imported
+-- the same, by the numbers of imported functions and globals
 abbrev pub standing_among : List SubType → List ℕ → ℕ → ℕ → List GlobalType → Standing
 standing_among types funcs imported_funcs imported_globals globals = standing_over types funcs imported_funcs (take imported_globals globals)
 
--- the context of an initialiser beside these globals, which may read those below an end
+-- the context of an initialiser after these globals, which may read those below an end
 abbrev pub context_at : Config → Standing → List GlobalType → ℕ → Context
 context_at config standing globals visible = record {
   features = features_of config;
@@ -88,7 +89,7 @@ context_at config standing globals visible = record {
   visible = visible;
 }
 
--- a table sees imported globals alone; so does a global, but with garbage collection all that stand before it
+-- a table sees imported globals alone; so does a global, but with garbage collection all before it
 abbrev pub table_scope : Config → Standing → Context
 table_scope config standing = context_at config standing standing.imported_globals (length standing.imported_globals)
 
@@ -100,14 +101,14 @@ global_scope config standing globals =
 abbrev pub Table : Type 0
 Table = TableType × Option (List ConstInstr)
 
--- where there is nothing to choose from for its initialiser, it has one that is no expression
+-- if there is nothing to choose from for its initialiser, it has one that is no expression
 unfoldable pub table_at : Config → Standing → List ℕ → Table × List ℕ
 table_at config standing bytes =
     let table = table_type_at config (without_globals (table_scope config standing)) bytes in
     let initial = unwrap_or (table_init_at config (table_scope config standing) table.0.element_type table.1) (Some [], table.1) in
     ((table.0, initial.0), initial.1)
 
--- the tables behind those that stood before, and their initialisers behind those that there were
+-- the tables after those before, and their initialisers after those before
 unfoldable pub tables_at : Config → Standing → List TableType → List (Option (List ConstInstr)) → List ℕ → (List TableType × List (Option (List ConstInstr))) × List ℕ
 tables_at config standing before initials bytes =
     let drawn = defined_at (λ _. table_at config standing) config.min_tables config.max_tables (length before) bytes in
@@ -117,28 +118,29 @@ tables_at config standing before initials bytes =
 abbrev pub Global : Type 0
 Global = GlobalType × (ℕ × List ConstInstr)
 
--- the globals so far, behind those that stood before
+-- the globals so far, after those before
 abbrev pub globals_of : List GlobalType → List Global → List GlobalType
 globals_of before defined = before ++ map (λ (one : Global). one.0) defined
 
--- a global behind those of a context, its index and its initialiser
+-- a global after those of a context, its index and its initialiser
 unfoldable pub initialised_at : Config → Context → List ℕ → Global × List ℕ
 initialised_at config context bytes =
     let global = global_type_at config (without_globals context) bytes in
     let initial = unwrap_or (const_expr_at config context global.0.val_type global.1) ([], global.1) in
     ((global.0, (length context.globals, initial.0)), initial.1)
 
--- a global behind those that are defined so far
+-- a global after those that are defined so far
 unfoldable pub global_at : Config → Standing → List GlobalType → List Global → List ℕ → Global × List ℕ
 global_at config standing before defined = initialised_at config (global_scope config standing (globals_of before defined))
 
--- the globals behind those that stood before, and their indices and initialisers behind those that there were
+-- the globals after those before, and their indices and initialisers after those before
 unfoldable pub globals_at : Config → Standing → List GlobalType → List (ℕ × List ConstInstr) → List ℕ → (List GlobalType × List (ℕ × List ConstInstr)) × List ℕ
 globals_at config standing before initials bytes =
     let drawn = defined_at (global_at config standing before) config.min_globals config.max_globals (length before) bytes in
     ((globals_of before drawn.0, initials ++ map (λ (one : Global). one.1) drawn.0), drawn.1)
 
--- what is defined in index spaces behind what stood before, with these initialisers of tables and globals
+-- the definitions in index spaces after the items before, with these initialisers of tables and
+-- globals
 abbrev pub defined_in : IndexSpaces → Definitions → IndexSpaces → List (Option (List ConstInstr)) → List (ℕ × List ConstInstr) → Definitions
 defined_in before defined spaces tables globals = record {
   num_tags = defined.num_tags + (length spaces.tags - length before.tags);
@@ -148,7 +150,8 @@ defined_in before defined spaces tables globals = record {
   globals = globals;
 }
 
--- the index spaces that the bytes give behind what stood before, and what is defined in them; what isn't defined is imported
+-- the index spaces that the bytes produce after the items before, and their definitions; entities
+-- that are not defined are imported
 unfoldable pub definitions_at : Config → List SubType → IndexSpaces → Definitions → List ℕ → Result ((IndexSpaces × Definitions) × List ℕ) Why
 definitions_at config types before defined bytes = do
   tags ← tags_at config types before.tags bytes

@@ -1,5 +1,5 @@
--- The numbers that tests of a module should try first, since code is often wrong about them: which they are is a rule of this
--- project. They are numbers of 64 bits, read without sign.
+-- The numbers that tests of a module should try first, since code often handles them wrongly. The
+-- choice is a rule of this project. The numbers have 64 bits, read without sign.
 use Rattle.std.specs.Prelude.{◌≡◌, ◌⊎◌, ℕ, ◌+◌, ◌-◌, ◌*◌, ◌^◌, ◌<◌, Bool, true, false, List, [], ◌∷◌, Option, option_to_list, min, if◌then◌else◌}
 use Rattle.std.specs.List.{All, Any, Contains}
 use Rattle.std.specs.List.Sorted.{IsStrictlyIncreasing}
@@ -8,7 +8,8 @@ use Rattle.smith_types.specs.declared.entity_type.TableType.{TableType}
 use Rattle.smith_types.specs.declared.entity_type.MemoryType.{MemoryType}
 use Rattle.smith_definitions.specs.Module.{Parts}
 
--- a power of two that 64 bits hold, or 2^64 less such a power, which is its negative of 64 bits; or one less than either
+-- a power of two below 2^64, or 2^64 less such a power, which is its negative of 64 bits; or one
+-- less than either
 abbrev pub IsNearPower : ℕ → Type 0
 IsNearPower n = (i : ℕ) × (i < 64) × ((n ≡ 2 ^ i) ⊎ ((n + 1 ≡ 2 ^ i) ⊎ ((n + 2 ^ i ≡ 2 ^ 64) ⊎ (n + 2 ^ i + 1 ≡ 2 ^ 64))))
 
@@ -16,13 +17,14 @@ IsNearPower n = (i : ℕ) × (i < 64) × ((n ≡ 2 ^ i) ⊎ ((n + 1 ≡ 2 ^ i) �
 abbrev pub IsPattern : ℕ → Type 0
 IsPattern n = Any (λ byte. n ≡ byte * 72340172838076673) (1 ∷ 254 ∷ 17 ∷ 238 ∷ 85 ∷ 170 ∷ [])
 
--- the bits of a floating-point number, by its bits of exponent and fraction (Structure, Values, Floating-Point)
+-- the bits of a floating-point number, by its bits of exponent and fraction (Structure, Values,
+-- Floating-Point)
 abbrev pub float_bits : ℕ → ℕ → Bool → ℕ → ℕ → ℕ
 float_bits exponent_bits fraction_bits negative exponent fraction =
     (if negative then 2 ^ (exponent_bits + fraction_bits) else 0) + exponent * 2 ^ fraction_bits + fraction
 
--- those at the edges of such numbers: zero, infinity, the distance from 1 to the next number and the greatest number, with
--- either sign; the least normal number, and the canonical NaN
+-- the edges of such numbers: zero, infinity, the distance from 1 to the next number and the
+-- greatest number, with either sign; the least normal number, and the canonical NaN
 abbrev pub float_edges : ℕ → ℕ → List ℕ
 float_edges exponent_bits fraction_bits =
     let bits = float_bits exponent_bits fraction_bits in
@@ -44,7 +46,7 @@ limits_of minimum maximum = minimum ∷ option_to_list maximum
 abbrev pub IsNearTable : ℕ → TableType → Type 0
 IsNearTable n table = Any (λ limit. (n ≡ limit) ⊎ (n ≡ limit + 1)) (limits_of table.minimum table.maximum)
 
--- the bytes of a number of pages, at most as many as 64 bits say
+-- the number of bytes of a number of pages, at most the greatest number of 64 bits
 abbrev pub bytes_of : MemoryType → ℕ → ℕ
 bytes_of memory pages = min (pages * 2 ^ page_log2 memory.page_size_log2) (2 ^ 64 - 1)
 
@@ -54,7 +56,7 @@ IsNearMemory n memory =
     Any (λ pages. (n ≡ bytes_of memory pages) ⊎ Any (λ distance. (n ≡ bytes_of memory pages + distance) ⊎ (n + distance ≡ bytes_of memory pages)) (1 ∷ 2 ∷ 4 ∷ 8 ∷ 16 ∷ []))
     (limits_of memory.minimum memory.maximum)
 
--- why a number is interesting beside these tables and memories
+-- the reason why a number is interesting with these tables and memories
 abbrev pub HasReason : List TableType → List MemoryType → ℕ → Type 0
 HasReason tables memories n =
     IsNearPower n ⊎ (IsPattern n ⊎ (IsFloatEdge n ⊎ (Any (IsNearTable n) tables ⊎ Any (IsNearMemory n) memories)))
@@ -69,7 +71,7 @@ pub record IsInteresting32 (tables : List TableType) (memories : List MemoryType
   pub high : ℕ
   pub wide : IsInteresting64 tables memories (high * 2 ^ 32 + n)
 
--- numbers in ascending order, each once: those of which this holds, and no other
+-- numbers with this property, all of them and no other, in ascending order, each once
 pub record AreAll (Holds : ℕ → Type 0) (numbers : List ℕ) : Type 0 where
   pub ascending : IsStrictlyIncreasing numbers
   pub each : All Holds numbers

@@ -1,4 +1,5 @@
--- The parts of a module, and when it is valid: the section Validation, Modules, of the WebAssembly Core Specification 3.0.
+-- The parts of a module, and its validity: the section Validation, Modules, of the WebAssembly Core
+-- Specification 3.0
 use Rattle.std.specs.Prelude.{◌≡◌, ℕ, ◌+◌, Bool, IsTrue, Option, Some, None, List, length, slice_get}
 use Rattle.std.specs.List.{All}
 use Rattle.std.specs.declared.ops.Range.{Range}
@@ -26,7 +27,7 @@ use Rattle.smith_config.specs.declared.config.Config.{Config}
 use Rattle.smith_config.specs.Features.{features_of}
 use Rattle.smith_config.specs.Sanitized.{sanitized}
 
--- What a module holds. Each index space is that of its kind as a whole, with what is imported first.
+-- The parts of a module. Each index space is complete, with imported items first.
 pub record Parts : Type 0 where
   pub config : Config
   pub types : List SubType
@@ -55,7 +56,8 @@ pub record Parts : Type 0 where
   pub interesting_values32 : List ℕ
   pub interesting_values64 : List ℕ
 
--- the configuration that a module shows of the one that was handed in: sanitised, and its available imports are used up
+-- the configuration that a module shows: the one of the caller, sanitised, and without its
+-- available imports
 abbrev pub shown_config : Config → Config
 shown_config config = record (sanitized config) { available_imports = None }
 
@@ -71,11 +73,11 @@ module_types m = record { types = m.types; groups = m.groups }
 abbrev pub module_spaces : Parts → IndexSpaces
 module_spaces m = record { tags = m.tags; funcs = m.funcs; tables = m.tables; memories = m.memories; globals = m.globals }
 
--- what a module's imports begin its index spaces with
+-- the index spaces of a module's imports, which come first in its index spaces
 abbrev pub module_imports : Parts → IndexSpaces
 module_imports m = imported_spaces (flattened m.imports)
 
--- what a module's expressions may refer to, where no global is visible
+-- the context of a module's expressions with no global visible
 abbrev pub module_context : Parts → Context
 module_context m = record {
   features = module_features m;
@@ -87,18 +89,18 @@ module_context m = record {
   visible = 0;
 }
 
--- in the initialiser of a table, and of the global of this index
+-- the context of the initialiser of a table, and of the global of this index
 abbrev pub table_context : Parts → Context
 table_context m = seeing (module_context m) (seen_by_tables (module_context m))
 
 abbrev pub global_context : Parts → ℕ → Context
 global_context m index = seeing (module_context m) (seen_by_global (module_context m) index)
 
--- in the offset or an item of a segment
+-- the context of the offset or an item of a segment
 abbrev pub segment_context : Parts → Context
 segment_context m = seeing (module_context m) (seen_by_segments (module_context m))
 
--- imports come first in each index space, definitions behind them (Structure, Indices)
+-- imports come first in each index space, then definitions (Structure, Indices)
 pub record AreSpacesMade (m : Parts) : Type 0 where
   pub imports : m.num_imports ≡ length (flattened m.imports)
   pub tags : Defines (module_imports m).tags m.num_defined_tags m.tags
@@ -107,8 +109,8 @@ pub record AreSpacesMade (m : Parts) : Type 0 where
   pub memories : Defines (module_imports m).memories m.num_defined_memories m.memories
   pub globals : Defines (module_imports m).globals (length m.defined_globals) m.globals
 
--- a table has an initialiser of its element type, or none where its elements may be null (Validation, Tables); an initialiser
--- needs garbage collection (own rule)
+-- a table has an initialiser of its element type, or none if that is nullable (Validation, Tables);
+-- an initialiser requires garbage collection (own rule)
 abbrev pub IsTableInitialised : Context → TableType → Option (List ConstInstr) → Type 0
 IsTableInitialised context table None = IsTrue table.element_type.nullable
 IsTableInitialised context table (Some expression) = IsTrue context.features.gc × IsConstExpr context (Ref table.element_type) expression
@@ -118,7 +120,7 @@ abbrev pub IsTableDefined : Parts → ℕ → Option (List ConstInstr) → Type 
 IsTableDefined m place initial =
     (table : TableType) × (slice_get m.tables (length (module_imports m).tables + place) ≡ Some table) × IsTableInitialised (table_context m) table initial
 
--- a definition of a global, which tells its index (Validation, Globals)
+-- a definition of a global, which holds its index (Validation, Globals)
 pub record IsGlobalDefined (m : Parts) (place index : ℕ) (initial : List ConstInstr) : Type 0 where
   pub in_order : index ≡ length (module_imports m).globals + place
   pub global : GlobalType
@@ -130,14 +132,16 @@ pub record AreDefinitionsValid (m : Parts) : Type 0 where
   pub tables : (place : ℕ) (initial : Option (List ConstInstr)) → slice_get m.defined_tables place ≡ Some initial → IsTableDefined m place initial
   pub globals : (place index : ℕ) (initial : List ConstInstr) → slice_get m.defined_globals place ≡ Some (index, initial) → IsGlobalDefined m place index initial
 
--- there is a body for each function that is defined (Validation, Functions), and what counts fuel is a global that may (own rule)
+-- each function that is defined has a body (Validation, Functions), and each counter of fuel is a
+-- global that may be one (own rule)
 pub record AreBodiesValid (m : Parts) : Type 0 where
   pub each : length m.code ≡ m.num_defined_funcs
   pub bodies : All (IsBodyValid (module_features m) (length m.types) m.config.allow_invalid_funcs) m.code
   pub fuel : All (IsFuel m.globals (length (module_imports m).globals)) m.fuel_globals
 
--- a valid module, under the features of its configuration, raw bodies aside (Validation, Modules); features, shared and exact
--- types, and that equal groups are different types, are own rules
+-- a valid module, under the features of its configuration, except for raw bodies (Validation,
+-- Modules); the rules for features, shared and exact types, and that equal groups are different
+-- types, are own rules
 pub record IsValid (m : Parts) : Type 0 where
   pub types : AreTypesValid (module_features m) (module_types m)
   pub imports : All (IsImportsValid (module_features m)) m.imports

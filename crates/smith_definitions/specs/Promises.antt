@@ -1,4 +1,4 @@
--- What else a module keeps: which names, types and sections it has. Rules of this project.
+-- Further properties of a module: its names, types and sections. Rules of this project.
 use Rattle.std.specs.Prelude.{◌≡◌, ℕ, ◌<◌, Bool, false, IsTrue, List, [], ◌∷◌, ◌++◌, Option, Some, None, map, length, All}
 use Rattle.std.specs.List.{flat_map}
 use Rattle.smith_types.specs.Floats.{IsNoFloat}
@@ -35,13 +35,13 @@ module_expressions m =
     flat_map initial_of m.defined_tables
     ++ (map (λ (one : ℕ × List ConstInstr). one.1) m.defined_globals ++ flat_map (λ (segment : ElementSegment). expressions_of segment.items) m.elems)
 
--- all value types of a module, but those of element segments and tables, which are references
+-- all value types of a module, except those of element segments and tables, which are references
 abbrev pub module_values : Parts → List ValType
 module_values m =
     flat_map (λ (t : SubType). values_of t.composite_type.inner) m.types
     ++ (map (λ (global : GlobalType). global.val_type) m.globals ++ flat_map (λ (body : Code). body.locals) m.code)
 
--- no type and no constant is a float's
+-- no type and no constant is a float
 pub record HasNoFloats (m : Parts) : Type 0 where
   pub values : All IsNoFloat (module_values m)
   pub constants : All (All GivesNoFloat) (module_expressions m)
@@ -54,22 +54,25 @@ ExportsEverything m = AreAllExported (module_spaces m) m.exports
 abbrev pub HasNoStart : Parts → Type 0
 HasNoStart m = m.start ≡ None
 
--- each segment that is copied has a constant offset and lies within the least size of its table or memory
+-- each segment that is copied has a constant offset and lies within the least size of its table or
+-- memory
 pub record IsInside (m : Parts) : Type 0 where
   pub elements : All (IsElementInside m.tables) m.elems
   pub data_segments : All (IsDataInside m.memories) m.segments
 
--- the types section is written where there are types, the imports section where there are imports
+-- the types section is written if there are types, the imports section if there are imports
 pub record WritesSections (m : Parts) : Type 0 where
   pub types : 0 < length m.types → IsTrue m.encodes_types
   pub imports : 0 < length m.imports → IsTrue m.encodes_imports
 
--- no global counts fuel, as in every module that is drawn: a counter is added later, where a module's calls are to end
+-- no global counts fuel, as in every module that is drawn: a counter is added later, to make a
+-- module's calls end
 abbrev pub HasNoFuel : Parts → Type 0
 HasNoFuel m = m.fuel_globals ≡ []
 
--- what a drawn module keeps where it is asked for: distinct names by the call that draws it, not where a shape fixes the
--- imports; all exports not where a shape fixes them; no floats where no shape is given; and always no counter of fuel
+-- the properties of a drawn module that are requested: distinct names by the call that draws it,
+-- unless a shape fixes the imports; all exports, unless a shape fixes them; no floats, if there is
+-- no shape; and always no counter of fuel
 pub record KeepsPromises (distinct : Bool) (config : Config) (m : Parts) : Type 0 where
   pub names : IsTrue distinct → (FixesImports config → ⊥) → HasDistinctImports m
   pub no_floats : config.allow_floats ≡ false → HasNoShapes config → HasNoFloats m

@@ -1,4 +1,4 @@
--- When a module is refused, and when it is not. Rules of this project.
+-- Conditions for refusing a module, and for never refusing it. Rules of this project.
 use Rattle.std.specs.Prelude.{◌≡◌, ◌*◌, ◌+◌, ◌<◌, ◌≤◌, ◌⊎◌, false, IsTrue, IfSome, IsSome, IsSomeAnd, Option}
 use Rattle.std.specs.List.{Any}
 use Rattle.smith_bytes.specs.declared.error.Error.{Error}
@@ -21,7 +21,7 @@ use Rattle.smith_contents.specs.Exported.{MayHaveNoExports}
 use Rattle.smith_imports.specs.Imported.{MayLackImports}
 use Rattle.smith_definitions.specs.Bounds.{where_given, exported_of, brought_by_module}
 
--- the shape for each use, where there is one that is used
+-- the shape for each use, if there is one and it is used
 abbrev pub shape_for : Config → Which → Option Shape
 shape_for config which.AvailableImports = (shapes_of config).available_imports
 shape_for config which.Exports = (shapes_of config).exports
@@ -31,17 +31,17 @@ shape_for config which.ModuleShape = (shapes_of config).module_shape
 abbrev pub HasShape : Config → Type 0
 HasShape config = (for_use : Which) × IsSome (shape_for config for_use)
 
--- a shape that is used holds a reference that may not be null
+-- a shape that is used holds a reference that is not nullable
 abbrev pub HoldsNonNullable : Config → Type 0
 HoldsNonNullable config = (for_use : Which) × IsSomeAnd (shape_for config for_use) (λ shape. Any IsNonNullable (shape_values shape))
 
--- where exports may end before there are as many as are asked for: beside a shape, or where they may be too large together,
--- or where there may be no item
+-- exports may end below the minimum: with a shape, or they may be too large together, or there may
+-- be no item
 abbrev pub MayLackExports : Config → Type 0
 MayLackExports config =
     HasShape config ⊎ ((config.max_type_size ≤ 42 * (config.max_imports + config.min_exports)) ⊎ MayHaveNoExports config)
 
--- where a minimum that is above zero may stay unmet; those of types, tables, memories and globals never do
+-- a minimum above zero may stay unmet; those of types, tables, memories and globals never do
 abbrev pub MayBeShort : Config → Count → Type 0
 MayBeShort config counts.Types = ⊥
 MayBeShort config counts.Tables = ⊥
@@ -55,16 +55,17 @@ MayBeShort config counts.Exports = MayLackExports config
 MayBeShort config counts.Tags = Unit {0}
 MayBeShort config counts.Elements = Unit {0}
 
--- a minimum that a shape replaces, or that of exports where everything is exported, is not asked for
+-- a minimum does not apply if a shape replaces it, or if it is that of exports and everything is
+-- exported
 abbrev pub MayBeUnmet : Config → Count → Type 0
 MayBeUnmet config count = IsBounded config count × ((0 < minimum_of config count) × MayBeShort config count)
 
--- the exports of a shape, or a module shape, bring a memory, or a table
+-- the exports of a shape, or a module shape, add a memory, or a table
 abbrev pub Brings : Config → Count → Type 0
 Brings config count =
     (0 < where_given (exported_of count) (shapes_of config).exports) ⊎ (0 < where_given (brought_by_module count) (shapes_of config).module_shape)
 
--- why a module may be found to be out of shape
+-- the reasons why a module may be out of shape
 abbrev pub MayBeOutOfShape : Config → Why → Type 0
 MayBeOutOfShape config (reasons.Unmet count) = MayBeUnmet config count
 MayBeOutOfShape config reasons.TypeSize = IsTrue config.export_everything × (FixesExports config → ⊥)
@@ -73,8 +74,8 @@ MayBeOutOfShape config reasons.SeveralTables = Brings config counts.Tables × (c
 MayBeOutOfShape config reasons.Loop = ⊥
 MayBeOutOfShape config reasons.RawBody = ⊥
 
--- when each refusal may come, for a sanitised configuration; Memory only where a growth was refused, which no definition can
--- tell
+-- the condition of each refusal, for a sanitised configuration; Memory only if an allocation
+-- failed, which no definition can express
 abbrev pub MayRefuse : Config → Error → Type 0
 MayRefuse config errors.EmptyChoose = HoldsNonNullable config
 MayRefuse config errors.NotEnoughData = ⊥
@@ -83,17 +84,17 @@ MayRefuse config (errors.Config fault) = IsFirstFault config fault
 MayRefuse config (errors.Shape for_use fault) = IsSomeAnd (shape_for config for_use) (λ shape. HasShapeFault for_use config shape fault)
 MayRefuse config errors.Memory = Unit {0}
 
--- the shapes that are used may be handed in
+-- the shapes that are used pass their check
 abbrev pub AreShapesValid : Config → Type 0
 AreShapesValid config = (for_use : Which) → IfSome (shape_for config for_use) (λ shape. IsShapeValid for_use config shape)
 
--- where a module may be given at all: configuration and shapes may be handed in
+-- a module can be produced at all: the configuration and its shapes pass their checks
 pub record MayGive (config : Config) : Type 0 where
   pub passes : Passes config
   pub shapes_valid : AreShapesValid config
 
--- where only want of memory refuses: a module may be given, nothing is asked for at least, not everything is exported, and a
--- shape holds nullable references alone, where there may be several tables and memories
+-- only lack of memory refuses: a module can be produced, no minimum is set, not everything is
+-- exported, and a shape holds only nullable references, with several tables and memories allowed
 pub record AsksNothingImpossible (config : Config) : Type 0 where
   pub may_give : MayGive config
   pub no_minimums : HasNoMinimums config

@@ -1,4 +1,5 @@
--- What the exports that a shape fixes need and keep, and when they may be refused. Rules of this project.
+-- Requirements and invariants of the exports that a shape fixes, and their refusals. Rules of this
+-- project.
 use Rattle.std.specs.Prelude.{◌≡◌, false, ℕ, ◌+◌, ◌<◌, ◌≤◌, ◌⊎◌, Bool, true, Option, Some, None, List, length, slice_get, All}
 use Rattle.std.specs.List.{Any, AllZip, Contains}
 use Rattle.smith_bytes.specs.declared.error.Count.{Count}
@@ -36,7 +37,7 @@ use Rattle.smith_definitions.specs.RequiredExports.{several, scope_beside, with_
 use Rattle.smith_definitions.specs.ShapesKept.{Export, IsSameExport, IsSameType}
 use Rattle.smith_definitions.specs.declared.definitions.Definitions.{Definitions}
 
--- `more` entities may be defined behind what stands
+-- `more` entities may be defined after the existing ones
 pub record MayDefineMore (config : Config) (space : Space) (spaces : IndexSpaces) (defined : Definitions) (more : ℕ) : Type 0 where
   pub sanitized : IsSanitized config
   pub valid : AreTypesValid (features_of config) space
@@ -48,12 +49,14 @@ pub record MayDefineMore (config : Config) (space : Space) (spaces : IndexSpaces
 abbrev pub HasNoSupertypes : List SubType → Type 0
 HasNoSupertypes types = (index : ℕ) (t : SubType) → slice_get types index ≡ Some t → t.supertype ≡ None
 
--- the entity of an export of a shape is over types that stand already, or has a type of its own, which is the same
+-- the entity of an export of a shape is over existing types, or has a type of its own, which is the
+-- same
 abbrev pub IsKeptType : Bool → List SubType → List SubType → EntityType → EntityType → Type 0
 IsKeptType true ours theirs mine yours = IsSameType ours theirs mine yours
 IsKeptType false ours theirs mine yours = mine ≡ yours
 
--- what is defined once an entity is that stands behind these: a table and a global have an initialiser
+-- the definitions with one more entity, which follows these: a table and a global have an
+-- initialiser
 abbrev pub IsInitialised : Config → List SubType → IndexSpaces → (old new : Definitions) → EntityType → Type 0
 IsInitialised config types spaces old new (entity.Tag index) = new ≡ record old { num_tags = old.num_tags + 1 }
 IsInitialised config types spaces old new (entity.Func index) = new ≡ record old { num_funcs = old.num_funcs + 1 }
@@ -63,44 +66,46 @@ IsInitialised config types spaces old new (entity.Table table) =
 IsInitialised config types spaces old new (entity.Global global) =
     (initial : List ConstInstr) × (new ≡ with_global old (length spaces.globals) initial) × IsConstExpr (scope_beside config types spaces old true) global.val_type initial
 
--- an entity is defined behind those that stand
+-- an entity is defined after the existing ones
 pub record IsDefinedMore (config : Config) (types : List SubType) (spaces : IndexSpaces) (defined : Definitions) (more_spaces : IndexSpaces) (more : Definitions) (added : EntityType) : Type 0 where
   pub spaces_are : more_spaces ≡ with_entity spaces added
   pub initialised : IsInitialised config types spaces defined more added
   pub alone : several config spaces added ≡ None
 
--- a table or a global that holds references that may not be null
+-- a table or a global that holds references that are not nullable
 abbrev pub IsNeverNull : EntityType → Type 0
 IsNeverNull (entity.Table table) = IsNonNullable (Ref table.element_type)
 IsNeverNull (entity.Global global) = IsNonNullable global.val_type
 IsNeverNull _ = ⊥
 
--- why an initialiser of an entity may be refused: for want of memory, or where there may be nothing to choose from
+-- errors of an initialiser of an entity: lack of memory, or there may be nothing to choose from
 abbrev pub MayRefuseInitial : Config → Context → EntityType → Error → Type 0
 MayRefuseInitial config context added e = (e ≡ errors.Memory) ⊎ ((e ≡ errors.EmptyChoose) × (IsNeverNull added ⊎ HoldsUngroundedField config context))
 
--- why an entity may be refused: so may its initialiser, and a second memory or a second table without its feature
+-- errors of an entity: those of its initialiser, and a second memory or a second table without its
+-- feature
 abbrev pub MayRefuseEntity : Config → Context → EntityType → Error → Type 0
 MayRefuseEntity config context added (errors.IncorrectFormat SeveralMemories) = (counts_as counts.Memories (kind_of added) ≡ 1) × (config.max_memories ≤ 1)
 MayRefuseEntity config context added (errors.IncorrectFormat SeveralTables) = (counts_as counts.Tables (kind_of added) ≡ 1) × (config.reference_types_enabled ≡ false)
 MayRefuseEntity config context added e = MayRefuseInitial config context added e
 
--- what the shape of a module is handed in for, where an entity has its own type or not
+-- the use of the shape of a module, by whether an entity has its own type
 abbrev pub use_of : Bool → Which
 use_of true = which.Exports
 use_of false = which.ModuleShape
 
--- the exports of a shape may be made: it may be handed in, and its types begin those that stand where no others are added
+-- the exports of a shape may be made: it passes its check, and without own types its types are the
+-- first existing ones
 pub record MayRequire (own_types : Bool) (config : Config) (shape : Shape) (space : Space) : Type 0 where
   pub valid : IsShapeValid (use_of own_types) config shape
   pub present : own_types ≡ false → Extends (shape_types shape) space.types
 
--- tables and memories that are added are of the types of a shape's
+-- tables and memories that are added have types of the shape's
 pub record AddsLimitsOf (shape : Shape) (old new : IndexSpaces) : Type 0 where
   pub tables : All (λ table. Contains old.tables table ⊎ Contains (shape_spaces shape).tables table) new.tables
   pub memories : All (λ memory. Contains old.memories memory ⊎ Contains (shape_spaces shape).memories memory) new.memories
 
--- what an export of a shape, and what is defined for it, keep of what stands
+-- the properties that an export of a shape, and the definition for it, preserve
 pub record IsRequiredMore (own_types : Bool) (config : Config) (shape : Shape) (old_types : Space) (old : IndexSpaces) (old_defined : Definitions) (types : Space) (spaces : IndexSpaces) (defined : Definitions) (one made : Export) : Type 0 where
   pub same : IsSameExport (IsKeptType own_types types.types (shape_types shape)) spaces (shape_spaces shape) made one
   pub types_grown : Extends old_types.types types.types
@@ -116,7 +121,7 @@ pub record IsRequiredMore (own_types : Bool) (config : Config) (shape : Shape) (
   pub may : (more : ℕ) → MayDefineMore config old_types old old_defined (more + 1) → MayDefineMore config types spaces defined more
   pub stands : (imported : IndexSpaces) → StandsBehind config imported old_types old old_defined → StandsBehind config imported types spaces defined
 
--- the exports of a shape are made: the same in order, valid, of what is defined behind what stood before
+-- the exports of a shape are made: the same in order, valid, of entities defined after those before
 pub record AreRequired (own_types : Bool) (config : Config) (shape : Shape) (old_types : Space) (old : IndexSpaces) (old_defined : Definitions) (types : Space) (spaces : IndexSpaces) (defined : Definitions) (exports : List Export) : Type 0 where
   pub same : AllZip (IsSameExport (IsKeptType own_types types.types (shape_types shape)) spaces (shape_spaces shape)) exports shape.exports
   pub types_grown : Extends old_types.types types.types
@@ -130,18 +135,19 @@ pub record AreRequired (own_types : Bool) (config : Config) (shape : Shape) (old
   pub few_values : All (HasFewValues most_listed) old_types.types → All (HasFewValues most_listed) types.types
   pub stands : (imported : IndexSpaces) → StandsBehind config imported old_types old old_defined → StandsBehind config imported types spaces defined
 
--- a shape holds a reference that may not be null, or a type holds one that, where the field is on, is not grounded
+-- a shape holds a reference that is not nullable, or a type holds one that is neither nullable nor,
+-- with `non_nullable_enabled`, grounded
 abbrev pub MayLackIn : Config → Context → Shape → Type 0
 MayLackIn config context shape = Any IsNonNullable (shape_values shape) ⊎ HoldsUngroundedField config context
 
--- why an export of a shape may be refused, over these types and functions
+-- errors of an export of a shape, over these types and functions
 abbrev pub MayRefuseExported : Config → Context → Shape → Export → Error → Type 0
 MayRefuseExported config context shape one (errors.IncorrectFormat SeveralMemories) = (counts_as counts.Memories one.1 ≡ 1) × (config.max_memories ≤ 1)
 MayRefuseExported config context shape one (errors.IncorrectFormat SeveralTables) = (counts_as counts.Tables one.1 ≡ 1) × (config.reference_types_enabled ≡ false)
 MayRefuseExported config context shape one e = (e ≡ errors.Memory) ⊎ ((e ≡ errors.EmptyChoose) × MayLackIn config context shape)
 
--- why the exports of a shape may be refused, over these types and functions: such a reference is there, or the shape has a memory or
--- a table that may not stand beside others
+-- errors of the exports of a shape, over these types and functions: there is such a reference, or
+-- the shape has a memory or a table that may not follow others
 abbrev pub MayRefuseRequired : Config → Context → Shape → Error → Type 0
 MayRefuseRequired config context shape (errors.IncorrectFormat SeveralMemories) = (0 < exported_of counts.Memories shape) × (config.max_memories ≤ 1)
 MayRefuseRequired config context shape (errors.IncorrectFormat SeveralTables) = (0 < exported_of counts.Tables shape) × (config.reference_types_enabled ≡ false)

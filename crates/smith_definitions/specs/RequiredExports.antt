@@ -1,4 +1,5 @@
--- Which exports the bytes give where a shape fixes them: each is of an entity that is defined for it. Rules of this project.
+-- The exports that the bytes produce if a shape fixes them: each is of an entity that is defined
+-- for it. Rules of this project.
 use Rattle.std.specs.Prelude.{◌≡◌, ℕ, ◌+◌, ◌-◌, Bool, true, false, not, ◌&&◌, nat_lt, nat_le, List, [], ◌∷◌, ◌++◌, Option, Some, None, option_map, length, slice_get, Result, Ok, Err, if◌then◌else◌}
 use Rattle.smith_bytes.specs.declared.error.Error.{Error}
 use Rattle.smith_bytes.specs.declared.error.Error.TheVariants as errors
@@ -23,13 +24,13 @@ use Rattle.smith_draw.specs.ConstExprs.{const_expr_at, table_init_at}
 use Rattle.smith_contents.specs.Exporting.{Export}
 use Rattle.smith_definitions.specs.declared.definitions.Definitions.{Definitions}
 
--- What a step answered is what reading answers, unless memory ran out.
+-- A step returns the result of `read`, except if memory runs out.
 abbrev pub Answers : {X Y : Type 0} → (X → Y) → Result X Error → Result Y Error → Type 0
 Answers view (Ok x) read = read ≡ Ok (view x)
 Answers view (Err errors.Memory) read = Unit {0}
 Answers view (Err e) read = read ≡ Err e
 
--- the entity of a kind and an index, where it stands
+-- the entity of a kind and an index, if it exists
 abbrev pub entity_of : IndexSpaces → ExportKind → ℕ → Option EntityType
 entity_of spaces kind.Func index = option_map entity.Func (slice_get spaces.funcs index)
 entity_of spaces kind.Table index = option_map entity.Table (slice_get spaces.tables index)
@@ -45,14 +46,15 @@ next_index spaces kind.Memory = length spaces.memories
 next_index spaces kind.Global = length spaces.globals
 next_index spaces kind.Tag = length spaces.tags
 
--- why an entity may not stand beside others: a second memory, or a second table, without its feature
+-- the reason why an entity may not follow others: a second memory, or a second table, without its
+-- feature
 abbrev pub several : Config → IndexSpaces → EntityType → Option Why
 several config spaces (entity.Memory memory) = if nat_lt 0 (length spaces.memories) && nat_le config.max_memories 1 then Some SeveralMemories else None
 several config spaces (entity.Table table) = if nat_lt 0 (length spaces.tables) && not config.reference_types_enabled then Some SeveralTables else None
 several config spaces _ = None
 
--- what an initialiser may refer to beside these entities, of which those are imported that are not defined; defined globals are
--- read with garbage collection, where they may be
+-- the context of an initialiser after these entities; those that are not defined are imported;
+-- defined globals are read with garbage collection, if allowed
 abbrev pub scope_beside : Config → List SubType → IndexSpaces → Definitions → Bool → Context
 scope_beside config types spaces defined allow_defined =
     let imported = length spaces.globals - length defined.globals in
@@ -66,19 +68,20 @@ scope_beside config types spaces defined allow_defined =
       visible = if config.gc_enabled && allow_defined then length spaces.globals else imported;
     }
 
--- what is made of a draw, where there was something to choose from
+-- the result of a draw, if there was something to choose from
 abbrev pub made_of : {A B : Type 0} → (A → B) → Option (A × List ℕ) → Result (B × List ℕ) Error
 made_of make None = Err errors.EmptyChoose
 made_of make (Some drawn) = Ok (make drawn.0, drawn.1)
 
--- what is defined, with one more initialiser of a table, or of a global of this index
+-- the definitions with one more initialiser of a table, or of a global of this index
 abbrev pub with_table : Definitions → Option (List ConstInstr) → Definitions
 with_table defined initial = record defined { tables = defined.tables ++ initial ∷ [] }
 
 abbrev pub with_global : Definitions → ℕ → List ConstInstr → Definitions
 with_global defined index initial = record defined { globals = defined.globals ++ (index, initial) ∷ [] }
 
--- what is defined, with one more entity, which stands behind these: a table and a global have an initialiser
+-- the definitions with one more entity, which follows these: a table and a global have an
+-- initialiser
 unfoldable pub defined_with_at : Config → List SubType → IndexSpaces → Definitions → EntityType → List ℕ → Result (Definitions × List ℕ) Error
 defined_with_at config types spaces defined (entity.Tag index) bytes = Ok (record defined { num_tags = defined.num_tags + 1 }, bytes)
 defined_with_at config types spaces defined (entity.Func index) bytes = Ok (record defined { num_funcs = defined.num_funcs + 1 }, bytes)
@@ -88,7 +91,7 @@ defined_with_at config types spaces defined (entity.Table table) bytes =
 defined_with_at config types spaces defined (entity.Global global) bytes =
     made_of (with_global defined (length spaces.globals)) (const_expr_at config (scope_beside config types spaces defined true) global.val_type bytes)
 
--- an answer is passed on to what follows, unless there is a reason to refuse
+-- an answer is passed on, unless there is a reason to refuse
 abbrev pub unless : {A : Type 0} → Option Why → Result A Error → Result A Error
 unless None answer = answer
 unless (Some why) answer = Err (errors.IncorrectFormat why)
@@ -97,7 +100,8 @@ abbrev pub then_with : {A B : Type 0} → (A → B) → Result (A × List ℕ) E
 then_with f (Ok drawn) = Ok (f drawn.0, drawn.1)
 then_with f (Err e) = Err e
 
--- index spaces with one more entity, and what is defined in them, unless the entity may not stand there
+-- index spaces with one more entity, and their definitions, unless the entity may not follow the
+-- others
 unfoldable pub entity_required_at : Config → List SubType → IndexSpaces → Definitions → EntityType → List ℕ → Result ((IndexSpaces × Definitions) × List ℕ) Error
 entity_required_at config types spaces defined one bytes =
     unless (several config spaces one) (then_with (λ more. (with_entity spaces one, more)) (defined_with_at config types spaces defined one bytes))
@@ -107,7 +111,7 @@ abbrev pub with_own_group : Space → Option SubType → Space
 with_own_group space None = space
 with_own_group space (Some t) = let types = space.types ++ t ∷ [] in record { types = types; groups = space.groups ++ next_group types space.groups ∷ [] }
 
--- the types that stand once an entity over other types has its own among them: the type of a function or a tag is added
+-- the types, with that of an entity over other types added: the type of a function or a tag
 abbrev pub with_type_of : List SubType → Space → EntityType → Space
 with_type_of theirs space (entity.Func index) = with_own_group space (slice_get theirs index)
 with_type_of theirs space (entity.Tag index) = with_own_group space (slice_get theirs index)
@@ -119,7 +123,8 @@ of_own_type space (entity.Func index) = entity.Func (length space.types)
 of_own_type space (entity.Tag index) = entity.Tag (length space.types)
 of_own_type space one = one
 
--- the types and the entity for an entity of a shape: with own types the entity has its own among them, else its type stands already
+-- the types and the entity for an entity of a shape: with own types the entity's type is added,
+-- else it exists already
 abbrev pub types_over : Bool → List SubType → Space → EntityType → Space
 types_over true theirs space one = with_type_of theirs space one
 types_over false theirs space one = space
@@ -128,18 +133,18 @@ abbrev pub entity_over : Bool → Space → EntityType → EntityType
 entity_over true space one = of_own_type space one
 entity_over false space one = one
 
--- what stands while exports are made: types, index spaces, what is defined in them, and the exports so far
+-- the state while exports are made: types, index spaces, their definitions, and the exports so far
 pub record Required : Type 0 where
   pub types : Space
   pub spaces : IndexSpaces
   pub defined : Definitions
   pub exports : List Export
 
--- what stands, of these
+-- the state of these parts
 abbrev pub standing_with : Space → IndexSpaces → Definitions → List Export → Required
 standing_with types spaces defined exports = record { types = types; spaces = spaces; defined = defined; exports = exports }
 
--- the same with one more export of a shape, of an entity that is defined for it
+-- the state with one more export of a shape, of an entity that is defined for it
 abbrev pub export_required_at : Bool → Config → Shape → Export → Required → List ℕ → Option EntityType → Result (Required × List ℕ) Error
 export_required_at own_types config shape one now bytes None = Ok (now, bytes)
 export_required_at own_types config shape one now bytes (Some theirs) =
@@ -147,18 +152,18 @@ export_required_at own_types config shape one now bytes (Some theirs) =
     then_with (λ (more : IndexSpaces × Definitions). standing_with types more.0 more.1 (now.exports ++ (one.0, one.1, next_index now.spaces one.1) ∷ []))
     (entity_required_at config types.types now.spaces now.defined (entity_over own_types now.types theirs) bytes)
 
--- what goes on behind an answer
+-- the continuation after an answer
 abbrev pub and_then : {A B : Type 0} → (A → List ℕ → Result B Error) → Result (A × List ℕ) Error → Result B Error
 and_then f (Ok drawn) = f drawn.0 drawn.1
 and_then f (Err e) = Err e
 
--- the same with the exports of a shape, one after another
+-- the state with the exports of a shape, one after another
 unfoldable pub required_from : Bool → Config → Shape → List Export → Required → List ℕ → Result (Required × List ℕ) Error
 required_from own_types config shape [] now bytes = Ok (now, bytes)
 required_from own_types config shape (one ∷ more) now bytes =
     and_then (required_from own_types config shape more) (export_required_at own_types config shape one now bytes (entity_of (shape_spaces shape) one.1 one.2))
 
--- what stands with the exports of a shape, behind what stands before
+-- the state with the exports of a shape, after the existing entities
 abbrev pub required_at : Bool → Config → Shape → Space → IndexSpaces → Definitions → List ℕ → Result (Required × List ℕ) Error
 required_at own_types config shape types spaces defined bytes =
     required_from own_types config shape shape.exports (standing_with types spaces defined []) bytes

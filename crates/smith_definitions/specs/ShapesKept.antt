@@ -1,4 +1,4 @@
--- What a module keeps of the shapes that it was asked to have. Rules of this project.
+-- Properties that a module has from its shapes. Rules of this project.
 use Rattle.std.specs.Prelude.{◌≡◌, ℕ, IsTrue, IfSome, List, [], None, Some, slice_get}
 use Rattle.std.specs.List.{AllZip}
 use Rattle.smith_types.specs.Grown.{Extends}
@@ -15,12 +15,12 @@ use Rattle.smith_config.specs.Shapes.{space_of, shape_types, shape_imports, shap
 use Rattle.smith_imports.specs.ShapeImports.{kept_groups, taken_from}
 use Rattle.smith_definitions.specs.Module.{Parts, module_spaces}
 
--- the types and groups of a shape begin the module's
+-- the types and groups of a shape come first in the module's
 pub record KeepsTypes (shape : Shape) (m : Parts) : Type 0 where
   pub types : Extends (shape_types shape) m.types
   pub groups : Extends (space_of shape.groups).groups m.groups
 
--- a name, and the kind and the index of what it exports
+-- a name, and the kind and the index of the exported item
 abbrev pub Export : Type 0
 Export = List ℕ × ExportKind × ℕ
 
@@ -40,7 +40,8 @@ pub record KeepsModuleShape (shape : Shape) (m : Parts) : Type 0 where
   pub imports : m.imports ≡ kept_groups m.config shape
   pub exports : AllZip (IsSameExport (λ mine yours. mine ≡ yours) (module_spaces m) (shape_spaces shape)) m.exports shape.exports
 
--- two function types with the same parameters and results, of which ours is final and has no supertype
+-- two function types with the same parameters and results, of which ours is final and has no
+-- supertype
 pub record IsSameFuncType (ours theirs : List SubType) (index other : ℕ) : Type 0 where
   pub mine : SubType
   pub yours : SubType
@@ -60,12 +61,13 @@ IsSameType ours theirs one other = one ≡ other
 abbrev pub KeepsExports : Shape → Parts → Type 0
 KeepsExports shape m = AllZip (IsSameExport (IsSameType m.types (shape_types shape)) (module_spaces m) (shape_spaces shape)) m.exports shape.exports
 
--- available imports: the types of their shape first, and of its imports those that the input picks and that fit, in order
+-- available imports: the types of their shape first, and those of its imports that the bytes pick
+-- and that fit, in order
 pub record KeepsAvailableImports (bytes : List ℕ) (shape : Shape) (m : Parts) : Type 0 where
   pub types : KeepsTypes shape m
   pub imports : flattened m.imports ≡ taken_from m.config (shape_types shape) bytes 0 [] (shape_imports shape)
 
--- a module from this input keeps each shape that its configuration uses
+-- a module from these bytes has the properties of each shape that its configuration uses
 pub record KeepsShapes (config : Config) (bytes : List ℕ) (m : Parts) : Type 0 where
   pub module_shape : IfSome (shapes_of config).module_shape (λ shape. KeepsModuleShape shape m)
   pub available_imports : IfSome (shapes_of config).available_imports (λ shape. KeepsAvailableImports bytes shape m)

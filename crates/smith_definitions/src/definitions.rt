@@ -18,7 +18,8 @@ use smith_draw::KeptGrounds;
 use smith_types::{ConstInstr, IndexSpaces, Items, TypeSpace};
 use std::alloc::Global;
 
-/// The definitions of a module: the numbers of tags, functions and memories, and the initialisers of tables and globals.
+/// Definitions of a module: the numbers of tags, functions and memories, and the initialisers of
+/// tables and globals.
 #[derive(Drop)]
 pub struct Definitions {
     /// The number of defined tags.
@@ -34,7 +35,7 @@ pub struct Definitions {
 }
 
 impl Definitions {
-    /// Begins without definitions. Takes no memory.
+    /// Makes empty definitions. Takes no memory.
     pub fn none(alloc: Global) -> Self
         ensures { result ≡ nothing_defined }
     {
@@ -48,19 +49,22 @@ impl Definitions {
     }
 }
 
-/// Defines tags, functions, tables, memories and globals, in this order, behind the entities of `spaces`. Of each kind there are
-/// then at least as many as the minimum of `config`, and no more than the maximum, or than stood before. An entity of `spaces`
-/// that `definitions` does not count is imported. The standard's section Validation, Modules.
+/// Defines tags, functions, tables, memories and globals, in this order, after the entities of
+/// `spaces`. Of each kind there are then at least the minimum of `config`, and at most the maximum
+/// of `config` or the number before, whichever is greater. An entity of `spaces` that `definitions`
+/// does not count is imported. The standard's section Validation, Modules.
 ///
-/// `config` is sanitised and passes its check. `types` are valid, at least `min_types` and fewer than 2^32. The entities of
-/// `spaces` are valid over `types`, fewer than 2^32 of each kind, and the features that their numbers need are on. `definitions`
-/// counts no more entities than stand in `spaces`.
+/// `config` is sanitised and passes its check. `types` are valid, at least `min_types` and fewer
+/// than 2^32. The entities of `spaces` are valid over `types`, fewer than 2^32 of each kind, and
+/// the features that their numbers require are on. `definitions` counts no more entities than exist
+/// in `spaces`.
 ///
 /// # Errors
 ///
-/// `Unmet(Tags)` or `Unmet(Funcs)` where no type is right for a tag or a function; `EmptyChoose` where nothing gives a value of
-/// an initialiser, which comes only where a field of a type is a reference that may not be null and, where `config` has references
-/// that aren't nullable, isn't grounded.
+/// - `Unmet(Tags)` or `Unmet(Funcs)` if `spaces` has fewer than the minimum and no type is suitable
+///   for another.
+/// - `EmptyChoose` if no expression has the type of an initialiser. This requires a field of a type
+///   whose reference type is not nullable and, with `non_nullable_enabled`, not grounded.
 #[tactic(auto, unfolding(crate::specs::Definitions::definitions_at))]
 pub fn define(
     alloc: Global,

@@ -20,7 +20,7 @@ use smith_draw::{TypeUse, list_types};
 use smith_types::{Items, TypeSpace};
 use std::alloc::Global;
 
-/// Adds functions to `funcs`, behind those that stand.
+/// Adds functions to the end of `funcs`.
 #[tactic(auto, unfolding(crate::specs::Definitions::funcs_at))]
 fn push_funcs(
     alloc: Global,
@@ -46,7 +46,8 @@ fn push_funcs(
     )
 }
 
-/// Adds functions to `funcs`, behind those that stand, until there are at least `min_funcs` and at most `max_funcs` of `config`.
+/// Adds functions to the end of `funcs`, until there are at least `min_funcs` and at most
+/// `max_funcs` of `config`.
 pub(crate) fn define_funcs(
     alloc: Global,
     config: &Config,

@@ -23,7 +23,7 @@ use smith_draw::{Entities, KeptOffers, Spaces, Standing, draw_const_expr, draw_g
 use smith_types::{ConstInstr, GlobalType, Items, TypeSpace};
 use std::alloc::Global;
 
-/// Draws a global behind those of `spaces`, with its index and its initialiser.
+/// Draws a global to follow those of `spaces`, with its index and its initialiser.
 #[tactic(auto, unfolding(crate::specs::Definitions::initialised_at))]
 fn draw_initialised_global(
     alloc: Global,
@@ -52,7 +52,7 @@ fn draw_initialised_global(
     Ok((global, (index, initial)))
 }
 
-/// Adds globals to `globals`, behind those that stand, and the index and the initialiser of each to `initials`.
+/// Adds globals to the end of `globals`, and the index and the initialiser of each to `initials`.
 fn push_globals<'a>(
     alloc: Global,
     config: &Config,
@@ -109,8 +109,8 @@ fn push_globals<'a>(
     Ok(())
 }
 
-/// Adds globals to `globals`, behind those that stand, until there are at least `min_globals` and at most `max_globals`. The
-/// index and the initialiser of each are added to `initials`.
+/// Adds globals to the end of `globals`, until there are at least `min_globals` and at most
+/// `max_globals`. Adds the index and the initialiser of each to `initials`.
 pub(crate) fn define_globals<'a>(
     alloc: Global,
     config: &Config,

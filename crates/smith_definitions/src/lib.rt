@@ -1,4 +1,5 @@
-//! The definition of a whole module, and what is defined in it: entities, exports that a shape asks for, interesting values.
+//! The specification of a whole module, and its definitions: entities, exports that a shape
+//! requires, interesting values.
 #![tactic(auto)]
 
 mod definitions;

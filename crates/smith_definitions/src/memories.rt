@@ -16,7 +16,7 @@ use smith_config::Config;
 use smith_draw::arbitrary_memtype;
 use smith_types::{Items, MemoryType};
 
-/// Adds memories to `memories`, behind those that stand, each drawn as a memory type.
+/// Adds memories of drawn types to the end of `memories`.
 #[tactic(auto, unfolding(crate::specs::Definitions::memories_at))]
 fn push_memories(
     config: &Config,
@@ -41,7 +41,8 @@ fn push_memories(
     Ok(())
 }
 
-/// Adds memories to `memories`, behind those that stand, until there are at least `min_memories` and at most `max_memories`.
+/// Adds memories to the end of `memories`, until there are at least `min_memories` and at most
+/// `max_memories`.
 pub(crate) fn define_memories(
     config: &Config,
     memories: &mut Items<MemoryType>,

@@ -21,7 +21,7 @@ use smith_draw::{KeptOffers, Spaces, arbitrary_table_init, draw_const_expr};
 use smith_types::{EntityType, ExportKind, GlobalType, IndexSpaces, TableType, TypeSpace};
 use std::alloc::Global;
 
-/// The index of the next item of the kind `kind` in `spaces`.
+/// Returns the index of the next item of the kind `kind` in `spaces`.
 pub(crate) fn next_index(spaces: &IndexSpaces, kind: ExportKind) -> usize
     ensures { result ≡ next_index (spaces_in spaces.now) kind }
 {
@@ -34,7 +34,8 @@ pub(crate) fn next_index(spaces: &IndexSpaces, kind: ExportKind) -> usize
     }
 }
 
-/// The reason why the entity `added` may not stand beside `spaces`: a second memory, or a second table, without its feature.
+/// Returns the reason why the entity `added` may not follow those of `spaces`, if there is one: a
+/// second memory, or a second table, without its feature.
 fn several(config: &Config, spaces: &IndexSpaces, added: &EntityType) -> Option<Why>
     ensures { result ≡ several config.now (spaces_in spaces.now) added.now }
 {
@@ -49,7 +50,7 @@ fn several(config: &Config, spaces: &IndexSpaces, added: &EntityType) -> Option<
     }
 }
 
-/// The types, functions and globals that an initialiser may refer to.
+/// Returns the types, functions and globals that an initialiser may refer to.
 fn scope<'a>(types: &'a TypeSpace, spaces: &'a IndexSpaces, definitions: &Definitions) -> Spaces<'a>
     requires within { AreWithin (spaces_in spaces.now) definitions.now }
     ensures types { result.types.now ≡ types.now }
@@ -87,7 +88,8 @@ fn define_table(
     definitions.tables.push(initial)
 }
 
-/// Draws the initialiser of `global`, which comes behind the globals that stand, and adds it to `definitions`.
+/// Draws the initialiser of `global`, which follows the globals of `spaces`, and adds it to
+/// `definitions`.
 fn define_global(
     alloc: Global,
     config: &Config,
@@ -113,7 +115,7 @@ fn define_global(
     definitions.globals.push((index, initial))
 }
 
-/// Counts the entity `added` among `definitions`, a table or a global with its initialiser.
+/// Counts the entity `added` in `definitions`, a table or a global with its initialiser.
 #[tactic(auto, unfolding(crate::specs::RequiredExports::defined_with_at))]
 fn define_initial(
     alloc: Global,
@@ -148,7 +150,8 @@ fn define_initial(
     Ok(())
 }
 
-/// Defines the entity `added` last in its index space of `spaces`, unless it may not stand there.
+/// Defines the entity `added` at the end of its index space in `spaces`. Refuses if it may not
+/// follow the entities there.
 #[tactic(auto, unfolding(crate::specs::RequiredExports::entity_required_at))]
 pub(crate) fn define_entity(
     alloc: Global,

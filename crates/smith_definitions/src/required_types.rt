@@ -9,7 +9,7 @@ use smith_config::Shape;
 use smith_types::{CloneIn, EntityType, Items, SubType, TypeSpace};
 use std::alloc::Global;
 
-/// Finds the type at `index` among the types of `groups`, if it stands there.
+/// Finds the type at `index` among the types of `groups`, if it exists.
 fn type_at(groups: &[Items<SubType>], index: usize) -> Option<&SubType>
     ensures { MatchOption result (slice_get (space_of groups.now).types index ≡ None) (λ ty. slice_get (space_of groups.now).types index ≡ Some ty.now) }
 {
@@ -23,7 +23,8 @@ fn type_at(groups: &[Items<SubType>], index: usize) -> Option<&SubType>
     None
 }
 
-/// Adds the type at `index` of `groups` to `types`, in a group of its own, and gives its new index.
+/// Adds the type at `index` of `groups` to `types`, in a group of its own, and returns its new
+/// index.
 fn push_own_type(
     alloc: Global,
     groups: &[Items<SubType>],
@@ -45,7 +46,8 @@ fn push_own_type(
     Ok(own)
 }
 
-/// Gives the entity `theirs` of `shape` a type of its own: the type of a function or a tag is added to `types`.
+/// Returns the entity `theirs` of `shape` with a type of its own: the type of a function or a tag
+/// is added to `types`.
 fn of_own_type(
     alloc: Global,
     shape: &Shape,
@@ -68,8 +70,8 @@ fn of_own_type(
     }
 }
 
-/// Gives the entity `theirs` of `shape` over `types`: with a type of its own where `own_types` is set, else as it is, since its
-/// type stands already.
+/// Returns the entity `theirs` of `shape` over `types`. If `own_types` is set, its type is added to
+/// `types`. Otherwise the type exists already, and the entity is returned as it is.
 pub(crate) fn entity_over(
     alloc: Global,
     own_types: bool,

@@ -9,7 +9,8 @@ ghost use Rattle.smith_definitions.specs.RequiredExports.{entity_of};
 use smith_config::Shape;
 use smith_types::{EntityType, ExportKind, IndexSpaces};
 
-/// Finds the item at `index` of an index space, where the items `imported` come before the items `defined`.
+/// Finds the item at `index` of an index space that has the items `imported`, then the items
+/// `defined`.
 fn item_behind<T: Copy>(imported: &[T], defined: &[T], index: usize) -> T
     requires { index < length (imported.now ++ defined.now) }
     ensures { slice_get (imported.now ++ defined.now) index ≡ Some result }
@@ -20,7 +21,8 @@ fn item_behind<T: Copy>(imported: &[T], defined: &[T], index: usize) -> T
     defined[index - imported.len()]
 }
 
-/// Finds the entity of the kind `kind` at `index` in the index spaces of `shape`, which begin with `imported`.
+/// Finds the entity of the kind `kind` at `index` in the index spaces of `shape`, which begin with
+/// `imported`.
 pub(crate) fn entity_of_shape(
     shape: &Shape,
     imported: &IndexSpaces,

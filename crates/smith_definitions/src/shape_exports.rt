@@ -31,7 +31,8 @@ use smith_draw::KeptOffers;
 use smith_types::{ExportKind, IndexSpaces, Items, Name, TypeSpace, imported_spaces_of};
 use std::alloc::Global;
 
-/// Makes the export `one` of `shape`, whose index spaces begin with `imported`, of an entity that is defined for the export.
+/// Makes the export `one` of `shape`, whose index spaces begin with `imported`. Defines an entity
+/// for the export.
 fn make_export(
     alloc: Global,
     config: &Config,
@@ -66,7 +67,7 @@ fn make_export(
     Ok((name, one.1, index))
 }
 
-/// Makes the exports of `shape`, each of an entity that is defined for the export.
+/// Makes the exports of `shape`. Defines an entity for each.
 fn push_exports(
     alloc: Global,
     config: &Config,
@@ -108,17 +109,19 @@ fn push_exports(
     Ok(exports)
 }
 
-/// Makes the exports of the shape for exports `shape`, each of an entity of the same type that is defined for the export. A
-/// function or a tag has a type of its own, which is added to `types` in a group of its own.
+/// Makes the exports of the shape for exports `shape`, and defines for each an entity of the same
+/// type. A function or a tag has a type of its own, which is added to `types` in a group of its
+/// own.
 ///
-/// `shape` passes [`Shape::check`] as exports for `config`, which is sanitised. `types` and the entities of `spaces` are valid,
-/// and there is room for another of each kind for each export of `shape`: fewer than 2^32 in all. `definitions` counts no more
-/// entities than stand in `spaces`.
+/// `shape` passes [`Shape::check`] as exports for `config`, which is sanitised. `types` and the
+/// entities of `spaces` are valid, and each kind has room for one more for each export of `shape`:
+/// fewer than 2^32 in all. `definitions` counts no more entities than exist in `spaces`.
 ///
 /// # Errors
 ///
-/// `SeveralTables` where `shape` brings a second table and reference types are off; `SeveralMemories` where `shape` brings a
-/// second memory and `config` allows at most one; `EmptyChoose` where nothing gives a reference that may not be null.
+/// - `SeveralTables` if `shape` requires a second table and reference types are off.
+/// - `SeveralMemories` if `shape` requires a second memory and `config` allows at most one.
+/// - `EmptyChoose` if no expression has a reference type that is not nullable.
 pub fn make_required_exports(
     alloc: Global,
     config: &Config,
@@ -151,10 +154,10 @@ pub fn make_required_exports(
     push_exports(alloc, config, true, shape, types, spaces, definitions, u)
 }
 
-/// Makes the exports of the module shape `shape`, each of an entity of the same type that is defined for the export.
+/// Makes the exports of the module shape `shape`, and defines for each an entity of the same type.
 ///
-/// `shape` passes [`Shape::check`] as a module shape for `config`, and `types` begin with the types of `shape`. All else is as
-/// [`make_required_exports`] asks, and so are errors.
+/// `shape` passes [`Shape::check`] as a module shape for `config`, and `types` begin with the types
+/// of `shape`. All other conditions, and the errors, are those of [`make_required_exports`].
 pub fn make_shape_exports(
     alloc: Global,
     config: &Config,

@@ -3,7 +3,7 @@ ghost use Rattle.std.specs.Prelude.{◌≡◌, ◌≤◌, take, length};
 use smith_draw::{Entities, Spaces};
 use smith_types::{GlobalType, TypeSpace};
 
-/// The types, functions and globals that an initialiser may refer to.
+/// Returns the types, functions and globals that an initialiser may refer to.
 pub(crate) fn standing<'a>(
     types: &'a TypeSpace,
     funcs: &'a [u32],
@@ -31,7 +31,8 @@ pub(crate) fn standing<'a>(
     }
 }
 
-/// The types, functions and globals that the initialiser of a table may refer to: only imported globals, the first of `globals`.
+/// Returns the types, functions and globals that the initialiser of a table may refer to: of the
+/// globals, only the first `imported_globals`.
 pub(crate) fn standing_imported<'a>(
     types: &'a TypeSpace,
     funcs: &'a [u32],

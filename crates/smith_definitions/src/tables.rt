@@ -42,7 +42,7 @@ fn draw_initialised_table(
     Ok((table, initial))
 }
 
-/// Adds tables to `tables`, behind those that stand, and the initialiser of each, or none, to `initials`.
+/// Adds tables to the end of `tables`, and the initialiser of each, or none, to `initials`.
 fn push_tables(
     alloc: Global,
     config: &Config,
@@ -75,8 +75,8 @@ fn push_tables(
     Ok(())
 }
 
-/// Adds tables to `tables`, behind those that stand, until there are at least `min_tables` and at most `max_tables`. The
-/// initialiser of each, or none, is added to `initials`.
+/// Adds tables to the end of `tables`, until there are at least `min_tables` and at most
+/// `max_tables`. Adds the initialiser of each, or none, to `initials`.
 pub(crate) fn define_tables(
     alloc: Global,
     config: &Config,

@@ -17,7 +17,8 @@ use smith_draw::{TypeUse, list_types};
 use smith_types::{Items, SubType, TypeSpace};
 use std::alloc::Global;
 
-/// Lists the indices of the types that tags may have: none, without a look at `types`, where `config` has no exceptions.
+/// Lists the indices of the types that tags may have. Does not examine `types` if `config` has no
+/// exceptions, and returns none.
 fn tag_types(alloc: Global, config: &Config, types: &[SubType]) -> Result<Items<u32>, Error>
     requires few { length types.now < 2 ^ 32 }
     ensures exact { IfOk result (λ indices. indices ≡ tag_types config.now types.now) }
@@ -29,7 +30,7 @@ fn tag_types(alloc: Global, config: &Config, types: &[SubType]) -> Result<Items<
     Ok(Items::new(alloc))
 }
 
-/// Adds tags to `tags`, behind those that stand.
+/// Adds tags to the end of `tags`.
 #[tactic(auto, unfolding(crate::specs::Definitions::tags_at))]
 fn push_tags(
     alloc: Global,
@@ -54,7 +55,8 @@ fn push_tags(
     )
 }
 
-/// Adds tags to `tags`, behind those that stand, until there are at least `min_tags` and at most `max_tags` of `config`.
+/// Adds tags to the end of `tags`, until there are at least `min_tags` and at most `max_tags` of
+/// `config`.
 pub(crate) fn define_tags(
     alloc: Global,
     config: &Config,

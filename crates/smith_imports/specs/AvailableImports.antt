@@ -1,4 +1,5 @@
--- Which of the available imports the bytes take, in which groups, and what they leave. Rules of this project.
+-- The available imports that the bytes take, their groups, and the bytes left. Rules of this
+-- project.
 use Rattle.std.specs.Prelude.{◌≡◌, ℕ, ◌+◌, ◌<◌, ◌≤◌, ◌^◌, Bool, false, ◌&&◌, nat_lt, nat_le, IsTrue, List, [], ◌∷◌, ◌++◌, length, All, bytes_eq, if◌then◌else◌}
 use Rattle.std.specs.List.{Contains}
 use Rattle.smith_bytes.specs.Draws.{bool_at}
@@ -24,14 +25,14 @@ use Rattle.smith_imports.specs.ShapeImports.{is_allowed, is_fitting, sizes_of}
 use Rattle.smith_imports.specs.declared.import_groups.GroupKind.TheVariants as groups
 use Rattle.smith_imports.specs.declared.imported.Imported.{Imported}
 
--- imports with those behind them that a bool picks, one for each, and that fit
+-- imports followed by those of a list that fit and for which a drawn bool, one for each, is true
 unfoldable pub picked_at : Config → List SubType → List Import → List Import → List ℕ → List Import × List ℕ
 picked_at config types taken [] bytes = (taken, bytes)
 picked_at config types taken (one ∷ more) bytes =
     let pick = bool_at bytes in
     picked_at config types (if pick.0 && is_fitting config types taken one then taken ++ one ∷ [] else taken) more pick.1
 
--- whether an import may stand in a group behind others: it is of their module, and has their type where they have one
+-- whether an import may be added to a group: it has the module and, if there is one, the type of it
 abbrev pub may_join : Imports → Import → Bool
 may_join (Single imported) next = false
 may_join (Compact1 from items) next = bytes_eq from next.«module»
@@ -43,15 +44,15 @@ begun groups.Single first = Single first
 begun groups.OfOneModule first = with_import (Compact1 first.«module» []) first.name first.entity_type
 begun groups.OfOneType first = with_import (Compact2 first.«module» first.entity_type []) first.name first.entity_type
 
--- whether one more import joins a group: a bool is drawn where it may
+-- whether one more import joins a group: a bool is drawn if it may
 unfoldable pub joins_at : Imports → Import → List ℕ → Bool × List ℕ
 joins_at group next bytes = if may_join group next then bool_at bytes else (false, bytes)
 
--- a group that an import begins, of a drawn kind
+-- a group of a drawn kind that begins with an import
 unfoldable pub begun_at : Config → Import → List ℕ → Imports × List ℕ
 begun_at config first bytes = let kind = group_kind_at config bytes in (begun kind.0 first, kind.1)
 
--- groups, and behind them one that imports join as long as they do; the next begins another
+-- groups, and after them a group that imports join until one does not and begins another
 unfoldable pub joined_at : Config → List Imports → Imports → List Import → List ℕ → List Imports × List ℕ
 joined_at config made group [] bytes = (made ++ group ∷ [], bytes)
 joined_at config made group (next ∷ more) bytes =
@@ -72,18 +73,19 @@ available_at config shape bytes =
     let taken = picked_at config (shape_types shape) [] (shape_imports shape) bytes in
     grouped_at config taken.0 taken.1
 
--- what is counted is counted of these imports, whose sizes alone add up
+-- the counts of `imported` are those of these imports; the type size is the sum of their sizes
+-- alone
 pub record CountsTaken (types : List SubType) (imported : Imported) (taken : List Import) : Type 0 where
   pub spaces : spaces_of imported ≡ imported_spaces taken
   pub count : imported.count ≡ length taken
   pub type_size : imported.type_size ≡ sizes_of types taken
 
--- the type of an import is there, and its size is a number of 32 bits
+-- the type of an import exists, and its size is a number of 32 bits
 pub record IsSized (types : List SubType) (one : Import) : Type 0 where
   pub typed : IsTyped types one.entity_type
   pub few : size_in types one.entity_type < 2 ^ 32
 
--- whether one more entity fits beside what is counted
+-- whether one more entity fits after the imports that are counted
 abbrev pub fits_beside : Config → List SubType → Imported → EntityType → Bool
 fits_beside config types imported added =
     nat_lt imported.count config.max_imports
@@ -91,7 +93,7 @@ fits_beside config types imported added =
     && is_allowed config added
     && nat_le (imported.type_size + size_in types added) config.max_type_size
 
--- groups that are valid, of these imports
+-- valid groups of these imports
 pub record AreGroupsOf (features : Features) (imports : List Import) (made : List Imports) : Type 0 where
   pub all : flattened made ≡ imports
   pub valid : All (IsImportsValid features) made
@@ -103,14 +105,14 @@ pub record AreImportsWithin (config : Config) (types : List SubType) (taken : Li
   pub most : length taken ≤ config.max_imports
   pub type_size : sizes_of types taken ≤ config.max_type_size
 
--- imports that are valid and within the bounds, with tables and memories of those that are offered
+-- imports are valid and within the bounds, and their tables and memories are among those offered
 pub record AreTakenFit (config : Config) (types : List SubType) (offered taken : List Import) : Type 0 where
   pub entities : AreEntitiesValid (features_of config) types (imported_spaces taken)
   pub within : AreImportsWithin config types taken
   pub tables : All (Contains (imported_spaces offered).tables) (imported_spaces taken).tables
   pub memories : All (Contains (imported_spaces offered).memories) (imported_spaces taken).memories
 
--- available imports that were taken: valid groups of imports that fit, and what is counted of them
+-- available imports that were taken: valid groups of imports that fit, and their counts
 pub record IsTaken (config : Config) (shape : Shape) (imported : Imported) : Type 0 where
   pub counts : CountsTaken (shape_types shape) imported (flattened imported.groups)
   pub fit : AreTakenFit config (shape_types shape) (shape_imports shape) (flattened imported.groups)

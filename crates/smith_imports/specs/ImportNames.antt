@@ -1,4 +1,5 @@
--- The names of imports: which name is drawn beside imports, and how a set keeps their pairs of names. Rules of this project.
+-- The names of imports: the name drawn after other imports, and the set of their pairs of names.
+-- Rules of this project.
 use Rattle.std.specs.Prelude.{◌≡◌, ℕ, zero, suc, ◌+◌, ◌<◌, Bool, true, false, ◌&&◌, ◌||◌, IsTrue, max, List, [], ◌∷◌, ◌++◌, length, string_bytes, if◌then◌else◌}
 use Rattle.std.specs.List.{list_any}
 use Rattle.std.specs.HashSet.{HashSet, contains_by, hash_set_len}
@@ -22,19 +23,19 @@ abbrev pub longest_name : List Import → ℕ
 longest_name [] = 0
 longest_name (one ∷ imports) = max (length one.name) (longest_name imports)
 
--- a name with these digits behind it as often as it takes until the name is not taken, but at most `most` times
+-- a name, with these digits appended until it is not taken, at most `most` times
 unfoldable pub new_name : (List ℕ → Bool) → List ℕ → ℕ → List ℕ → List ℕ
 new_name taken digits zero name = name
 new_name taken digits (suc most) name = if taken name then new_name taken digits most (name ++ digits) else name
 
--- the name of an import from a module, beside other imports: a text of at most 1000 bytes; where pairs of names must be distinct
--- and this one is taken, behind it the number of these imports as often as it takes
+-- the name of an import from a module, after other imports: a text of at most 1000 bytes; if pairs
+-- of names must be distinct, the number of these imports is appended until the pair is not taken
 unfoldable pub import_name_at : Bool → List Import → List ℕ → List ℕ → List ℕ × List ℕ
 import_name_at distinct imports from bytes =
     let text = text_at 1000 bytes in
     ((if distinct then new_name (is_taken imports from) (decimal (length imports)) (longest_name imports + 1) text.0 else text.0), text.1)
 
--- the same name as a relation, that a loop keeps: digits stand behind the text as often as it takes until the name is not taken
+-- the same name as a relation, for a loop: digits are appended to the text until it is not taken
 pub record IsNewName (taken : List ℕ → Bool) (digits text name : List ℕ) : Type 0 where
   pub copies : ℕ
   pub made : name ≡ with_copies text digits copies
@@ -56,11 +57,11 @@ module _ {S : Type 0} where
     pub has : (from name : List ℕ) → has_pair pairs from name ≡ is_taken imports from name
     pub size : hash_set_len pairs ≡ length imports
 
-  -- a set has them where pairs of names must be distinct; else it is not kept
+  -- a set has them if pairs of names must be distinct; otherwise it is not maintained
   abbrev pub KnowsPairs : Bool → HashSet (String Global × String Global) S → List Import → Type 0
   KnowsPairs distinct pairs imports = IsTrue distinct → HasPairs pairs imports
 
-  -- a set has one pair more
+  -- a set has one more pair
   pub record AddsPair (old new : HashSet (String Global × String Global) S) (from name : List ℕ) : Type 0 where
     pub has : (other_from other_name : List ℕ) → has_pair new other_from other_name ≡ ((bytes_eq other_from from && bytes_eq other_name name) || has_pair old other_from other_name)
     pub size : hash_set_len new ≡ hash_set_len old + 1

@@ -1,4 +1,4 @@
--- What the step of imports keeps as it adds imports, and when it may refuse. Rules of this project.
+-- Invariants of the step of imports while it adds imports, and its refusals. Rules of this project.
 use Rattle.std.specs.Prelude.{◌≡◌, ℕ, ◌+◌, ◌*◌, ◌^◌, ◌<◌, ◌≤◌, ◌⊎◌, Bool, true, false, ◌&&◌, IsTrue, List, [], length, map, All}
 use Rattle.std.specs.HashSet.{IsEmpty}
 use Rattle.smith_bytes.specs.declared.error.Error.{Error}
@@ -37,7 +37,8 @@ use Rattle.smith_imports.specs.ImportedEntities.{kind_of, has_room, may_import, 
 use Rattle.smith_bytes.specs.Spelling.{SpellsNone}
 use Rattle.smith_imports.specs.declared.imported.Imported.{Imported}
 
--- imports may be drawn over these types: no shape fixes the imports, and the function types are small
+-- imports may be drawn over these types: no shape fixes the imports, and the function types are
+-- small
 pub record MayImport (config : Config) (space : Space) : Type 0 where
   pub passes : Passes config
   pub sanitized : IsSanitized config
@@ -46,11 +47,11 @@ pub record MayImport (config : Config) (space : Space) : Type 0 where
   pub few : length space.types < 2 ^ 32
   pub small : All IsSmall space.types
 
--- the index spaces that the imports begin so far
+-- the index spaces of the imports so far
 abbrev pub spaces_of : Imported → IndexSpaces
 spaces_of imported = spaces_in imported.spaces
 
--- the index spaces that one entity makes
+-- the index spaces of a single entity
 abbrev pub entity_spaces : EntityType → IndexSpaces
 entity_spaces one = record { tags = tag_of one; funcs = func_of one; tables = table_of one; memories = memory_of one; globals = global_of one }
 
@@ -70,7 +71,7 @@ pub record IsCounted (types : List SubType) (added : EntityType) (old new : Impo
   pub type_size : new.type_size ≡ old.type_size + (size_in types added + 1)
   pub pairs : new.pairs ≡ old.pairs
 
--- what is counted is counted of these imports
+-- the counts of `imported` are those of these imports
 pub record Counts (types : List SubType) (distinct : Bool) (imported : Imported) (imports : List Import) : Type 0 where
   pub spaces : spaces_of imported ≡ imported_spaces imports
   pub count : imported.count ≡ length imports
@@ -85,7 +86,7 @@ pub record AreNumbersWithin (config : Config) (spaces : IndexSpaces) : Type 0 wh
   pub memories : length spaces.memories ≤ config.max_memories
   pub globals : length spaces.globals ≤ config.max_globals
 
--- index spaces have no more than the configuration allows
+-- index spaces have no more of each kind, and no larger tables and memories, than are allowed
 pub record AreSpacesWithin (config : Config) (spaces : IndexSpaces) : Type 0 where
   pub tags : length spaces.tags ≤ config.max_tags
   pub funcs : length spaces.funcs ≤ config.max_funcs
@@ -99,12 +100,12 @@ pub record AreSpacesWithin (config : Config) (spaces : IndexSpaces) : Type 0 whe
 abbrev pub HasNoFloatValue : GlobalType → Type 0
 HasNoFloatValue global = IsNoFloat global.val_type
 
--- the elements of a table may be null, or, where `non_nullable_enabled` is set, are grounded
+-- the elements of a table are nullable, or `non_nullable_enabled` is set and they are grounded
 abbrev pub HasGroundedElements : Config → Context → TableType → Type 0
 HasGroundedElements config context table = ¬ IsUngrounded config context (Ref table.element_type)
 
--- imports are valid and within the bounds; each adds at most 42 to the type size; their pairs of names are distinct where
--- they must be
+-- imports are valid and within the bounds; they add at most 42 each, taken together, to the type
+-- size; their pairs of names are distinct if required
 pub record AreImportsFit (config : Config) (types : List SubType) (distinct : Bool) (imports : List Import) : Type 0 where
   pub entities : AreEntitiesValid (features_of config) types (imported_spaces imports)
   pub tags : 0 < length (imported_spaces imports).tags → IsTrue config.exceptions_enabled
@@ -126,12 +127,12 @@ pub record IsEntityFit (config : Config) (types : List SubType) (added : EntityT
   pub small : size_in types added ≤ 41
   pub typed : IsTyped types added
 
--- an entity may be imported beside index spaces
+-- an entity may be imported after these index spaces
 pub record IsFitBeside (config : Config) (types : List SubType) (spaces : IndexSpaces) (added : EntityType) : Type 0 where
   pub entity : IsEntityFit config types added
   pub grounded : All (HasGroundedElements config (import_scope config types spaces)) (table_of added)
 
--- an entity may be imported beside index spaces and a type size
+-- an entity may be imported after these index spaces and this type size
 pub record IsNext (config : Config) (types : List SubType) (spaces : IndexSpaces) (size : ℕ) (added : EntityType) : Type 0 where
   pub fit : IsFitBeside config types spaces added
   pub room : has_room config spaces (kind_of added) ≡ true
@@ -142,11 +143,12 @@ pub record IsNext (config : Config) (types : List SubType) (spaces : IndexSpaces
 abbrev pub IsOffered : Config → List SubType → IndexSpaces → ExportKind → Type 0
 IsOffered config types spaces of_kind = (may_import config types of_kind && has_room config spaces of_kind) ≡ true
 
--- imports may end beside index spaces and a type size: an import may be too large, or some kind is full
+-- imports may end at these index spaces and this type size: an import may be too large, or a kind
+-- is full
 abbrev pub MayEndAt : Config → IndexSpaces → ℕ → Type 0
 MayEndAt config spaces size = (config.max_type_size < size + 42) ⊎ ((of_kind : ExportKind) × (has_room config spaces of_kind ≡ false))
 
--- imports may end where there are `count`: another may be too large beside them, or they may fill some kind
+-- imports may end at `count` imports: the next one may be too large, or they may fill some kind
 abbrev pub MayEnd : Config → ℕ → Type 0
 MayEnd config count =
     (config.max_type_size < 42 * (count + 1))
@@ -157,7 +159,8 @@ abbrev pub IsCompact : Imports → Type 0
 IsCompact (Single imported) = ⊥
 IsCompact _ = Unit {0}
 
--- the type that all imports of a group have, where it has one, is that of an entity that may be imported beside index spaces
+-- the type shared by all imports of a group, if there is one, may be imported after these index
+-- spaces
 abbrev pub HasFitEntity : Config → List SubType → IndexSpaces → Imports → Type 0
 HasFitEntity config types spaces (Compact2 from entity_type names) = IsFitBeside config types spaces entity_type
 HasFitEntity config types spaces _ = Unit {0}
@@ -167,29 +170,30 @@ abbrev pub IsOfGroup : Imports → EntityType → Type 0
 IsOfGroup (Compact2 from entity_type names) added = added ≡ entity_type
 IsOfGroup _ added = Unit {0}
 
--- imports may be added to a group beside index spaces
+-- imports may be added to a group after these index spaces
 pub record IsOpen (config : Config) (types : List SubType) (spaces : IndexSpaces) (group : Imports) : Type 0 where
   pub fit : HasFitEntity config types spaces group
   pub enabled : IsImportsEnabled (features_of config) group
   pub compact : IsCompact group
 
--- what is imported so far: groups that are valid, and what is counted of them
+-- the imports so far: valid groups, and their counts
 pub record IsImported (config : Config) (types : List SubType) (distinct : Bool) (imported : Imported) : Type 0 where
   pub counts : Counts types distinct imported (flattened imported.groups)
   pub fit : AreImportsFit config types distinct (flattened imported.groups)
   pub groups : All (IsImportsValid (features_of config)) imported.groups
 
--- where imports may end before there are as many as are asked for: they may be too large together, or some kind too few
+-- imports may end below the minimum: they may be too large together, or the maximum of some kind is
+-- lower
 abbrev pub MayLackImports : Config → Type 0
 MayLackImports config =
     (config.max_type_size < 42 * config.min_imports)
     ⊎ ((config.max_tags < config.min_imports)
     ⊎ ((config.max_funcs < config.min_imports) ⊎ ((config.max_globals < config.min_imports) ⊎ ((config.max_memories < config.min_imports) ⊎ (config.max_tables < config.min_imports)))))
 
--- when imports may be refused: for want of memory, or where a minimum above zero may stay unmet
+-- errors of the step of imports: lack of memory, or a minimum above zero that may stay unmet
 abbrev pub MayRefuseImports : Config → Error → Type 0
 MayRefuseImports config e = (e ≡ errors.Memory) ⊎ ((e ≡ errors.IncorrectFormat (Unmet counts.Imports)) × (0 < config.min_imports) × MayLackImports config)
 
--- that there is no import
+-- there is no import
 unfoldable pub SpellsNoImport : Config → List Imports → List ℕ → Type 0
 SpellsNoImport config groups piece = (groups ≡ []) × SpellsNone config.max_imports piece

@@ -1,4 +1,4 @@
--- Which entity is imported next, beside those that are imported so far. Rules of this project.
+-- The entity that is imported next, after the imports so far. Rules of this project.
 use Rattle.std.specs.Prelude.{ℕ, ◌+◌, Bool, true, ◌&&◌, nat_lt, nat_le, Option, Some, None, List, [], ◌∷◌, length, sum_by, if◌then◌else◌}
 use Rattle.std.specs.Option.{option_map_or}
 use Rattle.smith_types.specs.Expressions.{Context}
@@ -35,13 +35,13 @@ has_room config spaces kind.Global = nat_lt (length spaces.globals) config.max_g
 has_room config spaces kind.Memory = nat_lt (length spaces.memories) config.max_memories
 has_room config spaces kind.Table = nat_lt (length spaces.tables) config.max_tables
 
--- whether a kind may be imported over these types: a tag or a function only where a type is right for it
+-- whether a kind may be imported over these types: a tag or a function requires a suitable type
 abbrev pub may_import : Config → List SubType → ExportKind → Bool
 may_import config types kind.Tag = config.exceptions_enabled && nat_lt 0 (length (types_for uses.Tag types))
 may_import config types kind.Func = nat_lt 0 (length (types_for uses.ImportedFunc types))
 may_import config types _ = true
 
--- a kind, with whether one more of it may be imported
+-- a kind, and whether one more of it may be imported
 abbrev pub kind_row : Config → List SubType → IndexSpaces → ExportKind → ExportKind × Bool
 kind_row config types spaces of_kind = (of_kind, may_import config types of_kind && has_room config spaces of_kind)
 
@@ -58,7 +58,7 @@ kind_at config types spaces bytes =
     let chosen = chosen_at kind.Memory offered bytes in
     if nat_lt 0 (length offered) then (Some chosen.0, chosen.1) else (None, bytes)
 
--- what an imported entity is drawn over: types, and the functions that are imported so far
+-- the context in which an imported entity is drawn: types, and the functions imported so far
 abbrev pub import_scope : Config → List SubType → IndexSpaces → Context
 import_scope config types spaces = record {
   features = features_of config;
@@ -78,11 +78,11 @@ entity_of_kind_at config context kind.Global bytes = let global = global_type_at
 entity_of_kind_at config context kind.Memory bytes = let memory = memtype_at config bytes in (entity.Memory memory.0, memory.1)
 entity_of_kind_at config context kind.Table bytes = let table = table_type_at config context bytes in (entity.Table table.0, table.1)
 
--- what imports add to the type size: their sizes, and one more each
+-- the amount that imports add to the type size: their sizes, and one more each
 abbrev pub sizes : List SubType → List Import → ℕ
 sizes types imports = sum_by (λ (one : Import). size_in types one.entity_type + 1) imports
 
--- whether an import of an entity fits beside a type size
+-- whether an import of an entity fits after a type size
 abbrev pub fits : Config → List SubType → ℕ → EntityType → Bool
 fits config types size added = nat_le (size + (size_in types added + 1)) config.max_type_size
 

@@ -12,11 +12,12 @@ use Rattle.smith_imports.specs.Imported.{spaces_of}
 use Rattle.smith_imports.specs.ShapeImports.{is_filled, kept_groups}
 use Rattle.smith_imports.specs.declared.imported.Imported.{Imported}
 
--- a group as a module has it, where imports are compact or not: as it is, unless it is empty, or one by one
+-- a group in the form that a module has it: unless empty, whole if imports are compact, else one by
+-- one
 abbrev pub kept_of : Bool → Imports → List Imports
 kept_of compact group = if compact then (if is_filled group then group ∷ [] else []) else map Single (imports_of group)
 
--- the imports of a shape are kept, in groups that are valid, and counted; they add nothing to the type size
+-- the imports of a shape are kept in valid groups and counted; they add nothing to the type size
 pub record AreKept (config : Config) (shape : Shape) (imported : Imported) : Type 0 where
   pub groups : imported.groups ≡ kept_groups config shape
   pub flat : flattened imported.groups ≡ shape_imports shape

@@ -1,4 +1,5 @@
--- What is imported of a shape: the groups of a module shape, and of available imports those that are taken. Rules of this project.
+-- The groups of imports of a module shape, and the imports taken of a shape of available imports.
+-- Rules of this project.
 use Rattle.std.specs.Prelude.{ℕ, suc, ◌+◌, ◌%◌, ◌==◌, ◌&&◌, nat_le, nat_lt, Bool, true, List, [], ◌∷◌, ◌++◌, map, length, sum_by, slice_index_or, if◌then◌else◌}
 use Rattle.std.specs.List.{filter}
 use Rattle.smith_bytes.specs.declared.error.Count.{Count}
@@ -16,15 +17,16 @@ use Rattle.smith_config.specs.declared.shape.Shape.{Shape}
 use Rattle.smith_config.specs.Faults.{maximum_of}
 use Rattle.smith_config.specs.Shapes.{shape_imports}
 
--- a group of imports that is not empty
+-- a group of imports is not empty
 abbrev pub is_filled : Imports → Bool
 is_filled group = nat_lt 0 (length (imports_of group))
 
--- the groups of a shape's imports as a module has them: without the empty ones, or one by one
+-- the groups of a shape's imports in the form that a module has them: without the empty ones, or
+-- one by one
 abbrev pub kept_groups : Config → Shape → List Imports
 kept_groups config shape = if config.compact_imports_enabled then filter is_filled shape.imports else map Single (shape_imports shape)
 
--- how many items index spaces hold of a kind
+-- the number of items of a kind in index spaces
 abbrev pub count_in : IndexSpaces → Count → ℕ
 count_in spaces counts.Tags = length spaces.tags
 count_in spaces counts.Funcs = length spaces.funcs
@@ -33,11 +35,12 @@ count_in spaces counts.Memories = length spaces.memories
 count_in spaces counts.Globals = length spaces.globals
 count_in spaces _ = 0
 
--- whether the input picks the import at this place: its byte is odd, and past the end it isn't
+-- whether the bytes pick the import at this place: the byte there is odd; past the end none is
+-- picked
 abbrev pub is_picked : List ℕ → ℕ → Bool
 is_picked bytes place = slice_index_or bytes place 0 % 2 == 1
 
--- what an entity counts as
+-- the count that an entity adds to
 abbrev pub count_for : EntityType → Count
 count_for (entity.Global global) = counts.Globals
 count_for (entity.Table table) = counts.Tables
@@ -45,16 +48,16 @@ count_for (entity.Memory memory) = counts.Memories
 count_for (entity.Tag index) = counts.Tags
 count_for (entity.Func index) = counts.Funcs
 
--- tags need their feature
+-- tags require their feature
 abbrev pub is_allowed : Config → EntityType → Bool
 is_allowed config (entity.Tag index) = config.exceptions_enabled
 is_allowed config _ = true
 
--- the sizes of imports together
+-- the sum of the sizes of imports
 abbrev pub sizes_of : List SubType → List Import → ℕ
 sizes_of types imports = sum_by (λ (one : Import). size_in types one.entity_type) imports
 
--- whether one more import fits behind those that are taken: in number, of its kind and by its size
+-- whether one more import fits after those taken: in number, number of its kind, and size
 unfoldable pub is_fitting : Config → List SubType → List Import → Import → Bool
 is_fitting config types taken one =
     let count = count_for one.entity_type in
@@ -63,7 +66,7 @@ is_fitting config types taken one =
     && is_allowed config one.entity_type
     && nat_le (sizes_of types taken + size_in types one.entity_type) config.max_type_size
 
--- available imports, from this place on, that are taken behind others: those that the input picks and that fit
+-- imports followed by those available imports, from this place on, that the bytes pick and that fit
 abbrev pub taken_from : Config → List SubType → List ℕ → ℕ → List Import → List Import → List Import
 taken_from config types bytes place taken [] = taken
 taken_from config types bytes place taken (one ∷ more) =

@@ -17,10 +17,11 @@ use smith_config::{Config, Shape};
 use smith_types::TypeSpace;
 use std::alloc::Global;
 
-/// Takes the types of `shape`, and of its imports those that drawn bools pick and that fit, in groups of drawn kinds.
+/// Takes the types of `shape`, and those of its imports that fit and for which a drawn bool is
+/// true. The imports taken are put in groups of drawn kinds.
 ///
-/// An import fits where it stays within the maximums and the type size of `config`; a tag needs exceptions too.
-/// `shape` passes [`Shape::check`] as available imports for `config`.
+/// An import fits if it stays within the maximums and the type size of `config`. A tag requires
+/// exceptions too. `shape` passes [`Shape::check`] as available imports for `config`.
 #[tactic(auto, unfolding(crate::specs::AvailableImports::available_at))]
 pub fn take_available_imports(
     alloc: Global,

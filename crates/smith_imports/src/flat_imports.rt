@@ -45,7 +45,7 @@ fn push_names(
     Ok(())
 }
 
-/// Adds the imports of `group` one by one: an empty group adds none.
+/// Adds the imports of `group` to `flat` one by one. An empty group adds none.
 fn push_group(alloc: Global, flat: &mut Items<Import>, group: &Imports) -> Result<(), Error>
     ensures ok { OnOk result (flat.new ≡ flat.old ++ imports_of group.now) }
     ensures memory { IfErr result (λ e. e ≡ Error.Memory) }
@@ -61,7 +61,7 @@ fn push_group(alloc: Global, flat: &mut Items<Import>, group: &Imports) -> Resul
     }
 }
 
-/// Lists the imports of `groups` one by one, in fresh memory.
+/// Lists the imports of `groups` one by one, in new memory from `alloc`.
 pub(crate) fn flat_imports(alloc: Global, groups: &[Imports]) -> Result<Items<Import>, Error>
     ensures ok { IfOk result (λ flat. flat ≡ flattened groups.now) }
     ensures memory { IfErr result (λ e. e ≡ Error.Memory) }

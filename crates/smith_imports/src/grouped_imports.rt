@@ -12,7 +12,7 @@ use smith_config::Config;
 use smith_types::{Import, ImportItem, Imports, Items};
 use std::alloc::Global;
 
-/// Whether the import `next` may stand in `group` behind its imports.
+/// Whether the import `next` may be added to the end of `group`.
 fn may_join(group: &Imports, next: &Import) -> bool
     ensures { result ≡ may_join group.now next.now }
 {
@@ -27,7 +27,7 @@ fn may_join(group: &Imports, next: &Import) -> bool
     }
 }
 
-/// Makes a group of the import `first`, in fresh memory.
+/// Makes a group of the kind `kind` with the one import `first`, in new memory from `alloc`.
 fn begun(alloc: Global, kind: GroupKind, first: &Import) -> Result<Imports, Error>
     ensures group { IfOk result (λ group. group ≡ begun kind first.now) }
     ensures memory { IfErr result (λ e. e ≡ Error.Memory) }
@@ -76,7 +76,7 @@ fn begin(
     begun(alloc, kind, first)
 }
 
-/// Draws whether the import `next` joins `group`, where it may.
+/// Draws whether the import `next` joins `group`. Returns false without a draw if it may not join.
 #[tactic(auto, unfolding(crate::specs::AvailableImports::joins_at))]
 fn joins(group: &Imports, next: &Import, u: &mut Unstructured<'_>) -> bool
     ensures draws { AlwaysDraws (joins_at group.now next.now u.old) result u.old u.new }
@@ -85,7 +85,8 @@ fn joins(group: &Imports, next: &Import, u: &mut Unstructured<'_>) -> bool
     may_join(group, next) && u.arbitrary::<bool>()
 }
 
-/// Adds the import `next` to `group`, or adds `group` to `made` and begins another group. Gives the last group.
+/// Adds the import `next` to `group`, or adds `group` to `made` and begins a new group with `next`.
+/// Returns the group that `next` is in.
 fn add_next(
     alloc: Global,
     config: &Config,
@@ -128,7 +129,7 @@ fn put_in_groups(
     Ok(made)
 }
 
-/// Puts `imports` into groups of drawn kinds, in fresh memory.
+/// Puts `imports` into groups of drawn kinds, in new memory from `alloc`.
 #[tactic(auto, unfolding(crate::specs::AvailableImports::grouped_at))]
 pub(crate) fn group_imports(
     alloc: Global,

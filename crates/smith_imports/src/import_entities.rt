@@ -16,7 +16,7 @@ use smith_draw::{
 };
 use smith_types::{EntityType, ExportKind, TypeSpace};
 
-/// The kind of the entity `added`.
+/// Returns the kind of the entity `added`.
 pub(crate) fn kind_of(added: &EntityType) -> ExportKind
     ensures { result ≡ kind_of added.now }
 {
@@ -29,8 +29,8 @@ pub(crate) fn kind_of(added: &EntityType) -> ExportKind
     }
 }
 
-/// What an entity is drawn over behind `imported`: `types`, and the functions that are imported so far, of which `grounds` keeps what
-/// they ground.
+/// Returns the context in which the entity after `imported` is drawn: `types` and the functions
+/// imported so far. `grounds` holds what these functions ground.
 fn standing_behind<'a>(
     config: &'a Config,
     types: &'a TypeSpace,
@@ -49,7 +49,8 @@ fn standing_behind<'a>(
     grounds.standing(config, &Spaces { types, entities })
 }
 
-/// Draws an entity of the kind `kind`, which may be imported over `types`, beside `imported`.
+/// Draws an entity of the kind `kind`, to import after `imported`. `kind` may be imported over
+/// `types`.
 #[tactic(auto, unfolding(crate::specs::ImportedEntities::entity_of_kind_at))]
 fn draw_entity_of_kind(
     config: &Config,
@@ -76,7 +77,8 @@ fn draw_entity_of_kind(
     }
 }
 
-/// Whether an import of the entity `added` fits beside the type size `size`.
+/// Whether an import of the entity `added` fits into the maximum type size after the type size
+/// `size`.
 fn fits(config: &Config, types: &TypeSpace, size: u32, added: &EntityType) -> bool
     requires fit { IsEntityFit config.now types.now.types added.now }
     ensures exact { result ≡ fits config.now types.now.types size added.now }
@@ -86,7 +88,7 @@ fn fits(config: &Config, types: &TypeSpace, size: u32, added: &EntityType) -> bo
     u64::from(size) + u64::from(types.size_of(added)) + 1 <= u64::from(most)
 }
 
-/// Gives the entity `added`, if an import of it fits beside `imported`.
+/// Returns the entity `added` if an import of it fits after `imported`, else none.
 fn if_fits(
     config: &Config,
     types: &TypeSpace,
@@ -106,7 +108,8 @@ fn if_fits(
     }
 }
 
-/// Draws the entity to import behind `imported`, of a kind with room: none where no kind has room, or the entity is too large.
+/// Draws the entity to import after `imported`, of a kind with room. Returns none if no kind has
+/// room or the entity drawn is too large.
 #[tactic(auto, unfolding(crate::specs::ImportedEntities::entity_at))]
 pub(crate) fn draw_entity(
     config: &Config,
@@ -128,7 +131,8 @@ pub(crate) fn draw_entity(
     Ok(if_fits(config, types.space(), imported, added))
 }
 
-/// Gives the entity `added` once more, if its kind has room and an import of it fits beside `imported`.
+/// Returns the entity `added` again if its kind has room and an import of it fits after `imported`,
+/// else none.
 pub(crate) fn again(
     config: &Config,
     types: &TypeSpace,

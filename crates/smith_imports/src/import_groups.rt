@@ -8,18 +8,19 @@ use smith_bytes::{Error, Unstructured};
 use smith_config::Config;
 use smith_types::{EntityType, ImportItem, Imports, Name};
 
-/// The way in which a group of imports is written.
+/// Form in which a group of imports is written.
 #[derive(Clone, Copy)]
 pub(crate) enum GroupKind {
-    /// One import by itself.
+    /// A single import.
     Single,
-    /// Imports of one module.
+    /// Compact imports of one module, each with its own type.
     OfOneModule,
-    /// Imports of one module and one type.
+    /// Compact imports of one module and one type.
     OfOneType,
 }
 
-/// Draws the kind of a group: a single import, without a draw, where `config` has no compact imports.
+/// Draws the kind of a group. Returns a single import without a draw if `config` has no compact
+/// imports.
 #[tactic(auto, unfolding(crate::specs::ImportGroups::group_kind_at))]
 pub(crate) fn draw_group_kind(config: &Config, u: &mut Unstructured<'_>) -> GroupKind
     ensures draws { AlwaysDraws (group_kind_at config.now u.old) result u.old u.new }
@@ -40,7 +41,7 @@ pub(crate) fn draw_group_kind(config: &Config, u: &mut Unstructured<'_>) -> Grou
     GroupKind::OfOneType
 }
 
-/// The name of the module that `group` imports from.
+/// Returns the name of the module that `group` imports from.
 pub(crate) fn module_name(group: &Imports) -> &Name
     ensures { result.now ≡ module_name group.now }
 {
@@ -62,7 +63,7 @@ pub(crate) fn has_imports(group: &Imports) -> bool
     }
 }
 
-/// Adds an import to `group`, where that is compact.
+/// Adds an import to the compact group `group`. Leaves a single import as it is.
 pub(crate) fn push_import(
     group: &mut Imports,
     name: Name,

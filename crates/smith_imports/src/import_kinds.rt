@@ -10,7 +10,7 @@ use smith_bytes::Unstructured;
 use smith_config::Config;
 use smith_types::ExportKind;
 
-/// Whether another entity of the kind `kind` may stand beside `imported`.
+/// Whether `config` allows another entity of the kind `kind` after `imported`.
 pub(crate) fn has_room(config: &Config, imported: &Imported, kind: ExportKind) -> bool
     ensures { result ≡ has_room config.now (spaces_of imported.now) kind }
 {
@@ -33,7 +33,7 @@ fn may_import(config: &Config, types: &ImportTypes<'_>, kind: ExportKind) -> boo
     }
 }
 
-/// Gives `kind`, with whether another entity of that kind may be imported.
+/// Returns `kind`, and whether another entity of that kind may be imported.
 fn kind_row(
     config: &Config,
     types: &ImportTypes<'_>,
@@ -46,14 +46,14 @@ fn kind_row(
     (kind, offered)
 }
 
-/// Counts the kinds of `table` that are offered: those that stand beside `true`.
+/// Counts the offered kinds of `table`: those paired with `true`.
 pub fn count_enabled(table: &[(ExportKind, bool)]) -> usize
     ensures { result ≡ count_by (λ row. row.1) table.now }
 {
     table.iter().filter(|row| row.1).count()
 }
 
-/// Finds the kind at `place` among those of `table` that are offered.
+/// Finds the kind at `place` among the offered kinds of `table`. Returns `Memory` past their end.
 fn enabled_at(table: &[(ExportKind, bool)], mut place: usize) -> ExportKind
     ensures { result ≡ slice_index_or (enabled table.now) place ExportKind.Memory }
 {
@@ -69,7 +69,7 @@ fn enabled_at(table: &[(ExportKind, bool)], mut place: usize) -> ExportKind
     ExportKind::Memory
 }
 
-/// Chooses a kind among those of `table` that are offered, of which there is at least one.
+/// Draws one of the offered kinds of `table`, of which there is at least one.
 #[tactic(auto, using(crate::proofs::ImportedEntityLemmas::length_enabled), unfolding(smith_draw::specs::Choices::chosen_at))]
 pub fn choose_enabled(table: &[(ExportKind, bool)], u: &mut Unstructured<'_>) -> ExportKind
     requires { 0 < length (enabled table.now) }
@@ -80,7 +80,7 @@ pub fn choose_enabled(table: &[(ExportKind, bool)], u: &mut Unstructured<'_>) ->
     enabled_at(table, place)
 }
 
-/// Draws a kind of which another entity may be imported, or none where no kind is offered.
+/// Draws a kind of which another entity may be imported. Returns none if no kind is offered.
 #[tactic(auto, using(crate::proofs::ImportedEntityLemmas::length_enabled), unfolding(crate::specs::ImportedEntities::kind_at))]
 pub(crate) fn draw_kind(
     config: &Config,

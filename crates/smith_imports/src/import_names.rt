@@ -11,7 +11,8 @@ use std::alloc::Global;
 use std::collections::HashSet;
 use std::fmt::Write;
 
-/// Makes a pair of `from` and `text` that is new among `pairs`: behind `text` stands the number of `pairs` as often as it takes.
+/// Makes a pair of `from` and a name that is not in `pairs`. The name is `text`, followed by the
+/// decimal number of `pairs` as often as needed.
 fn new_pair(
     pairs: &HashSet<(String, String)>,
     from: String,
@@ -29,7 +30,7 @@ fn new_pair(
     Ok(pair)
 }
 
-/// Makes a name of `text` whose pair with `from` is new among `pairs`, and adds the pair.
+/// Makes a name of `text` whose pair with `from` is not in `pairs`, and adds the pair.
 fn distinct_name(
     alloc: Global,
     from: &str,
@@ -46,7 +47,8 @@ fn distinct_name(
     Ok(name)
 }
 
-/// Draws the name of an import from the module `from`. Where `distinct` is set, the pair of both is new among `pairs`, and added.
+/// Draws the name of an import from the module `from`. If `distinct` is set, the pair of both names
+/// is not in `pairs` before, and is added to it.
 #[tactic(auto, unfolding(crate::specs::ImportNames::import_name_at))]
 pub(crate) fn draw_import_name(
     alloc: Global,

@@ -8,7 +8,7 @@ use smith_types::{Items, TypeSpace};
 use std::alloc::Global;
 use std::marker::Model;
 
-/// The types of a module, with lists of those that an import may have.
+/// Types of a module, with lists of those that an import may have.
 #[derive(Drop)]
 pub(crate) struct ImportTypes<'a> {
     space: &'a TypeSpace,
@@ -45,21 +45,21 @@ impl<'a> ImportTypes<'a> {
         })
     }
 
-    /// The types.
+    /// Returns the types.
     pub(crate) fn space(&self) -> &'a TypeSpace
         ensures { result.now ≡ self.now }
     {
         self.space
     }
 
-    /// The indices of the types that a tag may have.
+    /// Returns the indices of the types that a tag may have.
     pub(crate) fn for_tags(&self) -> &[u32]
         ensures { result.now ≡ types_for Tag self.now.types }
     {
         self.for_tags.as_slice()
     }
 
-    /// The indices of the types that an imported function may have.
+    /// Returns the indices of the types that an imported function may have.
     pub(crate) fn for_funcs(&self) -> &[u32]
         ensures { result.now ≡ types_for ImportedFunc self.now.types }
     {

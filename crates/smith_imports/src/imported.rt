@@ -7,23 +7,24 @@ use smith_types::{EntityType, Imports, IndexSpaces, Items, TypeSpace};
 use std::alloc::Global;
 use std::collections::HashSet;
 
-/// The imports of a module so far, and what is counted of them.
+/// Imports of a module so far, with their counts.
 #[derive(Drop)]
 pub struct Imported {
     /// The imports, in groups.
     pub groups: Items<Imports>,
-    /// The index spaces that the imports begin.
+    /// The index spaces of the imported items.
     pub spaces: IndexSpaces,
     /// The number of imports in all groups.
     pub count: usize,
-    /// What the imports add to the type size of the module.
+    /// The amount that the imports add to the type size of the module.
     pub type_size: u32,
-    /// The module name and the own name of each import, kept where no two imports may have the same pair.
+    /// The pairs of module name and name of the imports. Kept only if no two imports may have the
+    /// same pair.
     pub pairs: HashSet<(String, String)>,
 }
 
 impl Imported {
-    /// Begins without imports. Takes no memory.
+    /// Makes an empty list of imports. Takes no memory.
     pub fn new(alloc: Global) -> Self
         ensures { HasNoImports result }
     {
@@ -36,7 +37,7 @@ impl Imported {
         }
     }
 
-    /// Counts an import of the entity `added`, whose group and pair of names are added apart.
+    /// Counts an import of the entity `added`. The caller adds its group and its pair of names.
     pub(crate) fn count_entity(&mut self, types: &TypeSpace, added: EntityType) -> Result<(), Error>
         requires typed { IsTyped types.now.types added }
         requires count { self.old.count + 1 < 2 ^ 64 }

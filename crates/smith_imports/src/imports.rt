@@ -36,7 +36,7 @@ use smith_draw::KeptGrounds;
 use smith_types::{EntityType, Import, Imports, Items, Name, TypeSpace};
 use std::alloc::Global;
 
-/// Notes the import of the entity `added` among `grounds`, over `types`.
+/// Records the import of the entity `added` in `grounds`. `types` are the types of the module.
 fn note_import(types: &TypeSpace, grounds: &mut KeptGrounds, added: EntityType)
     ensures { (config : Configuration) (spaces : IndexSpaces) → AreKeptGrounds (import_scope config types.now.types spaces) grounds.old → AreKeptGrounds (import_scope config types.now.types (with_entity spaces added)) grounds.new }
 {
@@ -46,7 +46,8 @@ fn note_import(types: &TypeSpace, grounds: &mut KeptGrounds, added: EntityType)
     grounds.note(types, index, false);
 }
 
-/// Draws the entity that the compact group `group` imports next, or none where no entity fits beside `imported`.
+/// Draws the entity that the compact group `group` imports next. Returns none if no entity fits
+/// after `imported`.
 fn draw_next_entity(
     config: &Config,
     types: &ImportTypes<'_>,
@@ -74,7 +75,8 @@ fn draw_next_entity(
     }
 }
 
-/// Adds imports to the compact group `group`, and gives whether imports go on behind the group.
+/// Adds imports to the compact group `group`, and returns whether more imports may follow the
+/// group.
 fn fill(
     alloc: Global,
     config: &Config,
@@ -116,7 +118,8 @@ fn fill(
     Ok(true)
 }
 
-/// Fills the compact group `group`, adds it unless it stays empty, and gives whether imports go on.
+/// Fills the compact group `group`, adds it unless it stays empty, and returns whether more imports
+/// may follow.
 #[tactic(auto, unfolding(crate::specs::Importing::filled_at))]
 fn add_filled(
     alloc: Global,
@@ -150,7 +153,7 @@ fn add_filled(
     Ok(goes_on)
 }
 
-/// Adds an import from `module` by itself, and gives whether imports go on.
+/// Adds a single import from `module`, and returns whether more imports may follow.
 #[tactic(auto, unfolding(crate::specs::Importing::group_of_kind_at))]
 fn add_single(
     alloc: Global,
@@ -188,7 +191,8 @@ fn add_single(
     Ok(true)
 }
 
-/// Adds a group of imports from `module` that have one type, and gives whether imports go on.
+/// Adds a group of imports from `module` that share one type, and returns whether more imports may
+/// follow.
 #[tactic(auto, unfolding(crate::specs::Importing::group_of_kind_at))]
 fn add_of_one_type(
     alloc: Global,
@@ -223,7 +227,7 @@ fn add_of_one_type(
     add_filled(alloc, config, distinct, types, imported, grounds, group, u)
 }
 
-/// Adds a group of imports to `imported`, and gives whether imports go on.
+/// Adds a group of imports to `imported`, and returns whether more imports may follow.
 #[tactic(auto, unfolding(crate::specs::Importing::group_at, crate::specs::Importing::group_of_kind_at))]
 fn add_group(
     alloc: Global,
@@ -263,7 +267,8 @@ fn add_group(
     }
 }
 
-/// Adds groups of imports to `imported`, while there is room and imports go on.
+/// Adds groups of imports to `imported`, until there is no room, a drawn bool ends them, or no
+/// further import fits.
 fn add_groups(
     alloc: Global,
     config: &Config,
@@ -294,7 +299,8 @@ fn add_groups(
     Ok(())
 }
 
-/// Lists the types that an import may have, unless no import may be, and adds groups of imports to `imported`.
+/// Lists the types that an import may have, and adds groups of imports to `imported`. Does nothing
+/// if `max_imports` is 0.
 fn add_all_groups(
     alloc: Global,
     config: &Config,
@@ -321,7 +327,7 @@ fn add_all_groups(
     add_groups(alloc, config, distinct, &types, imported, &mut grounds, u)
 }
 
-/// Draws imports into `imported`, which has none, and refuses fewer than `config` asks for.
+/// Draws imports into `imported`, which is empty, and refuses fewer than `config` requires.
 #[tactic(auto, unfolding(crate::specs::Importing::imports_at))]
 fn draw_imports(
     alloc: Global,
@@ -346,15 +352,18 @@ fn draw_imports(
     Ok(())
 }
 
-/// Draws the imports of a module into `imported`, which has none: at least `min_imports` of `config`, and at most `max_imports`.
-/// Where `distinct` is set, no two imports have the same pair of names.
+/// Draws the imports of a module into `imported`, which is empty: at least `min_imports` of
+/// `config`, and at most `max_imports`. If `distinct` is set, no two imports have the same pair of
+/// names.
 ///
-/// `config` is sanitised, passes its check, and has no shape that fixes the imports. `types` are valid and fewer than 2^32, and a
-/// function type among them has at most 20 parameters and at most 20 results.
+/// `config` is sanitised, passes its check, and has no shape that fixes the imports. `types` are
+/// valid and fewer than 2^32, and each function type among them has at most 20 parameters and 20
+/// results.
 ///
 /// # Errors
 ///
-/// `Unmet(Imports)` where imports end below the minimum, since a kind is full or an import would pass the type size.
+/// `Unmet(Imports)` if the imports end below the minimum, because a kind is full or the next import
+/// would exceed the maximum type size.
 pub fn arbitrary_imports(
     alloc: Global,
     config: &Config,

@@ -1,4 +1,5 @@
-//! The imports of a module: drawn freely, taken from available imports, or brought by a module shape.
+//! The imports of a module: drawn freely, taken from available imports, or copied from a module
+//! shape.
 #![tactic(auto)]
 
 mod available;

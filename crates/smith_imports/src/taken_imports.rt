@@ -21,7 +21,7 @@ fn is_allowed(config: &Config, added: &EntityType) -> bool
     }
 }
 
-/// Whether an import of the entity `added` fits beside `imported`.
+/// Whether an import of the entity `added` fits after `imported`.
 fn fits(config: &Config, types: &TypeSpace, imported: &Imported, added: &EntityType) -> bool
     requires typed { IsTyped types.now.types added.now }
     requires few { size_in types.now.types added.now < 2 ^ 32 }
@@ -37,7 +37,7 @@ fn fits(config: &Config, types: &TypeSpace, imported: &Imported, added: &EntityT
         && u64::from(imported.type_size) + u64::from(size) <= u64::from(most)
 }
 
-/// Takes the import `one` behind `taken`, if it fits.
+/// Adds the import `one` to `taken` and counts it in `imported`, if it fits.
 fn take(
     alloc: Global,
     config: &Config,
@@ -62,7 +62,8 @@ fn take(
     Ok(())
 }
 
-/// Takes those imports of `offered` that fit and that a bool picks, which is drawn for each import.
+/// Takes those imports of `offered` that fit and for which the drawn bool is true. Draws one bool
+/// for each import.
 pub(crate) fn take_imports(
     alloc: Global,
     config: &Config,

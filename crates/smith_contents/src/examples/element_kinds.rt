@@ -1,4 +1,5 @@
-// The kinds of element segments that are offered. The clauses are proved; nothing calls these functions.
+// Kinds of element segments that are offered. The clauses are proved; nothing calls these
+// functions.
 
 ghost use Rattle.std.specs.Prelude.{◌≡◌, [], ◌∷◌, false, None, Some};
 ghost use Rattle.smith_types.specs.Flags.{funcref};
@@ -9,7 +10,7 @@ ghost use Rattle.smith_config.specs.Config.{default_config};
 ghost use Rattle.smith_contents.specs.ElementSegments.{kinds_at};
 ghost use Rattle.smith_contents.specs.declared.element_kinds.KindChoice.TheVariants.{Passive, Declared, Active};
 
-// A table with a minimum is offered without a draw, another one in one of eleven cases.
+// A table with a minimum is offered without a draw, any other if a number drawn from 0 to 10 is 0.
 #[tactic(auto, unfolding(crate::specs::ElementSegments::kinds_at, crate::specs::ElementSegments::table_kinds_at, crate::specs::ElementSegments::is_offered_at, smith_bytes::specs::Draws::range_at, smith_bytes::specs::Draws::digit_count))]
 fn kinds()
     ensures without_tables { kinds_at default_config [] (9 ∷ []) ≡ (Passive ∷ Declared ∷ [], 9 ∷ []) }

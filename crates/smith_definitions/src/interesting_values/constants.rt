@@ -1,4 +1,5 @@
-//! The values that are interesting in each module: near powers of two, patterns of bits, and edges of floats.
+//! The values that are interesting in each module: near powers of two, patterns of bits, and edges
+//! of floats.
 
 ghost use Rattle.std.specs.List.Sorted.{IsStrictlyIncreasing};
 ghost use Rattle.smith_definitions.specs.CollectedValues.{AreExactly, IsConstant, Narrow, Wide};
@@ -294,7 +295,7 @@ static NARROW: [u32; 135] = [
     0xfffffff8, 0xfffffffb, 0xfffffffc, 0xfffffffd, 0xfffffffe, 0xffffffff,
 ];
 
-/// The values of 64 bits, in ascending order.
+/// Returns the values of 64 bits, in ascending order.
 pub(super) fn wide_constants() -> &'static [u64]
     ensures exactly { AreExactly (Wide IsConstant) result.now }
     ensures ascending { IsStrictlyIncreasing result.now }
@@ -302,7 +303,7 @@ pub(super) fn wide_constants() -> &'static [u64]
     &WIDE
 }
 
-/// The low halves of the values of 64 bits, in ascending order, each once.
+/// Returns the low halves of the values of 64 bits, in ascending order, each once.
 pub(super) fn narrow_constants() -> &'static [u32]
     ensures exactly { AreExactly (Narrow IsConstant) result.now }
     ensures ascending { IsStrictlyIncreasing result.now }

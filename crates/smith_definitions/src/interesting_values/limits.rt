@@ -75,7 +75,7 @@ fn push_near_bytes(numbers: &mut Items<u64>, bytes: u64) -> Result<(), Error>
     push_distances(numbers, bytes)
 }
 
-// The number of bytes of `pages` pages of `memory`.
+// Returns the number of bytes of `pages` pages of `memory`, at most `2^64 - 1`.
 fn bytes_of(memory: &MemoryType, pages: u64) -> u64
     requires { page_log2 memory.now.page_size_log2 ≤ 16 }
     ensures { result ≡ bytes_of memory.now pages }
@@ -116,7 +116,8 @@ fn push_near_memories(numbers: &mut Items<u64>, memories: &[MemoryType]) -> Resu
     Ok(())
 }
 
-/// Lists the values near the limits of `tables` and `memories`, in the order of these, and some more than once.
+/// Lists the values near the limits of `tables` and `memories`, in their order, some more than
+/// once.
 pub(super) fn near_limits(
     alloc: Global,
     tables: &[TableType],

@@ -1,4 +1,4 @@
-//! Numbers near limits, put in their places between those of every module.
+//! Merges of the values near limits with the values of every module.
 
 ghost use Rattle.std.specs.Prelude.{◌≡◌, ◌++◌, IfOk, IfErr};
 ghost use Rattle.std.specs.List.Sorted.{IsStrictlyIncreasing};
@@ -8,7 +8,7 @@ use smith_bytes::Error;
 use smith_types::Items;
 use std::alloc::Global;
 
-// Where `number` belongs in `numbers`.
+// Returns the range of `numbers` that holds `number`: empty, at its place, if it is not among them.
 fn place64(numbers: &[u64], number: u64) -> (usize, usize)
     requires { IsStrictlyIncreasing numbers.now }
     ensures { IsPlaceOf numbers.now number result.0 result.1 }
@@ -19,7 +19,7 @@ fn place64(numbers: &[u64], number: u64) -> (usize, usize)
     }
 }
 
-// Adds `number` to `made`, after those of `rest` that are below it. Returns those above it.
+// Adds to `made` those of `rest` that are below `number`, then `number`. Returns those above it.
 fn put64<'a>(made: &mut Vec<u64>, rest: &'a [u64], number: u64) -> Result<&'a [u64], Error>
     requires { IsStrictlyIncreasing rest.now }
     ensures put { IfOk result (λ left. IsPut made.old.items rest.now number made.new.items left.now) }
@@ -47,7 +47,7 @@ pub(super) fn merged64(alloc: Global, constants: &[u64], near: &[u64]) -> Result
     Ok(Items::from_vec(made))
 }
 
-// Where `number` belongs in `numbers`.
+// Returns the range of `numbers` that holds `number`: empty, at its place, if it is not among them.
 fn place32(numbers: &[u32], number: u32) -> (usize, usize)
     requires { IsStrictlyIncreasing numbers.now }
     ensures { IsPlaceOf numbers.now number result.0 result.1 }
@@ -58,7 +58,7 @@ fn place32(numbers: &[u32], number: u32) -> (usize, usize)
     }
 }
 
-// Adds `number` to `made`, after those of `rest` that are below it. Returns those above it.
+// Adds to `made` those of `rest` that are below `number`, then `number`. Returns those above it.
 fn put32<'a>(made: &mut Vec<u32>, rest: &'a [u32], number: u32) -> Result<&'a [u32], Error>
     requires { IsStrictlyIncreasing rest.now }
     ensures put { IfOk result (λ left. IsPut made.old.items rest.now number made.new.items left.now) }

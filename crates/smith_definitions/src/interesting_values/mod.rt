@@ -1,4 +1,5 @@
-//! The interesting values of a module: those of every module, and those near the limits of its tables and memories.
+//! The interesting values of a module: those of every module, and those near the limits of its
+//! tables and memories.
 
 ghost use Rattle.std.specs.Prelude.{◌≡◌, ◌≤◌, List, All, IfOk, IfErr};
 ghost use Rattle.smith_types.specs.Entities.{page_log2};
@@ -36,7 +37,7 @@ fn in_order32(mut narrow: Vec<u32>) -> Result<Vec<u32>, Error>
     Ok(narrow)
 }
 
-// The values of 64 bits of a module that has the numbers `near` near its limits.
+// Lists the values of 64 bits of a module that has the numbers `near` near its limits.
 fn wide_values(alloc: Global, near: &[u64]) -> Result<Items<u64>, Error>
     ensures those { (tables : List Table) (memories : List Memory) → AreExactly (Wide (IsNearLimit tables memories)) near.now
         → IfOk result (AreAll (IsInteresting64 tables memories)) }
@@ -46,7 +47,7 @@ fn wide_values(alloc: Global, near: &[u64]) -> Result<Items<u64>, Error>
     merged64(alloc, wide_constants(), &numbers)
 }
 
-// The values of 32 bits of such a module: the low halves of those of 64 bits.
+// Lists the values of 32 bits of such a module: the low halves of those of 64 bits.
 fn narrow_values(alloc: Global, near: &[u64]) -> Result<Items<u32>, Error>
     ensures those { (tables : List Table) (memories : List Memory) → AreExactly (Wide (IsNearLimit tables memories)) near.now
         → IfOk result (AreAll (IsInteresting32 tables memories)) }
@@ -60,8 +61,9 @@ fn narrow_values(alloc: Global, near: &[u64]) -> Result<Items<u32>, Error>
     merged32(alloc, narrow_constants(), &numbers)
 }
 
-/// Collects the interesting values of a module with `tables` and `memories`: first the values of 32 bits, then the values of 64
-/// bits, each list in ascending order. A page of a memory has at most 2^16 bytes.
+/// Collects the interesting values of a module with `tables` and `memories`: first the values of 32
+/// bits, then the values of 64 bits, each list in ascending order. A page of a memory has at most
+/// 2^16 bytes.
 pub fn collect_interesting_values(
     alloc: Global,
     tables: &[TableType],

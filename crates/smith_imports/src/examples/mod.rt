@@ -1,3 +1,3 @@
-//! Values of private types.
+//! Example values of private types.
 
 mod import_groups;
