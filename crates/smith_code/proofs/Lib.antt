@@ -12,3 +12,6 @@ pub mod ChoiceLemmas
 pub mod ExactLemmas
 pub mod TargetLemmas
 pub mod LeafChoiceLemmas
+pub mod PlainNodeLemmas
+pub mod VectorNodeLemmas
+pub mod VectorChoiceLemmas

@@ -41,7 +41,7 @@ use Rattle.smith_code.specs.declared.node.Opening.TheVariants as opening
 use Rattle.smith_code.specs.declared.node.Sides.{Sides}
 use Rattle.smith_code.specs.declared.scope.Scope.{Scope}
 
-three_wide : (types : List SubType) → 3 ≤ widest types
+pub three_wide : (types : List SubType) → 3 ≤ widest types
 unfolding widest
 three_wide [] = omega arith
 three_wide (t ∷ types) = let rest = three_wide types in omega arith
@@ -419,7 +419,7 @@ br_if_node scope labels set index taken are inside is =
       inside = tt;
     }
 
-address_valid : (context : BodyContext) (wide : Bool) → IsValid context (address wide)
+pub address_valid : (context : BodyContext) (wide : Bool) → IsValid context (address wide)
 address_valid context true = tt
 address_valid context false = tt
 

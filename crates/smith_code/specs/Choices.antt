@@ -1,6 +1,6 @@
 -- Which node the bytes choose. The choices, their order and how often each comes are rules of this project.
 use Rattle.std.specs.Prelude.{ℕ, zero, suc, ◌-◌, ◌==◌, min, Bool, true, false, Option, Some, None, option_map, option_and_then, option_to_list, unwrap_or, List, [], ◌∷◌, ◌++◌, length, slice_get, slice_index_or, if◌then◌else◌}
-use Rattle.smith_bytes.specs.Draws.{bool_at, range_at, choose_at, whole_at}
+use Rattle.smith_bytes.specs.Draws.{bool_at, range_at, choose_at}
 use Rattle.smith_types.specs.Features.{Features}
 use Rattle.smith_types.specs.declared.instruction_kind.InstructionKinds.{InstructionKinds}
 use Rattle.smith_types.specs.declared.value_type.ValType.{ValType}
@@ -18,10 +18,12 @@ use Rattle.smith_instr.specs.declared.memory.Store.{Store}
 use Rattle.smith_instr.specs.declared.memory.Store.TheVariants as store
 use Rattle.smith_instr.specs.declared.memory.MemoryInstr.TheVariants as memory
 use Rattle.smith_instr.specs.declared.numeric.NumericInstr.{NumericInstr}
+use Rattle.smith_code.specs.Accesses.{access_at}
 use Rattle.smith_code.specs.Nodes.{blocked, is_node_allowed, node_of, setting}
 use Rattle.smith_code.specs.Offered.{func_in, function_at, is_addressed, is_callable, is_local_below, is_mutable, is_target, offered}
 use Rattle.smith_code.specs.Rows.{loads_of, numeric_rows, stores}
 use Rattle.smith_code.specs.Scopes.{indexed}
+use Rattle.smith_code.specs.VectorChoices.{store_lane_at, vector_at, vector_store_at}
 use Rattle.smith_code.specs.declared.families.StatementFamily.{StatementFamily}
 use Rattle.smith_code.specs.declared.families.StatementFamily.TheVariants as statement
 use Rattle.smith_code.specs.declared.families.ValueFamily.{ValueFamily}
@@ -113,19 +115,6 @@ leaving_at context bytes =
     else if out.0 then (Some (return_node context), out.1)
     else (br_node context label.0, label.1)
 
--- where a memory of a type is accessed, at an alignment up to one of this binary logarithm
-abbrev pub access_in : ℕ → ℕ → Option MemoryType → List ℕ → Option Access × List ℕ
-access_in log2_bytes index None bytes = (None, bytes)
-access_in log2_bytes index (Some memory) bytes =
-    let align = range_at 0 log2_bytes bytes in
-    let offset = whole_at (if memory.memory64 then 8 else 4) align.1 in
-    (Some (record { at = record { align = align.0; offset = offset.0; memory = index }; wide = memory.memory64 }), offset.1)
-
-unfoldable pub access_at : List MemoryType → ℕ → List ℕ → Option Access × List ℕ
-access_at memories log2_bytes bytes =
-    let index = range_at 0 (indexed (length memories) - 1) bytes in
-    access_in log2_bytes index.0 (slice_get memories index.0) index.1
-
 -- a load
 abbrev pub load_node : Load → Access → Option Node
 load_node op access = Some (node_of (address access.wide ∷ []) (instr.Load op access.at) 0)
@@ -172,6 +161,9 @@ value_families =
     value.Load ∷
     value.Load ∷
     value.Memory ∷
+    value.Vector ∷
+    value.Vector ∷
+    value.Vector ∷
     []
 
 -- a value of a family: none of a leaf
@@ -185,6 +177,7 @@ value_of context wanted value.Block bytes = block_at wanted bytes
 value_of context wanted value.Leaving bytes = leaving_at context bytes
 value_of context wanted value.Load bytes = load_at context wanted bytes
 value_of context wanted value.Memory bytes = memory_at context wanted bytes
+value_of context wanted value.Vector bytes = vector_at context wanted bytes
 
 unfoldable pub value_choice_at : BodyContext → ValType → List ℕ → Chosen
 value_choice_at context wanted bytes = let family = chosen_at value.Leaf value_families bytes in value_of context wanted family.0 family.1
@@ -297,6 +290,8 @@ statement_families =
     statement.Store ∷
     statement.Unreachable ∷
     statement.LocalSet ∷
+    statement.VectorStore ∷
+    statement.StoreLane ∷
     []
 
 -- a statement of a family: none of `nop`
@@ -312,6 +307,8 @@ statement_of context statement.Table bytes = table_at context bytes
 statement_of context statement.Store bytes = store_at context bytes
 statement_of context statement.Unreachable bytes = (Some (node_of [] instr.Unreachable 0), bytes)
 statement_of context statement.LocalSet bytes = set_at context bytes
+statement_of context statement.VectorStore bytes = vector_store_at context bytes
+statement_of context statement.StoreLane bytes = store_lane_at context bytes
 
 -- the node that was chosen, or `nop`
 abbrev pub or_nop : Chosen → Node × List ℕ

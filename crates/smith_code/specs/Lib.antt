@@ -3,6 +3,9 @@ pub mod Nodes
 pub mod Drawn
 pub mod Offered
 pub mod Rows
+pub mod Accesses
+pub mod VectorRows
+pub mod VectorChoices
 pub mod Choices
 pub mod Leaves
 pub mod Bodies

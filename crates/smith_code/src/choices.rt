@@ -28,6 +28,8 @@ use crate::memories::{choose_load, choose_memory, choose_store};
 use crate::node::{Node, is_node_allowed, plain, setter};
 use crate::numeric::{choose_numeric, choose_select};
 use crate::scope::{Draft, Scope, indexed};
+use crate::vector_memory::{choose_store_lane, choose_vector_store};
+use crate::vectors::choose_vector;
 use smith_bytes::{Error, Unstructured};
 use smith_draw::choose;
 use smith_instr::Instr;
@@ -88,6 +90,7 @@ fn choose_value(
         ValueFamily::Leaving => choose_leaving_for(alloc, scope, wanted, draft, u),
         ValueFamily::Load => choose_load(alloc, scope, wanted, draft, u),
         ValueFamily::Memory => choose_memory(alloc, scope, wanted, draft, u),
+        ValueFamily::Vector => choose_vector(alloc, scope, wanted, draft, u),
     }
 }
 
@@ -183,6 +186,8 @@ pub(crate) fn choose_statement(
         StatementFamily::Store => choose_store(alloc, scope, draft, u),
         StatementFamily::Unreachable => plain(alloc, &[], Instr::Unreachable, 0),
         StatementFamily::LocalSet => choose_set(alloc, scope, draft, u),
+        StatementFamily::VectorStore => choose_vector_store(alloc, scope, draft, u),
+        StatementFamily::StoreLane => choose_store_lane(alloc, scope, draft, u),
     }
 }
 

@@ -18,6 +18,9 @@ mod offer;
 mod references;
 mod rows;
 mod scope;
+mod vector_memory;
+mod vector_rows;
+mod vectors;
 mod written;
 
 pub use body::draw_body;

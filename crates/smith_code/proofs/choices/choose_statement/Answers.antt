@@ -43,3 +43,9 @@ returns-in-Leaving-clause-exact c = ok_by c.choose_leaving.result _ _ _ (stateme
 
 pub returns-in-Table-clause-exact : goal.returns-in-Table-clause-exact
 returns-in-Table-clause-exact c = ok_by c.choose_table.result _ _ _ (statement_by (where_stands c.args.scope.now c.args.draft.now) c.args.u.now _ c.statement_families.result.now c.choose.result statement.Table c.statement_families.ensures (c.choose.ensures.exact statement.Nop) c.in-Table.is) (ok_node c.choose_table.result _ _ c.choose_table.ensures.exact)
+
+pub returns-in-VectorStore-clause-exact : goal.returns-in-VectorStore-clause-exact
+returns-in-VectorStore-clause-exact c = ok_by c.choose_vector_store.result _ _ _ (statement_by (where_stands c.args.scope.now c.args.draft.now) c.args.u.now _ c.statement_families.result.now c.choose.result statement.VectorStore c.statement_families.ensures (c.choose.ensures.exact statement.Nop) c.in-VectorStore.is) c.choose_vector_store.ensures.exact
+
+pub returns-in-StoreLane-clause-exact : goal.returns-in-StoreLane-clause-exact
+returns-in-StoreLane-clause-exact c = ok_by c.choose_store_lane.result _ _ _ (statement_by (where_stands c.args.scope.now c.args.draft.now) c.args.u.now _ c.statement_families.result.now c.choose.result statement.StoreLane c.statement_families.ensures (c.choose.ensures.exact statement.Nop) c.in-StoreLane.is) c.choose_store_lane.ensures.exact

@@ -30,3 +30,6 @@ returns-in-Load-clause-exact c = ok_by c.choose_load.result _ _ _ (value_by (whe
 
 pub returns-in-Memory-clause-exact : goal.returns-in-Memory-clause-exact
 returns-in-Memory-clause-exact c = ok_by c.choose_memory.result _ _ _ (value_by (where_stands c.args.scope.now c.args.draft.now) c.args.wanted c.args.u.now _ c.value_families.result.now c.choose.result value.Memory c.value_families.ensures (c.choose.ensures.exact value.Leaf) c.in-Memory.is) c.choose_memory.ensures.exact
+
+pub returns-in-Vector-clause-exact : goal.returns-in-Vector-clause-exact
+returns-in-Vector-clause-exact c = ok_by c.choose_vector.result _ _ _ (value_by (where_stands c.args.scope.now c.args.draft.now) c.args.wanted c.args.u.now _ c.value_families.result.now c.choose.result value.Vector c.value_families.ensures (c.choose.ensures.exact value.Leaf) c.in-Vector.is) c.choose_vector.ensures.exact
