@@ -21,8 +21,9 @@ use Rattle.smith_instr.specs.declared.memory.Load.{Load}
 use Rattle.smith_instr.specs.declared.memory.Store.{Store}
 use Rattle.smith_instr.specs.declared.memory.Store.TheVariants as store
 use Rattle.smith_instr.specs.declared.numeric.NumericInstr.{NumericInstr}
-use Rattle.smith_code.specs.Choices.{access_at, allowed_choice_at, any_block_at, any_block_node, any_call_at, any_call_node, block_at, branch_at, call_at, call_node, drop_at, dropped_at, global_set_at, global_set_node, growth_node, label_at, label_count, leaving_at, load_at, load_by, load_node, memory_at, memory_by, numeric_at, numeric_node, opening_at, or_nop, return_node, set_at, set_node, some_targets_at, statement_choice_at, statement_families, statement_of, store_at, store_node, table_at, tee_at, tee_node, value_choice_at, value_families, value_of}
+use Rattle.smith_code.specs.Choices.{allowed_choice_at, any_block_at, any_block_node, any_call_at, any_call_node, block_at, branch_at, call_at, call_node, drop_at, dropped_at, global_set_at, global_set_node, growth_node, label_at, leaving_at, load_at, load_by, load_node, memory_at, memory_by, numeric_at, numeric_node, opening_at, or_nop, return_node, set_at, set_node, some_targets_at, statement_choice_at, statement_families, statement_of, store_at, store_node, table_at, tee_at, tee_node, value_choice_at, value_families, value_of}
 use Rattle.smith_code.specs.Chosen.{Chosen, giving}
+use Rattle.smith_code.specs.Accesses.{access_at}
 use Rattle.smith_code.specs.Nodes.{blocked, is_node_allowed, node_of, setting}
 use Rattle.smith_code.specs.Offered.{func_in, function_at, is_addressed, is_callable, is_local_below, is_mutable, label_count, offered}
 use Rattle.smith_code.specs.Rows.{loads_of, numeric_rows, stores}
@@ -65,7 +66,7 @@ unfolding choose_at range_at digit_count
 choose_none [] bytes none = refl
 choose_none (x ∷ xs) bytes none = absurd (omega arith)
 
-choose_there : {A : Type 0} (items : List A) (bytes left : List ℕ) (place : ℕ) (d : A) → range_at 0 (length items - 1) bytes ≡ (place, left) → place < length items → choose_at items bytes ≡ (Some (get_or items place d), left)
+pub choose_there : {A : Type 0} (items : List A) (bytes left : List ℕ) (place : ℕ) (d : A) → range_at 0 (length items - 1) bytes ≡ (place, left) → place < length items → choose_at items bytes ≡ (Some (get_or items place d), left)
 choose_there items bytes left place d drawn inside = chosen_at_place items bytes left place (Some (get_or items place d)) drawn (sym (slice_get-get_or items place d inside))
 
 -- no items, no index

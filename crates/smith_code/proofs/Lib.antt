@@ -19,3 +19,6 @@ pub mod LeafChoiceLemmas
 pub mod ReferenceChoiceLemmas
 pub mod CallLemmas
 pub mod NullLemmas
+pub mod PlainNodeLemmas
+pub mod VectorNodeLemmas
+pub mod VectorChoiceLemmas

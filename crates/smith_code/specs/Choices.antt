@@ -1,5 +1,5 @@
 -- Which node the bytes choose. The choices, their order and how often each comes are rules of this project.
-use Rattle.std.specs.Prelude.{ℕ, zero, suc, ◌-◌, ◌==◌, min, Bool, true, false, Option, Some, None, option_map, option_to_list, unwrap_or, List, [], ◌∷◌, ◌++◌, length, slice_get, slice_index_or, if◌then◌else◌}
+use Rattle.std.specs.Prelude.{ℕ, zero, suc, ◌-◌, ◌==◌, min, Bool, true, false, Option, Some, None, option_map, option_to_list, unwrap_or, List, [], ◌∷◌, ◌++◌, length, slice_get, slice_index_or, if◌then◌else◌, option_and_then}
 use Rattle.smith_bytes.specs.Draws.{bool_at, range_at, choose_at, whole_at}
 use Rattle.smith_types.specs.Features.{Features}
 use Rattle.smith_types.specs.declared.instruction_kind.InstructionKinds.{InstructionKinds}
@@ -21,6 +21,7 @@ use Rattle.smith_instr.specs.declared.numeric.NumericInstr.{NumericInstr}
 use Rattle.smith_code.specs.BulkChoices.{bulk_at}
 use Rattle.smith_code.specs.CallChoices.{by_reference_at, indirect_at, tail_call_at}
 use Rattle.smith_code.specs.Chosen.{Chosen, giving}
+use Rattle.smith_code.specs.Accesses.{access_at}
 use Rattle.smith_code.specs.Nodes.{blocked, is_node_allowed, node_of, setting}
 use Rattle.smith_code.specs.NullChoices.{br_on_null_value_at, null_branch_at}
 use Rattle.smith_code.specs.Offered.{func_in, function_at, is_addressed, is_callable, is_local_below, is_mutable, is_target, label_count, offered}
@@ -28,6 +29,7 @@ use Rattle.smith_code.specs.ReferenceChoices.{reference_value_at, select_typed_n
 use Rattle.smith_code.specs.Rows.{loads_of, numeric_rows, stores}
 use Rattle.smith_code.specs.Scopes.{indexed}
 use Rattle.smith_code.specs.TableChoices.{table_change_at, table_value_at}
+use Rattle.smith_code.specs.VectorChoices.{store_lane_at, vector_at, vector_store_at}
 use Rattle.smith_code.specs.declared.families.StatementFamily.{StatementFamily}
 use Rattle.smith_code.specs.declared.families.StatementFamily.TheVariants as statement
 use Rattle.smith_code.specs.declared.families.ValueFamily.{ValueFamily}
@@ -108,19 +110,6 @@ leaving_at context bytes =
     else if out.0 then (Some (return_node context), out.1)
     else (br_node context label.0, label.1)
 
--- where a memory of a type is accessed, at an alignment up to one of this binary logarithm
-abbrev pub access_in : ℕ → ℕ → Option MemoryType → List ℕ → Option Access × List ℕ
-access_in log2_bytes index None bytes = (None, bytes)
-access_in log2_bytes index (Some memory) bytes =
-    let align = range_at 0 log2_bytes bytes in
-    let offset = whole_at (if memory.memory64 then 8 else 4) align.1 in
-    (Some (record { at = record { align = align.0; offset = offset.0; memory = index }; wide = memory.memory64 }), offset.1)
-
-unfoldable pub access_at : List MemoryType → ℕ → List ℕ → Option Access × List ℕ
-access_at memories log2_bytes bytes =
-    let index = range_at 0 (indexed (length memories) - 1) bytes in
-    access_in log2_bytes index.0 (slice_get memories index.0) index.1
-
 -- a load
 abbrev pub load_node : Load → Access → Option Node
 load_node op access = Some (node_of (address access.wide ∷ []) (instr.Load op access.at) 0)
@@ -174,6 +163,9 @@ value_families =
     value.CallRef ∷
     value.TailCall ∷
     value.NullBranch ∷
+    value.Vector ∷
+    value.Vector ∷
+    value.Vector ∷
     []
 
 -- a value of a family: none of a leaf
@@ -194,6 +186,7 @@ value_of context wanted value.CallIndirect bytes = indirect_at context (outcome.
 value_of context wanted value.CallRef bytes = by_reference_at context (outcome.Wanted wanted) bytes
 value_of context wanted value.TailCall bytes = tail_call_at context bytes
 value_of context wanted value.NullBranch bytes = br_on_null_value_at context wanted bytes
+value_of context wanted value.Vector bytes = vector_at context wanted bytes
 
 unfoldable pub value_choice_at : BodyContext → ValType → List ℕ → Chosen
 value_choice_at context wanted bytes = let family = chosen_at value.Leaf value_families bytes in value_of context wanted family.0 family.1
@@ -312,6 +305,8 @@ statement_families =
     statement.CallRef ∷
     statement.TailCall ∷
     statement.NullBranch ∷
+    statement.VectorStore ∷
+    statement.StoreLane ∷
     []
 
 -- a statement of a family: none of `nop`
@@ -333,6 +328,8 @@ statement_of context statement.CallIndirect bytes = indirect_at context outcome.
 statement_of context statement.CallRef bytes = by_reference_at context outcome.Dropped bytes
 statement_of context statement.TailCall bytes = tail_call_at context bytes
 statement_of context statement.NullBranch bytes = null_branch_at context bytes
+statement_of context statement.VectorStore bytes = vector_store_at context bytes
+statement_of context statement.StoreLane bytes = store_lane_at context bytes
 
 -- the node that was chosen, or `nop`
 abbrev pub or_nop : Chosen → Node × List ℕ

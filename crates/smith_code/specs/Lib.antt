@@ -10,6 +10,9 @@ pub mod BulkChoices
 pub mod ReferenceChoices
 pub mod CallChoices
 pub mod NullChoices
+pub mod Accesses
+pub mod VectorRows
+pub mod VectorChoices
 pub mod Choices
 pub mod Leaves
 pub mod Bodies

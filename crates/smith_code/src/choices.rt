@@ -37,6 +37,8 @@ use crate::reference_values::{choose_reference_value, choose_select_typed};
 use crate::scope::{Draft, Scope, indexed};
 use crate::tables::{choose_table_change, choose_table_value};
 use crate::tail_calls::{choose_any_tail_call, choose_tail_call};
+use crate::vector_memory::{choose_store_lane, choose_vector_store};
+use crate::vectors::choose_vector;
 use smith_bytes::{Error, Unstructured};
 use smith_draw::choose;
 use smith_instr::Instr;
@@ -108,6 +110,7 @@ fn choose_value(
         }
         ValueFamily::TailCall => choose_tail_call(alloc, scope, draft, u),
         ValueFamily::NullBranch => choose_kept(alloc, scope, wanted, draft, u),
+        ValueFamily::Vector => choose_vector(alloc, scope, wanted, draft, u),
     }
 }
 
@@ -209,6 +212,8 @@ pub(crate) fn choose_statement(
         StatementFamily::CallRef => choose_any_by_reference(alloc, scope, draft, u),
         StatementFamily::TailCall => choose_any_tail_call(alloc, scope, draft, u),
         StatementFamily::NullBranch => choose_null_branch(alloc, scope, draft, u),
+        StatementFamily::VectorStore => choose_vector_store(alloc, scope, draft, u),
+        StatementFamily::StoreLane => choose_store_lane(alloc, scope, draft, u),
     }
 }
 

@@ -1,6 +1,7 @@
 ghost use Rattle.std.specs.Prelude.{◌≡◌};
 ghost use Rattle.smith_code.specs.Choices.{statement_families, value_families};
 ghost use Rattle.smith_code.specs.Leaves.{leaf_families};
+ghost use Rattle.smith_code.specs.VectorChoices.{vector_families};
 
 /// What may give a value.
 #[derive(Clone, Copy)]
@@ -28,6 +29,8 @@ pub(crate) enum ValueFamily {
     TailCall,
     /// A branch on null that may come back.
     NullBranch,
+    /// A vector, or what a vector instruction gives.
+    Vector,
 }
 
 /// What may be a statement.
@@ -56,6 +59,19 @@ pub(crate) enum StatementFamily {
     TailCall,
     /// A branch on null, or on a reference that is not null.
     NullBranch,
+    VectorStore,
+    /// A store of a lane of a vector.
+    StoreLane,
+}
+
+/// What may give a vector.
+#[derive(Clone, Copy)]
+pub(crate) enum VectorFamily {
+    /// An instruction that accesses no memory.
+    Instr,
+    Load,
+    /// A load into a lane.
+    LoadLane,
 }
 
 /// What may give a value without operands.
@@ -95,6 +111,9 @@ pub(crate) fn value_families<'a>() -> &'a [ValueFamily]
         ValueFamily::CallRef,
         ValueFamily::TailCall,
         ValueFamily::NullBranch,
+        ValueFamily::Vector,
+        ValueFamily::Vector,
+        ValueFamily::Vector,
     ]
 }
 
@@ -125,6 +144,24 @@ pub(crate) fn statement_families<'a>() -> &'a [StatementFamily]
         StatementFamily::CallRef,
         StatementFamily::TailCall,
         StatementFamily::NullBranch,
+        StatementFamily::VectorStore,
+        StatementFamily::StoreLane,
+    ]
+}
+
+/// What may give a vector, each family in so many places as it is likely.
+pub(crate) fn vector_families<'a>() -> &'a [VectorFamily]
+    ensures { result.now ≡ vector_families }
+{
+    &[
+        VectorFamily::Instr,
+        VectorFamily::Instr,
+        VectorFamily::Instr,
+        VectorFamily::Instr,
+        VectorFamily::Instr,
+        VectorFamily::Load,
+        VectorFamily::Load,
+        VectorFamily::LoadLane,
     ]
 }
 

@@ -27,6 +27,9 @@ mod rows;
 mod scope;
 mod tables;
 mod tail_calls;
+mod vector_memory;
+mod vector_rows;
+mod vectors;
 mod written;
 
 pub use body::draw_body;

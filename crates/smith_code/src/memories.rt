@@ -4,8 +4,9 @@ ghost use Rattle.smith_bytes.specs.Source.{KeepsPieces};
 ghost use Rattle.smith_instr.specs.Contexts.{IsValid, address};
 ghost use Rattle.smith_instr.specs.MemoryTypes.{IsAccess, stored};
 ghost use Rattle.smith_instr.specs.ReferenceTypes.{narrower};
-ghost use Rattle.smith_code.specs.Choices.{access_at, growth_node, load_at, memory_at, or_nop, store_at, store_node};
+ghost use Rattle.smith_code.specs.Choices.{growth_node, load_at, memory_at, or_nop, store_at, store_node};
 ghost use Rattle.smith_code.specs.Chosen.{giving};
+ghost use Rattle.smith_code.specs.Accesses.{access_at};
 ghost use Rattle.smith_code.specs.Nodes.{IsNode, IsOffer};
 ghost use Rattle.smith_code.specs.Offered.{is_address, is_addressed, offered};
 ghost use Rattle.smith_code.specs.Rows.{loads_of, stores};
@@ -64,13 +65,17 @@ fn stores<'a>() -> &'a [Store]
 
 /// Where a memory is accessed, and whether its addresses have 64 bits.
 #[derive(Clone, Copy)]
-struct Access {
-    at: MemArg,
-    wide: bool,
+pub(crate) struct Access {
+    pub at: MemArg,
+    pub wide: bool,
 }
 
 /// Draws where one of the memories is accessed, at an alignment of at most `2 ^ log2_bytes`, or none where there is no memory.
-fn draw_access(scope: &Scope<'_>, log2_bytes: u32, u: &mut Unstructured<'_>) -> Option<Access>
+pub(crate) fn draw_access(
+    scope: &Scope<'_>,
+    log2_bytes: u32,
+    u: &mut Unstructured<'_>,
+) -> Option<Access>
     requires scope { IsScope (bare scope.now) }
     ensures exact { access_at scope.now.memories.now log2_bytes u.old ≡ (result, u.new) }
     ensures access { IfSome result (λ access. IsAccess scope.now.memories.now access.at access.wide) }
@@ -109,6 +114,7 @@ fn draw_offset(wide: bool, u: &mut Unstructured<'_>) -> u64
 }
 
 /// The type of an address of a memory or a table.
+/// The type of an address of a memory.
 pub(crate) fn address(wide: bool) -> ValType
     ensures { result ≡ address wide }
 {

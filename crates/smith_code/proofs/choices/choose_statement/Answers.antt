@@ -61,3 +61,9 @@ returns-in-TailCall-clause-exact c = ok_by c.choose_any_tail_call.result _ _ _ (
 
 pub returns-in-NullBranch-clause-exact : goal.returns-in-NullBranch-clause-exact
 returns-in-NullBranch-clause-exact c = ok_by c.choose_null_branch.result _ _ _ (statement_by (where_stands c.args.scope.now c.args.draft.now) c.args.u.now _ c.statement_families.result.now c.choose.result statement.NullBranch c.statement_families.ensures (c.choose.ensures.exact statement.Nop) c.in-NullBranch.is) c.choose_null_branch.ensures.exact
+
+pub returns-in-VectorStore-clause-exact : goal.returns-in-VectorStore-clause-exact
+returns-in-VectorStore-clause-exact c = ok_by c.choose_vector_store.result _ _ _ (statement_by (where_stands c.args.scope.now c.args.draft.now) c.args.u.now _ c.statement_families.result.now c.choose.result statement.VectorStore c.statement_families.ensures (c.choose.ensures.exact statement.Nop) c.in-VectorStore.is) c.choose_vector_store.ensures.exact
+
+pub returns-in-StoreLane-clause-exact : goal.returns-in-StoreLane-clause-exact
+returns-in-StoreLane-clause-exact c = ok_by c.choose_store_lane.result _ _ _ (statement_by (where_stands c.args.scope.now c.args.draft.now) c.args.u.now _ c.statement_families.result.now c.choose.result statement.StoreLane c.statement_families.ensures (c.choose.ensures.exact statement.Nop) c.in-StoreLane.is) c.choose_store_lane.ensures.exact

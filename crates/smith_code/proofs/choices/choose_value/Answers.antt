@@ -51,3 +51,6 @@ returns-in-TailCall-clause-exact c = ok_by c.choose_tail_call.result _ _ _ (valu
 
 pub returns-in-NullBranch-clause-exact : goal.returns-in-NullBranch-clause-exact
 returns-in-NullBranch-clause-exact c = ok_by c.choose_kept.result _ _ _ (value_by (where_stands c.args.scope.now c.args.draft.now) c.args.wanted c.args.u.now _ c.value_families.result.now c.choose.result value.NullBranch c.value_families.ensures (c.choose.ensures.exact value.Leaf) c.in-NullBranch.is) c.choose_kept.ensures.exact
+
+pub returns-in-Vector-clause-exact : goal.returns-in-Vector-clause-exact
+returns-in-Vector-clause-exact c = ok_by c.choose_vector.result _ _ _ (value_by (where_stands c.args.scope.now c.args.draft.now) c.args.wanted c.args.u.now _ c.value_families.result.now c.choose.result value.Vector c.value_families.ensures (c.choose.ensures.exact value.Leaf) c.in-Vector.is) c.choose_vector.ensures.exact
