@@ -1,4 +1,4 @@
--- Which body the bytes give. Rules of this project.
+-- The body that the bytes produce. Rules of this project.
 use Rattle.std.specs.Prelude.{ℕ, zero, suc, ◌-◌, ◌==◌, Option, Some, None, option_to_list, List, [], ◌∷◌, ◌++◌, length, replicate, if◌then◌else◌}
 use Rattle.smith_bytes.specs.Draws.{range_at}
 use Rattle.smith_types.specs.declared.instruction_kind.InstructionKinds.{InstructionKinds}
@@ -14,8 +14,8 @@ use Rattle.smith_code.specs.declared.node.Head.TheVariants as head
 use Rattle.smith_code.specs.declared.node.Node.{Node}
 use Rattle.smith_code.specs.declared.node.Sides.{Sides}
 
--- a body that is being drawn: what the next instruction may refer to, the instructions so far, the locals that were set, the fuel,
--- and the bytes that are left
+-- a body that is being drawn: the context of the next instruction, the instructions so far, the
+-- locals that were set, the fuel, and the bytes left
 pub record State : Type 0 where
   pub context : BodyContext
   pub out : List Instr
@@ -23,7 +23,7 @@ pub record State : Type 0 where
   pub fuel : ℕ
   pub bytes : List ℕ
 
--- how a value of a type is drawn, and how statements are
+-- the way in which a value of a type is drawn, and statements are
 pub record Drawing : Type 0 where
   pub value : ValType → State → State
   pub statements : State → State
@@ -43,12 +43,12 @@ values_at draw (wanted ∷ more) s = values_at draw more (draw.value wanted s)
 unfoldable pub inside_at : Drawing → Sides → State → State
 inside_at draw sides s = values_at draw sides.results (draw.statements (dropped (length sides.params) s))
 
--- the inside of a block with its label. Locals that are set in a block are not after it
+-- the inside of a block with its label; locals that are set in a block are not set after it
 unfoldable pub enclosed_at : Drawing → List ValType → Sides → State → State
 enclosed_at draw label sides s =
     record (inside_at draw sides (record s { context = labelled s.context label })) { context = s.context; set = s.set }
 
--- what comes after operands, and the local that it sets
+-- the instructions after operands, and the local that they set
 unfoldable pub head_at : Drawing → Head → Option ℕ → State → State
 head_at draw (head.Plain instruction) sets s = record s { out = s.out ++ instruction ∷ []; set = s.set ++ option_to_list sets }
 head_at draw (head.Enclosed opening ty sides) sets s =
@@ -58,7 +58,7 @@ head_at draw (head.If ty sides) sets s =
     (written instr.Else (enclosed_at draw sides.results sides
     (written (instr.If ty) s))))
 
--- a node takes one unit of fuel: its operands are drawn, then the rest of it
+-- a node takes one unit of fuel: its operands are drawn, then its other instructions
 unfoldable pub node_at : Drawing → Node → State → State
 node_at draw node s = dropped node.drops (head_at draw node.head node.sets (values_at draw node.operands (record s { fuel = s.fuel - 1 })))
 
@@ -73,24 +73,24 @@ abbrev pub node_or_leaf_at : InstructionKinds → Drawing → ValType → Option
 node_or_leaf_at kinds below wanted (Some node) s = node_at below node s
 node_or_leaf_at kinds below wanted None s = leaf_in kinds wanted s
 
--- a value, by what is drawn one level deeper: without fuel an instruction without operands
+-- a value, given the draws one level deeper: without fuel an instruction without operands
 unfoldable pub value_at : InstructionKinds → Drawing → ValType → State → State
 value_at kinds below wanted s =
     let chosen = allowed_choice_at kinds s.context wanted s.bytes in
     if s.fuel == 0 then leaf_in kinds wanted s else node_or_leaf_at kinds below wanted chosen.0 (record s { bytes = chosen.1 })
 
--- a node where it is allowed: where it isn't, fuel is taken all the same
+-- a node if it is allowed; otherwise one unit of fuel is taken all the same
 abbrev pub allowed_at : InstructionKinds → Drawing → Node → State → State
 allowed_at kinds below node s =
     if is_node_allowed s.context.features kinds node then node_at below node s else record s { fuel = s.fuel - 1 }
 
--- a statement, by what is drawn one level deeper
+-- a statement, given the draws one level deeper
 unfoldable pub statement_at : InstructionKinds → Drawing → State → State
 statement_at kinds below s =
     let chosen = statement_choice_at s.context s.bytes in
     allowed_at kinds below chosen.0 (record s { bytes = chosen.1 })
 
--- at most so many statements, while there is fuel and the bytes want one more
+-- at most `most` statements, until the fuel ends or a drawn number is 0
 abbrev pub statements_within : (State → State) → ℕ → State → State
 statements_within statement zero s = s
 statements_within statement (suc most) s =
@@ -98,7 +98,8 @@ statements_within statement (suc most) s =
     let next = record s { bytes = more.1 } in
     if s.fuel == 0 then s else if more.0 == 0 then next else statements_within statement most (statement next)
 
--- what is drawn at a depth, by what is drawn one level deeper: at the last there are no statements, and values have no operands
+-- the draws at a depth, given those one level deeper: at the last there are no statements, and
+-- values have no operands
 unfoldable pub drawing_at : InstructionKinds → ℕ → Drawing
 drawing_at kinds zero = record { value = leaf_in kinds; statements = λ s. s }
 drawing_at kinds (suc depth) = record {
@@ -110,14 +111,15 @@ drawing_at kinds (suc depth) = record {
 unfoldable pub whole_at : Drawing → List ValType → State → State
 whole_at draw results s = values_at draw results (draw.statements s)
 
--- the state in which a body begins, and what it is in the end
+-- the state in which a body begins, and its result at the end
 abbrev pub begun : BodyContext → ℕ → List ℕ → State
 begun context fuel bytes = record { context = labelled context context.results; out = []; set = []; fuel = fuel; bytes = bytes }
 
 abbrev pub ended : State → List Instr × List ℕ
 ended s = (s.out, s.bytes)
 
--- a body of at most 40 levels, its last `end` aside, and the bytes that are left: without fuel `unreachable`
+-- a body of at most 40 levels, without its last `end`, and the bytes left: without fuel
+-- `unreachable`
 unfoldable pub body_at : InstructionKinds → BodyContext → ℕ → List ℕ → List Instr × List ℕ
 body_at kinds context fuel bytes =
     if fuel == 0 then (instr.Unreachable ∷ [], bytes) else ended (whole_at (drawing_at kinds 40) context.results (begun context fuel bytes))

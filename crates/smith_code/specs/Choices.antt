@@ -40,7 +40,7 @@ use Rattle.smith_code.specs.declared.node.Opening.{Opening}
 use Rattle.smith_code.specs.declared.node.Opening.TheVariants as opening
 use Rattle.smith_code.specs.declared.outcomes.Outcome.TheVariants as outcome
 
--- a numeric instruction whose first result is of the wanted type; what it gives besides is dropped
+-- a numeric instruction whose first result has the wanted type; the other results are dropped
 abbrev pub numeric_node : NumericInstr → Option Node
 numeric_node op = Some (node_of (signature op).operands (instr.Numeric op) (length (signature op).results - 1))
 
@@ -56,14 +56,14 @@ is_numeric _ = true
 abbrev pub select_node : ValType → Option Node
 select_node wanted = if is_numeric wanted then Some (node_of (wanted ∷ wanted ∷ I32 ∷ []) instr.Select 0) else None
 
--- a local of a type below the wanted type that is set and read again
+-- a local whose type matches the wanted type, set and read again
 abbrev pub tee_node : BodyContext → ℕ → Option Node
 tee_node context index = option_map (λ value. setting index value (instr.LocalTee index)) (slice_get context.locals index)
 
 unfoldable pub tee_at : BodyContext → ValType → List ℕ → Chosen
 tee_at context wanted bytes = giving (tee_node context) (choose_at (offered (is_local_below context wanted) (indexed (length context.locals))) bytes)
 
--- a call of a function whose first result is below the wanted type; the others are dropped
+-- a call of a function whose first result matches the wanted type; the others are dropped
 abbrev pub call_node : BodyContext → ℕ → Option Node
 call_node context index =
     option_map (λ (function : FuncType). node_of function.params (instr.Call index) (length function.results - 1)) (function_at context index)
@@ -71,7 +71,8 @@ call_node context index =
 unfoldable pub call_at : BodyContext → ValType → List ℕ → Chosen
 call_at context wanted bytes = giving (call_node context) (choose_at (offered (is_callable context wanted) (indexed (length context.funcs))) bytes)
 
--- a block, a loop, an `if` with its `else`, or one without, each in so many places as it is likely
+-- a block, a loop, an `if` with its `else`, or one without; the number of times that each is listed
+-- is its weight
 abbrev pub openings : List (Option Opening)
 openings =
     Some opening.Block ∷
@@ -85,7 +86,7 @@ openings =
 unfoldable pub opening_at : List ℕ → Option Opening × List ℕ
 opening_at bytes = let number = range_at 0 5 bytes in (slice_index_or openings number.0 None, number.1)
 
--- a block that gives a value of the wanted type
+-- a block that produces a value of the wanted type
 unfoldable pub block_at : ValType → List ℕ → Chosen
 block_at wanted bytes = let opening = opening_at bytes in (Some (blocked opening.0 (block.Value wanted) [] (wanted ∷ []) 0), opening.1)
 
@@ -93,15 +94,15 @@ block_at wanted bytes = let opening = opening_at bytes in (Some (blocked opening
 abbrev pub label_at : BodyContext → List ℕ → ℕ × List ℕ
 label_at context bytes = range_at 0 (label_count context - 1) bytes
 
--- out of the function
+-- a branch out of the function
 abbrev pub return_node : BodyContext → Node
 return_node context = node_of context.results instr.Return 0
 
--- to a label
+-- a branch to a label
 abbrev pub br_node : BodyContext → ℕ → Option Node
 br_node context label = option_map (λ (taken : List ValType). node_of taken (instr.Br label) 0) (slice_get context.labels label)
 
--- a branch that doesn't come back: out of the function, or to a label
+-- an unconditional branch: out of the function, or to a label
 unfoldable pub leaving_at : BodyContext → List ℕ → Chosen
 leaving_at context bytes =
     let out = bool_at bytes in
@@ -118,7 +119,7 @@ abbrev pub load_by : List MemoryType → Option Load → List ℕ → Chosen
 load_by memories None bytes = (None, bytes)
 load_by memories (Some op) bytes = giving (load_node op) (access_at memories (loaded op).1 bytes)
 
--- a load that gives a value of the wanted type
+-- a load that produces a value of the wanted type
 unfoldable pub load_at : BodyContext → ValType → List ℕ → Chosen
 load_at context wanted bytes = let op = choose_at (loads_of wanted) bytes in load_by context.memories op.0 op.1
 
@@ -131,13 +132,13 @@ abbrev pub memory_by : ValType → Option ℕ → List ℕ → Chosen
 memory_by wanted None bytes = (None, bytes)
 memory_by wanted (Some index) bytes = let grown = bool_at bytes in (Some (growth_node wanted index grown.0), grown.1)
 
--- that of a memory whose addresses are of the wanted type
+-- that of a memory whose addresses have the wanted type
 unfoldable pub memory_at : BodyContext → ValType → List ℕ → Chosen
 memory_at context wanted bytes =
     let index = choose_at (offered (is_addressed context wanted) (indexed (length context.memories))) bytes in
     memory_by wanted index.0 index.1
 
--- what may give a value, each family in so many places as it is likely
+-- the families of values; the number of times that each is listed is its weight
 abbrev pub value_families : List ValueFamily
 value_families =
     value.Leaf ∷
@@ -241,7 +242,7 @@ any_block_at context bytes =
     let index = range_at 0 (indexed (length context.types)) opening.1 in
     (Some (any_block_node opening.0 index.0 (func_in (slice_get context.types index.0))), index.1)
 
--- a branch that may come back; the values that it then leaves are dropped
+-- a conditional branch; the values that it leaves if it is not taken are dropped
 abbrev pub br_if_node : BodyContext → ℕ → Option Node
 br_if_node context label =
     option_map (λ (taken : List ValType). node_of (taken ++ I32 ∷ []) (instr.BrIf label) (length taken)) (slice_get context.labels label)
@@ -249,7 +250,7 @@ br_if_node context label =
 unfoldable pub branch_at : BodyContext → List ℕ → Chosen
 branch_at context bytes = let label = label_at context bytes in (br_if_node context label.0, label.1)
 
--- labels to which the values that another label takes may go
+-- labels that a branch with the operands for another label may target
 unfoldable pub targets_at : BodyContext → List ValType → ℕ → List ℕ → List ℕ × List ℕ
 targets_at context taken zero bytes = ([], bytes)
 targets_at context taken (suc count) bytes =
@@ -261,7 +262,8 @@ targets_at context taken (suc count) bytes =
 abbrev pub some_targets_at : BodyContext → List ValType → List ℕ → List ℕ × List ℕ
 some_targets_at context taken bytes = let count = range_at 0 7 bytes in targets_at context taken count.0 count.1
 
--- a branch to one of several labels, of which one is for every other number: out of the function where there is no label
+-- a branch to one of several labels, one of which is for every other number: out of the function if
+-- there is no label
 abbrev pub table_by : BodyContext → ℕ → Option (List ValType) → List ℕ → Chosen
 table_by context label None bytes = (Some (return_node context), bytes)
 table_by context label (Some taken) bytes =
@@ -280,7 +282,7 @@ store_at context bytes =
     let op = chosen_at store.I32 stores bytes in
     giving (store_node op.0) (access_at context.memories (stored op.0).1 op.1)
 
--- what may be a statement, each family in so many places as it is likely
+-- the families of statements; the number of times that each is listed is its weight
 abbrev pub statement_families : List StatementFamily
 statement_families =
     statement.Nop ∷

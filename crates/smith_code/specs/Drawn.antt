@@ -1,4 +1,4 @@
--- What each step of drawing a body adds to the instructions so far.
+-- The additions of each step of drawing a body to the instructions so far.
 use Rattle.std.specs.Prelude.{◌≡◌, ℕ, ◌+◌, ◌*◌, ◌≤◌, Option, List, [], ◌∷◌, ◌++◌, length, take, option_to_list, All}
 use Rattle.smith_types.specs.Subtyping.{IsValBelow}
 use Rattle.smith_types.specs.declared.value_type.ValType.{ValType}
@@ -11,8 +11,9 @@ use Rattle.smith_code.specs.Scopes.{bare, where_stands, most, IsAllowedIn}
 use Rattle.smith_code.specs.declared.scope.Draft.{Draft}
 use Rattle.smith_code.specs.declared.scope.Scope.{Scope}
 
--- instructions come after the old ones that take operands of these types from the top of any stack, and leave values of those;
--- the labels are the same, and not more instructions than `cost` are not paid for by fuel
+-- instructions follow the old ones that take operands of these types from the top of any stack, and
+-- leave values of those; the labels are the same, and at most `cost` instructions are not paid for
+-- by fuel
 pub record IsDrawn (scope : Scope) (operands values : List ValType) (cost : ℕ) (old new : Draft) : Type 0 where
   pub more : List Instr
   pub longer : new.out ≡ old.out ++ more
@@ -50,7 +51,7 @@ pub record IsEnded (instruction : Instr) (height : ℕ) (old new : Draft) : Type
   pub set : new.set.items ≡ take height old.set.items
   pub fuel : new.fuel ≡ old.fuel
 
--- an instruction that gives a value below this type without operands
+-- an instruction that produces a value that matches this type, without operands
 pub record IsLeaf (context : BodyContext) (set : List ℕ) (wanted : ValType) (instruction : Instr) : Type 0 where
   pub value : ValType
   pub typed : HasInstrType context set instruction [] (value ∷ [])

@@ -1,4 +1,5 @@
--- Which instruction without operands the bytes give. The choices and their order are rules of this project.
+-- The instruction without operands that the bytes produce. The choices and their order are rules of
+-- this project.
 use Rattle.std.specs.Prelude.{ℕ, Option, Some, None, option_map, List, [], ◌∷◌, length, slice_get, if◌then◌else◌}
 use Rattle.std.specs.Int.{cast_signed, w32, w64, w128}
 use Rattle.smith_bytes.specs.Draws.{choose_at, whole_at}
@@ -18,11 +19,11 @@ use Rattle.smith_code.specs.Scopes.{indexed}
 use Rattle.smith_code.specs.declared.families.LeafFamily.{LeafFamily}
 use Rattle.smith_code.specs.declared.families.LeafFamily.TheVariants as leaf
 
--- null, or `unreachable` of a reference that may not be null
+-- null, or `unreachable` for a reference that is not nullable
 abbrev pub null_or_stop : RefType → Instr
 null_or_stop to = if to.nullable then instr.Reference (reference.Null to.heap_type) else instr.Unreachable
 
--- a constant of a type: the value or the bits that are drawn, of a reference null
+-- a constant of a type: the value or the bits that are drawn, or null for a reference
 unfoldable pub constant_at : ValType → List ℕ → Instr × List ℕ
 constant_at I32 bytes = let drawn = whole_at 4 bytes in (instr.I32Const (cast_signed w32 drawn.0), drawn.1)
 constant_at I64 bytes = let drawn = whole_at 8 bytes in (instr.I64Const (cast_signed w64 drawn.0), drawn.1)
@@ -35,22 +36,22 @@ constant_at (Ref to) bytes = (null_or_stop to, bytes)
 abbrev pub by_index : (ℕ → Instr) → Option ℕ × List ℕ → Option Instr × List ℕ
 by_index read drawn = (option_map read drawn.0, drawn.1)
 
--- a local that is set, of a type below the wanted type
+-- a local that is set and whose type matches the wanted type
 abbrev pub local_at : BodyContext → List ℕ → ValType → List ℕ → Option Instr × List ℕ
 local_at context set wanted bytes = by_index instr.LocalGet (choose_at (offered (is_readable context set wanted) (indexed (length context.locals))) bytes)
 
--- a global of a type below the wanted type
+-- a global whose type matches the wanted type
 abbrev pub global_at : BodyContext → ValType → List ℕ → Option Instr × List ℕ
 global_at context wanted bytes = by_index instr.GlobalGet (choose_at (offered (is_global_below context wanted) (indexed (length context.globals))) bytes)
 
--- a function that may be named, of whose place among those the bytes choose
+-- a function that may be named; the bytes choose its place among those offered
 unfoldable pub named_at : BodyContext → ValType → List ℕ → Option ℕ × List ℕ
 named_at context wanted bytes = giving (slice_get context.references) (choose_at (offered (is_reference context wanted) (length context.references)) bytes)
 
 abbrev pub reference_at : BodyContext → ValType → List ℕ → Option Instr × List ℕ
 reference_at context wanted bytes = by_index (λ function. instr.Reference (reference.Func function)) (named_at context wanted bytes)
 
--- what may give a value without operands, each family in so many places as it is likely
+-- the families of values without operands; the number of times that each is listed is its weight
 abbrev pub leaf_families : List LeafFamily
 leaf_families =
     leaf.Local ∷
@@ -78,7 +79,7 @@ or_constant wanted None bytes = constant_at wanted bytes
 unfoldable pub any_leaf_at : BodyContext → List ℕ → ValType → List ℕ → Instr × List ℕ
 any_leaf_at context set wanted bytes = let chosen = leaf_choice_at context set wanted bytes in or_constant wanted chosen.0 chosen.1
 
--- that instruction where it is enabled, or `unreachable`
+-- that instruction if it is enabled, or `unreachable`
 unfoldable pub leaf_at : InstructionKinds → BodyContext → List ℕ → ValType → List ℕ → Instr × List ℕ
 leaf_at kinds context set wanted bytes =
     let leaf = any_leaf_at context set wanted bytes in

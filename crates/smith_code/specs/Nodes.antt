@@ -24,7 +24,7 @@ use Rattle.smith_code.specs.declared.node.Opening.TheVariants as opening
 use Rattle.smith_code.specs.declared.node.Sides.{Sides}
 use Rattle.smith_code.specs.declared.scope.Scope.{Scope}
 
--- the instruction that opens a block, and what a branch to its label takes
+-- the instruction that opens a block, and the types of the operands of a branch to its label
 abbrev pub opened : Opening → BlockType → Instr
 opened opening.Block ty = instr.Block ty
 opened opening.Loop ty = instr.Loop ty
@@ -35,24 +35,25 @@ label_of opening.Block params results = results
 label_of opening.Loop params results = params
 label_of opening.IfAlone params results = results
 
--- what it takes: an `if` takes a number above its parameters
+-- the types of its operands: an `if` takes a number above its parameters
 abbrev pub taken_by : Opening → List ValType → List ValType
 taken_by opening.Block params = params
 taken_by opening.Loop params = params
 taken_by opening.IfAlone params = params ++ I32 ∷ []
 
--- a block of these types may be opened so: an `if` alone leaves what it took (Validation, Control Instructions, if, whose `else` is
--- then empty; own rule that the types are the same)
+-- a block of these types may be opened in this way: an `if` without `else` leaves the values that
+-- it took (Validation, Control Instructions, if, whose `else` is then empty; own rule that the
+-- types are the same)
 abbrev pub MayOpen : Opening → List ValType → List ValType → Type 0
 MayOpen opening.IfAlone params results = params ≡ results
 MayOpen _ params results = Unit {0}
 
--- what opens it, if it may; else it is an `if` with its `else`
+-- its opening, if the block may have it; else it is an `if` with its `else`
 abbrev pub fitting : Option Opening → List ValType → List ValType → Option Opening
 fitting (Some opening.IfAlone) params results = if pointwise val_same.eq params results then Some opening.IfAlone else None
 fitting opening params results = opening
 
--- what comes after the operands of a node takes these, and gives those, where these locals are set
+-- the part after the operands of a node takes these, and leaves those, if these locals are set
 abbrev pub HasHeadType : BodyContext → List ℕ → Head → List ValType → List ValType → Type 0
 HasHeadType context set (head.Plain instruction) operands results = HasInstrType context set instruction operands results
 HasHeadType context set (head.Enclosed opening ty sides) operands results =
@@ -73,7 +74,7 @@ IsHeadValid features types (head.Plain instruction) = Unit {0}
 IsHeadValid features types (head.Enclosed opening ty sides) = AreSidesValid features types sides
 IsHeadValid features types (head.If ty sides) = AreSidesValid features types sides
 
--- the most instructions of a block, what is drawn in it aside
+-- the greatest number of instructions of a block, except those drawn inside it
 abbrev pub block_cost : List SubType → ℕ
 block_cost types = 2 * widest types + 3
 
@@ -94,28 +95,30 @@ head_params (head.Plain instruction) = []
 head_params (head.Enclosed opening ty sides) = sides.params
 head_params (head.If ty sides) = sides.params
 
--- the instructions of a head may be used, `drop` where it drops anything
+-- the instructions of a head may be used, including `drop` if it drops anything
 pub record IsHeadAllowed (scope : Scope) (head : Head) : Type 0 where
   pub instruction : IsAllowedIn scope (head_instruction head)
   pub drops : 0 < length (head_params head) → IsAllowedIn scope instr.Drop
 
--- the instructions of a node may be used, `drop` where it drops anything
+-- the instructions of a node may be used, including `drop` if it drops anything
 pub record IsNodeAllowed (scope : Scope) (node : Node) : Type 0 where
   pub head : IsHeadAllowed scope node.head
   pub drops : 0 < node.drops → IsAllowedIn scope instr.Drop
 
--- whether so many values may be dropped
+-- whether `count` values may be dropped
 abbrev pub is_drop_allowed : Features → InstructionKinds → ℕ → Bool
 is_drop_allowed features kinds count = (count == 0) || is_enabled features kinds instr.Drop
 
--- whether the instructions of a node may be used, its operands aside: `drop` where it drops anything
+-- whether the instructions of a node may be used, except its operands: including `drop` if it drops
+-- anything
 abbrev pub is_head_allowed : Features → InstructionKinds → Head → Bool
 is_head_allowed features kinds head = is_enabled features kinds (head_instruction head) && is_drop_allowed features kinds (length (head_params head))
 
 abbrev pub is_node_allowed : Features → InstructionKinds → Node → Bool
 is_node_allowed features kinds node = is_head_allowed features kinds node.head && is_drop_allowed features kinds node.drops
 
--- a node gives values of these types, and above them some that are dropped, wherever at least these locals are set
+-- a node leaves values of these types, and above them some that are dropped, if at least these
+-- locals are set
 pub record IsNode (context : BodyContext) (set : List ℕ) (values : List ValType) (node : Node) : Type 0 where
   pub results : List ValType
   pub dropped : List ValType
@@ -129,7 +132,7 @@ pub record IsNode (context : BodyContext) (set : List ℕ) (values : List ValTyp
   pub valid : AreValid context node.operands
   pub inside : IsHeadValid context.features context.types node.head
 
--- the node that was chosen, if one was, gives values of these types
+-- the node that was chosen, if one was, leaves values of these types
 abbrev pub IsOffer : BodyContext → List ℕ → List ValType → Result (Option Node) Error → Type 0
 IsOffer context set values result = IfOk result (λ chosen. IfSome chosen (IsNode context set values))
 
@@ -141,7 +144,8 @@ node_of operands instruction drops = record { operands = operands; head = head.P
 abbrev pub setting : ℕ → ValType → Instr → Node
 setting index value instruction = record { operands = value ∷ []; head = head.Plain instruction; sets = Some index; drops = 0 }
 
--- a node of a block of these sides, of whose results some are dropped: an `if` with its `else` where there is no other opening
+-- a node of a block of these sides, of whose results some are dropped: an `if` with its `else` if
+-- there is no other opening
 abbrev pub opened_by : Option Opening → BlockType → Sides → ℕ → Node
 opened_by (Some opening) ty sides drops =
     record { operands = taken_by opening sides.params; head = head.Enclosed opening ty sides; sets = None; drops = drops }

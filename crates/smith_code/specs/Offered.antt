@@ -27,7 +27,7 @@ abbrev pub is_below_at : List SubType → ValType → Option ValType → Bool
 is_below_at types wanted (Some value) = is_val_below types value wanted
 is_below_at types wanted None = false
 
--- a local of a type below the wanted type
+-- a local whose type matches the wanted type
 abbrev pub is_local_below : BodyContext → ValType → ℕ → Bool
 is_local_below context wanted index = is_below_at context.types wanted (slice_get context.locals index)
 
@@ -41,17 +41,17 @@ abbrev pub is_among : ℕ → List ℕ → Bool
 is_among n [] = false
 is_among n (m ∷ more) = (m == n) || is_among n more
 
--- a local of a type below the wanted type that is set, if it is there
+-- a local exists, is set, and its type matches the wanted type
 abbrev pub is_readable_at : BodyContext → List ℕ → ValType → ℕ → Option ValType → Bool
 is_readable_at context set wanted index (Some value) =
     ((nat_lt index context.params || has_default value) || is_among index set) && is_val_below context.types value wanted
 is_readable_at context set wanted index None = false
 
--- a local of a type below the wanted type that is set
+-- a local that is set and whose type matches the wanted type
 abbrev pub is_readable : BodyContext → List ℕ → ValType → ℕ → Bool
 is_readable context set wanted index = is_readable_at context set wanted index (slice_get context.locals index)
 
--- a global of a type below the wanted type
+-- a global whose type matches the wanted type
 abbrev pub is_global_below_at : List SubType → ValType → Option GlobalType → Bool
 is_global_below_at types wanted (Some global) = is_val_below types global.val_type wanted
 is_global_below_at types wanted None = false
@@ -59,7 +59,7 @@ is_global_below_at types wanted None = false
 abbrev pub is_global_below : BodyContext → ValType → ℕ → Bool
 is_global_below context wanted index = is_global_below_at context.types wanted (slice_get context.globals index)
 
--- a global that may be set
+-- a global that is mutable
 abbrev pub is_mutable_at : Option GlobalType → Bool
 is_mutable_at (Some global) = global.mutable
 is_mutable_at None = false
@@ -84,12 +84,12 @@ function_in types None = None
 abbrev pub function_at : BodyContext → ℕ → Option FuncType
 function_at context index = function_in context.types (slice_get context.funcs index)
 
--- the first of these types is below the wanted type
+-- the first of these types matches the wanted type
 abbrev pub is_first_below : List SubType → ValType → List ValType → Bool
 is_first_below types wanted [] = false
 is_first_below types wanted (value ∷ more) = is_val_below types value wanted
 
--- a function whose first result is below the wanted type
+-- a function whose first result matches the wanted type
 abbrev pub is_callable_at : List SubType → ValType → Option FuncType → Bool
 is_callable_at types wanted (Some function) = is_first_below types wanted function.results
 is_callable_at types wanted None = false
@@ -97,13 +97,13 @@ is_callable_at types wanted None = false
 abbrev pub is_callable : BodyContext → ValType → ℕ → Bool
 is_callable context wanted index = is_callable_at context.types wanted (function_at context index)
 
--- types, each below the other's
+-- types, each of which matches the other's
 abbrev pub are_below : List SubType → List ValType → List ValType → Bool
 are_below types [] [] = true
 are_below types (value ∷ values) (wanted ∷ more) = is_val_below types value wanted && are_below types values more
 are_below types _ _ = false
 
--- values of these types may go to a label
+-- a branch with operands of these types may target a label
 abbrev pub is_target_at : List SubType → List ValType → Option (List ValType) → Bool
 is_target_at types taken (Some label) = are_below types taken label
 is_target_at types taken None = false
@@ -117,7 +117,7 @@ is_address I32 wide = not wide
 is_address I64 wide = wide
 is_address _ wide = false
 
--- a memory whose addresses are of the wanted type
+-- a memory whose addresses have the wanted type
 abbrev pub is_addressed_at : ValType → Option MemoryType → Bool
 is_addressed_at wanted (Some memory) = is_address wanted memory.memory64
 is_addressed_at wanted None = false
@@ -125,7 +125,7 @@ is_addressed_at wanted None = false
 abbrev pub is_addressed : BodyContext → ValType → ℕ → Bool
 is_addressed context wanted index = is_addressed_at wanted (slice_get context.memories index)
 
--- a function that may be named, whose reference is of a type below the wanted type
+-- a function that may be named and whose reference type matches the wanted type
 abbrev pub is_reference_at : BodyContext → ValType → ℕ → Option ℕ → Bool
 is_reference_at context wanted function (Some index) = is_val_below context.types (reference_to_function context function index) wanted
 is_reference_at context wanted function None = false
@@ -137,29 +137,29 @@ is_named context wanted None = false
 abbrev pub is_reference : BodyContext → ValType → ℕ → Bool
 is_reference context wanted place = is_named context wanted (slice_get context.references place)
 
--- a function that may be named, and whose reference is of a type below the wanted type
+-- a function that may be named and whose reference type matches the wanted type
 abbrev pub IsReferenceTo : BodyContext → ValType → ℕ → Type 0
 IsReferenceTo context wanted function =
     (index : ℕ) × (slice_get context.funcs function ≡ Some index) × Contains context.references function
     × IsValBelow context.types (reference_to_function context function index) wanted
 
--- a local that is set, and of a type below the wanted type
+-- a local that is set and whose type matches the wanted type
 abbrev pub IsReadable : BodyContext → List ℕ → ValType → ℕ → Type 0
 IsReadable context set wanted index = (value : ValType) × IsLocalSet context set index value × IsValBelow context.types value wanted
 
--- a local of a type below the wanted type
+-- a local whose type matches the wanted type
 abbrev pub IsLocalBelow : BodyContext → ValType → ℕ → Type 0
 IsLocalBelow context wanted index = (value : ValType) × (slice_get context.locals index ≡ Some value) × IsValBelow context.types value wanted
 
--- a global of a type below the wanted type
+-- a global whose type matches the wanted type
 abbrev pub IsGlobalBelow : BodyContext → ValType → ℕ → Type 0
 IsGlobalBelow context wanted index = (global : GlobalType) × (slice_get context.globals index ≡ Some global) × IsValBelow context.types global.val_type wanted
 
--- a global that may be set
+-- a global that is mutable
 abbrev pub IsGlobalMutable : BodyContext → ℕ → Type 0
 IsGlobalMutable context index = (global : GlobalType) × (slice_get context.globals index ≡ Some global) × (global.mutable ≡ true)
 
--- a function whose first result is below the wanted type
+-- a function whose first result matches the wanted type
 abbrev pub IsCallable : BodyContext → ValType → ℕ → Type 0
 IsCallable context wanted index =
     (function : FuncType) × IsFunction context index function × (value : ValType) × (rest : List ValType) × (function.results ≡ value ∷ rest)

@@ -179,7 +179,7 @@ f64_rows =
     numeric.Convert convert.F64ReinterpretI64 ∷
     []
 
--- the numeric instructions whose first result is of this type
+-- the numeric instructions whose first result has this type
 abbrev pub numeric_rows : ValType → List NumericInstr
 numeric_rows value.I32 = i32_rows
 numeric_rows value.I64 = i64_rows
@@ -187,7 +187,7 @@ numeric_rows value.F32 = f32_rows
 numeric_rows value.F64 = f64_rows
 numeric_rows _ = []
 
--- the loads that give a value of this type
+-- the loads that produce a value of this type
 abbrev pub loads_of : ValType → List Load
 loads_of value.I32 = load.I32 ∷ load.I32From8S ∷ load.I32From8U ∷ load.I32From16S ∷ load.I32From16U ∷ []
 loads_of value.I64 =

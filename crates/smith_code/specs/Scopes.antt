@@ -1,4 +1,4 @@
--- What a body is drawn over.
+-- The context in which a body is drawn.
 use Rattle.std.specs.Prelude.{ℕ, ◌+◌, ◌*◌, ◌≤◌, ◌-◌, ◌^◌, min, max, List, [], ◌∷◌, length, All}
 use Rattle.smith_types.specs.FeatureBits.{features_in}
 use Rattle.smith_types.specs.Types.{IsOrderly}
@@ -17,7 +17,7 @@ use Rattle.smith_instr.specs.declared.instr.Instr.{Instr}
 use Rattle.smith_code.specs.declared.scope.Scope.{Scope}
 use Rattle.smith_code.specs.declared.scope.Draft.{Draft}
 
--- the context of what a body may refer to, where it has these labels
+-- the context of a body with these labels
 abbrev pub context_of : Scope → List (List ValType) → BodyContext
 context_of scope labels = record {
   features = features_in scope.features;
@@ -49,25 +49,25 @@ where_stands scope draft = context_of scope draft.labels.items
 abbrev pub IsAllowedIn : Scope → Instr → Type 0
 IsAllowedIn scope instruction = IsEnabled (features_in scope.features) scope.kinds instruction
 
--- of a number of items, those that have an index (Structure, Indices)
+-- the number of items that have an index (Structure, Indices)
 abbrev pub indexed : ℕ → ℕ
 indexed count = min count (2 ^ 32 - 1)
 
--- how many parameters and results a function has
+-- the number of parameters and results of a function
 abbrev pub func_size : CompositeInnerType → ℕ
 func_size (inner.Func function) = length function.params + length function.results
 func_size _ = 0
 
--- the greater of 3 and the most parameters and results of a function
+-- the greater of 3 and the greatest number of parameters and results of a function
 unfoldable pub widest : List SubType → ℕ
 widest [] = 3
 widest (t ∷ types) = max (func_size t.composite_type.inner) (widest types)
 
--- the most instructions for one unit of fuel
+-- the greatest number of instructions for one unit of fuel
 abbrev pub most : List SubType → ℕ
 most types = 4 * widest types + 4
 
--- what a body may refer to is valid
+-- the parts of a context are valid
 pub record IsScope (context : BodyContext) : Type 0 where
   pub orderly : IsOrderly context.types
   pub funcs : All (IsFuncValid context.types) context.funcs
@@ -80,7 +80,7 @@ pub record IsScope (context : BodyContext) : Type 0 where
   pub params_valid : (index : ℕ) (function : FuncType) → IsFuncAt context.types index function → AreValid context function.params
   pub results_valid : (index : ℕ) (function : FuncType) → IsFuncAt context.types index function → AreValid context function.results
 
--- what a branch to each label takes is valid, and not more than a function has
+-- the operands of a branch to each label are valid, and not more than a function has
 pub record AreLabels (scope : Scope) (labels : List (List ValType)) : Type 0 where
   pub valid : All (AreValid (bare scope)) labels
   pub few : All (λ (label : List ValType). length label ≤ widest scope.types.now.types) labels

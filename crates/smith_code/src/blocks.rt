@@ -26,7 +26,7 @@ fn draw_opening(u: &mut Unstructured<'_>) -> Option<Opening>
     }
 }
 
-/// Chooses a block that gives a value of the type `wanted`.
+/// Chooses a block that produces a value of the type `wanted`.
 pub(crate) fn choose_block(
     alloc: Global,
     scope: &Scope<'_>,
@@ -45,7 +45,8 @@ pub(crate) fn choose_block(
     Ok(Some(node))
 }
 
-/// Chooses a block whose results are dropped: of a function type, or without parameters and results.
+/// Chooses a block whose results are dropped. Its type is a function type, or has no parameters and
+/// results.
 pub(crate) fn choose_any_block(
     alloc: Global,
     scope: &Scope<'_>,

@@ -11,17 +11,18 @@ use smith_instr::Instr;
 use smith_types::Items;
 use std::alloc::Global;
 
-/// The most instructions that take one another's results or enclose one another.
+/// The greatest depth of instructions that are operands of each other or nested in each other.
 const DEPTH: u32 = 40;
 
-/// Draws the body of a function over `scope`, its last `end` aside: the standard's section Structure, Functions.
+/// Draws the body of a function over `scope`, without its last `end`. The standard's section
+/// Structure, Functions.
 ///
-/// `fuel` is the number of instructions that may be chosen with operands, or with instructions inside. Without fuel the body is
-/// `unreachable`.
+/// Most instructions take one unit of `fuel` each. Constants, reads of locals and globals, and
+/// references to functions take none. Without fuel the body is `unreachable`.
 ///
 /// # Errors
 ///
-/// `Memory` where memory is refused, and nothing else.
+/// `Memory` for lack of memory, and no other.
 pub fn draw_body(
     alloc: Global,
     scope: &Scope<'_>,

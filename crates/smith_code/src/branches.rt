@@ -17,7 +17,7 @@ use smith_instr::Instr;
 use smith_types::{Items, ValType};
 use std::alloc::Global;
 
-/// Chooses a branch that does not come back, to any label or out of the function.
+/// Chooses an unconditional branch, to any label or out of the function.
 pub(crate) fn choose_leaving(
     alloc: Global,
     scope: &Scope<'_>,
@@ -40,7 +40,7 @@ pub(crate) fn choose_leaving(
     plain(alloc, taken, Instr::Br(index as u32), 0)
 }
 
-/// Chooses a branch that may come back, to any label.
+/// Chooses a conditional branch, to any label, or `nop` if there is no label.
 pub(crate) fn choose_branch(
     alloc: Global,
     scope: &Scope<'_>,
@@ -63,7 +63,7 @@ pub(crate) fn choose_branch(
     conditional(alloc, taken, Instr::BrIf(index as u32), taken.len())
 }
 
-/// The labels to which values of the types `taken` may go.
+/// Labels that a branch with operands of the types `taken` may target.
 #[derive(Clone, Copy)]
 struct TargetOffer<'a> {
     scope: &'a Scope<'a>,
@@ -141,7 +141,7 @@ fn draw_targets<'a>(
     Ok(targets)
 }
 
-/// Chooses a branch that does not come back, to one of several labels.
+/// Chooses a `br_table` to several labels, or `return` if there is no label.
 pub(crate) fn choose_table(
     alloc: Global,
     scope: &Scope<'_>,

@@ -45,7 +45,8 @@ use smith_instr::Instr;
 use smith_types::ValType;
 use std::alloc::Global;
 
-/// Chooses a node that is allowed, and gives a value of the type `wanted`, or none.
+/// Chooses an allowed node that produces a value of the type `wanted`. Returns none if the choice
+/// is a leaf, is not possible or is not allowed.
 pub(crate) fn choose_allowed(
     alloc: Global,
     scope: &Scope<'_>,
@@ -180,7 +181,7 @@ fn choose_call(
     Ok(Some(node))
 }
 
-/// Chooses a node that gives nothing.
+/// Chooses a node that leaves no value.
 pub(crate) fn choose_statement(
     alloc: Global,
     scope: &Scope<'_>,

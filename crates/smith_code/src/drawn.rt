@@ -42,7 +42,8 @@ use smith_instr::{BlockType, Instr};
 use smith_types::ValType;
 use std::alloc::Global;
 
-/// Draws a value of the type `wanted` after the instructions of `draft`, at most `depth` instructions deep.
+/// Draws a value of the type `wanted` after the instructions of `draft`, at most `depth`
+/// instructions deep.
 #[cycle(body)]
 fn draw_value(
     alloc: Global,
@@ -70,7 +71,7 @@ fn draw_value(
     }
 }
 
-/// Draws the operands of `node`, which takes one unit of fuel, and the rest of it.
+/// Draws the operands of `node`, then its other instructions. Takes one unit of fuel.
 #[cycle(body)]
 fn draw_node(
     alloc: Global,
@@ -104,7 +105,7 @@ fn draw_node(
     drop_values(drops, draft)
 }
 
-/// Draws what comes after operands, and sets the local `sets`.
+/// Draws the instructions after operands, and marks the local `sets` as set.
 #[cycle(body)]
 fn draw_head(
     alloc: Global,
@@ -134,7 +135,7 @@ fn draw_head(
     }
 }
 
-/// Draws a block, a loop or an `if` alone, whose type has `sides`.
+/// Draws a block, a loop or an `if` without `else`, whose type has `sides`.
 #[cycle(body)]
 fn draw_enclosed(
     alloc: Global,
@@ -183,7 +184,7 @@ fn label_of<'a>(opening: Opening, sides: &'a Sides) -> &'a [ValType]
     }
 }
 
-/// Draws an `if` with its `else` whose type has `sides`.
+/// Draws an `if` with its `else`, whose type has `sides`.
 #[cycle(body)]
 fn draw_if(
     alloc: Global,
@@ -213,7 +214,7 @@ fn draw_if(
     write_end(height, draft)
 }
 
-/// Draws the inside of a block, from its parameters to its results.
+/// Draws the instructions inside a block, from its parameters to its results.
 #[cycle(body)]
 fn draw_inside(
     alloc: Global,
@@ -238,7 +239,7 @@ fn draw_inside(
     draw_values(alloc, scope, sides.results.as_slice(), depth, draft, u)
 }
 
-/// Draws values of the types `wanted` in order.
+/// Draws values of the types `wanted`, in order.
 #[cycle(body)]
 fn draw_values(
     alloc: Global,
@@ -262,7 +263,8 @@ fn draw_values(
     Ok(())
 }
 
-/// Draws instructions that leave the stack as it was, at most `depth` instructions deep.
+/// Draws instructions that leave the stack unchanged, at most `depth` instructions deep. A choice
+/// that is not allowed takes one unit of fuel and adds none.
 #[cycle(body)]
 fn draw_statement(
     alloc: Global,
@@ -289,7 +291,8 @@ fn draw_statement(
     draw_node(alloc, scope, node, depth - 1, draft, u)
 }
 
-/// Draws instructions that leave the stack as it was, while there is fuel and the bytes want more.
+/// Draws instructions that leave the stack unchanged, until the fuel ends or a number drawn from 0
+/// to 3 is 0.
 #[cycle(body)]
 fn draw_statements(
     alloc: Global,
@@ -317,7 +320,7 @@ fn draw_statements(
     Ok(())
 }
 
-/// Draws the inside of a body, which leaves `scope`'s results.
+/// Draws the instructions inside a body, which leave the results of `scope`.
 pub(crate) fn draw_whole(
     alloc: Global,
     scope: &Scope<'_>,

@@ -3,7 +3,7 @@ ghost use Rattle.smith_code.specs.Choices.{statement_families, value_families};
 ghost use Rattle.smith_code.specs.Leaves.{leaf_families};
 ghost use Rattle.smith_code.specs.VectorChoices.{vector_families};
 
-/// What may give a value.
+/// Families of instructions that may produce a value.
 #[derive(Clone, Copy)]
 pub(crate) enum ValueFamily {
     /// An instruction without operands.
@@ -13,7 +13,7 @@ pub(crate) enum ValueFamily {
     Tee,
     Call,
     Block,
-    /// A branch that does not come back.
+    /// An unconditional branch.
     Leaving,
     Load,
     /// The size of a memory, or its growth.
@@ -33,7 +33,7 @@ pub(crate) enum ValueFamily {
     Vector,
 }
 
-/// What may be a statement.
+/// Families of instructions that may be a statement.
 #[derive(Clone, Copy)]
 pub(crate) enum StatementFamily {
     Nop,
@@ -41,11 +41,11 @@ pub(crate) enum StatementFamily {
     GlobalSet,
     Call,
     Block,
-    /// A branch that may come back.
+    /// A conditional branch.
     Branch,
-    /// A branch that does not come back.
+    /// An unconditional branch.
     Leaving,
-    /// A branch that does not come back, to one of several labels.
+    /// An unconditional branch to one of several labels.
     Table,
     Store,
     Unreachable,
@@ -74,7 +74,7 @@ pub(crate) enum VectorFamily {
     LoadLane,
 }
 
-/// What may give a value without operands.
+/// Families of instructions that may produce a value without operands.
 #[derive(Clone, Copy)]
 pub(crate) enum LeafFamily {
     Local,
@@ -83,7 +83,7 @@ pub(crate) enum LeafFamily {
     Constant,
 }
 
-/// What may give a value, each family in so many places as it is likely.
+/// Lists the families of values. The number of times that a family is listed is its weight.
 pub(crate) fn value_families<'a>() -> &'a [ValueFamily]
     ensures { result.now ≡ value_families }
 {
@@ -117,7 +117,7 @@ pub(crate) fn value_families<'a>() -> &'a [ValueFamily]
     ]
 }
 
-/// What may be a statement, each family in so many places as it is likely.
+/// Lists the families of statements. The number of times that a family is listed is its weight.
 pub(crate) fn statement_families<'a>() -> &'a [StatementFamily]
     ensures { result.now ≡ statement_families }
 {
@@ -165,7 +165,8 @@ pub(crate) fn vector_families<'a>() -> &'a [VectorFamily]
     ]
 }
 
-/// What may give a value without operands, each family in so many places as it is likely.
+/// Lists the families of values without operands. The number of times that a family is listed is
+/// its weight.
 pub(crate) fn leaf_families<'a>() -> &'a [LeafFamily]
     ensures { result.now ≡ leaf_families }
 {

@@ -11,7 +11,7 @@ use crate::scope::{Scope, indexed};
 use smith_bytes::Unstructured;
 use smith_types::{CompositeInnerType, FuncType, SubType, ValType};
 
-/// The functions whose first result is below a wanted type.
+/// Functions whose first result matches a wanted type.
 #[derive(Clone, Copy)]
 struct CallOffer<'a> {
     scope: &'a Scope<'a>,
@@ -54,7 +54,7 @@ pub(crate) fn is_first_below(scope: &Scope<'_>, function: &FuncType, wanted: Val
     is_below(scope, function.results[0], wanted)
 }
 
-/// The type of the function `index`.
+/// Returns the function type of the function at `index`.
 pub(crate) fn function_of<'a>(scope: &Scope<'a>, index: usize) -> Option<&'a FuncType>
     requires { index < length scope.now.funcs.now }
     ensures { MatchOption result (function_at (bare scope.now) index ≡ None) (λ function. function_at (bare scope.now) index ≡ Some function.now) }
@@ -62,7 +62,7 @@ pub(crate) fn function_of<'a>(scope: &Scope<'a>, index: usize) -> Option<&'a Fun
     func_type_at(scope, scope.funcs[index] as usize)
 }
 
-/// The function type `index`, if that is one.
+/// Returns the function type at `index`, if there is one.
 pub(crate) fn func_type_at<'a>(scope: &Scope<'a>, index: usize) -> Option<&'a FuncType>
     ensures { MatchOption result (func_in (slice_get (bare scope.now).types index) ≡ None) (λ function. func_in (slice_get (bare scope.now).types index) ≡ Some function.now) }
 {
@@ -73,7 +73,7 @@ pub(crate) fn func_type_at<'a>(scope: &Scope<'a>, index: usize) -> Option<&'a Fu
     }
 }
 
-/// The function type that `ty` is, if it is one.
+/// Returns the function type that `ty` is, if it is one.
 pub(crate) fn inner_func<'a>(ty: &'a SubType) -> Option<&'a FuncType>
     ensures { MatchOption result (func_of ty.now.composite_type.inner ≡ None) (λ function. func_of ty.now.composite_type.inner ≡ Some function.now) }
 {
@@ -83,7 +83,7 @@ pub(crate) fn inner_func<'a>(ty: &'a SubType) -> Option<&'a FuncType>
     }
 }
 
-/// Chooses a function whose first result is below `wanted`.
+/// Chooses a function whose first result matches `wanted`, if there is one.
 pub(crate) fn choose_callable(
     scope: &Scope<'_>,
     wanted: ValType,

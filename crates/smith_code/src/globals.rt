@@ -11,7 +11,7 @@ use crate::scope::{Scope, indexed};
 use smith_bytes::Unstructured;
 use smith_types::ValType;
 
-/// The globals whose type is below a wanted type.
+/// Globals whose type matches a wanted type.
 #[derive(Clone, Copy)]
 struct GlobalOffer<'a> {
     scope: &'a Scope<'a>,
@@ -40,7 +40,7 @@ impl<'a> Offer for GlobalOffer<'a> {
     }
 }
 
-/// The globals that may be set.
+/// Globals that are mutable.
 #[derive(Clone, Copy)]
 struct MutableOffer<'a> {
     scope: &'a Scope<'a>,
@@ -66,7 +66,7 @@ impl<'a> Offer for MutableOffer<'a> {
     }
 }
 
-/// Chooses a global whose type is below `wanted`.
+/// Chooses a global whose type matches `wanted`, if there is one.
 pub(crate) fn choose_global(
     scope: &Scope<'_>,
     wanted: ValType,
@@ -83,7 +83,7 @@ pub(crate) fn choose_global(
     Some(index as u32)
 }
 
-/// Chooses a global that may be set.
+/// Chooses a mutable global, if there is one.
 pub(crate) fn choose_mutable(scope: &Scope<'_>, u: &mut Unstructured<'_>) -> Option<u32>
     requires scope { IsScope (bare scope.now) }
     ensures exact { choose_at (offered (is_mutable (bare scope.now)) (indexed (length scope.now.globals.now))) u.old ≡ (result, u.new) }

@@ -17,7 +17,7 @@ use smith_draw::choose;
 use smith_instr::{Instr, ReferenceInstr};
 use smith_types::ValType;
 
-/// Writes an instruction that gives a value below `wanted` without operands.
+/// Writes an instruction that produces a value that matches `wanted`, without operands.
 pub(crate) fn write_leaf(
     scope: &Scope<'_>,
     wanted: ValType,
@@ -35,7 +35,8 @@ pub(crate) fn write_leaf(
     draft.out.push(leaf)
 }
 
-/// Draws an instruction that is allowed, and gives a value below `wanted` without operands; where there is none `unreachable`.
+/// Draws an instruction that produces a value that matches `wanted`, without operands. Returns
+/// `unreachable` instead if it is not allowed.
 fn draw_leaf(scope: &Scope<'_>, wanted: ValType, draft: &Draft, u: &mut Unstructured<'_>) -> Instr
     requires scope { IsScope (bare scope.now) }
     requires wanted { IsValid (bare scope.now) wanted }
@@ -51,7 +52,7 @@ fn draw_leaf(scope: &Scope<'_>, wanted: ValType, draft: &Draft, u: &mut Unstruct
     Instr::Unreachable
 }
 
-/// Draws a local that is set, a global, a reference to a function, or a constant.
+/// Draws a read of a set local, a read of a global, a reference to a function, or a constant.
 fn draw_any_leaf(
     scope: &Scope<'_>,
     wanted: ValType,
@@ -70,7 +71,8 @@ fn draw_any_leaf(
     }
 }
 
-/// Chooses a local that is set, a global, or a reference to a function, if there is one.
+/// Chooses a read of a set local, a read of a global, or a reference to a function, if there is
+/// one.
 fn choose_leaf(
     scope: &Scope<'_>,
     wanted: ValType,
@@ -100,7 +102,8 @@ fn choose_leaf(
     }
 }
 
-/// Draws a constant of the type `wanted`, or null; where there is none `unreachable`.
+/// Draws a constant of the type `wanted`, or null. Returns `unreachable` for a reference type that
+/// is not nullable.
 #[tactic(auto, unfolding(crate::specs::Leaves::constant_at))]
 fn draw_constant(wanted: ValType, u: &mut Unstructured<'_>) -> Instr
     ensures exact { constant_at wanted u.old ≡ (result, u.new) }

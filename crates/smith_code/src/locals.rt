@@ -12,7 +12,7 @@ use crate::scope::{Draft, Scope, indexed};
 use smith_bytes::Unstructured;
 use smith_types::ValType;
 
-/// The locals whose type is below a wanted type.
+/// Locals whose type matches a wanted type.
 #[derive(Clone, Copy)]
 struct LocalOffer<'a> {
     scope: &'a Scope<'a>,
@@ -41,7 +41,7 @@ impl<'a> Offer for LocalOffer<'a> {
     }
 }
 
-/// The locals that are set and whose type is below a wanted type.
+/// Locals that are set and whose type matches a wanted type.
 #[derive(Clone, Copy)]
 struct SetLocalOffer<'a> {
     scope: &'a Scope<'a>,
@@ -72,7 +72,7 @@ impl<'a> Offer for SetLocalOffer<'a> {
     }
 }
 
-/// Chooses a local whose type is below `wanted`.
+/// Chooses a local whose type matches `wanted`, if there is one.
 pub(crate) fn choose_local(
     scope: &Scope<'_>,
     wanted: ValType,
@@ -89,7 +89,7 @@ pub(crate) fn choose_local(
     Some(index as u32)
 }
 
-/// Chooses a local that is set and whose type is below `wanted`.
+/// Chooses a local that is set and whose type matches `wanted`, if there is one.
 pub(crate) fn choose_set_local(
     scope: &Scope<'_>,
     wanted: ValType,
@@ -129,7 +129,7 @@ fn has_default(value: ValType) -> bool
     }
 }
 
-/// Whether `value` is below `wanted`, both valid.
+/// Whether `value` matches `wanted`. Both are valid.
 pub(crate) fn is_below(scope: &Scope<'_>, value: ValType, wanted: ValType) -> bool
     requires value { IsValid (bare scope.now) value }
     requires wanted { IsValid (bare scope.now) wanted }
@@ -138,7 +138,7 @@ pub(crate) fn is_below(scope: &Scope<'_>, value: ValType, wanted: ValType) -> bo
     is_sub_type(scope, value, wanted)
 }
 
-/// Whether `value` is below `wanted`, both over the types that there are.
+/// Whether `value` matches `wanted`. Both refer only to types of `scope`.
 pub(crate) fn is_sub_type(scope: &Scope<'_>, value: ValType, wanted: ValType) -> bool
     requires value { IsValInRange (bare scope.now).types value }
     requires wanted { IsValInRange (bare scope.now).types wanted }

@@ -20,7 +20,7 @@ use smith_instr::{Instr, Load, MemArg, MemoryInstr, Store};
 use smith_types::ValType;
 use std::alloc::Global;
 
-/// The loads that give a value of the type `wanted`.
+/// Lists the loads that produce a value of the type `wanted`.
 fn loads_of<'a>(wanted: ValType) -> &'a [Load]
     ensures { result.now ≡ loads_of wanted }
 {
@@ -63,7 +63,7 @@ fn stores<'a>() -> &'a [Store]
     ]
 }
 
-/// Where a memory is accessed, and whether its addresses have 64 bits.
+/// Memory, offset and alignment of an access, and whether its addresses have 64 bits.
 #[derive(Clone, Copy)]
 pub(crate) struct Access {
     pub at: MemArg,
@@ -113,8 +113,7 @@ fn draw_offset(wide: bool, u: &mut Unstructured<'_>) -> u64
     offset as u64
 }
 
-/// The type of an address of a memory or a table.
-/// The type of an address of a memory.
+/// Returns the type of the addresses of a memory or a table: of 64 bits if `wide` is set, else of 32 bits.
 pub(crate) fn address(wide: bool) -> ValType
     ensures { result ≡ address wide }
 {
@@ -166,7 +165,7 @@ pub(crate) fn is_address(value: ValType, wide: bool) -> bool
     }
 }
 
-/// Chooses a memory whose addresses are of the type `wanted`.
+/// Chooses a memory whose addresses have the type `wanted`, if there is one.
 fn choose_addressed(scope: &Scope<'_>, wanted: ValType, u: &mut Unstructured<'_>) -> Option<u32>
     requires scope { IsScope (bare scope.now) }
     ensures exact { choose_at (offered (is_addressed (bare scope.now) wanted) (indexed (length scope.now.memories.now))) u.old ≡ (result, u.new) }
@@ -178,7 +177,7 @@ fn choose_addressed(scope: &Scope<'_>, wanted: ValType, u: &mut Unstructured<'_>
     Some(index as u32)
 }
 
-/// Chooses a load that gives a value of the type `wanted`.
+/// Chooses a load that produces a value of the type `wanted`, if there is one.
 pub(crate) fn choose_load(
     alloc: Global,
     scope: &Scope<'_>,
@@ -210,7 +209,7 @@ pub(crate) fn choose_load(
     Ok(Some(node))
 }
 
-/// Chooses a store, or `nop` where there is no memory.
+/// Chooses a store, or `nop` if there is no memory.
 pub(crate) fn choose_store(
     alloc: Global,
     scope: &Scope<'_>,
@@ -247,7 +246,8 @@ fn store_of(
     plain(alloc, &operands, Instr::Store(op, access.at), 0)
 }
 
-/// Chooses the size or the growth of a memory, which gives a value of the type `wanted`.
+/// Chooses `memory.size` or `memory.grow` of a memory whose addresses have the type `wanted`, if
+/// there is one.
 pub(crate) fn choose_memory(
     alloc: Global,
     scope: &Scope<'_>,

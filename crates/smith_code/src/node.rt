@@ -25,14 +25,15 @@ use smith_instr::{BlockType, Instr};
 use smith_types::{Items, ValType};
 use std::alloc::Global;
 
-/// The parameters and results of a block.
+/// Parameters and results of a block.
 #[derive(Drop)]
 pub(crate) struct Sides {
     pub params: Items<ValType>,
     pub results: Items<ValType>,
 }
 
-/// What opens a block in which instructions are drawn once: an `if` with its `else` aside.
+/// Opening of a block in which instructions are drawn once. An `if` with an `else` is no such
+/// block.
 #[derive(Clone, Copy)]
 pub(crate) enum Opening {
     Block,
@@ -41,31 +42,31 @@ pub(crate) enum Opening {
     IfAlone,
 }
 
-/// What comes after operands.
+/// Part of a node after its operands.
 #[derive(Drop)]
 pub(crate) enum Head {
     /// An instruction.
     Plain(Instr),
-    /// A block, a loop or an `if` alone, with what is drawn in it.
+    /// A block, a loop or an `if` without `else`, with its parameters and results.
     Enclosed(Opening, BlockType, Sides),
-    /// An `if` with its `else`.
+    /// An `if` with its `else`, with its parameters and results.
     If(BlockType, Sides),
 }
 
-/// An instruction or a block, the operands that are drawn before it, and what is written after it.
+/// An instruction or a block, with the operands drawn before it and the drops written after it.
 #[derive(Drop)]
 pub(crate) struct Node {
     /// The types of the operands, in the order in which they are drawn.
     pub operands: Items<ValType>,
-    /// What takes the operands.
+    /// The part that takes the operands.
     pub head: Head,
     /// The local that the instruction sets.
     pub sets: Option<u32>,
-    /// How many of the results are dropped.
+    /// The number of results that are dropped.
     pub drops: usize,
 }
 
-/// Makes the node of `instruction`, which takes `operands`, and of whose results `drops` are dropped.
+/// Makes the node of `instruction`, which takes `operands`. Drops `drops` of its results.
 pub(crate) fn plain(
     alloc: Global,
     operands: &[ValType],
@@ -83,7 +84,8 @@ pub(crate) fn plain(
     })
 }
 
-/// Makes the node of `instruction`, which takes `operands` and a number above them, and of whose results `drops` are dropped.
+/// Makes the node of `instruction`, which takes `operands` and then an `i32`. Drops `drops` of its
+/// results.
 pub(crate) fn conditional(
     alloc: Global,
     operands: &[ValType],
@@ -146,8 +148,8 @@ pub(crate) fn setter(
     })
 }
 
-/// Makes the node of a block from `params` to `results`, an `if` with its `else` where no other `opening` fits, of whose results
-/// `drops` are dropped.
+/// Makes the node of a block of the type `ty`, from `params` to `results`. Drops `drops` of its
+/// results. The block is an `if` with an `else` if `opening` is none or does not fit.
 pub(crate) fn block(
     alloc: Global,
     opening: Option<Opening>,
@@ -183,7 +185,8 @@ pub(crate) fn block(
     })
 }
 
-/// The `opening`, if a block of `sides` may have it: an `if` has its `else` where it does not give what it takes.
+/// Returns `opening` if a block of `sides` may have it. An `if` without `else` requires results
+/// equal to its parameters.
 fn fitting(opening: Option<Opening>, sides: &Sides) -> Option<Opening>
     ensures { result ≡ fitting opening sides.now.params sides.now.results }
 {
@@ -198,7 +201,7 @@ fn fitting(opening: Option<Opening>, sides: &Sides) -> Option<Opening>
     }
 }
 
-/// Whether the instructions of `node`, its operands aside, are allowed in `scope`.
+/// Whether the instructions of `node`, except its operands, are allowed in `scope`.
 pub(crate) fn is_node_allowed(scope: &Scope<'_>, node: &Node) -> bool
     ensures exact { result ≡ is_node_allowed (features_in scope.now.features) scope.now.kinds node.now }
     ensures allowed { IsTrue result → IsNodeAllowed scope.now node.now }
@@ -239,7 +242,7 @@ fn is_block_allowed(scope: &Scope<'_>, opening: &Instr, sides: &Sides) -> bool
     sides.params.is_empty() || is_allowed(scope, &Instr::Drop)
 }
 
-/// Whether `instruction` may be used in `scope`.
+/// Whether `instruction` is allowed in `scope`.
 pub(crate) fn is_allowed(scope: &Scope<'_>, instruction: &Instr) -> bool
     ensures { result ≡ is_enabled (features_in scope.now.features) scope.now.kinds instruction.now }
 {

@@ -13,7 +13,7 @@ use smith_instr::{Instr, NumericInstr};
 use smith_types::ValType;
 use std::alloc::Global;
 
-/// Chooses a numeric instruction whose first result is of the type `wanted`.
+/// Chooses a numeric instruction whose first result has the type `wanted`, if there is one.
 pub(crate) fn choose_numeric(
     alloc: Global,
     wanted: ValType,
@@ -48,7 +48,7 @@ fn choose_row(
     Ok(Some(node))
 }
 
-/// Chooses `select`, where `wanted` is a type of numbers or vectors.
+/// Chooses `select`, if `wanted` is a number or vector type.
 pub(crate) fn choose_select(alloc: Global, wanted: ValType) -> Result<Option<Node>, Error>
     ensures exact { IfOk result (λ chosen. chosen ≡ select_node wanted) }
     ensures offer { (context : BodyContext) (set : List ℕ) → IsValid context wanted → IsOffer context set (wanted ∷ []) result }

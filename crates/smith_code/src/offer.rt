@@ -5,9 +5,9 @@ ghost use Rattle.smith_code.specs.Offered.{offered};
 
 use smith_bytes::Unstructured;
 
-/// A row of items, some of which are offered.
+/// Row of items, some of which are offered.
 pub(crate) trait Offer {
-    /// What is known before the test, by the value of the row.
+    /// The condition on the row under which items may be tested.
     ghost ready: { Self → Type 0 };
 
     /// The number of items.
@@ -16,7 +16,7 @@ pub(crate) trait Offer {
     /// Whether an item is offered.
     ghost test: { Self → ℕ → Bool };
 
-    /// The number of items.
+    /// Returns the number of items.
     fn count(&self) -> usize
         ensures { result ≡ Self.size self.now };
 
@@ -27,7 +27,7 @@ pub(crate) trait Offer {
         ensures { result ≡ Self.test self.now index };
 }
 
-/// Chooses one of the items that are offered, by its index, or none where none is offered.
+/// Chooses one of the offered items, and returns its index. Returns none if no item is offered.
 pub(crate) fn choose_offered<O: Offer>(offer: &O, u: &mut Unstructured<'_>) -> Option<usize>
     requires { O.ready offer.now }
     ensures exact { choose_at (offered (O.test offer.now) (O.size offer.now)) u.old ≡ (result, u.new) }
@@ -40,7 +40,7 @@ pub(crate) fn choose_offered<O: Offer>(offer: &O, u: &mut Unstructured<'_>) -> O
     offered_at(offer, place)
 }
 
-/// Counts the items that are offered.
+/// Counts the offered items.
 fn count_offered<O: Offer>(offer: &O) -> usize
     requires { O.ready offer.now }
     ensures { result ≡ length (offered (O.test offer.now) (O.size offer.now)) }
@@ -54,7 +54,7 @@ fn count_offered<O: Offer>(offer: &O) -> usize
     count
 }
 
-/// Finds the item at the place `place` among those that are offered.
+/// Finds the item at `place` among the offered items.
 fn offered_at<O: Offer>(offer: &O, place: usize) -> Option<usize>
     requires { O.ready offer.now }
     ensures exact { result ≡ slice_get (offered (O.test offer.now) (O.size offer.now)) place }

@@ -11,7 +11,7 @@ use crate::scope::Scope;
 use smith_bytes::Unstructured;
 use smith_types::{HeapType, RefType, ValType, WasmFeatures};
 
-/// The functions that `ref.func` may name, and whose reference is of a type below a wanted type.
+/// Functions that `ref.func` may name and whose reference type matches a wanted type.
 #[derive(Clone, Copy)]
 struct ReferenceOffer<'a> {
     scope: &'a Scope<'a>,
@@ -39,7 +39,7 @@ impl<'a> Offer for ReferenceOffer<'a> {
     }
 }
 
-/// Whether a reference to the function `function`, if it is there, is of a type below `wanted`.
+/// Whether the function `function` exists and its reference type matches `wanted`.
 fn is_named(scope: &Scope<'_>, wanted: ValType, function: u32) -> bool
     requires scope { IsScope (bare scope.now) }
     requires wanted { IsValid (bare scope.now) wanted }
@@ -62,7 +62,7 @@ fn is_reference_below(scope: &Scope<'_>, wanted: ValType, function: usize) -> bo
     is_sub_type(scope, reference, wanted)
 }
 
-/// The type of a reference to the function `function`, whose type is `index`.
+/// Returns the type of a reference to the function `function`, whose type is `index`.
 fn reference_to_function(scope: &Scope<'_>, function: usize, index: u32) -> ValType
     ensures { result ≡ reference_to_function (bare scope.now) function index }
 {
@@ -79,7 +79,8 @@ fn reference_to_function(scope: &Scope<'_>, function: usize, index: u32) -> ValT
     })
 }
 
-/// Chooses a function that `ref.func` may name, whose reference is of a type below `wanted`.
+/// Chooses a function that `ref.func` may name and whose reference type matches `wanted`, if there
+/// is one.
 pub(crate) fn choose_reference(
     scope: &Scope<'_>,
     wanted: ValType,

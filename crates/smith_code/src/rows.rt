@@ -7,7 +7,7 @@ use smith_instr::{
 };
 use smith_types::ValType;
 
-/// The numeric instructions whose first result is of the type `wanted`.
+/// Lists the numeric instructions whose first result has the type `wanted`.
 pub(crate) fn numeric_rows<'a>(wanted: ValType) -> &'a [NumericInstr]
     ensures { result.now ≡ numeric_rows wanted }
 {

@@ -7,7 +7,8 @@ use smith_types::{
     WasmFeatures,
 };
 
-/// What a body may refer to, labels aside: the standard's section Validation, Contexts. Imported items come first.
+/// Context of a body without its labels: the standard's section Validation, Contexts. Imported
+/// items come first.
 #[derive(Clone, Copy)]
 pub struct Scope<'a> {
     /// The features that are on.
@@ -34,7 +35,7 @@ pub struct Scope<'a> {
     pub datas: usize,
     /// The functions that `ref.func` may name.
     pub references: &'a [u32],
-    /// The types of the locals, the parameters first.
+    /// The types of the locals, parameters first.
     pub locals: &'a [ValType],
     /// The number of parameters.
     pub params: usize,
@@ -42,20 +43,20 @@ pub struct Scope<'a> {
     pub results: &'a [ValType],
 }
 
-/// A body that is being drawn.
+/// Body that is being drawn.
 #[derive(Drop)]
 pub(crate) struct Draft {
     /// The instructions so far.
     pub out: Items<Instr>,
-    /// The locals that were set so far, and still are where the body goes on.
+    /// The locals that instructions have set and that are still set at this point.
     pub set: Vec<u32>,
-    /// What a branch to each label takes, the innermost label first.
+    /// The types of the operands of a branch to each label, the innermost label first.
     pub labels: Vec<Items<ValType>>,
-    /// How many instructions may yet be chosen that have operands.
+    /// The units of fuel left.
     pub fuel: usize,
 }
 
-/// Of `count` items, the number of those that have an index of 32 bits.
+/// Returns the number of those of `count` items that have an index: at most `2^32 - 1`.
 pub(crate) fn indexed(count: usize) -> usize
     ensures { result ≡ indexed count }
 {

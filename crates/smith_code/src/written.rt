@@ -24,7 +24,7 @@ pub(crate) fn write_plain(
     Ok(())
 }
 
-/// Writes the `opening` of a block whose label takes `label`.
+/// Writes the `opening` of a block whose label has the types `label`.
 pub(crate) fn write_opening(
     alloc: Global,
     opening: Instr,
@@ -40,7 +40,7 @@ pub(crate) fn write_opening(
     Ok(())
 }
 
-/// Writes `else`, and forgets what was set since `height` locals were set.
+/// Writes `else`, and keeps only the first `height` of the locals that were set.
 pub(crate) fn write_else(height: usize, draft: &mut Draft) -> Result<(), Error>
     ensures ended { OnOk result (IsEnded Instr.Else height draft.old draft.new) }
     ensures same { draft.new.labels.items ≡ draft.old.labels.items }
@@ -50,7 +50,8 @@ pub(crate) fn write_else(height: usize, draft: &mut Draft) -> Result<(), Error>
     draft.out.push(Instr::Else)
 }
 
-/// Writes `end`, forgets what was set since `height` locals were set, and leaves the innermost label.
+/// Writes `end`, keeps only the first `height` of the locals that were set, and leaves the
+/// innermost label.
 pub(crate) fn write_end(height: usize, draft: &mut Draft) -> Result<(), Error>
     ensures ended { OnOk result (IsEnded Instr.End height draft.old draft.new) }
     ensures left_label { (label : List Val) (labels : List (List Val)) → draft.old.labels.items ≡ label ∷ labels → OnOk result (draft.new.labels.items ≡ labels) }
@@ -63,7 +64,7 @@ pub(crate) fn write_end(height: usize, draft: &mut Draft) -> Result<(), Error>
     draft.out.push(Instr::End)
 }
 
-/// Writes `count` times `drop`.
+/// Writes `count` instructions `drop`.
 pub(crate) fn drop_values(count: usize, draft: &mut Draft) -> Result<(), Error>
     ensures out { OnOk result (draft.new.out ≡ draft.old.out ++ replicate count Instr.Drop) }
     ensures set { draft.new.set.items ≡ draft.old.set.items }

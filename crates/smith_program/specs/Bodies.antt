@@ -1,4 +1,5 @@
--- Bodies of the functions of a module: the section Validation, Functions, of the WebAssembly Core Specification 3.0.
+-- Bodies of the functions of a module: the section Validation, Functions, of the WebAssembly Core
+-- Specification 3.0.
 use Rattle.std.specs.Prelude.{◌≡◌, ℕ, ◌+◌, ◌*◌, ◌≤◌, Some, List, [], ◌++◌, map, length, slice_get, All}
 use Rattle.smith_types.specs.Entities.{IsFuncAt}
 use Rattle.smith_types.specs.declared.code.Code.{Code}
@@ -41,19 +42,20 @@ abbrev pub HasDefinedType : Parts → ℕ → FuncType → Type 0
 HasDefinedType m place function =
     (index : ℕ) × (slice_get m.funcs (length (module_imports m).funcs + place) ≡ Some index) × IsFuncAt m.types index function
 
--- instructions that are the body of the defined function at a place, its last `end` aside
+-- instructions are the body of the defined function at a place, without its last `end`
 pub record IsBodyAt (m : Parts) (place : ℕ) (code : Code) (instructions : List Instr) : Type 0 where
   pub function : FuncType
   pub there : HasDefinedType m place function
   pub typed : IsBodyTyped (function_context m function code.locals) instructions
 
--- instructions that are, each of them enabled, and not more than the fuel of a body allows (own rules)
+-- the same for instructions that are all enabled, and not more than the fuel of a body allows (own
+-- rules)
 pub record IsDrawnAt (m : Parts) (place : ℕ) (code : Code) (instructions : List Instr) : Type 0 where
   pub body : IsBodyAt m place code instructions
   pub enabled : All (IsEnabled (module_features m) m.config.allowed_instructions) instructions
   pub short : length instructions ≤ 1 + length body.function.results + most m.types * m.config.max_instructions
 
--- a body of which the instructions are as they should, or raw bytes, which stay (own rule)
+-- a body whose instructions have a property, or raw bytes, which are kept (own rule)
 abbrev pub IsOfBody : (List Instr → Type 0) → Code → Body → Type 0
 IsOfBody Is code body.Raw = IsRaw code.instructions
 IsOfBody Is code (body.Drawn instructions) = (¬ IsRaw code.instructions) × Is instructions

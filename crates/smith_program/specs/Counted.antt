@@ -1,4 +1,5 @@
--- The checks of counters of fuel as instructions, and where they stand in a body. Rules of this project.
+-- The checks of counters of fuel as instructions, and their places in a body. Rules of this
+-- project.
 use Rattle.std.specs.Prelude.{ℕ, List, [], ◌∷◌, ◌++◌, pos}
 use Rattle.std.specs.List.{flat_map}
 use Rattle.smith_instr.specs.declared.control.BlockType.TheVariants as block
@@ -9,7 +10,7 @@ use Rattle.smith_instr.specs.declared.numeric.NumericInstr.TheVariants as numeri
 use Rattle.smith_program.specs.declared.program.Body.{Body}
 use Rattle.smith_program.specs.declared.program.Body.TheVariants as body
 
--- the check of a counter: a trap at 0, else 1 is taken off
+-- the check of a counter: a trap at 0, else 1 is subtracted
 abbrev pub check_of : ℕ → List Instr
 check_of counter =
     instr.GlobalGet counter ∷ instr.Numeric numeric.I32Eqz ∷ instr.If block.Empty ∷ instr.Unreachable ∷ instr.End ∷
@@ -20,12 +21,12 @@ abbrev pub checks_of : List ℕ → List Instr
 checks_of [] = []
 checks_of (counter ∷ counters) = checks_of counters ++ check_of counter
 
--- an instruction, after which the checks come where it starts a loop
+-- an instruction, followed by the checks if it starts a loop
 abbrev pub checked_after : List ℕ → Instr → List Instr
 checked_after counters (instr.Loop ty) = instr.Loop ty ∷ checks_of counters
 checked_after counters instruction = instruction ∷ []
 
--- the checks stand at the start of a body and of each loop
+-- the checks are at the start of a body and of each loop
 abbrev pub counted : List ℕ → List Instr → List Instr
 counted counters instructions = checks_of counters ++ flat_map (checked_after counters) instructions
 

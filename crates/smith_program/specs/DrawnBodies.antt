@@ -1,4 +1,4 @@
--- Which bodies the bytes give, in the order of the draws. Rules of this project.
+-- The bodies that the bytes produce, in the order of the draws. Rules of this project.
 use Rattle.std.specs.Prelude.{ℕ, suc, ◌+◌, Option, Some, None, List, [], ◌∷◌, length, slice_get}
 use Rattle.smith_types.specs.declared.code.Code.{Code}
 use Rattle.smith_types.specs.declared.code.Instructions.{Instructions}
@@ -22,7 +22,7 @@ body_of m code (Some function) bytes =
     (body.Drawn drawn.0, drawn.1)
 body_of m code None bytes = (body.Raw, bytes)
 
--- that of the defined function at a place: raw bytes stay, and no byte is read for them
+-- that of the defined function at a place: raw bytes are kept, and no byte is read for them
 abbrev pub unless_raw : Parts → ℕ → Code → Instructions → List ℕ → Body × List ℕ
 unless_raw m place code (Arbitrary raw) bytes = (body.Raw, bytes)
 unless_raw m place code Unreachable bytes = body_of m code (defined_at m place) bytes
@@ -38,6 +38,6 @@ bodies_from m place (code ∷ more) bytes =
     let rest = bodies_from m (suc place) more first.1 in
     (first.0 ∷ rest.0, rest.1)
 
--- the body of each function that a module defines, and the bytes that are left
+-- the body of each function that a module defines, and the bytes left
 unfoldable pub bodies_at : Parts → List ℕ → List Body × List ℕ
 bodies_at m bytes = bodies_from m 0 m.code bytes

@@ -1,4 +1,4 @@
--- What `Program::new` promises.
+-- The contract of `Program::new`.
 use Rattle.std.specs.Prelude.{◌≡◌, ◌⊎◌, ℕ, false, List, Result, Ok, Err, IfOk, IfErr}
 use Rattle.smith_bytes.specs.Source.{IsPiece, KeepsPieces}
 use Rattle.smith_bytes.specs.declared.error.Error.{Error}
@@ -10,24 +10,25 @@ use Rattle.smith_program.specs.Bodies.{AreDrawnBodies}
 use Rattle.smith_program.specs.DrawnBodies.{bodies_at}
 use Rattle.smith_program.specs.declared.program.Program.{Program}
 
--- a module that `Module::new` gives, and the bytes after it, of which some are left
+-- a module that `Module::new` returns, and the bytes after it, of which some are left
 pub record IsModuleOf (given : Config) (bytes left : List ℕ) (m : Parts) : Type 0 where
   pub after : List ℕ
   pub generated : IsGenerated false given bytes (Ok m) after
   pub source : KeepsPieces after left
 
--- such a module, and the bodies that the bytes after it give
+-- such a module, and the bodies that the bytes after it produce
 pub record IsProgramOf (given : Config) (bytes left : List ℕ) (program : Program) : Type 0 where
   pub of : IsModuleOf given bytes left program.«module»
   pub exact : bodies_at program.«module» of.after ≡ (program.bodies, left)
 
--- want of memory for the bodies of a module that is given
+-- memory runs out for the bodies of a module that is returned
 pub record LacksMemory (given : Config) (bytes left : List ℕ) (e : Error) : Type 0 where
   pub is : e ≡ Memory
   pub m : Parts
   pub of : IsModuleOf given bytes left m
 
--- the answer for a configuration and the bytes of the source, of which some are left: a refusal is that of the module, or of its bodies
+-- the answer for a configuration and the bytes of the source, of which some are left: a refusal is
+-- that of the module, or lack of memory for its bodies
 pub record IsProgram (given : Config) (bytes : List ℕ) (answer : Result Program Error) (left : List ℕ) : Type 0 where
   pub programs : IfOk answer (IsProgramOf given bytes left)
   pub bodies : IfOk answer (λ program. AreDrawnBodies program.«module» program.bodies)

@@ -1,4 +1,4 @@
--- What bodies may refer to that is made of a module once.
+-- The parts of the context of bodies that are made from a module once.
 use Rattle.std.specs.Prelude.{◌≡◌, map}
 use Rattle.smith_types.specs.declared.segments.ElementSegment.{ElementSegment}
 use Rattle.smith_definitions.specs.Module.{Parts}

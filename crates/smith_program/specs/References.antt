@@ -1,4 +1,5 @@
--- The functions that `ref.func` may name in bodies: the section Validation, Modules, of the WebAssembly Core Specification 3.0.
+-- The functions that `ref.func` may name in bodies: the section Validation, Modules, of the
+-- WebAssembly Core Specification 3.0.
 use Rattle.std.specs.Prelude.{ℕ, Option, Some, None, List, [], ◌∷◌, ◌++◌}
 use Rattle.std.specs.List.{flat_map}
 use Rattle.smith_types.specs.declared.const_instr.ConstInstr.{ConstInstr}
@@ -10,7 +11,8 @@ use Rattle.smith_types.specs.declared.segments.Elements.{Elements}
 use Rattle.smith_types.specs.declared.segments.Elements.TheVariants as elements
 use Rattle.smith_definitions.specs.Module.{Parts}
 
--- the functions that an instruction of a constant expression names, and those that the expression does
+-- the functions that an instruction of a constant expression names, and those that the expression
+-- does
 abbrev pub named_by : ConstInstr → List ℕ
 named_by (constant.RefFunc function) = function ∷ []
 named_by _ = []
@@ -18,7 +20,8 @@ named_by _ = []
 abbrev pub named_in : List ConstInstr → List ℕ
 named_in expression = flat_map named_by expression
 
--- the functions that an export names, the items of an element segment, and the initialiser of a table
+-- the functions that an export names, the items of an element segment, and the initialiser of a
+-- table
 abbrev pub exported_by : ExportKind → ℕ → List ℕ
 exported_by kind.Func index = index ∷ []
 exported_by _ index = []
@@ -31,8 +34,8 @@ abbrev pub named_by_table : Option (List ConstInstr) → List ℕ
 named_by_table (Some expression) = named_in expression
 named_by_table None = []
 
--- the functions that a module names outside of its functions and its start function, each as often as it is named; an offset
--- names none (Validation, Modules, C.refs)
+-- the functions that a module names outside of its functions and its start function, each as often
+-- as it is named; an offset names none (Validation, Modules, C.refs)
 abbrev pub references_of : Parts → List ℕ
 references_of m =
     flat_map (λ (export : List ℕ × ExportKind × ℕ). exported_by export.1 export.2) m.exports

@@ -21,13 +21,13 @@ use smith_types::{Code, CompositeInnerType, FuncType, Instructions, Items, RefTy
 use std::alloc::Global;
 use wasm_smith::Module;
 
-/// Draws a body for each function that `module` defines, but where it has raw bytes for the function.
+/// Draws a body for each function that `module` defines, except for bodies of raw bytes.
 ///
 /// `module` is valid.
 ///
 /// # Errors
 ///
-/// `Memory` where memory is refused, and nothing else.
+/// `Memory` for lack of memory, and no other.
 pub fn draw_bodies(
     alloc: Global,
     module: &Module,
@@ -46,7 +46,7 @@ pub fn draw_bodies(
     draw_each(alloc, module, &named, u)
 }
 
-/// What bodies may refer to that the module doesn't lend.
+/// Parts of the context of bodies that have to be made from a module.
 #[derive(Drop)]
 pub(crate) struct Named {
     /// The type of each element segment.
@@ -75,7 +75,7 @@ fn draw_each(
     Ok(bodies)
 }
 
-/// Draws the body of the defined function `place`.
+/// Draws the body of the defined function at `place`.
 fn draw_one(
     alloc: Global,
     module: &Module,
@@ -100,7 +100,7 @@ fn draw_one(
     Ok(Body::Drawn(instructions))
 }
 
-/// The type of the defined function `place`.
+/// Returns the type of the defined function at `place`.
 fn defined_type(module: &Module, place: usize) -> &FuncType
     requires valid { IsValid «module».now }
     requires inside { place < length «module».now.code }
@@ -114,7 +114,7 @@ fn defined_type(module: &Module, place: usize) -> &FuncType
     }
 }
 
-/// The number of imported functions.
+/// Returns the number of imported functions.
 fn imported_funcs(module: &Module) -> usize
     requires valid { IsValid «module».now }
     ensures imported { result ≡ length (module_imports «module».now).funcs }
@@ -122,7 +122,7 @@ fn imported_funcs(module: &Module) -> usize
     module.funcs().len() - module.num_defined_funcs()
 }
 
-/// Draws the instructions of a function of the type `function`, whose locals are those of `code`.
+/// Draws the instructions of a function of the type `function` with the locals of `code`.
 fn draw_instructions(
     alloc: Global,
     module: &Module,

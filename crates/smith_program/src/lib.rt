@@ -1,4 +1,5 @@
-//! Modules with bodies of instructions, drawn from bytes. The standard is the WebAssembly Core Specification 3.0.
+//! Modules with bodies of instructions, drawn from bytes. The standard is the WebAssembly Core
+//! Specification 3.0.
 #![tactic(auto)]
 
 mod bodies;

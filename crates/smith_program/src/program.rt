@@ -6,10 +6,10 @@ use smith_types::Items;
 use std::alloc::Global;
 use wasm_smith::Module;
 
-/// The body of a function that a module defines.
+/// Body of a function that a module defines.
 #[derive(Debug, Drop)]
 pub enum Body {
-    /// The instructions, the last `end` aside.
+    /// The instructions, without the last `end`.
     Drawn(Items<Instr>),
     /// The raw bytes that the module has for the function.
     Raw,
@@ -18,7 +18,7 @@ pub enum Body {
 /// A module, and the bodies of the functions that it defines.
 #[derive(Drop)]
 pub struct Program {
-    /// The module. Its own bodies are `unreachable`, but those of raw bytes.
+    /// The module. Its own bodies are `unreachable`, except those of raw bytes.
     pub module: Module,
     /// The body of each function that the module defines.
     pub bodies: Items<Body>,
@@ -27,11 +27,12 @@ pub struct Program {
 impl Program {
     ghost use Rattle.smith_program.specs.Generated.{IsProgram};
 
-    /// Draws a module from the bytes of `u` as [`Module::new`] does, and bodies of its functions from the bytes that are left.
+    /// Draws a module from the bytes of `u` as [`Module::new`] does, and bodies of its functions
+    /// from the bytes left.
     ///
     /// # Errors
     ///
-    /// Those of [`Module::new`]; for the bodies only `Memory`.
+    /// Those of [`Module::new`]. The bodies add only `Memory`.
     pub fn new(alloc: Global, config: Config, u: &mut Unstructured<'_>) -> Result<Program, Error>
         ensures { IsProgram config u.old result u.new }
     {

@@ -17,7 +17,7 @@ use smith_types::{ConstInstr, ElementSegment, Elements, ExportKind, Items, Name,
 use std::alloc::Global;
 use wasm_smith::Module;
 
-/// The type of each element segment of `module`.
+/// Lists the type of each element segment of `module`.
 pub(crate) fn element_types(alloc: Global, module: &Module) -> Result<Items<RefType>, Error>
     ensures types { IfOk result (λ types. types ≡ map (λ (segment : Segment). segment.ty) «module».now.elems) }
     ensures memory { IfErr result (λ e. e ≡ Error.Memory) }
@@ -29,7 +29,8 @@ pub(crate) fn element_types(alloc: Global, module: &Module) -> Result<Items<RefT
     Ok(types)
 }
 
-/// The functions that `ref.func` may name in the bodies of `module`: those that are named elsewhere, some of them several times.
+/// Lists the functions that `ref.func` may name in the bodies of `module`: those that are named
+/// elsewhere, some of them several times.
 pub(crate) fn references_of(alloc: Global, module: &Module) -> Result<Items<u32>, Error>
     ensures references { IfOk result (λ references. references ≡ references_of «module».now) }
     ensures memory { IfErr result (λ e. e ≡ Error.Memory) }

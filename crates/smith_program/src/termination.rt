@@ -9,16 +9,19 @@ use smith_bytes::Error;
 use std::alloc::Global;
 
 impl Program {
-    /// Adds a global to the module that counts down from `default_fuel`, and gives its index, as [`Module::ensure_termination`]
-    /// does. An encoder makes each call of a defined function, and each turn of a loop, take 1 off the counter, or trap at 0.
+    /// Adds a global to the module that counts down from `default_fuel`, and returns its index, as
+    /// [`Module::ensure_termination`] does. An encoder makes each call of a defined function, and
+    /// each iteration of a loop, subtract 1 from the counter, or trap at 0.
     ///
-    /// The bodies stay as they are; they are typed with the checks too, which an encoder writes at their starts and after each `loop`.
+    /// The bodies are unchanged. They are also typed with the checks, which an encoder writes at
+    /// their starts and after each `loop`.
     ///
     /// The module has fewer than 2^32 - 1 globals.
     ///
     /// # Errors
     ///
-    /// `IncorrectFormat(RawBody)` where a body is raw bytes, before which no check can stand. The module is then as it was.
+    /// `IncorrectFormat(RawBody)` if a body is raw bytes, before which no check can be placed. The
+    /// module is unchanged after any error.
     ///
     /// [`Module::ensure_termination`]: wasm_smith::Module::ensure_termination
     pub fn ensure_termination(&mut self, alloc: Global, default_fuel: u32) -> Result<u32, Error>

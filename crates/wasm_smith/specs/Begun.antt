@@ -1,4 +1,4 @@
--- What a module begins with, of the shapes that its configuration uses. Rules of this project.
+-- The first parts of a module, from the shapes that its configuration uses. Rules of this project.
 use Rattle.std.specs.Prelude.{◌≡◌, ℕ, ◌+◌, ◌≤◌, max, false, ◌⊎◌, ⊤, is_some, IfSome, IsSomeAnd, List, [], Option, Some, None, length, sum_by, All, Result, Ok, if◌then◌else◌}
 use Rattle.std.specs.List.{AllZip, Contains}
 use Rattle.smith_bytes.specs.declared.error.Error.{Error}
@@ -34,7 +34,7 @@ use Rattle.smith_definitions.specs.ShapesKept.{IsSameExport}
 use Rattle.smith_definitions.specs.declared.definitions.Definitions.{Definitions}
 use Rattle.wasm_smith.specs.declared.build.drawn.Drawn.{Drawn}
 
--- what stands of a module: types, groups of imports, index spaces, what is defined in them, and exports
+-- the state of a module: types, groups of imports, index spaces, their definitions, and exports
 pub record Begun : Type 0 where
   pub types : Space
   pub groups : List Imports
@@ -42,7 +42,7 @@ pub record Begun : Type 0 where
   pub defined : Definitions
   pub exports : List Export
 
--- what stands of the parts of a module
+-- the state with the parts of a module
 abbrev pub begun_of : Drawn → Begun
 begun_of drawn = record {
   types = drawn.types;
@@ -52,7 +52,7 @@ begun_of drawn = record {
   exports = drawn.contents.exports;
 }
 
--- nothing stands
+-- the empty state
 abbrev pub nothing_begun : Begun
 nothing_begun = record { types = record { types = []; groups = [] }; groups = []; spaces = imported_spaces []; defined = nothing_defined; exports = [] }
 
@@ -60,20 +60,21 @@ pub record HasNothing (drawn : Drawn) : Type 0 where
   pub begun : begun_of drawn ≡ nothing_begun
   pub imports : HasNoImports drawn.imported
 
--- of a module shape: its types and its imports, and its exports, each of an entity that is defined for it
+-- from a module shape: its types and its imports, and its exports, each of an entity that is
+-- defined for it
 unfoldable pub begun_by_module_at : Config → Shape → List ℕ → Result (Begun × List ℕ) Error
 begun_by_module_at config shape bytes =
     then_with
     (λ (made : Required). record { types = made.types; groups = kept_groups config shape; spaces = made.spaces; defined = made.defined; exports = made.exports })
     (required_at false config shape (space_of shape.groups) (imported_spaces (shape_imports shape)) nothing_defined bytes)
 
--- of available imports: the types of their shape, and those that the bytes take
+-- from available imports: the types of their shape, and those imports that the bytes take
 unfoldable pub begun_by_imports_at : Config → Shape → List ℕ → Begun × List ℕ
 begun_by_imports_at config shape bytes =
     let taken = available_at config shape bytes in
     (record { types = space_of shape.groups; groups = taken.0; spaces = imported_spaces (flattened taken.0); defined = nothing_defined; exports = [] }, taken.1)
 
--- of the shapes that are used: a module shape, else available imports, else nothing
+-- from the shapes that are used: a module shape, else available imports, else nothing
 abbrev pub begun_for : Config → Option Shape → Option Shape → List ℕ → Result (Begun × List ℕ) Error
 begun_for config (Some shape) available bytes = begun_by_module_at config shape bytes
 begun_for config None (Some shape) bytes = Ok (begun_by_imports_at config shape bytes)
@@ -82,7 +83,7 @@ begun_for config None None bytes = Ok (nothing_begun, bytes)
 unfoldable pub begun_at : Config → List ℕ → Result (Begun × List ℕ) Error
 begun_at config bytes = begun_for config config.module_shape config.available_imports bytes
 
--- what stands of a module shape, all of it valid
+-- the parts of a module from a module shape, all of them valid
 pub record IsBegunByModule (config : Config) (shape : Shape) (drawn : Drawn) : Type 0 where
   pub types : drawn.types ≡ space_of shape.groups
   pub groups : drawn.imported.groups ≡ kept_groups config shape
@@ -97,7 +98,7 @@ pub record IsBegunByModule (config : Config) (shape : Shape) (drawn : Drawn) : T
   pub exports : AllZip (IsSameExport (λ mine yours. mine ≡ yours) (spaces_in drawn.imported.spaces) (shape_spaces shape)) drawn.contents.exports shape.exports
   pub exports_valid : AreExportsValid (spaces_in drawn.imported.spaces) drawn.contents.exports
 
--- what stands of available imports, all of it valid and within the bounds
+-- the parts of a module from available imports, all of them valid and within the bounds
 pub record IsBegunByImports (config : Config) (shape : Shape) (bytes : List ℕ) (drawn : Drawn) : Type 0 where
   pub types : drawn.types ≡ space_of shape.groups
   pub kept : flattened drawn.imported.groups ≡ taken_from config (shape_types shape) bytes 0 [] (shape_imports shape)
@@ -111,13 +112,13 @@ pub record IsBegunByImports (config : Config) (shape : Shape) (bytes : List ℕ)
   pub spaces : spaces_in drawn.imported.spaces ≡ imported_spaces (flattened drawn.imported.groups)
   pub exports : drawn.contents.exports ≡ []
 
--- what stands of the shapes that a configuration uses
+-- the parts of a module from the shapes that a configuration uses
 pub record IsBegun (config : Config) (bytes : List ℕ) (drawn : Drawn) : Type 0 where
   pub by_module : IfSome config.module_shape (λ shape. IsBegunByModule config shape drawn)
   pub by_imports : IfSome config.available_imports (λ shape. IsBegunByImports config shape bytes drawn)
   pub freely : (FixesImports config → ⊥) → HasNothing drawn
 
--- why a module may not begin with the shapes that are used: for want of memory, or by the exports of a module shape
+-- errors of the shapes that are used: lack of memory, or errors of the exports of a module shape
 abbrev pub MayRefuseBegun : Config → Error → Type 0
 MayRefuseBegun config e = (e ≡ errors.Memory) ⊎ IsSomeAnd config.module_shape (λ shape. MayRefuseRequired config (drawn_beside config (shape_types shape) (imported_spaces (shape_imports shape)) nothing_defined) shape e)
 
@@ -130,22 +131,23 @@ IsOfEntities counts.Memories = ⊤
 IsOfEntities counts.Globals = ⊤
 IsOfEntities _ = ⊥
 
--- what imports add to the type size over these types: nothing where a module shape fixes them, else their sizes, and one more each
--- where they are drawn freely
+-- the amount that imports add to the type size over these types: nothing if a module shape fixes
+-- them, else their sizes, and one more each if they are drawn freely
 abbrev pub size_of_imports : Config → List SubType → List Import → ℕ
 size_of_imports config types imports =
     if is_some config.module_shape then 0
     else if is_some config.available_imports then sum_by (λ (one : Import). size_in types one.entity_type) imports
     else sum_by (λ (one : Import). size_in types one.entity_type + 1) imports
 
--- a table, or a memory, is of a shape's types or within the configured bounds
+-- a table, or a memory, has a type of a shape or is within the configured bounds
 abbrev pub IsTableKept : Config → TableType → Type 0
 IsTableKept config table = Contains (of_shapes (λ spaces. spaces.tables) config) table ⊎ IsTableWithin config table
 
 abbrev pub IsMemoryKept : Config → MemoryType → Type 0
 IsMemoryKept config memory = Contains (of_shapes (λ spaces. spaces.memories) config) memory ⊎ IsMemoryWithin config memory
 
--- what stands so far of a module, whichever shapes it uses: all of it valid, and no more than these and the configuration allow
+-- the parts of a module so far, whichever shapes it uses: all of them valid, and no more than the
+-- shapes and the configuration allow
 pub record StandsSoFar (config : Config) (drawn : Drawn) : Type 0 where
   pub groups : All (IsImportsValid (features_of config)) drawn.imported.groups
   pub count : drawn.imported.count ≡ length (flattened drawn.imported.groups)
@@ -158,7 +160,7 @@ pub record StandsSoFar (config : Config) (drawn : Drawn) : Type 0 where
   pub type_size : drawn.imported.type_size ≡ size_of_imports config drawn.types.types (flattened drawn.imported.groups)
   pub within : drawn.imported.type_size ≤ config.max_type_size
 
--- what stands of a module once a shape's exports are made too: the same, with what these bring
+-- the parts of a module after a shape's exports are made too: the same, with the entities of these
 pub record StandsWhole (config : Config) (drawn : Drawn) : Type 0 where
   pub groups : All (IsImportsValid (features_of config)) drawn.imported.groups
   pub count : drawn.imported.count ≡ length (flattened drawn.imported.groups)

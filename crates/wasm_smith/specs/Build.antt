@@ -1,5 +1,6 @@
--- Which module the bytes give, step by step, and what each step leaves: what `exact` of `Module::new` speaks of. What a module
--- keeps is said apart, and can be believed without it.
+-- The module that the bytes produce, step by step, and the bytes that each step leaves: the
+-- definition for `exact` of `Module::new`. The properties of a module are stated separately, and do
+-- not depend on it.
 use Rattle.std.specs.Prelude.{◌≡◌, ℕ, ◌+◌, ◌-◌, Bool, true, ◌||◌, is_some, Option, Some, None, List, [], length, Result, Ok, Err, if◌then◌else◌}
 use Rattle.smith_bytes.specs.declared.error.Error.{Error}
 use Rattle.smith_bytes.specs.declared.error.Error.TheVariants as errors
@@ -25,40 +26,40 @@ use Rattle.wasm_smith.specs.declared.build.contents.Contents.{Contents}
 use Rattle.smith_definitions.specs.declared.definitions.Definitions.{Definitions}
 use Rattle.wasm_smith.specs.declared.build.drawn.Drawn.{Drawn}
 
--- the context of functions, of which so many are imported, without types and globals
+-- the context of functions, of which this number is imported, without types and globals
 abbrev pub functions_over : Config → List ℕ → ℕ → Context
 functions_over config funcs imported = record { features = features_of config; types = []; funcs = funcs; globals = []; imported_funcs = imported; imported_globals = 0; visible = 0 }
 
--- the functions that stand
+-- the context of the functions so far
 abbrev pub functions_begun : Config → Begun → Context
 functions_begun config begun = functions_over config begun.spaces.funcs (length begun.spaces.funcs - begun.defined.num_funcs)
 
--- what stands, with more types behind those that do
+-- the state with more types at the end
 abbrev pub typed_at : Config → Begun → List ℕ → Begun × List ℕ
 typed_at config begun bytes = let types = types_at config (functions_begun config begun) begun.types bytes in (record begun { types = types.0 }, types.1)
 
--- what a step that may be out of shape gives, as an answer
+-- the result of a step that may be out of shape, as an answer
 abbrev pub in_full : {A : Type 0} → Result A Why → Result A Error
 in_full (Ok drawn) = Ok drawn
 in_full (Err why) = Err (errors.IncorrectFormat why)
 
--- the same with imports, where no shape fixes them; with `distinct` no two have the same names
+-- the state with imports, unless a shape fixes them; with `distinct` no two have the same names
 unfoldable pub imported_at : Bool → Config → Begun → List ℕ → Result (Begun × List ℕ) Error
 imported_at distinct config begun bytes =
     if is_some config.available_imports || is_some config.module_shape then Ok (begun, bytes)
     else then_with (λ groups. record begun { groups = groups; spaces = imported_spaces (flattened groups) }) (in_full (imports_at config begun.types.types distinct bytes))
 
--- the same with entities that are defined behind those that stand
+-- the state with entities defined after those so far
 unfoldable pub defined_at : Config → Begun → List ℕ → Result (Begun × List ℕ) Error
 defined_at config begun bytes =
     then_with (λ (made : IndexSpaces × Definitions). record begun { spaces = made.0; defined = made.1 }) (in_full (definitions_at config begun.types.types begun.spaces begun.defined bytes))
 
--- what the imports of a module add to its type size
+-- the amount that the imports of a module add to its type size
 abbrev pub begun_size : Config → Begun → ℕ
 begun_size config begun = size_of_imports config begun.types.types (flattened begun.groups)
 
--- the same with exports: those of a module shape stand already, and those of a shape for exports are each of an entity that is
--- defined for it; else they are drawn
+-- the state with exports: those of a module shape are made already; those of a shape for exports
+-- are each of an entity that is defined for it; else they are drawn
 abbrev pub exported_for : Config → Option Shape → Option Shape → Begun → List ℕ → Result (Begun × List ℕ) Error
 exported_for config (Some shape) exports begun bytes = Ok (begun, bytes)
 exported_for config None (Some shape) begun bytes =
@@ -68,15 +69,16 @@ exported_for config None None begun bytes = then_with (λ exports. record begun 
 unfoldable pub exported_at : Config → Begun → List ℕ → Result (Begun × List ℕ) Error
 exported_at config begun bytes = exported_for config config.module_shape config.exports begun bytes
 
--- the exports, and the type size of a module that has them: those that a shape fixes add nothing to it
+-- the exports, and the type size of a module that has them: those that a shape fixes add nothing to
+-- it
 abbrev pub exports_of : Config → Begun → Exports
 exports_of config begun = record {
   exports = begun.exports;
   type_size = begun_size config begun + (if is_some config.module_shape || is_some config.exports then 0 else exported_size begun.types.types begun.spaces begun.exports);
 }
 
--- the module of what stands and what is drawn behind it, and whether a section of imports is written; it shows no available
--- imports, and its interesting values are no draw
+-- the module of a state and the contents drawn after it, and whether a section of imports is
+-- written; it shows no available imports, and its interesting values are not drawn
 abbrev pub module_of : Config → Begun → Contents → Bool → Parts
 module_of config begun contents encodes_imports = record {
   config = record config { available_imports = None };
@@ -107,13 +109,13 @@ module_of config begun contents encodes_imports = record {
   interesting_values64 = [];
 }
 
--- what a module begins with, and the types behind it
+-- the first parts of a module, and the types after them
 unfoldable pub begun_typed_at : Config → List ℕ → Result (Begun × List ℕ) Error
 begun_typed_at config bytes = do
   begun ← begun_at config bytes
   Ok (typed_at config begun.0 begun.1)
 
--- the module that the bytes give, step by step, and what they leave
+-- the module that the bytes produce, step by step, and the bytes left
 unfoldable pub module_at : Bool → Config → List ℕ → Result (Parts × List ℕ) Error
 module_at distinct config bytes = do
   typed ← begun_typed_at config bytes
@@ -134,19 +136,19 @@ parts_of config drawn =
       interesting_values64 = drawn.interesting_values64;
     }
 
--- a module without its interesting values, which its tables and memories tell
+-- a module without its interesting values, which follow from its tables and memories
 abbrev pub as_drawn : Parts → Parts
 as_drawn m = record m { interesting_values32 = []; interesting_values64 = [] }
 
--- What drawing gave, with what it left, is what reading gives, unless memory ran out, or there was nothing to choose from: when
--- that may come is said apart.
+-- Drawing returns the result of `read`, with the bytes left, except if memory runs out or there is
+-- nothing to choose from. Separate clauses state when these two may occur.
 abbrev pub GivesOrLacks : {X Y : Type 0} → (X → Y) → Result X Error → Result Y Error → Type 0
 GivesOrLacks view (Ok x) read = read ≡ Ok (view x)
 GivesOrLacks view (Err errors.Memory) read = Unit {0}
 GivesOrLacks view (Err errors.EmptyChoose) read = Unit {0}
 GivesOrLacks view (Err e) read = read ≡ Err e
 
--- an answer is the module that a configuration and bytes give, with what they leave, or the refusal that they give; it is told of
--- a configuration that may be drawn for
+-- an answer is the module that a configuration and bytes produce, with the bytes left, or their
+-- refusal; this holds for a configuration for which a module can be drawn
 pub record IsGiven (distinct : Bool) (config : Config) (bytes : List ℕ) (answer : Result Parts Error) (left : List ℕ) : Type 0 where
   pub exact : MayGive config → GivesOrLacks (λ m. (as_drawn m, left)) answer (module_at distinct config bytes)

@@ -1,4 +1,4 @@
--- Which shape of a configuration is refused, and for what. Rules of this project.
+-- The shape of a configuration that is refused, and the reason. Rules of this project.
 use Rattle.std.specs.Prelude.{⊤, IfSome, IsSomeAnd, Option}
 use Rattle.smith_bytes.specs.declared.error.Error.{Error}
 use Rattle.smith_bytes.specs.declared.error.Which.{Which}
@@ -9,18 +9,20 @@ use Rattle.smith_config.specs.ShapeFaults.{IsRefused}
 use Rattle.smith_config.specs.Shapes.{IsShapeValid}
 use Rattle.smith_definitions.specs.Refusals.{shape_for}
 
--- a shape that is given for a use is refused: for its first fault, or for want of memory, of which one that is too long takes none
+-- a shape for a use is refused: for its first fault, or for lack of memory, of which one that is
+-- too long takes none
 abbrev pub IsFaultOf : Config → Option Shape → Which → Error → Type 0
 IsFaultOf config given for_use e = IsSomeAnd given (λ shape. IsRefused for_use config shape e)
 
--- the use comes before this one where shapes are checked; beside a module shape no other is used
+-- a use is checked before another; with a module shape no other is used
 abbrev pub ComesBefore : Which → Which → Type 0
 ComesBefore which.ModuleShape which.AvailableImports = ⊤
 ComesBefore which.ModuleShape which.Exports = ⊤
 ComesBefore which.AvailableImports which.Exports = ⊤
 ComesBefore _ _ = ⊥
 
--- the first shape of a configuration that may not be handed in is refused, or there is no memory to check it or one before it
+-- the first shape of a configuration that fails its check is refused, or memory runs out in its
+-- check or an earlier one
 pub record IsFirstFaulty (config : Config) (e : Error) : Type 0 where
   pub for_use : Which
   pub refused : IsFaultOf config (shape_for config for_use) for_use e

@@ -1,5 +1,5 @@
--- What exports, a start function, segments and bodies are drawn over: types, imports and definitions as a whole. Rules of this
--- project.
+-- The types, imports and definitions over which exports, a start function, segments and bodies are
+-- drawn. Rules of this project.
 use Rattle.std.specs.Prelude.{◌≡◌, ℕ, ◌*◌, ◌≤◌, List, length, All}
 use Rattle.smith_bytes.specs.declared.error.Error.{Error}
 use Rattle.smith_bytes.specs.declared.error.Error.TheVariants as errors
@@ -20,9 +20,9 @@ use Rattle.smith_contents.specs.DrawnElements.{MayLackItem}
 use Rattle.smith_contents.specs.Exported.{IsIndexed, IsSized}
 use Rattle.smith_definitions.specs.Refusals.{MayRefuse}
 
--- contents may be drawn over these index spaces, where the imports add a number to the type size: all is valid, sizes and indices
--- have 32 bits, and there are as many tables, memories and globals as are asked for; without shapes function types are small, and
--- an import adds at most 42
+-- contents may be drawn over these index spaces, if the imports add a number to the type size: all
+-- is valid, sizes and indices have 32 bits, and the minimums of tables, memories and globals are
+-- met; without shapes function types are small, and an import adds at most 42
 pub record MayHoldContents (config : Config) (space : Space) (spaces : IndexSpaces) (imports_size : ℕ) : Type 0 where
   pub passes : Passes config
   pub sanitized : IsSanitized config
@@ -37,12 +37,14 @@ pub record MayHoldContents (config : Config) (space : Space) (spaces : IndexSpac
   pub within : imports_size ≤ config.max_type_size
   pub small_imports : HasNoShapes config → imports_size ≤ 42 * config.max_imports
 
--- when contents are refused: where a module may be, and where there may be nothing to choose from for an item of a segment
+-- errors of contents: those of a module, or there may be nothing to choose from for an item of a
+-- segment
 abbrev pub MayRefuseContents : Config → Context → List TableType → Error → Type 0
 MayRefuseContents config context tables errors.EmptyChoose = MayLackItem config context tables
 MayRefuseContents config context tables e = MayRefuse config e
 
--- what a segment may refer to, with these numbers of imported functions and globals
+-- the types and entities that a segment may refer to, with these numbers of imported functions and
+-- globals
 pub record AreSpacesOver (space : Space) (spaces : IndexSpaces) (num_funcs num_globals : ℕ) (over : Spaces) : Type 0 where
   pub types : over.types.now ≡ space
   pub funcs : over.entities.funcs.now ≡ spaces.funcs

@@ -1,4 +1,5 @@
--- What is drawn behind all definitions: exports, a start function, segments and bodies. Rules of this project.
+-- The contents drawn after all definitions: exports, a start function, segments and bodies. Rules
+-- of this project.
 use Rattle.std.specs.Prelude.{◌≡◌, ℕ, ◌+◌, ◌-◌, ◌<◌, ◌≤◌, false, IsTrue, None, List, length, Result, Ok, All}
 use Rattle.std.specs.List.{flat_map}
 use Rattle.smith_bytes.specs.declared.error.Why.{Why}
@@ -33,16 +34,16 @@ use Rattle.smith_definitions.specs.declared.definitions.Definitions.{Definitions
 use Rattle.smith_imports.specs.declared.imported.Imported.{Imported}
 use Rattle.wasm_smith.specs.declared.build.segments.Segments.{Segments}
 
--- what is imported of index spaces
+-- the index spaces of imports
 abbrev pub imported_in : Imported → IndexSpaces
 imported_in imported = imported_spaces (flattened imported.groups)
 
--- definitions tell how many functions and globals of index spaces are imported
+-- definitions determine the number of functions and globals of index spaces that are imported
 pub record TellsImported (imported spaces : IndexSpaces) (defined : Definitions) : Type 0 where
   pub funcs : defined.num_funcs + length imported.funcs ≡ length spaces.funcs
   pub globals : length spaces.globals ≡ length imported.globals + length defined.globals
 
--- what a segment may refer to
+-- the context of a segment
 abbrev pub segment_scope : Config → List SubType → IndexSpaces → IndexSpaces → Context
 segment_scope config types imported spaces = global_scope config (standing_in types imported spaces) spaces.globals
 
@@ -53,8 +54,8 @@ all_segments_at config types imported spaces bytes = do
   data_segments ← data_at config (segment_scope config types imported spaces) spaces.memories elements.1
   Ok (record { elements = elements.0; data_segments = data_segments.0 }, data_segments.1)
 
--- what the bytes give behind exports that were made, over types and index spaces, of which some is imported: whether a section of
--- types is written, a start function, segments and bodies
+-- the contents that the bytes produce after exports, over types and index spaces that begin with
+-- imports: whether a section of types is written, a start function, segments and bodies
 unfoldable pub behind_exports_at : Config → List SubType → IndexSpaces → IndexSpaces → Exports → List ℕ → Result (Contents × List ℕ) Why
 behind_exports_at config types imported spaces made bytes = do
   let type_flag = section_flag_at (length types) bytes
@@ -73,8 +74,8 @@ behind_exports_at config types imported spaces made bytes = do
     code.1,
   )
 
--- exports are valid, and within the type size beside what the imports add to it: as they are asked for where no shape fixes them,
--- and else they add nothing
+-- exports are valid, and within the type size together with the imports; unless a shape fixes them,
+-- they are as the configuration requires; if a shape does, they add nothing
 pub record AreExportsMade (config : Config) (types : List SubType) (spaces : IndexSpaces) (imports_size : ℕ) (made : Exports) : Type 0 where
   pub valid : AreExportsValid spaces made.exports
   pub most : (FixesExports config → ⊥) → config.export_everything ≡ false → length made.exports ≤ config.max_exports
@@ -84,7 +85,8 @@ pub record AreExportsMade (config : Config) (types : List SubType) (spaces : Ind
   pub fixed_size : FixesExports config → made.type_size ≡ imports_size
   pub within : made.type_size ≤ config.max_type_size
 
--- segments are valid, as many as are asked for and no more than may be, and with `disallow_traps` what is copied fits
+-- segments are valid, within the minimums and maximums, and with `disallow_traps` the items and
+-- bytes they copy fit
 pub record AreSegmentsFit (config : Config) (types : List SubType) (imported spaces : IndexSpaces) (segments : Segments) : Type 0 where
   pub elements : All (IsElementValid (segment_scope config types imported spaces) spaces.tables) segments.elements
   pub most_elements : length segments.elements ≤ config.max_element_segments
@@ -97,7 +99,7 @@ pub record AreSegmentsFit (config : Config) (types : List SubType) (imported spa
   pub least_data : config.min_data_segments ≤ length segments.data_segments
   pub data_inside : IsTrue config.disallow_traps → All (IsDataInside spaces.memories) segments.data_segments
 
--- exports, a section of types where there are types, a valid start function where one is allowed,
+-- exports, a section of types if there are types, a valid start function if one is allowed,
 -- segments, and a body for each function that is defined
 pub record AreContents (config : Config) (types : List SubType) (imported spaces : IndexSpaces) (imports_size : ℕ) (contents : Contents) : Type 0 where
   pub exports : AreExportsMade config types spaces imports_size (record { exports = contents.exports; type_size = contents.type_size })
@@ -108,11 +110,11 @@ pub record AreContents (config : Config) (types : List SubType) (imported spaces
   pub each_body : length contents.code + length imported.funcs ≡ length spaces.funcs
   pub bodies : All (IsBodyValid (features_of config) (length types) config.allow_invalid_funcs) contents.code
 
--- no item of an element segment is a float's
+-- no item of an element segment is a float
 abbrev pub HaveNoFloatItems : List ElementSegment → Type 0
 HaveNoFloatItems segments = All (All GivesNoFloat) (flat_map (λ (segment : ElementSegment). expressions_of segment.items) segments)
 
--- no item of a segment and no local of a body is a float's
+-- no item of a segment and no local of a body is a float
 pub record HasNoFloatContents (contents : Contents) : Type 0 where
   pub items : HaveNoFloatItems contents.segments.elements
   pub locals : All IsNoFloat (flat_map (λ (body : Code). body.locals) contents.code)

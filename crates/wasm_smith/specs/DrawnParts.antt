@@ -1,4 +1,4 @@
--- What holds of the parts that are drawn, of which a module is put together.
+-- Properties of the drawn parts, from which a module is made.
 use Rattle.std.specs.Prelude.{◌≡◌, ◌<◌, ◌≤◌, Bool, false, IsTrue, length, All}
 use Rattle.smith_bytes.specs.declared.error.Count.{Count}
 use Rattle.smith_types.specs.Floats.{HasNoFloat}

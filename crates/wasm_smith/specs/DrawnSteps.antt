@@ -1,4 +1,4 @@
--- What each step of drawing a module leaves standing. Rules of this project.
+-- The state after each step of drawing a module. Rules of this project.
 use Rattle.std.specs.Prelude.{◌≡◌, ℕ, ◌*◌, ◌≤◌, Bool, false, IsTrue, is_some, IfSome, List, [], length, map, All}
 use Rattle.std.specs.List.{AllZip}
 use Rattle.smith_bytes.specs.declared.error.Count.{Count}
@@ -26,27 +26,29 @@ use Rattle.smith_definitions.specs.Refusals.{HoldsNonNullable}
 use Rattle.smith_definitions.specs.ShapesKept.{IsSameExport}
 use Rattle.wasm_smith.specs.declared.build.drawn.Drawn.{Drawn}
 
--- what is drawn next is over the types and functions that stand so far
+-- the context of the next draw: the types and functions so far
 abbrev pub drawn_next : Config → Drawn → Context
 drawn_next config drawn = drawn_beside config drawn.types.types (spaces_in drawn.imported.spaces) drawn.definitions
 
--- no field of a type, and no element of a table, is a reference that may not be null and is not grounded
+-- no field of a type, and no element of a table, is a reference that is not nullable and not
+-- grounded
 pub record HoldsGrounded (config : Config) (context : Context) (tables : List TableType) : Type 0 where
   pub fields : HoldsUngroundedField config context → ⊥
   pub elements : All (HasGroundedElements config context) tables
 
--- without shapes function types are small, and so is what imports add to the type size
+-- without shapes function types are small, and so is the amount that imports add to the type size
 pub record HasSmallSizes (config : Config) (drawn : Drawn) : Type 0 where
   pub types : All IsSmall drawn.types.types
   pub imports : drawn.imported.type_size ≤ 42 * config.max_imports
 
--- no type, no global and no constant is a float's
+-- no type, no global and no constant is a float
 pub record HasNoFloatSoFar (drawn : Drawn) : Type 0 where
   pub types : All HasNoFloat drawn.types.types
   pub defined : HaveNoFloats (spaces_in drawn.imported.spaces) drawn.definitions
 
--- what stands so far may be drawn over: function types have no more values than a shape may list, references may be null or are
--- grounded unless a shape holds others, and exports that were made are valid
+-- more may be drawn over the parts so far: function types have no more values than a shape may
+-- list, references are nullable or grounded unless a shape holds others, and exports that were made
+-- are valid
 pub record MayGoOn (config : Config) (drawn : Drawn) : Type 0 where
   pub so_far : StandsSoFar config drawn
   pub few_values : All (HasFewValues most_listed) drawn.types.types
@@ -54,37 +56,38 @@ pub record MayGoOn (config : Config) (drawn : Drawn) : Type 0 where
   pub exports : AreExportsValid (spaces_in drawn.imported.spaces) drawn.contents.exports
   pub least_types : config.min_types ≤ length drawn.types.types
 
--- types stand, and nothing else
+-- there are types, and nothing else
 pub record HasTypesAlone (drawn : Drawn) : Type 0 where
   pub imports : HasNoImports drawn.imported
   pub nothing : drawn.definitions ≡ nothing_defined
   pub small : All IsSmall drawn.types.types
 
--- what stands once types are drawn behind what a module begins with
+-- the state after types are drawn at the end of the first parts
 pub record AreTypesDrawn (config : Config) (drawn : Drawn) : Type 0 where
   pub may : MayGoOn config drawn
   pub free : (FixesImports config → ⊥) → HasTypesAlone drawn
   pub floats : config.allow_floats ≡ false → HasNoShapes config → All HasNoFloat drawn.types.types
 
--- once there are imports
+-- the state after imports
 pub record AreImportsDrawn (config : Config) (drawn : Drawn) : Type 0 where
   pub may : MayGoOn config drawn
   pub small : HasNoShapes config → HasSmallSizes config drawn
   pub floats : config.allow_floats ≡ false → HasNoShapes config → HasNoFloatSoFar drawn
 
--- imports that no shape fixes: with `distinct` no two have the same names, and there are as many as are asked for
+-- imports that no shape fixes: with `distinct` no two have the same names, and there are at least
+-- the minimum
 pub record AreFreeImports (distinct : Bool) (config : Config) (imported : Imported) : Type 0 where
   pub apart : IsTrue distinct → AreDistinct {A = List ℕ × List ℕ} (map (λ (one : Import). (one.«module», one.name)) (flattened imported.groups))
   pub least : config.min_imports ≤ imported.count
 
--- once entities are defined: as many of each kind as are asked for
+-- the state after entities are defined: the minimum of each kind is met
 pub record AreEntitiesDrawn (config : Config) (drawn : Drawn) : Type 0 where
   pub may : MayGoOn config drawn
   pub least : (count : Count) → IsOfEntities count → minimum_of config count ≤ count_in (spaces_in drawn.imported.spaces) count
   pub small : HasNoShapes config → HasSmallSizes config drawn
   pub floats : config.allow_floats ≡ false → HasNoShapes config → HasNoFloatSoFar drawn
 
--- once exports are made too
+-- the state after exports are made too
 pub record AreExportsDrawn (config : Config) (drawn : Drawn) : Type 0 where
   pub whole : StandsWhole config drawn
   pub few_values : All (HasFewValues most_listed) drawn.types.types
@@ -94,13 +97,14 @@ pub record AreExportsDrawn (config : Config) (drawn : Drawn) : Type 0 where
   pub small : HasNoShapes config → HasSmallSizes config drawn
   pub floats : config.allow_floats ≡ false → HasNoShapes config → HasNoFloatSoFar drawn
 
--- imports are what they were, whatever is defined in their index spaces
+-- imports are unchanged, whatever is defined in their index spaces
 pub record HasSameImports (old new : Imported) : Type 0 where
   pub groups : new.groups ≡ old.groups
   pub count : new.count ≡ old.count
   pub type_size : new.type_size ≡ old.type_size
 
--- what stood still does: types and entities come behind those that stood, and imports and exports that a shape fixes stay
+-- the parts before are kept: types and entities come after them, and imports and exports that a
+-- shape fixes stay
 pub record IsBeyond (config : Config) (old new : Begun) : Type 0 where
   pub types : Extends old.types.types new.types.types
   pub groups : Extends old.types.groups new.types.groups
@@ -119,7 +123,7 @@ pub record KeepsModuleSoFar (config : Config) (shape : Shape) (begun : Begun) : 
   pub imports : begun.groups ≡ kept_groups config shape
   pub exports : AllZip (IsSameExport (λ mine yours. mine ≡ yours) begun.spaces (shape_spaces shape)) begun.exports shape.exports
 
--- available imports are taken, as the input picks them
+-- available imports are taken, as the bytes pick them
 pub record KeepsImportsSoFar (config : Config) (bytes : List ℕ) (shape : Shape) (begun : Begun) : Type 0 where
   pub types : BeginsWithTypes shape begun
   pub imports : flattened begun.groups ≡ taken_from config (shape_types shape) bytes 0 [] (shape_imports shape)

@@ -1,4 +1,4 @@
--- What each call promises that draws a module: `Module::new_internal`, `new` and `arbitrary`.
+-- The contract of each call that draws a module: `Module::new_internal`, `new` and `arbitrary`.
 use Rattle.std.specs.Prelude.{◌≡◌, ℕ, Bool, true, false, List, Result, IfOk, IfErr, OnOk, IsErrAnd}
 use Rattle.smith_bytes.specs.Source.{IsPiece}
 use Rattle.smith_bytes.specs.declared.error.Error.{Error}
@@ -18,37 +18,37 @@ use Rattle.smith_definitions.specs.ShapesKept.{KeepsShapes}
 use Rattle.wasm_smith.specs.declared.module.DuplicateImportsBehavior.{DuplicateImportsBehavior}
 use Rattle.wasm_smith.specs.declared.module.DuplicateImportsBehavior.TheVariants.{Allowed, Disallowed}
 
--- whether no two imports may have the same pair of names, where no shape fixes them
+-- whether no two imports may have the same pair of names, unless a shape fixes them
 abbrev pub is_distinct : DuplicateImportsBehavior → Bool
 is_distinct Allowed = false
 is_distinct Disallowed = true
 
--- a configuration that does not pass is refused for its first fault, and not for want of memory
+-- a configuration that does not pass is refused for its first fault, and not for lack of memory
 abbrev pub IsFaulted : Config → Error → Type 0
 IsFaulted config (errors.Config fault) = IsFirstFault config fault
 IsFaulted config _ = ⊥
 
--- the answer for a configuration that was handed in and the bytes of the source, of which some are left
+-- the answer for a configuration of the caller and the bytes of the source, of which some are left
 pub record IsGenerated (distinct : Bool) (given : Config) (bytes : List ℕ) (answer : Result Parts Error) (left : List ℕ) : Type 0 where
-  -- which module: the one that the configuration and the bytes give
+  -- the module: the one that the configuration and the bytes produce
   pub exact : IsGiven distinct (sanitized given) bytes answer left
   pub config : IfOk answer (λ m. m.config ≡ shown_config given)
-  -- what every module keeps
+  -- properties of every module
   pub valid : IfOk answer IsValid
   pub bounds : IfOk answer (KeepsBounds (sanitized given))
   pub minimums : IfOk answer (MeetsMinimums (sanitized given))
   pub shapes : IfOk answer (KeepsShapes (sanitized given) bytes)
   pub promises : IfOk answer (KeepsPromises distinct (sanitized given))
   pub interesting : IfOk answer HasInterestingValues
-  -- when there is one, and when there is none
+  -- conditions for a module, and for its absence
   pub may_give : OnOk answer (MayGive (sanitized given))
   pub fault : (Passes (sanitized given) → ⊥) → IsErrAnd answer (IsFaulted (sanitized given))
   pub shape_fault : Passes (sanitized given) → (AreShapesValid (sanitized given) → ⊥) → IsErrAnd answer (IsFirstFaulty (sanitized given))
   pub refusals : IfErr answer (MayRefuse (sanitized given))
   pub needless : AsksNothingImpossible (sanitized given) → IfErr answer (λ e. e ≡ errors.Memory)
-  -- which lists are reached, by whatever bytes spell them
+  -- lists that are reached, by whatever bytes spell them
   pub reach : ReachesMembers (sanitized given) bytes answer
   pub rest : ReachesRests (sanitized given) bytes answer
-  -- what is left of the source
+  -- the rest of the source
   pub undrawn : (MayGive (sanitized given) → ⊥) → left ≡ bytes
   pub source : IsPiece bytes left

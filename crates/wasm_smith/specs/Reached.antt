@@ -1,5 +1,5 @@
--- Which modules are reached: those whose types and functions, and what may stand behind these, are spelled where the source begins.
--- Rules of this project, for a sanitised configuration.
+-- The modules that are reached: their types and functions, and the rest that may follow, are
+-- spelled at the start of the source. Rules of this project, for a sanitised configuration.
 use Rattle.std.specs.Prelude.{◌≡◌, ℕ, ℤ, List, ◌++◌, Result, MatchResult}
 use Rattle.smith_bytes.specs.declared.error.Error.{Error}
 use Rattle.smith_bytes.specs.declared.error.Error.TheVariants.{Memory}
@@ -10,14 +10,15 @@ use Rattle.smith_spell.specs.Spelling.{SpellsMember, SpellsRest, IsRest}
 use Rattle.wasm_smith.specs.Members.{HasMember, HasRest}
 use Rattle.smith_definitions.specs.Module.{Parts}
 
--- a source is bytes that spell these lists, which can be spelled, with this behind them
+-- a source is bytes that spell these lists, which can be spelled, followed by this rest
 pub record BeginsWithMember (config : Config) (groups : List (List SubType)) (funcs bytes behind : List ℕ) : Type 0 where
   pub spellable : IsSpellable config groups funcs
   pub piece : List ℕ
   pub spelled : SpellsMember config groups funcs piece
   pub parts : bytes ≡ piece ++ behind
 
--- what is behind such lists begins with bytes that spell these numbers and byte lists, which may stand there
+-- the rest after such lists begins with bytes that spell these numbers and byte lists, which may
+-- follow
 pub record BeginsWithRest (config : Config) (groups : List (List SubType)) (funcs : List ℕ) (numbers : List ℤ) (passive : List (List ℕ)) (bytes : List ℕ) : Type 0 where
   pub may_stand : IsRest config numbers passive
   pub piece : List ℕ
@@ -25,12 +26,12 @@ pub record BeginsWithRest (config : Config) (groups : List (List SubType)) (func
   pub spelled : SpellsRest config groups funcs numbers passive piece
   pub parts : bytes ≡ piece ++ after
 
--- whatever lists a source begins with, the module has them, unless memory ran out
+-- the module has the lists that a source begins with, unless memory runs out
 abbrev pub ReachesMembers : Config → List ℕ → Result Parts Error → Type 0
 ReachesMembers config bytes answer =
     (groups : List (List SubType)) (funcs behind : List ℕ) → BeginsWithMember config groups funcs bytes behind → MatchResult answer (HasMember groups funcs) (λ e. e ≡ Memory)
 
--- and it has whatever stands behind them
+-- and it has the rest that follows them
 abbrev pub ReachesRests : Config → List ℕ → Result Parts Error → Type 0
 ReachesRests config bytes answer =
     (groups : List (List SubType)) (funcs behind : List ℕ) (numbers : List ℤ) (passive : List (List ℕ)) → BeginsWithMember config groups funcs bytes behind

@@ -1,4 +1,4 @@
--- What is added to a module whose calls are to end: a global that counts fuel. Rules of this project.
+-- The addition to a module whose calls must end: a global that counts fuel. Rules of this project.
 use Rattle.std.specs.Prelude.{◌≡◌, ℕ, true, false, [], ◌∷◌, ◌++◌, length, Result, Ok, Err}
 use Rattle.std.specs.Int.{cast_signed, w32}
 use Rattle.std.specs.List.{Any}
@@ -20,8 +20,8 @@ HasRawBody m = Any (λ (body : Code). IsRaw body.instructions) m.code
 abbrev pub counter : GlobalType
 counter = record { val_type = I32; mutable = true; shared = false }
 
--- new is old with a counter of this index, which is the last global, is defined by the number of the same 32 bits as the
--- fuel, and is the last that counts; nothing else is new
+-- `new` is `old` with a counter of this index, which is the last global, is initialised with the
+-- number of the same 32 bits as the fuel, and is the last counter; nothing else is new
 pub record AddsFuel (fuel index : ℕ) (old new : Parts) : Type 0 where
   pub last : index ≡ length old.globals
   pub added : new ≡ record old {
@@ -30,13 +30,14 @@ pub record AddsFuel (fuel index : ℕ) (old new : Parts) : Type 0 where
     fuel_globals = old.fuel_globals ++ index ∷ [];
   }
 
--- why no counter is added: a body is raw bytes; only where none is, want of memory
+-- the reasons why no counter is added: a body is raw bytes, else lack of memory
 abbrev pub MayAddNone : Parts → Error → Type 0
 MayAddNone m (errors.IncorrectFormat RawBody) = HasRawBody m
 MayAddNone m errors.Memory = HasRawBody m → ⊥
 MayAddNone m _ = ⊥
 
--- what is answered: the index of the counter that was added, or why none was, and then nothing is new
+-- the answer: the index of the counter that was added, or the reason why none was, and then nothing
+-- is new
 abbrev pub AnswersFuel : ℕ → Parts → Parts → Result ℕ Error → Type 0
 AnswersFuel fuel old new (Ok index) = (HasRawBody old → ⊥) × AddsFuel fuel index old new
 AnswersFuel fuel old new (Err error) = MayAddNone old error × (new ≡ old)

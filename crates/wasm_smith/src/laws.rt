@@ -3,7 +3,8 @@ ghost use Rattle.wasm_smith.specs.Termination.{CountingIsValid};
 
 pub use smith_spell::laws::groups_are_read;
 
-/// Lists of types and functions come back from the bytes that spell them, whatever bytes follow.
+/// Lists of types and functions are recovered from the bytes that spell them, whatever bytes
+/// follow.
 pub fn spelled_comes_back()
     ensures { SpelledComesBack }
 {}

@@ -1,10 +1,10 @@
-//! Modules of WebAssembly from bytes: whatever the bytes are, the module is valid by the Core Specification 3.0 and, for the proposals
-//! beyond it that the configuration turns on (by default shared memories and compact imports), by rules of this project, raw bodies
-//! aside.
+//! Modules of WebAssembly from bytes. Whatever the bytes, a module is valid by the Core
+//! Specification 3.0, except for raw bodies. Proposals beyond it that the configuration turns on
+//! (by default shared memories and compact imports) follow rules of this project.
 #![tactic(auto)]
 
 mod build;
-/// Laws: functions that do nothing, whose clauses say what holds.
+/// Laws: functions without effect, whose clauses state properties.
 pub mod laws;
 mod module;
 mod termination;
@@ -31,7 +31,7 @@ pub use smith_draw::{
 };
 pub use smith_spell::spell;
 
-// Plain data, and what is decided of it.
+// Plain data, and decisions about it.
 pub use smith_types::{
     AbstractHeapType, ArrayType, Code, CompositeInnerType, CompositeType, ConstInstr, DataSegment,
     DataSegmentKind, ElementKind, ElementSegment, Elements, EntityType, ExportKind, FieldType,

@@ -13,8 +13,8 @@ use std::fmt;
 use std::marker::Model;
 use std::ops::Range;
 
-/// A module: the types, imports, index spaces, definitions, exports, segments and bodies of the standard's section
-/// Structure, Modules. In each index space imported items come first.
+/// A module: the types, imports, index spaces, definitions, exports, segments and bodies of the
+/// standard's section Structure, Modules. In each index space imported items come first.
 #[derive(Drop)]
 pub struct Module {
     /// The configuration, sanitised, without available imports.
@@ -60,12 +60,13 @@ impl Model for Module {
     } };
 }
 
-/// The rule for imports of a module that have the same module name and the same own name.
+/// Rule for imports of a module with the same module name and the same name.
 #[derive(Clone, Copy, Debug, PartialEq, Eq)]
 pub enum DuplicateImportsBehavior {
     /// Imports keep the names that are drawn.
     Allowed,
-    /// Imports have distinct pairs of names: the number of imports so far is put behind a name until its pair is new.
+    /// Imports have distinct pairs of names: the number of imports so far is appended to a name
+    /// until its pair is new.
     Disallowed,
 }
 
@@ -86,7 +87,8 @@ impl Module {
     ghost use Rattle.smith_definitions.specs.Module.{module_types};
     ghost use Rattle.wasm_smith.specs.Generated.{IsGenerated, is_distinct};
 
-    /// Draws a module as [`Module::new`] does, for the default configuration. Only want of memory refuses it.
+    /// Draws a module as [`Module::new`] does, for the default configuration. Fails only for lack
+    /// of memory.
     pub fn arbitrary(alloc: Global, u: &mut Unstructured<'_>) -> Result<Module, Error>
         ensures generated { IsGenerated false default_config u.old result u.new }
         ensures memory { IfErr result (λ e. e ≡ Error.Memory) }
@@ -95,26 +97,32 @@ impl Module {
         Module::new(alloc, config, u)
     }
 
-    /// Draws a module from the bytes of `u`. First `config` is sanitised and checked, then each shape that it uses.
+    /// Draws a module from the bytes of `u`. Sanitises and checks `config` first, then checks each
+    /// shape that it uses.
     ///
-    /// A module shape is used alone, and gives the first types, all imports and all exports. Without a module shape, available
-    /// imports give the first types, and the imports that the bytes pick; a shape for exports gives all exports.
+    /// A module shape is used alone: the module begins with its types, and has exactly its imports
+    /// and its exports. Without a module shape, available imports fix the first types, and the
+    /// imports are those of them that the bytes pick. A shape for exports fixes all exports.
     ///
     /// # Errors
     ///
-    /// `Config` for the first fault of the sanitised `config`, whatever memory there is; `Shape` for the first fault of the
-    /// module shape, else of the available imports, then of the exports.
-    ///
-    /// `IncorrectFormat` where a minimum stays unmet, where the exports of everything would pass the type size, or where a shape
-    /// brings a second memory or table that `config` does not enable; `EmptyChoose` where a shape holds a reference that may not
-    /// be null, and nothing gives a value for it; `Memory` for want of memory.
+    /// - `Config` for the first fault of the sanitised `config`, even if memory is short.
+    /// - `Shape` for the first fault of the module shape, else of the available imports, then of
+    ///   the exports.
+    /// - `IncorrectFormat` if a minimum stays unmet, if the exports of everything would exceed the
+    ///   maximum type size, or if a shape requires a second memory or table that `config` does not
+    ///   enable.
+    /// - `EmptyChoose` if a shape holds a reference type that is not nullable, and no expression
+    ///   has it.
+    /// - `Memory` for lack of memory.
     pub fn new(alloc: Global, config: Config, u: &mut Unstructured<'_>) -> Result<Module, Error>
         ensures { IsGenerated false config u.old result u.new }
     {
         Module::new_internal(alloc, config, u, DuplicateImportsBehavior::Allowed)
     }
 
-    /// Draws a module from the bytes of `u` as [`Module::new`] does. Imports that no shape fixes keep the rule `behavior`.
+    /// Draws a module from the bytes of `u` as [`Module::new`] does. Imports that no shape fixes
+    /// follow the rule `behavior`.
     pub fn new_internal(
         alloc: Global,
         mut config: Config,
@@ -131,191 +139,192 @@ impl Module {
         build(alloc, config, behavior.is_distinct(), u)
     }
 
-    /// The sanitised configuration that the module was drawn for. Its available imports were used up and show as none; a module
-    /// shape and a shape for exports show as they were.
+    /// Returns the sanitised configuration that the module was drawn for. Its available imports are
+    /// used up, so it has none. A module shape and a shape for exports are unchanged.
     pub fn config(&self) -> &Config
         ensures { result.now ≡ self.now.config }
     {
         self.config.as_ref()
     }
 
-    /// The types, in the order of their indices.
+    /// Returns the types, in the order of their indices.
     pub fn types(&self) -> &[SubType]
         ensures { result.now ≡ self.now.types }
     {
         self.drawn.types.types()
     }
 
-    /// The recursive groups, each as the range of the indices of its types.
+    /// Returns the recursive groups, each as the range of the indices of its types.
     pub fn rec_groups(&self) -> &[Range<usize>]
         ensures { result.now ≡ self.now.groups }
     {
         self.drawn.types.rec_groups()
     }
 
-    /// The types and the recursive groups, as a type space.
+    /// Returns the types and the recursive groups, as a type space.
     pub fn type_space(&self) -> &TypeSpace
         ensures { result.now ≡ module_types self.now }
     {
         &self.drawn.types
     }
 
-    /// The imports, in their groups.
+    /// Returns the imports, in their groups.
     pub fn imports(&self) -> &[Imports]
         ensures { result.now ≡ self.now.imports }
     {
         self.drawn.imported.groups.as_slice()
     }
 
-    /// The number of imports of all groups together.
+    /// Returns the number of imports of all groups together.
     pub fn num_imports(&self) -> usize
         ensures { result ≡ self.now.num_imports }
     {
         self.drawn.imported.count
     }
 
-    /// The index of the type of each tag.
+    /// Returns the index of the type of each tag.
     pub fn tags(&self) -> &[u32]
         ensures { result.now ≡ self.now.tags }
     {
         self.drawn.imported.spaces.tags.as_slice()
     }
 
-    /// The index of the type of each function.
+    /// Returns the index of the type of each function.
     pub fn funcs(&self) -> &[u32]
         ensures { result.now ≡ self.now.funcs }
     {
         self.drawn.imported.spaces.funcs.as_slice()
     }
 
-    /// The type of each table.
+    /// Returns the type of each table.
     pub fn tables(&self) -> &[TableType]
         ensures { result.now ≡ self.now.tables }
     {
         self.drawn.imported.spaces.tables.as_slice()
     }
 
-    /// The initialiser of each defined table, or none.
+    /// Returns the initialiser of each defined table, or none.
     pub fn defined_tables(&self) -> &[Option<Items<ConstInstr>>]
         ensures { result.now ≡ self.now.defined_tables }
     {
         self.drawn.definitions.tables.as_slice()
     }
 
-    /// The type of each memory.
+    /// Returns the type of each memory.
     pub fn memories(&self) -> &[MemoryType]
         ensures { result.now ≡ self.now.memories }
     {
         self.drawn.imported.spaces.memories.as_slice()
     }
 
-    /// The type of each global.
+    /// Returns the type of each global.
     pub fn globals(&self) -> &[GlobalType]
         ensures { result.now ≡ self.now.globals }
     {
         self.drawn.imported.spaces.globals.as_slice()
     }
 
-    /// The index and the initialiser of each defined global.
+    /// Returns the index and the initialiser of each defined global.
     pub fn defined_globals(&self) -> &[(u32, Items<ConstInstr>)]
         ensures { result.now ≡ self.now.defined_globals }
     {
         self.drawn.definitions.globals.as_slice()
     }
 
-    /// The number of defined tags, which come behind the imported tags.
+    /// Returns the number of defined tags, which come after the imported tags.
     pub fn num_defined_tags(&self) -> usize
         ensures { result ≡ self.now.num_defined_tags }
     {
         self.drawn.definitions.num_tags
     }
 
-    /// The number of defined functions, which come behind the imported functions.
+    /// Returns the number of defined functions, which come after the imported functions.
     pub fn num_defined_funcs(&self) -> usize
         ensures { result ≡ self.now.num_defined_funcs }
     {
         self.drawn.definitions.num_funcs
     }
 
-    /// The number of defined memories, which come behind the imported memories.
+    /// Returns the number of defined memories, which come after the imported memories.
     pub fn num_defined_memories(&self) -> usize
         ensures { result ≡ self.now.num_defined_memories }
     {
         self.drawn.definitions.num_memories
     }
 
-    /// The name of each export, and the kind and the index of its item.
+    /// Returns the name of each export, and the kind and the index of its item.
     pub fn exports(&self) -> &[(Name, ExportKind, u32)]
         ensures { result.now ≡ self.now.exports }
     {
         self.drawn.contents.exports.as_slice()
     }
 
-    /// The index of the start function, or none.
+    /// Returns the index of the start function, or none.
     pub fn start(&self) -> Option<u32>
         ensures { result ≡ self.now.start }
     {
         self.drawn.contents.start
     }
 
-    /// The element segments.
+    /// Returns the element segments.
     pub fn elems(&self) -> &[ElementSegment]
         ensures { result.now ≡ self.now.elems }
     {
         self.drawn.contents.segments.elements.as_slice()
     }
 
-    /// The data segments.
+    /// Returns the data segments.
     pub fn data(&self) -> &[DataSegment]
         ensures { result.now ≡ self.now.segments }
     {
         self.drawn.contents.segments.data_segments.as_slice()
     }
 
-    /// The body of each defined function.
+    /// Returns the body of each defined function.
     pub fn code(&self) -> &[Code]
         ensures { result.now ≡ self.now.code }
     {
         self.drawn.contents.code.as_slice()
     }
 
-    /// The indices of the globals that count fuel down, in the order in which they were added.
+    /// Returns the indices of the globals that count fuel down, in the order in which they were
+    /// added.
     pub fn fuel_globals(&self) -> &[u32]
         ensures { result.now ≡ self.now.fuel_globals }
     {
         self.fuel_globals.as_slice()
     }
 
-    /// Tells whether an encoder writes a type section, even without types.
+    /// Returns whether an encoder writes a type section, even without types.
     pub fn should_encode_types(&self) -> bool
         ensures { result ≡ self.now.encodes_types }
     {
         self.drawn.contents.encodes_types
     }
 
-    /// Tells whether an encoder writes an import section, even without imports.
+    /// Returns whether an encoder writes an import section, even without imports.
     pub fn should_encode_imports(&self) -> bool
         ensures { result ≡ self.now.encodes_imports }
     {
         self.drawn.encodes_imports
     }
 
-    /// The type size: the sizes of all imports and exports, plus 1 for each name. Imports and exports that a shape fixes add
-    /// nothing, but available imports add their sizes.
+    /// Returns the type size: the sizes of all imports and exports, plus 1 for each. Imports and
+    /// exports that a shape fixes add nothing, except that available imports add their sizes.
     pub fn type_size(&self) -> u32
         ensures { result ≡ self.now.type_size }
     {
         self.drawn.contents.type_size
     }
 
-    /// The numbers of 32 bits that tests of the module should try, in ascending order.
+    /// Returns the numbers of 32 bits that tests of the module should try, in ascending order.
     pub fn interesting_values32(&self) -> &[u32]
         ensures { result.now ≡ self.now.interesting_values32 }
     {
         self.drawn.interesting_values32.as_slice()
     }
 
-    /// The numbers of 64 bits that tests of the module should try, in ascending order.
+    /// Returns the numbers of 64 bits that tests of the module should try, in ascending order.
     pub fn interesting_values64(&self) -> &[u64]
         ensures { result.now ≡ self.now.interesting_values64 }
     {
@@ -323,7 +332,7 @@ impl Module {
     }
 }
 
-/// Prints the configuration, and that there is more.
+/// Prints the configuration, and an ellipsis for all other parts.
 impl fmt::Debug for Module {
     fn fmt<W: fmt::Write>(&self, f: &mut fmt::Formatter<W>) -> fmt::Result {
         f.debug_struct("Module")

@@ -27,7 +27,7 @@ fn has_raw_body(code: &[Code]) -> bool
     code.iter().any(is_raw)
 }
 
-// Takes back what was pushed last.
+// Removes the last item of `items`.
 fn take_back<T: Drop>(alloc: Global, items: &mut Items<T>)
     ensures { (before : List T) (last : T) → items.old ≡ before ++ last ∷ [] → items.new ≡ before }
 {
@@ -36,7 +36,7 @@ fn take_back<T: Drop>(alloc: Global, items: &mut Items<T>)
     *items = Items::from_vec(all);
 }
 
-// The definition of a counter.
+// Makes the definition of a counter.
 fn initial(alloc: Global, index: u32, fuel: u32) -> Result<(u32, Items<ConstInstr>), Error>
     ensures ok { IfOk result (λ definition. definition ≡ (index, NumberConst (cast_signed w32 fuel) ∷ [])) }
     ensures memory { IfErr result (λ e. e ≡ Error.Memory) }
@@ -84,17 +84,19 @@ fn push_counter(
 }
 
 impl Module {
-    /// Adds a global that counts calls down from `default_fuel`, and gives its index. An encoder makes each call of a defined
-    /// function take 1 off the counter, or trap at 0.
+    /// Adds a global that counts calls down from `default_fuel`, and returns its index. An encoder
+    /// makes each call of a defined function subtract 1 from the counter, or trap at 0.
     ///
-    /// The counter comes behind all other globals, past the maximum of the configuration too, and is not exported. A further
-    /// call adds another counter, which bodies check before the earlier counters. `alloc` keeps the definition.
+    /// The counter follows all other globals, even past the maximum of the configuration, and is
+    /// not exported. A further call adds another counter, which bodies check before the earlier
+    /// counters. The definition takes memory from `alloc`.
     ///
     /// The module has fewer than 2^32 - 1 globals.
     ///
     /// # Errors
     ///
-    /// `IncorrectFormat(RawBody)` where a body is raw bytes, before which no check can stand. The module is then as it was.
+    /// `IncorrectFormat(RawBody)` if a body is raw bytes, before which no check can be placed. The
+    /// module is unchanged after any error.
     pub fn ensure_termination(&mut self, alloc: Global, default_fuel: u32) -> Result<u32, Error>
         requires room { length self.old.globals < 2 ^ 32 - 1 }
         ensures answer { AnswersFuel default_fuel self.old self.new result }

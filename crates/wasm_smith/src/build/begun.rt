@@ -1,4 +1,4 @@
-//! The beginning of a module, of the shapes that its configuration uses.
+//! The first parts of a module, from the shapes that its configuration uses.
 
 ghost use Rattle.std.specs.Prelude.{◌≡◌, [], IfOk, IfErr, OnOk};
 ghost use Rattle.smith_bytes.specs.Source.{KeepsPieces};
@@ -20,8 +20,8 @@ use smith_imports::{imports_of_shape, take_available_imports, types_of_shape};
 use smith_types::TypeSpace;
 use std::alloc::Global;
 
-/// Begins a module with the types, the imports and the exports of the module shape `shape`, each export of an entity that is
-/// defined for it.
+/// Begins a module with the types, the imports and the exports of the module shape `shape`. Defines
+/// an entity for each export.
 #[tactic(auto, unfolding(crate::specs::Begun::begun_by_module_at))]
 pub(crate) fn begin_with_module(
     alloc: Global,
@@ -52,7 +52,8 @@ pub(crate) fn begin_with_module(
     Ok(())
 }
 
-/// Begins a module with the types of the available imports `shape`, and its imports that the bytes pick and that fit.
+/// Begins a module with the types of the available imports `shape`, and those of its imports that
+/// the bytes pick and that fit.
 #[tactic(auto, unfolding(crate::specs::Begun::begun_by_imports_at))]
 pub(crate) fn begin_with_imports(
     alloc: Global,
@@ -75,7 +76,8 @@ pub(crate) fn begin_with_imports(
     Ok(())
 }
 
-/// Begins a module with the shapes that `config` uses: a module shape, else available imports, else nothing.
+/// Begins a module with the shapes that `config` uses: a module shape, else available imports, else
+/// nothing.
 #[tactic(auto, unfolding(crate::specs::Begun::begun_at))]
 pub(crate) fn begin(
     alloc: Global,
@@ -101,8 +103,8 @@ pub(crate) fn begin(
     Ok(())
 }
 
-/// Makes a type space with room for the least number of types of `config`. It keeps what types ground only where `config` has
-/// references that aren't nullable.
+/// Makes a type space with room for the minimum number of types of `config`. It records what the
+/// types ground only if `config` has non-nullable references.
 fn no_types(alloc: Global, config: &Config) -> Result<TypeSpace, Error>
     ensures ok { IfOk result (λ space. space ≡ record { types = []; groups = [] }) }
     ensures memory { IfErr result (λ e. e ≡ Error.Memory) }

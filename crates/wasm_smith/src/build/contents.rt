@@ -1,4 +1,4 @@
-//! The contents of a module behind all definitions.
+//! The contents of a module after all definitions.
 
 ghost use Rattle.std.specs.Prelude.{◌≡◌, [], None, false, IfOk, IfErr, All};
 ghost use Rattle.smith_bytes.specs.Source.{KeepsPieces};
@@ -27,12 +27,12 @@ use smith_imports::Imported;
 use smith_types::{Code, ExportKind, Items, Name, TypeSpace};
 use std::alloc::Global;
 
-/// The exports, start function, segments and bodies of a module.
+/// Exports, start function, segments and bodies of a module.
 #[derive(Drop)]
 pub(crate) struct Contents {
     /// The name of each export, and the kind and the index of its item.
     pub(crate) exports: Items<(Name, ExportKind, u32)>,
-    /// What the imports and the exports add to the type size of the module.
+    /// The amount that the imports and the exports add to the type size of the module.
     pub(crate) type_size: u32,
     /// Whether a type section is written.
     pub(crate) encodes_types: bool,
@@ -45,7 +45,7 @@ pub(crate) struct Contents {
 }
 
 impl Contents {
-    /// Begins without contents. Takes no memory.
+    /// Makes empty contents. Takes no memory.
     pub(crate) fn none(alloc: Global) -> Self
         ensures { result ≡ record {
           exports = [];
@@ -67,8 +67,8 @@ impl Contents {
     }
 }
 
-/// Draws, behind the exports `made`, whether a type section is written, a start function, segments and bodies, in this order,
-/// over all that is imported and defined.
+/// Draws, after the exports `made`, whether a type section is written, a start function, segments
+/// and bodies, in this order, over all imported and defined entities.
 #[tactic(auto, unfolding(crate::specs::DrawnContents::behind_exports_at))]
 pub(crate) fn draw_behind_exports(
     alloc: Global,
@@ -106,7 +106,8 @@ pub(crate) fn draw_behind_exports(
     })
 }
 
-/// Draws the contents behind the exports `made`, as [`draw_behind_exports`] does, over all that stands in `drawn`.
+/// Draws the contents after the exports `made`, as [`draw_behind_exports`] does, over all parts of
+/// `drawn`.
 pub(crate) fn draw_contents(
     alloc: Global,
     config: &Config,

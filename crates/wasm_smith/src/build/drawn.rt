@@ -25,16 +25,16 @@ use smith_imports::Imported;
 use smith_types::{Items, TypeSpace};
 use std::alloc::Global;
 
-/// The parts of a module, as they are drawn.
+/// Parts of a module, as they are drawn.
 #[derive(Drop)]
 pub(crate) struct Drawn {
     /// The types, in their recursive groups.
     pub(crate) types: TypeSpace,
-    /// The imports, and the index spaces that they begin, to their ends.
+    /// The imports, and the complete index spaces, which the imports begin.
     pub(crate) imported: Imported,
-    /// The definitions behind the imports.
+    /// The definitions after the imports.
     pub(crate) definitions: Definitions,
-    /// The contents behind the definitions.
+    /// The contents after the definitions.
     pub(crate) contents: Contents,
     /// Whether an import section is written.
     pub(crate) encodes_imports: bool,
@@ -45,7 +45,7 @@ pub(crate) struct Drawn {
 }
 
 impl Drawn {
-    /// Begins with nothing drawn. Takes no memory.
+    /// Makes parts of which nothing is drawn. Takes no memory.
     pub(crate) fn none(alloc: Global) -> Self
         ensures { HasNothing result }
     {
@@ -61,7 +61,8 @@ impl Drawn {
     }
 }
 
-/// Draws the parts of a module into `drawn`, which has none yet, in the order of the steps, and collects the interesting values.
+/// Draws the parts of a module into `drawn`, which is empty, in the order of the steps, and
+/// collects the interesting values.
 #[tactic(auto, unfolding(crate::specs::Build::module_at))]
 fn draw_parts(
     alloc: Global,
@@ -97,8 +98,8 @@ fn draw_parts(
     Ok(())
 }
 
-/// Draws the parts of a module. Where `distinct` is set and no shape fixes the imports, no two imports have the same pair of
-/// names.
+/// Draws the parts of a module. If `distinct` is set and no shape fixes the imports, no two imports
+/// have the same pair of names.
 pub(crate) fn draw(
     alloc: Global,
     config: &Config,

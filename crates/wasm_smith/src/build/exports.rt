@@ -24,8 +24,8 @@ use smith_types::Items;
 use std::alloc::Global;
 use std::mem;
 
-/// Takes the exports that a module shape made, makes the exports of a shape for exports, each of an entity that is defined for
-/// it, or draws exports.
+/// Takes the exports of a module shape, which are made already, or makes those of a shape for
+/// exports, each of an entity that is defined for it, or draws exports.
 #[tactic(auto, unfolding(crate::specs::Build::exported_at))]
 pub(crate) fn make_exports(
     alloc: Global,

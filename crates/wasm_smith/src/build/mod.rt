@@ -32,8 +32,9 @@ use smith_config::Config;
 use smith_types::Items;
 use std::alloc::Global;
 
-/// Draws a module for `config`, which is sanitised and passes its check, and whose shapes pass theirs. Where `distinct` is set
-/// and no shape fixes the imports, no two imports have the same pair of names.
+/// Draws a module for `config`, which is sanitised and passes its check, and whose shapes pass
+/// theirs. If `distinct` is set and no shape fixes the imports, no two imports have the same pair
+/// of names.
 pub(crate) fn build(
     alloc: Global,
     config: Config,

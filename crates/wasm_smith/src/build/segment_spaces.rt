@@ -4,7 +4,7 @@ ghost use Rattle.wasm_smith.specs.Contents.{AreSpacesOver};
 use smith_draw::{Entities, Spaces};
 use smith_types::{IndexSpaces, TypeSpace};
 
-/// The types and entities that a segment may refer to: all of `types` and of `spaces`.
+/// Returns the types and entities that a segment may refer to: all of `types` and of `spaces`.
 pub(crate) fn segment_spaces<'a>(
     types: &'a TypeSpace,
     spaces: &'a IndexSpaces,

@@ -16,7 +16,7 @@ use smith_imports::Imported;
 use smith_types::{DataSegment, ElementSegment, Items, TypeSpace};
 use std::alloc::Global;
 
-/// The segments of a module.
+/// Segments of a module.
 #[derive(Drop)]
 pub(crate) struct Segments {
     /// The element segments.
@@ -26,7 +26,7 @@ pub(crate) struct Segments {
 }
 
 impl Segments {
-    /// Begins without segments. Takes no memory.
+    /// Makes empty lists of segments. Takes no memory.
     pub(crate) fn none(alloc: Global) -> Self
         ensures { result ≡ record { elements = []; data_segments = [] } }
     {
@@ -37,7 +37,7 @@ impl Segments {
     }
 }
 
-/// Draws the element segments, then the data segments, over all that is imported and defined.
+/// Draws the element segments, then the data segments, over all imported and defined entities.
 #[tactic(auto, unfolding(crate::specs::DrawnContents::all_segments_at))]
 pub(crate) fn draw_segments(
     alloc: Global,

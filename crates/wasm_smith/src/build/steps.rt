@@ -19,7 +19,8 @@ use smith_definitions::define;
 use smith_imports::arbitrary_imports;
 use std::alloc::Global;
 
-/// Begins a module with the module shape or the available imports of `config`, and draws types behind the types of the shape.
+/// Begins a module with the module shape or the available imports of `config`, and draws types
+/// after the types of the shape.
 #[tactic(auto, unfolding(crate::specs::Build::begun_typed_at))]
 pub(crate) fn begin_with_types(
     alloc: Global,
@@ -43,7 +44,8 @@ pub(crate) fn begin_with_types(
     add_more_types(alloc, config, &mut drawn.types, funcs, imported_funcs, u)
 }
 
-/// Draws imports, where no shape fixes them. Where `distinct` is set, no two imports have the same pair of names.
+/// Draws imports, unless a shape fixes them. If `distinct` is set, no two imports have the same
+/// pair of names.
 #[tactic(auto, unfolding(crate::specs::Build::imported_at))]
 pub(crate) fn add_imports(
     alloc: Global,
@@ -69,7 +71,7 @@ pub(crate) fn add_imports(
     arbitrary_imports(alloc, config, distinct, &drawn.types, imported, u)
 }
 
-/// Defines entities behind those of `drawn`.
+/// Defines entities after those of `drawn`.
 #[tactic(auto, unfolding(crate::specs::Build::defined_at))]
 pub(crate) fn add_definitions(
     alloc: Global,
