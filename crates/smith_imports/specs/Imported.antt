@@ -103,6 +103,10 @@ HasNoFloatValue global = IsNoFloat global.val_type
 abbrev pub HasGroundedElements : Config → Context → TableType → Type 0
 HasGroundedElements config context table = ¬ IsUngrounded config context (Ref table.element_type)
 
+-- the value of a global is no reference that may not be null, or, where `non_nullable_enabled` is set, one that is grounded
+abbrev pub HasGroundedValue : Config → Context → GlobalType → Type 0
+HasGroundedValue config context global = ¬ IsUngrounded config context global.val_type
+
 -- imports are valid and within the bounds; each adds at most 42 to the type size; their pairs of names are distinct where
 -- they must be
 pub record AreImportsFit (config : Config) (types : List SubType) (distinct : Bool) (imports : List Import) : Type 0 where
@@ -113,6 +117,7 @@ pub record AreImportsFit (config : Config) (types : List SubType) (distinct : Bo
   pub type_size : sizes types imports ≤ config.max_type_size
   pub small : sizes types imports ≤ 42 * length imports
   pub grounded_tables : All (HasGroundedElements config (import_scope config types (imported_spaces imports))) (imported_spaces imports).tables
+  pub grounded_globals : All (HasGroundedValue config (import_scope config types (imported_spaces imports))) (imported_spaces imports).globals
   pub floats : config.allow_floats ≡ false → All HasNoFloatValue (imported_spaces imports).globals
   pub apart : IsTrue distinct → AreDistinct {A = List ℕ × List ℕ} (map (λ (one : Import). (one.«module», one.name)) imports)
 
@@ -129,7 +134,8 @@ pub record IsEntityFit (config : Config) (types : List SubType) (added : EntityT
 -- an entity may be imported beside index spaces
 pub record IsFitBeside (config : Config) (types : List SubType) (spaces : IndexSpaces) (added : EntityType) : Type 0 where
   pub entity : IsEntityFit config types added
-  pub grounded : All (HasGroundedElements config (import_scope config types spaces)) (table_of added)
+  pub grounded_tables : All (HasGroundedElements config (import_scope config types spaces)) (table_of added)
+  pub grounded_globals : All (HasGroundedValue config (import_scope config types spaces)) (global_of added)
 
 -- an entity may be imported beside index spaces and a type size
 pub record IsNext (config : Config) (types : List SubType) (spaces : IndexSpaces) (size : ℕ) (added : EntityType) : Type 0 where
