@@ -28,6 +28,7 @@ use Rattle.smith_config.specs.Sanitized.{IsSanitized}
 use Rattle.smith_draw.specs.ConstBounds.{IsUngrounded, HoldsUngroundedField, MayLack}
 use Rattle.smith_draw.specs.ConstFloats.{GivesNoFloat}
 use Rattle.smith_draw.specs.ConstScopes.{AreSpacesValid}
+use Rattle.smith_draw.specs.Grounding.{without_globals}
 use Rattle.smith_draw.specs.declared.spaces.Spaces.{Spaces}
 use Rattle.smith_contents.specs.Held.{HasItems}
 use Rattle.smith_contents.specs.Held.{expressions_of}
@@ -86,17 +87,22 @@ pub record AreItemsFit (config : Config) (context : Context) (ty : RefType) (ite
   pub enough : HasItems config context.types context.funcs items
   pub floats : All HasNoFloat context.types → All (All GivesNoFloat) (expressions_of items)
 
--- a segment may stand in the module: it is valid, has enough items without a float, and with `disallow_traps` what is copied
--- fits
+-- the elements of a table may not be null, and, where `non_nullable_enabled` is set, are not grounded
+abbrev pub HasUngroundedElements : Config → Context → List TableType → Type 0
+HasUngroundedElements config context tables = Any (λ (table : TableType). IsUngrounded config context (Ref table.element_type)) tables
+
+-- the items of a segment may be null, or, where `non_nullable_enabled` is set, are grounded
+abbrev pub HasGroundedItems : Config → Context → ElementSegment → Type 0
+HasGroundedItems config context segment = ¬ IsUngrounded config context (Ref segment.ty)
+
+-- a segment may stand in the module: it is valid, has enough items without a float, with `disallow_traps` what is copied fits,
+-- and where the elements of all tables may be null or are grounded, so may its items
 pub record IsElementFit (config : Config) (context : Context) (tables : List TableType) (segment : ElementSegment) : Type 0 where
   pub valid : IsElementValid context tables segment
   pub inside : IsTrue config.disallow_traps → IsElementInside tables segment
   pub enough : HasItems config context.types context.funcs segment.items
   pub floats : All HasNoFloat context.types → All (All GivesNoFloat) (expressions_of segment.items)
-
--- the elements of a table may not be null, and, where `non_nullable_enabled` is set, are not grounded
-abbrev pub HasUngroundedElements : Config → Context → List TableType → Type 0
-HasUngroundedElements config context tables = Any (λ (table : TableType). IsUngrounded config context (Ref table.element_type)) tables
+  pub grounded : ¬ HasUngroundedElements config (without_globals context) tables → HasGroundedItems config (without_globals context) segment
 
 -- where there may be nothing to choose from for an item of a segment: a field of a type, or an element of a table, is such a
 -- reference
