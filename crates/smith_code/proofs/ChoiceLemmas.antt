@@ -21,9 +21,11 @@ use Rattle.smith_instr.specs.declared.memory.Load.{Load}
 use Rattle.smith_instr.specs.declared.memory.Store.{Store}
 use Rattle.smith_instr.specs.declared.memory.Store.TheVariants as store
 use Rattle.smith_instr.specs.declared.numeric.NumericInstr.{NumericInstr}
-use Rattle.smith_code.specs.Choices.{Chosen, access_at, allowed_choice_at, any_block_at, any_block_node, any_call_at, any_call_node, block_at, branch_at, call_at, call_node, drop_at, dropped_at, giving, global_set_at, global_set_node, growth_node, label_at, label_count, leaving_at, load_at, load_by, load_node, memory_at, memory_by, numeric_at, numeric_node, opening_at, or_nop, return_node, set_at, set_node, some_targets_at, statement_choice_at, statement_families, statement_of, store_at, store_node, table_at, tee_at, tee_node, value_choice_at, value_families, value_of}
+use Rattle.smith_code.specs.Choices.{allowed_choice_at, any_block_at, any_block_node, any_call_at, any_call_node, block_at, branch_at, call_at, call_node, drop_at, dropped_at, global_set_at, global_set_node, growth_node, label_at, leaving_at, load_at, load_by, load_node, memory_at, memory_by, numeric_at, numeric_node, opening_at, or_nop, return_node, set_at, set_node, some_targets_at, statement_choice_at, statement_families, statement_of, store_at, store_node, table_at, tee_at, tee_node, value_choice_at, value_families, value_of}
+use Rattle.smith_code.specs.Chosen.{Chosen, giving}
+use Rattle.smith_code.specs.Accesses.{access_at}
 use Rattle.smith_code.specs.Nodes.{blocked, is_node_allowed, node_of, setting}
-use Rattle.smith_code.specs.Offered.{func_in, function_at, is_addressed, is_callable, is_local_below, is_mutable, offered}
+use Rattle.smith_code.specs.Offered.{func_in, function_at, is_addressed, is_callable, is_local_below, is_mutable, label_count, offered}
 use Rattle.smith_code.specs.Rows.{loads_of, numeric_rows, stores}
 use Rattle.smith_code.specs.Scopes.{indexed}
 use Rattle.smith_code.specs.declared.families.StatementFamily.{StatementFamily}
@@ -55,7 +57,7 @@ pub as_nop : (chosen : Chosen) (left : List ℕ) → chosen ≡ (None, left) →
 as_nop chosen left is = ap (λ (c : Chosen). or_nop c) is
 
 -- one number of one takes no byte
-no_range : (bytes : List ℕ) → range_at 0 0 bytes ≡ (0, bytes)
+pub no_range : (bytes : List ℕ) → range_at 0 0 bytes ≡ (0, bytes)
 unfolding range_at digit_count
 no_range bytes = refl
 
@@ -64,7 +66,7 @@ unfolding choose_at range_at digit_count
 choose_none [] bytes none = refl
 choose_none (x ∷ xs) bytes none = absurd (omega arith)
 
-choose_there : {A : Type 0} (items : List A) (bytes left : List ℕ) (place : ℕ) (d : A) → range_at 0 (length items - 1) bytes ≡ (place, left) → place < length items → choose_at items bytes ≡ (Some (get_or items place d), left)
+pub choose_there : {A : Type 0} (items : List A) (bytes left : List ℕ) (place : ℕ) (d : A) → range_at 0 (length items - 1) bytes ≡ (place, left) → place < length items → choose_at items bytes ≡ (Some (get_or items place d), left)
 choose_there items bytes left place d drawn inside = chosen_at_place items bytes left place (Some (get_or items place d)) drawn (sym (slice_get-get_or items place d inside))
 
 -- no items, no index
@@ -293,20 +295,23 @@ memory_there context wanted bytes middle left index grown drawn drawn' =
     ap (λ (index : Option ℕ × List ℕ). memory_by wanted index.0 index.1) drawn
     ∙ ap (λ (grown : Bool × List ℕ). (Some (growth_node wanted index grown.0), grown.1)) drawn'
 
--- what is chosen by its family
+-- what is chosen by its family, of rows that are the families
+pub chosen_by : {F B : Type 0} (of : F → List ℕ → B) (first : F) (families rows : List F) (bytes left : List ℕ) (drawn family : F) → rows ≡ families → chosen_at first rows bytes ≡ (drawn, left) → drawn ≡ family
+    → of (chosen_at first families bytes).0 (chosen_at first families bytes).1 ≡ of family left
+chosen_by {F = F} of first families rows bytes left drawn family are is same =
+    let is' : chosen_at first families bytes ≡ (family, left) = rw (are, same) at is in
+    ap (λ (r : F × List ℕ). of r.0 r.1) is'
+
 pub value_by : (context : BodyContext) (wanted : ValType) (bytes left : List ℕ) (families : List ValueFamily) (drawn_family family : ValueFamily) → families ≡ value_families → chosen_at value.Leaf families bytes ≡ (drawn_family, left) → drawn_family ≡ family
     → value_choice_at context wanted bytes ≡ value_of context wanted family left
 unfolding value_choice_at
-value_by context wanted bytes left families drawn_family family are drawn is =
-    let drawn' : chosen_at value.Leaf value_families bytes ≡ (family, left) = rw (are, is) at drawn in
-    ap (λ (r : ValueFamily × List ℕ). value_of context wanted r.0 r.1) drawn'
+value_by context wanted bytes left families drawn_family family are drawn is = chosen_by (value_of context wanted) value.Leaf value_families families bytes left drawn_family family are drawn is
 
 pub statement_by : (context : BodyContext) (bytes left : List ℕ) (families : List StatementFamily) (drawn_family family : StatementFamily) → families ≡ statement_families → chosen_at statement.Nop families bytes ≡ (drawn_family, left) → drawn_family ≡ family
     → statement_choice_at context bytes ≡ or_nop (statement_of context family left)
 unfolding statement_choice_at
 statement_by context bytes left families drawn_family family are drawn is =
-    let drawn' : chosen_at statement.Nop statement_families bytes ≡ (family, left) = rw (are, is) at drawn in
-    ap (λ (r : StatementFamily × List ℕ). or_nop (statement_of context r.0 r.1)) drawn'
+    chosen_by (λ family bytes. or_nop (statement_of context family bytes)) statement.Nop statement_families families bytes left drawn_family family are drawn is
 
 -- the node where it is allowed
 pub allowed_node : (kinds : InstructionKinds) (context : BodyContext) (wanted : ValType) (bytes left : List ℕ) (node : Node) → value_choice_at context wanted bytes ≡ (Some node, left) → is_node_allowed context.features kinds node ≡ true

@@ -10,11 +10,12 @@ use Rattle.smith_instr.specs.Contexts.{BodyContext}
 use Rattle.smith_instr.specs.Enabled.{is_enabled}
 use Rattle.smith_instr.specs.declared.instr.Instr.{Instr}
 use Rattle.smith_instr.specs.declared.instr.Instr.TheVariants as instr
-use Rattle.smith_code.specs.Choices.{giving}
+use Rattle.smith_code.specs.Chosen.{giving}
 use Rattle.smith_code.specs.Leaves.{any_leaf_at, constant_at, leaf_at, leaf_choice_at, leaf_families, leaf_of, named_at, or_constant}
 use Rattle.smith_code.specs.Offered.{is_reference, offered}
 use Rattle.smith_code.specs.declared.families.LeafFamily.{LeafFamily}
 use Rattle.smith_code.specs.declared.families.LeafFamily.TheVariants as leaf
+use Rattle.smith_code.proofs.ChoiceLemmas.{chosen_by}
 
 -- a function that may be named, by its place among those
 pub named_none : (context : BodyContext) (wanted : ValType) (bytes left : List ℕ) → choose_at (offered (is_reference context wanted) (length context.references)) bytes ≡ (None, left) → named_at context wanted bytes ≡ (None, left)
@@ -31,9 +32,7 @@ named_there context wanted bytes left place d drawn inside =
 pub leaf_by : (context : BodyContext) (set : List ℕ) (wanted : ValType) (bytes left : List ℕ) (families : List LeafFamily) (drawn_family family : LeafFamily) → families ≡ leaf_families → chosen_at leaf.Constant families bytes ≡ (drawn_family, left)
     → drawn_family ≡ family → leaf_choice_at context set wanted bytes ≡ leaf_of context set wanted family left
 unfolding leaf_choice_at
-leaf_by context set wanted bytes left families drawn_family family are drawn is =
-    let drawn' : chosen_at leaf.Constant leaf_families bytes ≡ (family, left) = rw (are, is) at drawn in
-    ap (λ (r : LeafFamily × List ℕ). leaf_of context set wanted r.0 r.1) drawn'
+leaf_by context set wanted bytes left families drawn_family family are drawn is = chosen_by (leaf_of context set wanted) leaf.Constant leaf_families families bytes left drawn_family family are drawn is
 
 pub leaf_chosen : (context : BodyContext) (set : List ℕ) (wanted : ValType) (bytes left : List ℕ) (instruction : Instr) → leaf_choice_at context set wanted bytes ≡ (Some instruction, left) → any_leaf_at context set wanted bytes ≡ (instruction, left)
 unfolding any_leaf_at

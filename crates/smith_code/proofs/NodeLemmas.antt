@@ -41,7 +41,7 @@ use Rattle.smith_code.specs.declared.node.Opening.TheVariants as opening
 use Rattle.smith_code.specs.declared.node.Sides.{Sides}
 use Rattle.smith_code.specs.declared.scope.Scope.{Scope}
 
-three_wide : (types : List SubType) → 3 ≤ widest types
+pub three_wide : (types : List SubType) → 3 ≤ widest types
 unfolding widest
 three_wide [] = omega arith
 three_wide (t ∷ types) = let rest = three_wide types in omega arith
@@ -269,13 +269,13 @@ any_call_node context set index function scope results there =
     call_node context set [] function.results index function scope (no_valid context) results there (below_themselves context.types function.results) (omega arith)
 
 -- the first of these is below the wanted type
-zip_length : {A B : Type 0} (R : A → B → Type 0) (xs : List A) (ys : List B) → AllZip R xs ys → length xs ≡ length ys
+pub zip_length : {A B : Type 0} (R : A → B → Type 0) (xs : List A) (ys : List B) → AllZip R xs ys → length xs ≡ length ys
 zip_length R [] [] zip = refl
 zip_length R [] (y ∷ ys) zip = absurd zip
 zip_length R (x ∷ xs) [] zip = absurd zip
 zip_length R (x ∷ xs) (y ∷ ys) (first, more) = ap suc (zip_length R xs ys more)
 
-first_below : (types : List SubType) → IsOrderly types → (wanted : ValType) (values : List ValType) → is_first_below types wanted values ≡ true → AllZip (IsValBelow types) values (wanted ∷ drop 1 values)
+pub first_below : (types : List SubType) → IsOrderly types → (wanted : ValType) (values : List ValType) → is_first_below types wanted values ≡ true → AllZip (IsValBelow types) values (wanted ∷ drop 1 values)
 first_below types orderly wanted [] is = cc
 first_below types orderly wanted (value ∷ more) is = (tested types orderly value wanted is, below_themselves types more)
 
@@ -419,7 +419,7 @@ br_if_node scope labels set index taken are inside is =
       inside = tt;
     }
 
-address_valid : (context : BodyContext) (wide : Bool) → IsValid context (address wide)
+pub address_valid : (context : BodyContext) (wide : Bool) → IsValid context (address wide)
 address_valid context true = tt
 address_valid context false = tt
 

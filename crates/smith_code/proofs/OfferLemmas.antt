@@ -50,11 +50,11 @@ use Rattle.smith_code.specs.Offered.{
 }
 use Rattle.smith_code.specs.declared.scope.Scope.{Scope}
 
-both : (a b : Bool) → (a && b) ≡ true → (a ≡ true) × (b ≡ true)
+pub both : (a b : Bool) → (a && b) ≡ true → (a ≡ true) × (b ≡ true)
 both true b e = (refl, e)
 both false b e = cc
 
-either : (a b : Bool) → (a || b) ≡ true → (a ≡ true) ⊎ (b ≡ true)
+pub either : (a b : Bool) → (a || b) ≡ true → (a ≡ true) ⊎ (b ≡ true)
 either true b e = inl refl
 either false b e = inr e
 
@@ -153,7 +153,7 @@ pub target_there : (scope : Scope) (labels : List (List ValType)) (taken : List 
     → is_target (bare scope).types labels taken index ≡ true → IsTaken (context_of scope labels) taken index
 target_there scope labels taken index orderly is = target_at scope labels taken index (slice_get labels index) orderly refl is
 
-is_this_address : (wanted : ValType) (wide : Bool) → is_address wanted wide ≡ true → wanted ≡ address wide
+pub is_this_address : (wanted : ValType) (wide : Bool) → is_address wanted wide ≡ true → wanted ≡ address wide
 is_this_address I32 true is = cc
 is_this_address I32 false is = refl
 is_this_address I64 true is = refl

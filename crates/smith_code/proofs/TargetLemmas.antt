@@ -7,8 +7,8 @@ use Rattle.smith_bytes.specs.Draws.{choose_at, range_at}
 use Rattle.smith_bytes.proofs.DrawnLemmas.{range_within}
 use Rattle.smith_types.specs.declared.value_type.ValType.{ValType}
 use Rattle.smith_instr.specs.Contexts.{BodyContext}
-use Rattle.smith_code.specs.Choices.{label_count, some_targets_at, targets_at}
-use Rattle.smith_code.specs.Offered.{is_target, offered}
+use Rattle.smith_code.specs.Choices.{some_targets_at, targets_at}
+use Rattle.smith_code.specs.Offered.{is_target, label_count, offered}
 use Rattle.smith_code.proofs.ChoiceLemmas.{choose_none}
 
 -- none is chosen only of none

@@ -1,6 +1,5 @@
--- The node that the bytes choose. The choices, their order and their weights are rules of this
--- project.
-use Rattle.std.specs.Prelude.{ℕ, zero, suc, ◌-◌, ◌==◌, min, Bool, true, false, Option, Some, None, option_map, option_and_then, option_to_list, unwrap_or, List, [], ◌∷◌, ◌++◌, length, slice_get, slice_index_or, if◌then◌else◌}
+-- Which node the bytes choose. The choices, their order and how often each comes are rules of this project.
+use Rattle.std.specs.Prelude.{ℕ, zero, suc, ◌-◌, ◌==◌, min, Bool, true, false, Option, Some, None, option_map, option_to_list, unwrap_or, List, [], ◌∷◌, ◌++◌, length, slice_get, slice_index_or, if◌then◌else◌, option_and_then}
 use Rattle.smith_bytes.specs.Draws.{bool_at, range_at, choose_at, whole_at}
 use Rattle.smith_types.specs.Features.{Features}
 use Rattle.smith_types.specs.declared.instruction_kind.InstructionKinds.{InstructionKinds}
@@ -19,10 +18,18 @@ use Rattle.smith_instr.specs.declared.memory.Store.{Store}
 use Rattle.smith_instr.specs.declared.memory.Store.TheVariants as store
 use Rattle.smith_instr.specs.declared.memory.MemoryInstr.TheVariants as memory
 use Rattle.smith_instr.specs.declared.numeric.NumericInstr.{NumericInstr}
+use Rattle.smith_code.specs.BulkChoices.{bulk_at}
+use Rattle.smith_code.specs.CallChoices.{by_reference_at, indirect_at, tail_call_at}
+use Rattle.smith_code.specs.Chosen.{Chosen, giving}
+use Rattle.smith_code.specs.Accesses.{access_at}
 use Rattle.smith_code.specs.Nodes.{blocked, is_node_allowed, node_of, setting}
-use Rattle.smith_code.specs.Offered.{func_in, function_at, is_addressed, is_callable, is_local_below, is_mutable, is_target, offered}
+use Rattle.smith_code.specs.NullChoices.{br_on_null_value_at, null_branch_at}
+use Rattle.smith_code.specs.Offered.{func_in, function_at, is_addressed, is_callable, is_local_below, is_mutable, is_target, label_count, offered}
+use Rattle.smith_code.specs.ReferenceChoices.{reference_value_at, select_typed_node}
 use Rattle.smith_code.specs.Rows.{loads_of, numeric_rows, stores}
 use Rattle.smith_code.specs.Scopes.{indexed}
+use Rattle.smith_code.specs.TableChoices.{table_change_at, table_value_at}
+use Rattle.smith_code.specs.VectorChoices.{store_lane_at, vector_at, vector_store_at}
 use Rattle.smith_code.specs.declared.families.StatementFamily.{StatementFamily}
 use Rattle.smith_code.specs.declared.families.StatementFamily.TheVariants as statement
 use Rattle.smith_code.specs.declared.families.ValueFamily.{ValueFamily}
@@ -31,14 +38,7 @@ use Rattle.smith_code.specs.declared.memories.Access.{Access}
 use Rattle.smith_code.specs.declared.node.Node.{Node}
 use Rattle.smith_code.specs.declared.node.Opening.{Opening}
 use Rattle.smith_code.specs.declared.node.Opening.TheVariants as opening
-
--- a node that is chosen, if one is, and the bytes left
-abbrev pub Chosen : Type 0
-Chosen = Option Node × List ℕ
-
--- the result for an item that was drawn, if it has one
-abbrev pub giving : {A B : Type 0} → (A → Option B) → Option A × List ℕ → Option B × List ℕ
-giving give drawn = (option_and_then give drawn.0, drawn.1)
+use Rattle.smith_code.specs.declared.outcomes.Outcome.TheVariants as outcome
 
 -- a numeric instruction whose first result has the wanted type; the other results are dropped
 abbrev pub numeric_node : NumericInstr → Option Node
@@ -90,11 +90,7 @@ opening_at bytes = let number = range_at 0 5 bytes in (slice_index_or openings n
 unfoldable pub block_at : ValType → List ℕ → Chosen
 block_at wanted bytes = let opening = opening_at bytes in (Some (blocked opening.0 (block.Value wanted) [] (wanted ∷ []) 0), opening.1)
 
--- only the 64 innermost labels may be chosen
-abbrev pub label_count : BodyContext → ℕ
-label_count context = min (length context.labels) 64
-
--- a label, or 0 if there is none
+-- a label: 0 where there is none
 abbrev pub label_at : BodyContext → List ℕ → ℕ × List ℕ
 label_at context bytes = range_at 0 (label_count context - 1) bytes
 
@@ -114,19 +110,6 @@ leaving_at context bytes =
     if label_count context == 0 then (Some (return_node context), bytes)
     else if out.0 then (Some (return_node context), out.1)
     else (br_node context label.0, label.1)
-
--- an access to a memory of a type, with an alignment up to one of this binary logarithm
-abbrev pub access_in : ℕ → ℕ → Option MemoryType → List ℕ → Option Access × List ℕ
-access_in log2_bytes index None bytes = (None, bytes)
-access_in log2_bytes index (Some memory) bytes =
-    let align = range_at 0 log2_bytes bytes in
-    let offset = whole_at (if memory.memory64 then 8 else 4) align.1 in
-    (Some (record { at = record { align = align.0; offset = offset.0; memory = index }; wide = memory.memory64 }), offset.1)
-
-unfoldable pub access_at : List MemoryType → ℕ → List ℕ → Option Access × List ℕ
-access_at memories log2_bytes bytes =
-    let index = range_at 0 (indexed (length memories) - 1) bytes in
-    access_in log2_bytes index.0 (slice_get memories index.0) index.1
 
 -- a load
 abbrev pub load_node : Load → Access → Option Node
@@ -174,6 +157,16 @@ value_families =
     value.Load ∷
     value.Load ∷
     value.Memory ∷
+    value.Table ∷
+    value.SelectTyped ∷
+    value.Reference ∷
+    value.CallIndirect ∷
+    value.CallRef ∷
+    value.TailCall ∷
+    value.NullBranch ∷
+    value.Vector ∷
+    value.Vector ∷
+    value.Vector ∷
     []
 
 -- a value of a family: none of a leaf
@@ -187,6 +180,14 @@ value_of context wanted value.Block bytes = block_at wanted bytes
 value_of context wanted value.Leaving bytes = leaving_at context bytes
 value_of context wanted value.Load bytes = load_at context wanted bytes
 value_of context wanted value.Memory bytes = memory_at context wanted bytes
+value_of context wanted value.Table bytes = table_value_at context wanted bytes
+value_of context wanted value.SelectTyped bytes = (Some (select_typed_node wanted), bytes)
+value_of context wanted value.Reference bytes = reference_value_at context wanted bytes
+value_of context wanted value.CallIndirect bytes = indirect_at context (outcome.Wanted wanted) bytes
+value_of context wanted value.CallRef bytes = by_reference_at context (outcome.Wanted wanted) bytes
+value_of context wanted value.TailCall bytes = tail_call_at context bytes
+value_of context wanted value.NullBranch bytes = br_on_null_value_at context wanted bytes
+value_of context wanted value.Vector bytes = vector_at context wanted bytes
 
 unfoldable pub value_choice_at : BodyContext → ValType → List ℕ → Chosen
 value_choice_at context wanted bytes = let family = chosen_at value.Leaf value_families bytes in value_of context wanted family.0 family.1
@@ -300,6 +301,14 @@ statement_families =
     statement.Store ∷
     statement.Unreachable ∷
     statement.LocalSet ∷
+    statement.TableChange ∷
+    statement.Bulk ∷
+    statement.CallIndirect ∷
+    statement.CallRef ∷
+    statement.TailCall ∷
+    statement.NullBranch ∷
+    statement.VectorStore ∷
+    statement.StoreLane ∷
     []
 
 -- a statement of a family: none of `nop`
@@ -315,6 +324,14 @@ statement_of context statement.Table bytes = table_at context bytes
 statement_of context statement.Store bytes = store_at context bytes
 statement_of context statement.Unreachable bytes = (Some (node_of [] instr.Unreachable 0), bytes)
 statement_of context statement.LocalSet bytes = set_at context bytes
+statement_of context statement.TableChange bytes = table_change_at context bytes
+statement_of context statement.Bulk bytes = bulk_at context bytes
+statement_of context statement.CallIndirect bytes = indirect_at context outcome.Dropped bytes
+statement_of context statement.CallRef bytes = by_reference_at context outcome.Dropped bytes
+statement_of context statement.TailCall bytes = tail_call_at context bytes
+statement_of context statement.NullBranch bytes = null_branch_at context bytes
+statement_of context statement.VectorStore bytes = vector_store_at context bytes
+statement_of context statement.StoreLane bytes = store_lane_at context bytes
 
 -- the node that was chosen, or `nop`
 abbrev pub or_nop : Chosen → Node × List ℕ

@@ -13,7 +13,7 @@ use Rattle.smith_instr.specs.Enabled.{is_enabled}
 use Rattle.smith_instr.specs.declared.instr.Instr.{Instr}
 use Rattle.smith_instr.specs.declared.instr.Instr.TheVariants as instr
 use Rattle.smith_instr.specs.declared.reference.ReferenceInstr.TheVariants as reference
-use Rattle.smith_code.specs.Choices.{giving}
+use Rattle.smith_code.specs.Chosen.{giving}
 use Rattle.smith_code.specs.Offered.{is_global_below, is_readable, is_reference, offered}
 use Rattle.smith_code.specs.Scopes.{indexed}
 use Rattle.smith_code.specs.declared.families.LeafFamily.{LeafFamily}

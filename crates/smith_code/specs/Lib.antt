@@ -3,6 +3,16 @@ pub mod Nodes
 pub mod Drawn
 pub mod Offered
 pub mod Rows
+pub mod Chosen
+pub mod Items
+pub mod TableChoices
+pub mod BulkChoices
+pub mod ReferenceChoices
+pub mod CallChoices
+pub mod NullChoices
+pub mod Accesses
+pub mod VectorRows
+pub mod VectorChoices
 pub mod Choices
 pub mod Leaves
 pub mod Bodies

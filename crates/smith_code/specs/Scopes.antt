@@ -10,7 +10,8 @@ use Rattle.smith_types.specs.declared.composite_type.CompositeInnerType.TheVaria
 use Rattle.smith_types.specs.declared.composite_type.FuncType.{FuncType}
 use Rattle.smith_types.specs.declared.composite_type.SubType.{SubType}
 use Rattle.smith_types.specs.declared.entity_type.GlobalType.{GlobalType}
-use Rattle.smith_instr.specs.Contexts.{BodyContext, AreValid}
+use Rattle.smith_types.specs.declared.entity_type.TableType.{TableType}
+use Rattle.smith_instr.specs.Contexts.{BodyContext, AreValid, IsRefValid}
 use Rattle.smith_instr.specs.Enabled.{IsEnabled}
 use Rattle.smith_instr.specs.declared.instr.Instr.{Instr}
 use Rattle.smith_code.specs.declared.scope.Scope.{Scope}
@@ -71,6 +72,8 @@ pub record IsScope (context : BodyContext) : Type 0 where
   pub orderly : IsOrderly context.types
   pub funcs : All (IsFuncValid context.types) context.funcs
   pub globals : All (λ (global : GlobalType). IsValTypeValid context.features (length context.types) global.val_type) context.globals
+  pub tables : All (λ (table : TableType). IsRefValid context table.element_type) context.tables
+  pub elements : All (IsRefValid context) context.elements
   pub locals : AreValid context context.locals
   pub results : AreValid context context.results
   pub results_few : length context.results ≤ widest context.types

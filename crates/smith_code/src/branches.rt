@@ -92,8 +92,8 @@ impl<'a> Offer for TargetOffer<'a> {
     }
 }
 
-/// Whether each of `values` matches the type at its place in `wanted`.
-fn are_below(scope: &Scope<'_>, values: &[ValType], wanted: &[ValType]) -> bool
+/// Whether `values` are below `wanted`, one by one.
+pub(crate) fn are_below(scope: &Scope<'_>, values: &[ValType], wanted: &[ValType]) -> bool
     requires scope { IsScope (bare scope.now) }
     requires values { AreValid (bare scope.now) values.now }
     requires wanted { AreValid (bare scope.now) wanted.now }

@@ -20,14 +20,25 @@ ghost use Rattle.smith_code.specs.Scopes.{AreLabels, IsScope, bare, where_stands
 
 use crate::blocks::{choose_any_block, choose_block};
 use crate::branches::{choose_branch, choose_leaving, choose_table};
+use crate::bulk::choose_bulk;
+use crate::calls::{
+    choose_any_by_reference, choose_any_indirect, choose_by_reference, choose_indirect,
+};
 use crate::families::{StatementFamily, ValueFamily, statement_families, value_families};
 use crate::funcs::{choose_callable, function_of};
 use crate::globals::choose_mutable;
 use crate::locals::choose_local;
 use crate::memories::{choose_load, choose_memory, choose_store};
 use crate::node::{Node, is_node_allowed, plain, setter};
+use crate::null_branches::{choose_kept, choose_null_branch};
 use crate::numeric::{choose_numeric, choose_select};
+use crate::outcomes::Outcome;
+use crate::reference_values::{choose_reference_value, choose_select_typed};
 use crate::scope::{Draft, Scope, indexed};
+use crate::tables::{choose_table_change, choose_table_value};
+use crate::tail_calls::{choose_any_tail_call, choose_tail_call};
+use crate::vector_memory::{choose_store_lane, choose_vector_store};
+use crate::vectors::choose_vector;
 use smith_bytes::{Error, Unstructured};
 use smith_draw::choose;
 use smith_instr::Instr;
@@ -89,6 +100,18 @@ fn choose_value(
         ValueFamily::Leaving => choose_leaving_for(alloc, scope, wanted, draft, u),
         ValueFamily::Load => choose_load(alloc, scope, wanted, draft, u),
         ValueFamily::Memory => choose_memory(alloc, scope, wanted, draft, u),
+        ValueFamily::Table => choose_table_value(alloc, scope, wanted, draft, u),
+        ValueFamily::SelectTyped => choose_select_typed(alloc, wanted),
+        ValueFamily::Reference => choose_reference_value(alloc, scope, wanted, draft, u),
+        ValueFamily::CallIndirect => {
+            choose_indirect(alloc, scope, Outcome::Wanted(wanted), draft, u)
+        }
+        ValueFamily::CallRef => {
+            choose_by_reference(alloc, scope, Outcome::Wanted(wanted), draft, u)
+        }
+        ValueFamily::TailCall => choose_tail_call(alloc, scope, draft, u),
+        ValueFamily::NullBranch => choose_kept(alloc, scope, wanted, draft, u),
+        ValueFamily::Vector => choose_vector(alloc, scope, wanted, draft, u),
     }
 }
 
@@ -184,6 +207,14 @@ pub(crate) fn choose_statement(
         StatementFamily::Store => choose_store(alloc, scope, draft, u),
         StatementFamily::Unreachable => plain(alloc, &[], Instr::Unreachable, 0),
         StatementFamily::LocalSet => choose_set(alloc, scope, draft, u),
+        StatementFamily::TableChange => choose_table_change(alloc, scope, draft, u),
+        StatementFamily::Bulk => choose_bulk(alloc, scope, draft, u),
+        StatementFamily::CallIndirect => choose_any_indirect(alloc, scope, draft, u),
+        StatementFamily::CallRef => choose_any_by_reference(alloc, scope, draft, u),
+        StatementFamily::TailCall => choose_any_tail_call(alloc, scope, draft, u),
+        StatementFamily::NullBranch => choose_null_branch(alloc, scope, draft, u),
+        StatementFamily::VectorStore => choose_vector_store(alloc, scope, draft, u),
+        StatementFamily::StoreLane => choose_store_lane(alloc, scope, draft, u),
     }
 }
 

@@ -1,6 +1,7 @@
 ghost use Rattle.std.specs.Prelude.{◌≡◌};
 ghost use Rattle.smith_code.specs.Choices.{statement_families, value_families};
 ghost use Rattle.smith_code.specs.Leaves.{leaf_families};
+ghost use Rattle.smith_code.specs.VectorChoices.{vector_families};
 
 /// Families of instructions that may produce a value.
 #[derive(Clone, Copy)]
@@ -17,6 +18,19 @@ pub(crate) enum ValueFamily {
     Load,
     /// The size of a memory, or its growth.
     Memory,
+    /// An element of a table, its size, or its growth.
+    Table,
+    SelectTyped,
+    /// An instruction on references.
+    Reference,
+    CallIndirect,
+    CallRef,
+    /// A call that does not come back.
+    TailCall,
+    /// A branch on null that may come back.
+    NullBranch,
+    /// A vector, or what a vector instruction gives.
+    Vector,
 }
 
 /// Families of instructions that may be a statement.
@@ -36,6 +50,28 @@ pub(crate) enum StatementFamily {
     Store,
     Unreachable,
     LocalSet,
+    TableChange,
+    /// An instruction on many bytes of a memory, or on a data segment.
+    Bulk,
+    CallIndirect,
+    CallRef,
+    /// A call that does not come back.
+    TailCall,
+    /// A branch on null, or on a reference that is not null.
+    NullBranch,
+    VectorStore,
+    /// A store of a lane of a vector.
+    StoreLane,
+}
+
+/// What may give a vector.
+#[derive(Clone, Copy)]
+pub(crate) enum VectorFamily {
+    /// An instruction that accesses no memory.
+    Instr,
+    Load,
+    /// A load into a lane.
+    LoadLane,
 }
 
 /// Families of instructions that may produce a value without operands.
@@ -68,6 +104,16 @@ pub(crate) fn value_families<'a>() -> &'a [ValueFamily]
         ValueFamily::Load,
         ValueFamily::Load,
         ValueFamily::Memory,
+        ValueFamily::Table,
+        ValueFamily::SelectTyped,
+        ValueFamily::Reference,
+        ValueFamily::CallIndirect,
+        ValueFamily::CallRef,
+        ValueFamily::TailCall,
+        ValueFamily::NullBranch,
+        ValueFamily::Vector,
+        ValueFamily::Vector,
+        ValueFamily::Vector,
     ]
 }
 
@@ -92,6 +138,30 @@ pub(crate) fn statement_families<'a>() -> &'a [StatementFamily]
         StatementFamily::Store,
         StatementFamily::Unreachable,
         StatementFamily::LocalSet,
+        StatementFamily::TableChange,
+        StatementFamily::Bulk,
+        StatementFamily::CallIndirect,
+        StatementFamily::CallRef,
+        StatementFamily::TailCall,
+        StatementFamily::NullBranch,
+        StatementFamily::VectorStore,
+        StatementFamily::StoreLane,
+    ]
+}
+
+/// What may give a vector, each family in so many places as it is likely.
+pub(crate) fn vector_families<'a>() -> &'a [VectorFamily]
+    ensures { result.now ≡ vector_families }
+{
+    &[
+        VectorFamily::Instr,
+        VectorFamily::Instr,
+        VectorFamily::Instr,
+        VectorFamily::Instr,
+        VectorFamily::Instr,
+        VectorFamily::Load,
+        VectorFamily::Load,
+        VectorFamily::LoadLane,
     ]
 }
 

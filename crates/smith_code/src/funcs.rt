@@ -42,8 +42,8 @@ impl<'a> Offer for CallOffer<'a> {
     }
 }
 
-/// Whether the first result of `function` matches `wanted`.
-fn is_first_below(scope: &Scope<'_>, function: &FuncType, wanted: ValType) -> bool
+/// Whether the first result of `function` is below `wanted`.
+pub(crate) fn is_first_below(scope: &Scope<'_>, function: &FuncType, wanted: ValType) -> bool
     requires results { AreValid (bare scope.now) function.now.results }
     requires wanted { IsValid (bare scope.now) wanted }
     ensures { result ≡ is_first_below (bare scope.now).types wanted function.now.results }

@@ -3,7 +3,10 @@ ghost use Rattle.smith_bytes.specs.Draws.{choose_at, whole_at};
 ghost use Rattle.smith_bytes.specs.Source.{KeepsPieces};
 ghost use Rattle.smith_instr.specs.Contexts.{IsValid, address};
 ghost use Rattle.smith_instr.specs.MemoryTypes.{IsAccess, stored};
-ghost use Rattle.smith_code.specs.Choices.{access_at, giving, growth_node, load_at, memory_at, or_nop, store_at, store_node};
+ghost use Rattle.smith_instr.specs.ReferenceTypes.{narrower};
+ghost use Rattle.smith_code.specs.Choices.{growth_node, load_at, memory_at, or_nop, store_at, store_node};
+ghost use Rattle.smith_code.specs.Chosen.{giving};
+ghost use Rattle.smith_code.specs.Accesses.{access_at};
 ghost use Rattle.smith_code.specs.Nodes.{IsNode, IsOffer};
 ghost use Rattle.smith_code.specs.Offered.{is_address, is_addressed, offered};
 ghost use Rattle.smith_code.specs.Rows.{loads_of, stores};
@@ -62,14 +65,17 @@ fn stores<'a>() -> &'a [Store]
 
 /// Memory, offset and alignment of an access, and whether its addresses have 64 bits.
 #[derive(Clone, Copy)]
-struct Access {
-    at: MemArg,
-    wide: bool,
+pub(crate) struct Access {
+    pub at: MemArg,
+    pub wide: bool,
 }
 
-/// Draws an access to one of the memories, with an alignment of at most `2 ^ log2_bytes`. Returns
-/// none if there is no memory.
-fn draw_access(scope: &Scope<'_>, log2_bytes: u32, u: &mut Unstructured<'_>) -> Option<Access>
+/// Draws where one of the memories is accessed, at an alignment of at most `2 ^ log2_bytes`, or none where there is no memory.
+pub(crate) fn draw_access(
+    scope: &Scope<'_>,
+    log2_bytes: u32,
+    u: &mut Unstructured<'_>,
+) -> Option<Access>
     requires scope { IsScope (bare scope.now) }
     ensures exact { access_at scope.now.memories.now log2_bytes u.old ≡ (result, u.new) }
     ensures access { IfSome result (λ access. IsAccess scope.now.memories.now access.at access.wide) }
@@ -107,14 +113,21 @@ fn draw_offset(wide: bool, u: &mut Unstructured<'_>) -> u64
     offset as u64
 }
 
-/// Returns the type of the addresses of a memory: of 64 bits if `wide` is set, else of 32 bits.
-fn address(wide: bool) -> ValType
+/// Returns the type of the addresses of a memory or a table: of 64 bits if `wide` is set, else of 32 bits.
+pub(crate) fn address(wide: bool) -> ValType
     ensures { result ≡ address wide }
 {
     if wide { ValType::I64 } else { ValType::I32 }
 }
 
-/// Memories whose addresses have a wanted type.
+/// The type of a size that both of two memories or tables can have.
+pub(crate) fn narrower(one: bool, other: bool) -> ValType
+    ensures { result ≡ narrower one other }
+{
+    if one { address(other) } else { ValType::I32 }
+}
+
+/// The memories whose addresses are of a wanted type.
 #[derive(Clone, Copy)]
 struct AddressOffer<'a> {
     scope: &'a Scope<'a>,
@@ -141,7 +154,8 @@ impl<'a> Offer for AddressOffer<'a> {
     }
 }
 
-fn is_address(value: ValType, wide: bool) -> bool
+/// Whether the addresses of a memory or a table, of 64 bits where it is `wide`, are of the type `value`.
+pub(crate) fn is_address(value: ValType, wide: bool) -> bool
     ensures { result ≡ is_address value wide }
 {
     match value {

@@ -1,4 +1,4 @@
-ghost use Rattle.std.specs.Prelude.{◌≡◌, ◌<◌, List, length, ◌∷◌, [], ◌++◌, ◌&&◌, replicate, Some, None, IfOk, IfErr, OnOk, IsTrue};
+ghost use Rattle.std.specs.Prelude.{◌≡◌, ◌<◌, List, length, ◌∷◌, [], ◌++◌, ◌&&◌, replicate, unwrap_or, Some, None, IfOk, IfErr, OnOk, IsTrue};
 ghost use Rattle.smith_types.specs.FeatureBits.{features_in};
 ghost use Rattle.smith_types.specs.declared.value_type.ValType.{ValType as Val};
 ghost use Rattle.smith_types.specs.declared.value_type.ValType.TheVariants.{I32};
@@ -95,8 +95,22 @@ pub(crate) fn conditional(
     ensures exact { IfOk result (λ node. node ≡ node_of (operands.now ++ I32 ∷ []) instruction drops) }
     ensures memory { IfErr result (λ e. e ≡ Error.Memory) }
 {
+    topped(alloc, operands, ValType::I32, instruction, drops)
+}
+
+/// Makes the node of `instruction`, which takes `operands` and `top` above them, and of whose results `drops` are dropped.
+pub(crate) fn topped(
+    alloc: Global,
+    operands: &[ValType],
+    top: ValType,
+    instruction: Instr,
+    drops: usize,
+) -> Result<Node, Error>
+    ensures exact { IfOk result (λ node. node ≡ node_of (operands.now ++ top ∷ []) instruction drops) }
+    ensures memory { IfErr result (λ e. e ≡ Error.Memory) }
+{
     let mut operands = Items::from_slice(alloc, operands)?;
-    operands.push(ValType::I32)?;
+    operands.push(top)?;
     Ok(Node {
         operands,
         head: Head::Plain(instruction),
@@ -105,7 +119,18 @@ pub(crate) fn conditional(
     })
 }
 
-/// Makes the node of `instruction`, which sets the local `index` of the type `value`.
+/// The node that was `chosen`, or that of `nop`.
+pub(crate) fn or_nop(alloc: Global, chosen: Option<Node>) -> Result<Node, Error>
+    ensures exact { IfOk result (λ node. node ≡ unwrap_or chosen (node_of [] instr.Nop 0)) }
+    ensures memory { IfErr result (λ e. e ≡ Error.Memory) }
+{
+    match chosen {
+        Some(node) => Ok(node),
+        None => plain(alloc, &[], Instr::Nop, 0),
+    }
+}
+
+/// Makes the node of `instruction`, which sets the local `index`, of the type `value`.
 pub(crate) fn setter(
     alloc: Global,
     index: u32,

@@ -1,4 +1,5 @@
--- Drawn bodies are valid, without floats no local is one, and they are raw bytes only where they may be.
+-- Drawn bodies are valid, without floats no local is one, no local is a reference that may not be null and is not grounded, and they
+-- are raw bytes only where they may be.
 use Rattle.std.proofs.Common.{◌≡◌, ℕ, Bool, true, false, cond, List, [], length, refl, subst, arith}
 use Rattle.std.specs.Prelude.{IsTrue, All}
 use Rattle.std.specs.List.{Any, flat_map}
@@ -9,6 +10,7 @@ use Rattle.smith_bytes.proofs.GrownLemmas.{grow_most, grow_least, grow_all}
 use Rattle.smith_types.specs.Bodies.{AreInstructionsValid, IsBodyValid}
 use Rattle.smith_types.specs.Floats.{IsNoFloat}
 use Rattle.smith_types.specs.Expressions.{Context}
+use Rattle.smith_types.specs.Types.{IsOrderly}
 use Rattle.smith_types.specs.declared.code.Code.{Code}
 use Rattle.smith_types.specs.declared.code.Instructions.{Instructions}
 use Rattle.smith_types.specs.declared.code.Instructions.TheVariants.{Unreachable, Arbitrary}
@@ -16,6 +18,8 @@ use Rattle.smith_types.proofs.HeldValueLemmas.{all_of_parts}
 use Rattle.smith_config.specs.declared.config.Config.{Config}
 use Rattle.smith_config.specs.Features.{features_of}
 use Rattle.smith_config.specs.Sanitized.{IsSanitized}
+use Rattle.smith_draw.specs.Granted.{IsGranted}
+use Rattle.smith_draw.proofs.GrantedLemmas.{locals_granted}
 use Rattle.smith_draw.proofs.LocalLemmas.{locals_most, locals_valid, locals_no_float}
 use Rattle.smith_contents.specs.DrawnBodies.{raw_bytes_at, is_raw_at, instructions_at, body_at, bodies_at}
 use Rattle.smith_contents.specs.Held.{IsRaw}
@@ -62,6 +66,17 @@ bodies_no_float config context count bytes off =
     let P = λ (body : Code). All IsNoFloat body.locals in
     let each = grow_all P (λ _. body_at config context) (λ _ after. body_no_float config context after off) count count [] bytes (All-nil P) in
     all_of_parts IsNoFloat (λ (body : Code). body.locals) _ (recursion_from_All P _ each)
+
+body_granted : (config : Config) (context : Context) (orderly : IsOrderly context.types) (bytes : List ℕ) → All (IsGranted config context) (body_at config context bytes).0.locals
+unfolding body_at
+body_granted config context orderly bytes = locals_granted config context orderly bytes
+
+pub bodies_granted : (config : Config) (context : Context) (orderly : IsOrderly context.types) (count : ℕ) (bytes : List ℕ) → All (IsGranted config context) (flat_map (λ (body : Code). body.locals) (bodies_at config context count bytes).0)
+unfolding bodies_at
+bodies_granted config context orderly count bytes =
+    let P = λ (body : Code). All (IsGranted config context) body.locals in
+    let each = grow_all P (λ _. body_at config context) (λ _ after. body_granted config context orderly after) count count [] bytes (All-nil P) in
+    all_of_parts (IsGranted config context) (λ (body : Code). body.locals) _ (recursion_from_All P _ each)
 
 not_raw : (raw : Bool) (instructions : Instructions) → raw ≡ false → AreInstructionsValid raw instructions → ¬ IsRaw instructions
 not_raw raw Unreachable off valid is_raw = is_raw

@@ -22,11 +22,13 @@ use Rattle.smith_types.specs.declared.value_type.RefType.{RefType}
 use Rattle.smith_types.specs.declared.value_type.ValType.TheVariants.{Ref}
 use Rattle.smith_types.proofs.HeldValueLemmas.{all_of_parts}
 use Rattle.smith_config.specs.declared.config.Config.{Config}
+use Rattle.smith_draw.specs.ConstBounds.{IsUngrounded}
 use Rattle.smith_draw.specs.ConstFloats.{GivesNoFloat}
 use Rattle.smith_draw.specs.ConstScopes.{seen_by}
+use Rattle.smith_draw.specs.Grounding.{standing_in}
 use Rattle.smith_draw.specs.declared.spaces.Spaces.{Spaces}
 use Rattle.smith_draw.proofs.ValueTypeLemmas.{drawn_is}
-use Rattle.smith_contents.specs.DrawnElements.{IsTarget, IsOffered, IsPlaced, IsKindDrawn, FitsTable, MayHoldItems, AreItemsFit, IsElementFit}
+use Rattle.smith_contents.specs.DrawnElements.{HasUngroundedElements, IsTarget, IsOffered, IsPlaced, IsKindDrawn, FitsTable, MayHoldItems, AreItemsFit, IsElementFit}
 use Rattle.smith_contents.specs.ElementSegments.{KindChoice, most_items, expression_item_at, drawn_expressions_at}
 use Rattle.smith_contents.specs.Held.{expressions_of}
 use Rattle.smith_contents.specs.declared.element_kinds.KindChoice.TheVariants as choice
@@ -77,12 +79,14 @@ module _ (config : Config) (spaces : Spaces) where
 
   -- a segment of an offered kind may stand
   pub element_fit : (one : KindChoice) (kind : ElementKind) (hint : Option ℕ) (ty : RefType) (items : Elements) (total : ℕ) → IsOffered config spaces.types.now.types tables one → IsKindDrawn config context one (kind, hint) → MayHoldItems config spaces ty
-      → FitsTable spaces.types.now.types one ty → AreItemsFit config context ty items → item_count items ≤ most_items config hint total → IsElementFit config context tables (record { kind = kind; ty = ty; items = items })
-  element_fit one kind hint ty items total offered drawn may fits fit few = record {
+      → FitsTable spaces.types.now.types one ty → AreItemsFit config context ty items → item_count items ≤ most_items config hint total → (IsUngrounded config (standing_in config spaces) (Ref ty) → HasUngroundedElements config (standing_in config spaces) tables)
+      → IsElementFit config context tables (record { kind = kind; ty = ty; items = items })
+  element_fit one kind hint ty items total offered drawn may fits fit few needed = record {
     valid = record { ty = may.valid; ty_enabled = may.enabled; items = fit.valid; kind = kind_valid one kind hint ty offered drawn fits };
     inside = λ on. kind_inside one kind hint total (item_count items) offered drawn few on;
     enough = fit.enough;
     floats = fit.floats;
+    grounded = λ none lacks. none (needed lacks);
   }
 
 -- without floats among the types no constant of an item is a float's

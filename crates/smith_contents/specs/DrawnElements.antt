@@ -28,6 +28,7 @@ use Rattle.smith_config.specs.Sanitized.{IsSanitized}
 use Rattle.smith_draw.specs.ConstBounds.{IsUngrounded, HoldsUngroundedField, MayLack}
 use Rattle.smith_draw.specs.ConstFloats.{GivesNoFloat}
 use Rattle.smith_draw.specs.ConstScopes.{AreSpacesValid}
+use Rattle.smith_draw.specs.Grounding.{without_globals}
 use Rattle.smith_draw.specs.declared.spaces.Spaces.{Spaces}
 use Rattle.smith_contents.specs.Held.{HasItems}
 use Rattle.smith_contents.specs.Held.{expressions_of}
@@ -88,18 +89,24 @@ pub record AreItemsFit (config : Config) (context : Context) (ty : RefType) (ite
   pub enough : HasItems config context.types context.funcs items
   pub floats : All HasNoFloat context.types → All (All GivesNoFloat) (expressions_of items)
 
--- a segment fits into the module: it is valid, has enough items, none with a float, and with
--- `disallow_traps` the items it copies fit
+-- the elements of some table are not nullable, and are not grounded or `non_nullable_enabled` is
+-- off
+abbrev pub HasUngroundedElements : Config → Context → List TableType → Type 0
+HasUngroundedElements config context tables = Any (λ (table : TableType). IsUngrounded config context (Ref table.element_type)) tables
+
+-- the items of a segment are nullable, or `non_nullable_enabled` is on and they are grounded
+abbrev pub HasGroundedItems : Config → Context → ElementSegment → Type 0
+HasGroundedItems config context segment = ¬ IsUngrounded config context (Ref segment.ty)
+
+-- a segment fits into the module: it is valid, has enough items, none with a float, with
+-- `disallow_traps` the items it copies fit, and its items are nullable or grounded if the elements
+-- of all tables are
 pub record IsElementFit (config : Config) (context : Context) (tables : List TableType) (segment : ElementSegment) : Type 0 where
   pub valid : IsElementValid context tables segment
   pub inside : IsTrue config.disallow_traps → IsElementInside tables segment
   pub enough : HasItems config context.types context.funcs segment.items
   pub floats : All HasNoFloat context.types → All (All GivesNoFloat) (expressions_of segment.items)
-
--- the elements of some table are not nullable, and are not grounded or `non_nullable_enabled` is
--- off
-abbrev pub HasUngroundedElements : Config → Context → List TableType → Type 0
-HasUngroundedElements config context tables = Any (λ (table : TableType). IsUngrounded config context (Ref table.element_type)) tables
+  pub grounded : ¬ HasUngroundedElements config (without_globals context) tables → HasGroundedItems config (without_globals context) segment
 
 -- there may be nothing to choose from for an item of a segment: a field of a type, or an element of
 -- a table, is such a reference

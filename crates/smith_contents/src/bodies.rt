@@ -4,6 +4,7 @@ ghost use Rattle.smith_types.specs.Bodies.{IsBodyValid};
 ghost use Rattle.smith_types.specs.Floats.{IsNoFloat};
 ghost use Rattle.smith_config.specs.Features.{features_of};
 ghost use Rattle.smith_config.specs.Sanitized.{IsSanitized};
+ghost use Rattle.smith_draw.specs.Granted.{IsGranted};
 ghost use Rattle.smith_draw.specs.Grounding.{standing_in};
 ghost use Rattle.smith_draw.specs.Drawing.{AlwaysDraws, Draws};
 ghost use Rattle.smith_draw.specs.KeptGrounds.{AreKeptGrounds};
@@ -131,7 +132,9 @@ pub fn arbitrary_bodies(
     ensures each { IfOk result (λ bodies. length bodies ≡ count) }
     ensures valid { IfOk result (All (IsBodyValid (features_of config.now) (length spaces.now.types.now.types) config.now.allow_invalid_funcs)) }
     ensures floats { config.now.allow_floats ≡ false → IfOk result (λ bodies. All IsNoFloat (flat_map (λ body. body.locals) bodies)) }
+    ensures granted { IfOk result (λ bodies. All (IsGranted config.now (standing_in config.now spaces.now)) (flat_map (λ body. body.locals) bodies)) }
     ensures no_raw { config.now.allow_invalid_funcs ≡ false → IfOk result (λ bodies. ¬ Any (λ body. IsRaw body.instructions) bodies) }
 {
+    let _types = spaces.types.types();
     draw_bodies(alloc, config, spaces, count, u)
 }

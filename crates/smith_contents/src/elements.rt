@@ -11,7 +11,7 @@ ghost use Rattle.smith_draw.specs.ConstScopes.{seen_by};
 ghost use Rattle.smith_bytes.specs.Spelling.{SpellsEmpty};
 ghost use Rattle.smith_imports.specs.Steps.{Gives};
 ghost use Rattle.smith_contents.specs.Held.{HasItems};
-ghost use Rattle.smith_contents.specs.DrawnElements.{IsOffered, IsElementFit, MayDrawElements, MayRefuseSegment, MayRefuseElements};
+ghost use Rattle.smith_contents.specs.DrawnElements.{HasGroundedItems, HasUngroundedElements, IsOffered, IsElementFit, MayDrawElements, MayRefuseSegment, MayRefuseElements};
 ghost use Rattle.smith_contents.specs.ElementSegments.{most_items, items_in, element_segment_at, element_segments_at, elements_at};
 ghost use Rattle.smith_contents.specs.Held.{expressions_of};
 ghost use Rattle.smith_bytes.specs.Spelling.{SpellsNone};
@@ -178,6 +178,7 @@ pub fn arbitrary_elements(
     ensures least { IfOk result (λ segments. config.now.min_element_segments ≤ length segments) }
     ensures enough { IfOk result (All (λ (segment : ElementSegment). HasItems config.now spaces.now.types.now.types spaces.now.entities.funcs.now segment.items)) }
     ensures floats { All HasNoFloat spaces.now.types.now.types → IfOk result (λ segments. All (All GivesNoFloat) (flat_map (λ (segment : ElementSegment). expressions_of segment.items) segments)) }
+    ensures grounded { ¬ HasUngroundedElements config.now (standing_in config.now spaces.now) spaces.now.entities.tables.now → IfOk result (All (HasGroundedItems config.now (standing_in config.now spaces.now))) }
     ensures none { config.now.min_element_segments ≡ 0 → spaces.now.entities.tables.now ≡ []
         → IfOk result (λ segments. Takes (SpellsEmpty (SpellsNone (if config.now.bulk_memory_enabled then config.now.max_element_segments else 0))) u.old segments u.new) }
     ensures refusal { IfErr result (MayRefuseElements config.now (standing_in config.now spaces.now) spaces.now.entities.tables.now) }

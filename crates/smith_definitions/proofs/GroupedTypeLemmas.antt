@@ -6,7 +6,7 @@ use Rattle.std.proofs.lemmas.List.{drop_more}
 use Rattle.std.proofs.lemmas.Option.{slice_get-get_or}
 use Rattle.smith_types.specs.declared.composite_type.SubType.{SubType}
 
-in_front : {A : Type 0} (xs ys : List A) (i : ℕ) → i < length xs → slice_get (xs ++ ys) i ≡ slice_get xs i
+pub in_front : {A : Type 0} (xs ys : List A) (i : ℕ) → i < length xs → slice_get (xs ++ ys) i ≡ slice_get xs i
 in_front [] ys i inside = absurd (omega arith)
 in_front (x ∷ xs) ys zero inside = refl
 in_front (x ∷ xs) ys (suc i) inside = in_front xs ys i (omega arith)

@@ -6,7 +6,6 @@ pub mod DefinedLoop
 pub mod DefinedLemmas
 pub mod TypedLemmas
 pub mod DefinedMemoryLemmas
-pub mod KeptOfferLemmas
 pub mod GlobalsLoop
 pub mod GlobalCountLemmas
 pub mod NumberedGlobalLemmas
@@ -22,4 +21,7 @@ pub mod StandsBehindLemmas
 pub mod RequiredLimitLemmas
 pub mod DefinedMoreLemmas
 pub mod RequiredMoreLemmas
+pub mod BelowGrowthLemmas
+pub mod KeptGrowthLemmas
+pub mod KeptOfferLemmas
 pub mod RequiredExportsLoop

@@ -53,6 +53,7 @@ use Rattle.smith_definitions.specs.Required.{
   HasNoSupertypes,
   IsKeptType,
   IsDefinedMore,
+  IsInitialised,
   IsNeverNull,
   MayRequire,
   IsRequiredMore,
@@ -150,14 +151,15 @@ no_field config types t function is spaces defined (k, one, below, at, holds) =
     ]
 
 -- as many functions are imported beside one that is defined
-still_imported : (config : Config) (types : List SubType) (spaces later : IndexSpaces) (defined fuller : Definitions) (added : EntityType) → IsDefinedMore config types spaces defined later fuller added → length later.funcs - fuller.num_funcs ≡ length spaces.funcs - defined.num_funcs
-still_imported config types spaces later defined fuller (entity.Func index) more =
+pub still_imported : (config : Config) (types : List SubType) (spaces later : IndexSpaces) (defined fuller : Definitions) (added : EntityType) → later ≡ with_entity spaces added → IsInitialised config types spaces defined fuller added
+    → length later.funcs - fuller.num_funcs ≡ length spaces.funcs - defined.num_funcs
+still_imported config types spaces later defined fuller (entity.Func index) more is =
     let longer = length-append spaces.funcs (index ∷ []) in
-    rw (more.spaces_are, more.initialised) (omega (arith, longer))
-still_imported config types spaces later defined fuller (entity.Tag index) more = rw (more.spaces_are, more.initialised) refl
-still_imported config types spaces later defined fuller (entity.Memory memory) more = rw (more.spaces_are, more.initialised) refl
-still_imported config types spaces later defined fuller (entity.Table table) more = let (given, is, initialised) = more.initialised in rw (more.spaces_are, is) refl
-still_imported config types spaces later defined fuller (entity.Global global) more = let (given, is, initialised) = more.initialised in rw (more.spaces_are, is) refl
+    rw (more, is) (omega (arith, longer))
+still_imported config types spaces later defined fuller (entity.Tag index) more is = rw (more, is) refl
+still_imported config types spaces later defined fuller (entity.Memory memory) more is = rw (more, is) refl
+still_imported config types spaces later defined fuller (entity.Table table) more (given, is, initialised) = rw (more, is) refl
+still_imported config types spaces later defined fuller (entity.Global global) more (given, is, initialised) = rw (more, is) refl
 
 -- what holds no reference that is not grounded holds none beside one more entity
 lacking_before : (config : Config) (types : List SubType) (spaces later : IndexSpaces) (defined fuller : Definitions) (added : EntityType) → IsDefinedMore config types spaces defined later fuller added
@@ -169,7 +171,7 @@ lacking_before config types spaces later defined fuller added more =
       types = all_kept types;
       funcs = funcs;
       globals = all_kept [];
-      imported_funcs = still_imported config types spaces later defined fuller added more;
+      imported_funcs = still_imported config types spaces later defined fuller added more.spaces_are more.initialised;
       imported_globals = refl;
       visible = omega arith;
     } in

@@ -1,4 +1,4 @@
-ghost use Rattle.std.specs.Prelude.{◌≡◌, Bool, IfErr, OnOk};
+ghost use Rattle.std.specs.Prelude.{◌≡◌, Bool, true, IfErr, OnOk};
 ghost use Rattle.smith_bytes.specs.Source.{KeepsPieces};
 ghost use Rattle.smith_types.specs.Entities.{AreEntitiesValid, IsTableValid, IsGlobalValid};
 ghost use Rattle.smith_types.specs.IndexSpaces.{spaces_in};
@@ -7,6 +7,7 @@ ghost use Rattle.smith_config.specs.declared.config.Config.{Config as Configurat
 ghost use Rattle.smith_config.specs.Features.{features_of};
 ghost use Rattle.smith_draw.specs.ConstBounds.{MayRefuseConstExpr};
 ghost use Rattle.smith_draw.specs.ConstScopes.{AreSpacesValid, seen_by};
+ghost use Rattle.smith_draw.specs.KeptOffers.{AreKeptOffers};
 ghost use Rattle.smith_imports.specs.Imported.{entity_spaces};
 ghost use Rattle.smith_definitions.specs.Defined.{AreWithin, drawn_beside};
 ghost use Rattle.smith_definitions.specs.Required.{MayDefineMore, IsInitialised, IsDefinedMore, MayRefuseInitial, MayRefuseEntity};
@@ -16,7 +17,7 @@ use crate::definitions::Definitions;
 use crate::standing::standing;
 use smith_bytes::{Error, Unstructured, Why};
 use smith_config::Config;
-use smith_draw::{Spaces, arbitrary_const_expr, arbitrary_table_init};
+use smith_draw::{KeptOffers, Spaces, arbitrary_table_init, draw_const_expr};
 use smith_types::{EntityType, ExportKind, GlobalType, IndexSpaces, TableType, TypeSpace};
 use std::alloc::Global;
 
@@ -95,19 +96,22 @@ fn define_global(
     types: &TypeSpace,
     spaces: &IndexSpaces,
     global: GlobalType,
+    kept: &mut KeptOffers,
     definitions: &mut Definitions,
     u: &mut Unstructured<'_>,
 ) -> Result<(), Error>
     requires may { MayDefineMore config.now types.now (spaces_in spaces.now) definitions.old 1 }
     requires valid { IsGlobalValid (features_of config.now) types.now.types global }
+    requires kept { AreKeptOffers (scope_beside config.now types.now.types (spaces_in spaces.now) definitions.old true) kept.old }
     ensures exact { Answers (λ _. (definitions.new, u.new)) result (defined_with_at config.now types.now.types (spaces_in spaces.now) definitions.old (EntityType.Global global) u.old) }
     ensures initialised { OnOk result (IsInitialised config.now types.now.types (spaces_in spaces.now) definitions.old definitions.new (EntityType.Global global)) }
+    ensures kept { OnOk result (AreKeptOffers (scope_beside config.now types.now.types (spaces_in spaces.now) definitions.old true) kept.new) }
     ensures refusal { IfErr result (MayRefuseConstExpr config.now (drawn_beside config.now types.now.types (spaces_in spaces.now) definitions.old) global.val_type) }
     ensures left { KeepsPieces u.old u.new }
 {
     let index = spaces.globals.len() as u32;
     let spaces = scope(types, spaces, definitions);
-    let initial = arbitrary_const_expr(alloc, config, &spaces, global.val_type, true, u)?;
+    let initial = draw_const_expr(alloc, config, &spaces, global.val_type, true, kept, u)?;
     definitions.globals.push((index, initial))
 }
 
@@ -119,13 +123,16 @@ fn define_initial(
     types: &TypeSpace,
     spaces: &IndexSpaces,
     added: EntityType,
+    kept: &mut KeptOffers,
     definitions: &mut Definitions,
     u: &mut Unstructured<'_>,
 ) -> Result<(), Error>
     requires may { MayDefineMore config.now types.now (spaces_in spaces.now) definitions.old 1 }
     requires valid { AreEntitiesValid (features_of config.now) types.now.types (entity_spaces added) }
+    requires kept { AreKeptOffers (scope_beside config.now types.now.types (spaces_in spaces.now) definitions.old true) kept.old }
     ensures exact { Answers (λ _. (definitions.new, u.new)) result (defined_with_at config.now types.now.types (spaces_in spaces.now) definitions.old added u.old) }
     ensures initialised { OnOk result (IsInitialised config.now types.now.types (spaces_in spaces.now) definitions.old definitions.new added) }
+    ensures kept { OnOk result (AreKeptOffers (scope_beside config.now types.now.types (spaces_in spaces.now) definitions.old true) kept.new) }
     ensures refusal { IfErr result (MayRefuseInitial config.now (drawn_beside config.now types.now.types (spaces_in spaces.now) definitions.old) added) }
     ensures left { KeepsPieces u.old u.new }
 {
@@ -134,7 +141,7 @@ fn define_initial(
             return define_table(alloc, config, types, spaces, table, definitions, u);
         }
         EntityType::Global(global) => {
-            return define_global(alloc, config, types, spaces, global, definitions, u);
+            return define_global(alloc, config, types, spaces, global, kept, definitions, u);
         }
         EntityType::Tag(_) => definitions.num_tags += 1,
         EntityType::Func(_) => definitions.num_funcs += 1,
@@ -152,19 +159,22 @@ pub(crate) fn define_entity(
     types: &TypeSpace,
     added: EntityType,
     spaces: &mut IndexSpaces,
+    kept: &mut KeptOffers,
     definitions: &mut Definitions,
     u: &mut Unstructured<'_>,
 ) -> Result<(), Error>
     requires may { MayDefineMore config.now types.now (spaces_in spaces.old) definitions.old 1 }
     requires valid { AreEntitiesValid (features_of config.now) types.now.types (entity_spaces added) }
+    requires kept { AreKeptOffers (scope_beside config.now types.now.types (spaces_in spaces.old) definitions.old true) kept.old }
     ensures exact { Answers (λ _. ((spaces_in spaces.new, definitions.new), u.new)) result (entity_required_at config.now types.now.types (spaces_in spaces.old) definitions.old added u.old) }
     ensures defined { OnOk result (IsDefinedMore config.now types.now.types (spaces_in spaces.old) definitions.old (spaces_in spaces.new) definitions.new added) }
+    ensures kept { OnOk result (AreKeptOffers (scope_beside config.now types.now.types (spaces_in spaces.new) definitions.new true) kept.new) }
     ensures refusal { IfErr result (MayRefuseEntity config.now (drawn_beside config.now types.now.types (spaces_in spaces.old) definitions.old) added) }
     ensures left { KeepsPieces u.old u.new }
 {
     if let Some(why) = several(config, spaces, &added) {
         return Err(Error::IncorrectFormat(why));
     }
-    define_initial(alloc, config, types, spaces, added, definitions, u)?;
+    define_initial(alloc, config, types, spaces, added, kept, definitions, u)?;
     spaces.push(added)
 }

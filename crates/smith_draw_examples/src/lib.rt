@@ -6,6 +6,7 @@ mod bounds;
 mod composite_types;
 mod entity_types;
 mod function_sizes;
+mod kept_offers;
 mod locals;
 mod offered;
 mod offered_lists;

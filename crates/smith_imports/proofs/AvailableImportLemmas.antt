@@ -148,6 +148,7 @@ taken_fit config shape bytes valid =
       within = taken_keeps config types bytes (AreImportsWithin config types) (λ one. Unit {0}) (λ taken one old any fit. within_more config types taken one old fit) 0 [] imports (none_within config types) (λ k d inside. tt);
       tables = kept_of_kind config types bytes imports table_of (Contains (imported table_of imports)) (All-contains_itself (imported table_of imports));
       memories = kept_of_kind config types bytes imports memory_of (Contains (imported memory_of imports)) (All-contains_itself (imported memory_of imports));
+      globals = kept_of_kind config types bytes imports global_of (Contains (imported global_of imports)) (All-contains_itself (imported global_of imports));
     }
 
 -- each import of a shape has a size of 32 bits

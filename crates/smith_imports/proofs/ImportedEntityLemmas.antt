@@ -8,7 +8,7 @@ use Rattle.std.proofs.lemmas.List.{length-map}
 use Rattle.std.proofs.lemmas.List.Sums.{length-filter}
 use Rattle.std.proofs.lemmas.List.Elements.{All-nil, All-cons, All-from_recursion}
 use Rattle.smith_types.specs.Entities.{IsTagValid, IsFuncValid, IsTableValid, IsMemoryValid, IsGlobalValid}
-use Rattle.smith_types.specs.Imports.{IndexSpaces, table_of}
+use Rattle.smith_types.specs.Imports.{IndexSpaces, table_of, global_of}
 use Rattle.smith_types.specs.Sizes.{value_count, size_in}
 use Rattle.smith_types.specs.Space.{Space}
 use Rattle.smith_types.specs.declared.composite_type.CompositeInnerType.{CompositeInnerType}
@@ -31,7 +31,7 @@ use Rattle.smith_draw.specs.declared.type_use.TypeUse.{TypeUse}
 use Rattle.smith_draw.proofs.EnabledLemmas.{enabled_all}
 use Rattle.smith_draw.proofs.SupertypeLemmas.{chosen_of}
 use Rattle.smith_draw.proofs.TypeUseLemmas.{types_usable}
-use Rattle.smith_imports.specs.Imported.{MayImport, HasNoFloatValue, HasGroundedElements, IsEntityFit, IsFitBeside, IsOffered}
+use Rattle.smith_imports.specs.Imported.{MayImport, HasNoFloatValue, HasGroundedElements, HasGroundedValue, IsEntityFit, IsFitBeside, IsOffered}
 use Rattle.smith_imports.specs.ImportedEntities.{import_scope, kind_rows}
 
 pub length_enabled : {A : Type 0} (table : List (A × Bool)) → length (enabled table) ≡ count_by (λ row. row.1) table
@@ -86,11 +86,12 @@ small_at types all index t at =
     let small : IsSmall t = rw (get_or_from_slice_get types index t t at) at (all index t (slice_get_within types index t at)) in
     rw at (omega (arith, few_values t.composite_type.inner small))
 
--- an entity that is no table has no elements to be grounded
-pub fit_without_table : (config : Config) (types : List SubType) (spaces : IndexSpaces) (added : EntityType) → IsEntityFit config types added → table_of added ≡ [] → IsFitBeside config types spaces added
-fit_without_table config types spaces added fit none =
-    let Grounded = HasGroundedElements config (import_scope config types spaces) in
-    record { entity = fit; grounded = subst (All Grounded) (sym none) (All-nil Grounded) }
+-- an entity that is no table and no global has no references to be grounded
+pub fit_without_references : (config : Config) (types : List SubType) (spaces : IndexSpaces) (added : EntityType) → IsEntityFit config types added → table_of added ≡ [] → global_of added ≡ [] → IsFitBeside config types spaces added
+fit_without_references config types spaces added fit no_table no_global =
+    let Elements = HasGroundedElements config (import_scope config types spaces) in
+    let Values = HasGroundedValue config (import_scope config types spaces) in
+    record { entity = fit; grounded_tables = subst (All Elements) (sym no_table) (All-nil Elements); grounded_globals = subst (All Values) (sym no_global) (All-nil Values) }
 
 module _ (config : Config) (space : Space) (may : MayImport config space) where
   pub tag_fit : (index : ℕ) → IsTrue config.exceptions_enabled → IsTagValid space.types index → IsEntityFit config space.types (entity.Tag index)

@@ -14,7 +14,11 @@ use Rattle.smith_types.specs.Entities.{AreEntitiesValid, IsTagValid, IsFuncValid
 use Rattle.smith_types.specs.Exports.{AreDistinct}
 use Rattle.smith_types.specs.Features.{Features}
 use Rattle.smith_types.specs.Grown.{AreImportsGrown}
+use Rattle.smith_types.specs.Expressions.{Context}
+use Rattle.smith_types.specs.declared.entity_type.GlobalType.{GlobalType}
 use Rattle.smith_types.specs.declared.entity_type.TableType.{TableType}
+use Rattle.smith_types.specs.declared.value_type.ValType.{ValType}
+use Rattle.smith_types.specs.declared.value_type.ValType.TheVariants as vals
 use Rattle.smith_types.proofs.GroundGrowthLemmas.{imports_grounded}
 use Rattle.smith_types.specs.Imports.{IsImportsValid, flattened, IndexSpaces, import_of, imports_of, imported, imported_spaces, tag_of, func_of, table_of, memory_of, global_of}
 use Rattle.smith_types.specs.IndexSpaces.{with_entity}
@@ -32,10 +36,11 @@ use Rattle.smith_types.proofs.ListLemmas.{slice_get-push}
 use Rattle.smith_config.specs.declared.config.Config.{Config}
 use Rattle.smith_config.specs.Features.{features_of}
 use Rattle.smith_draw.specs.Bounds.{IsTableWithin, IsMemoryWithin}
+use Rattle.smith_draw.specs.ConstBounds.{IsUngrounded}
 use Rattle.smith_imports.specs.ImportNames.{has_names, is_taken, KnowsPairs}
 use Rattle.smith_imports.specs.ImportedEntities.{has_room, kind_of, import_scope, sizes}
 use Rattle.smith_imports.specs.Importing.{module_name, with_import}
-use Rattle.smith_imports.specs.Imported.{Counts, IsCounted, AreNumbersWithin, AreSpacesWithin, HasNoFloatValue, HasGroundedElements, AreImportsFit, IsEntityFit, IsFitBeside, IsNext, IsOpen, IsOfGroup, IsCompact, IsImported, MayEnd, MayEndAt, spaces_of, entity_spaces}
+use Rattle.smith_imports.specs.Imported.{Counts, IsCounted, AreNumbersWithin, AreSpacesWithin, HasNoFloatValue, AreImportsFit, IsEntityFit, IsFitBeside, IsNext, IsOpen, IsOfGroup, IsCompact, IsImported, MayEnd, MayEndAt, spaces_of, entity_spaces}
 use Rattle.smith_imports.specs.declared.imported.Imported.{Imported}
 
 -- what is imported of a kind, with one import more
@@ -122,31 +127,48 @@ both_places xs x i j item old apart (inr (is_i, same)) (inr (is_j, other)) = is_
 pub distinct_push : {A : Type 0} (xs : List A) (x : A) → AreDistinct xs → ((i : ℕ) → slice_get xs i ≡ Some x → ⊥) → AreDistinct (xs ++ x ∷ [])
 distinct_push xs x old apart = record { once = λ i j item at_i at_j. both_places xs x i j item old apart (slice_get-push xs x i item at_i) (slice_get-push xs x j item at_j) }
 
--- elements that are grounded stay so as functions are imported
-grounded_later : (config : Config) (types : List SubType) (old new : IndexSpaces) (more : List ℕ) → new.funcs ≡ old.funcs ++ more → (tables : List TableType) → All (HasGroundedElements config (import_scope config types old)) tables
-    → All (HasGroundedElements config (import_scope config types new)) tables
-grounded_later config types old new more grown tables h =
-    let before = import_scope config types old in
-    let after = import_scope config types new in
-    let growth : AreImportsGrown before after = record {
-      features = refl;
-      types = record { more = []; parts = sym (append-nil types) };
-      funcs = record { more = more; parts = grown };
-      imported = refl;
-      still_imported = refl;
-    } in
-    All-weaker (HasGroundedElements config before) (HasGroundedElements config after)
-    (λ table grounded (not_null, none). grounded (not_null, λ on earlier. none on (imports_grounded before after table.element_type.heap_type growth earlier))) tables h
+-- a reference that is not grounded was not before functions were imported
+pub ungrounded_imported : (config : Config) (old new : Context) → AreImportsGrown old new → (value : ValType) → IsUngrounded config new value → IsUngrounded config old value
+ungrounded_imported config old new growth (vals.Ref reference) (not_null, none) = (not_null, λ on grounded. none on (imports_grounded old new reference.heap_type growth grounded))
+ungrounded_imported config old new growth vals.I32 never = never
+ungrounded_imported config old new growth vals.I64 never = never
+ungrounded_imported config old new growth vals.F32 never = never
+ungrounded_imported config old new growth vals.F64 never = never
+ungrounded_imported config old new growth vals.V128 never = never
 
-tables_more : (config : Config) (types : List SubType) (imports : List Import) (one : Import) → let scope = import_scope config types (imported_spaces imports) in
-    All (HasGroundedElements config scope) (imported table_of imports) → All (HasGroundedElements config scope) (table_of one.entity_type)
-    → All (HasGroundedElements config (import_scope config types (imported_spaces (imports ++ one ∷ [])))) (imported table_of (imports ++ one ∷ []))
-tables_more config types imports one before next =
-    let new = imported_spaces (imports ++ one ∷ []) in
-    let Grounded = HasGroundedElements config (import_scope config types new) in
-    let later = grounded_later config types (imported_spaces imports) new (func_of one.entity_type) (imported_more func_of imports one) in
-    subst (All Grounded) (sym (imported_more table_of imports one))
-    (All-append Grounded (imported table_of imports) (table_of one.entity_type) (later (imported table_of imports) before) (later (table_of one.entity_type) next))
+-- elements and values that are grounded stay so as functions are imported
+module _ (config : Config) {A : Type 0} (value_of : A → ValType) where
+  abbrev IsFilled : Context → A → Type 0
+  IsFilled context item = ¬ IsUngrounded config context (value_of item)
+
+  grounded_later : (types : List SubType) (old new : IndexSpaces) (more : List ℕ) → new.funcs ≡ old.funcs ++ more → (items : List A) → All (IsFilled (import_scope config types old)) items → All (IsFilled (import_scope config types new)) items
+  grounded_later types old new more grown items h =
+      let before = import_scope config types old in
+      let after = import_scope config types new in
+      let growth : AreImportsGrown before after = record {
+        features = refl;
+        types = record { more = []; parts = sym (append-nil types) };
+        funcs = record { more = more; parts = grown };
+        imported = refl;
+        still_imported = refl;
+      } in
+      All-weaker (IsFilled before) (IsFilled after) (λ item grounded lacks. grounded (ungrounded_imported config before after growth (value_of item) lacks)) items h
+
+  grounded_more : (of_kind : EntityType → List A) (types : List SubType) (imports : List Import) (one : Import) → let scope = import_scope config types (imported_spaces imports) in
+      All (IsFilled scope) (imported of_kind imports) → All (IsFilled scope) (of_kind one.entity_type) → All (IsFilled (import_scope config types (imported_spaces (imports ++ one ∷ [])))) (imported of_kind (imports ++ one ∷ []))
+  grounded_more of_kind types imports one before next =
+      let new = imported_spaces (imports ++ one ∷ []) in
+      let Filled = IsFilled (import_scope config types new) in
+      let later = grounded_later types (imported_spaces imports) new (func_of one.entity_type) (imported_more func_of imports one) in
+      subst (All Filled) (sym (imported_more of_kind imports one))
+      (All-append Filled (imported of_kind imports) (of_kind one.entity_type) (later (imported of_kind imports) before) (later (of_kind one.entity_type) next))
+
+-- the references of a table, and the values of a global
+abbrev elements_of : TableType → ValType
+elements_of table = vals.Ref table.element_type
+
+abbrev value_in : GlobalType → ValType
+value_in global = global.val_type
 
 pub fit_more : (config : Config) (types : List SubType) (distinct : Bool) (imports : List Import) (one : Import) → AreImportsFit config types distinct imports → IsNext config types (imported_spaces imports) (sizes types imports) one.entity_type → length imports < config.max_imports
     → (IsTrue distinct → is_taken imports one.«module» one.name ≡ false) → AreImportsFit config types distinct (imports ++ one ∷ [])
@@ -161,7 +183,8 @@ fit_more config types distinct imports one fit next room fresh =
       most = omega (arith, longer);
       type_size = omega (arith, more, next.fits);
       small = omega (arith, more, longer, next.fit.entity.small, fit.small);
-      grounded_tables = tables_more config types imports one fit.grounded_tables next.fit.grounded;
+      grounded_tables = grounded_more config elements_of table_of types imports one fit.grounded_tables next.fit.grounded_tables;
+      grounded_globals = grounded_more config value_in global_of types imports one fit.grounded_globals next.fit.grounded_globals;
       floats = λ off. rw (imported_more global_of imports one) (All-append HasNoFloatValue (imported global_of imports) (global_of one.entity_type) (fit.floats off) (next.fit.entity.floats off));
       apart = λ on. rw map-append (distinct_push (map pair_of imports) (pair_of one) (fit.apart on) (not_there imports one (fresh on)));
     }
@@ -195,7 +218,8 @@ funcs_grown spaces added = ap (λ (all : IndexSpaces). all.funcs) (entity_behind
 fit_later : (config : Config) (types : List SubType) (spaces : IndexSpaces) (one added : EntityType) → IsFitBeside config types spaces one → IsFitBeside config types (with_entity spaces added) one
 fit_later config types spaces one added h = record {
   entity = h.entity;
-  grounded = grounded_later config types spaces (with_entity spaces added) (func_of added) (funcs_grown spaces added) (table_of one) h.grounded;
+  grounded_tables = grounded_later config elements_of types spaces (with_entity spaces added) (func_of added) (funcs_grown spaces added) (table_of one) h.grounded_tables;
+  grounded_globals = grounded_later config value_in types spaces (with_entity spaces added) (func_of added) (funcs_grown spaces added) (global_of one) h.grounded_globals;
 }
 
 pub ready_more : (config : Config) (types : List SubType) (spaces : IndexSpaces) (group : Imports) (name : List ℕ) (one : EntityType) → IsOpen config types spaces group → IsOpen config types (with_entity spaces one) (with_import group name one)

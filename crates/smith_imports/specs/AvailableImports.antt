@@ -105,12 +105,14 @@ pub record AreImportsWithin (config : Config) (types : List SubType) (taken : Li
   pub most : length taken ≤ config.max_imports
   pub type_size : sizes_of types taken ≤ config.max_type_size
 
--- imports are valid and within the bounds, and their tables and memories are among those offered
+-- imports are valid and within the bounds, and their tables, memories and globals are among those
+-- offered
 pub record AreTakenFit (config : Config) (types : List SubType) (offered taken : List Import) : Type 0 where
   pub entities : AreEntitiesValid (features_of config) types (imported_spaces taken)
   pub within : AreImportsWithin config types taken
   pub tables : All (Contains (imported_spaces offered).tables) (imported_spaces taken).tables
   pub memories : All (Contains (imported_spaces offered).memories) (imported_spaces taken).memories
+  pub globals : All (Contains (imported_spaces offered).globals) (imported_spaces taken).globals
 
 -- available imports that were taken: valid groups of imports that fit, and their counts
 pub record IsTaken (config : Config) (shape : Shape) (imported : Imported) : Type 0 where

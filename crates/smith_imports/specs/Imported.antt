@@ -104,6 +104,11 @@ HasNoFloatValue global = IsNoFloat global.val_type
 abbrev pub HasGroundedElements : Config → Context → TableType → Type 0
 HasGroundedElements config context table = ¬ IsUngrounded config context (Ref table.element_type)
 
+-- the value of a global is no reference, a nullable one, or one that is grounded if
+-- `non_nullable_enabled` is on
+abbrev pub HasGroundedValue : Config → Context → GlobalType → Type 0
+HasGroundedValue config context global = ¬ IsUngrounded config context global.val_type
+
 -- imports are valid and within the bounds; they add at most 42 each, taken together, to the type
 -- size; their pairs of names are distinct if required
 pub record AreImportsFit (config : Config) (types : List SubType) (distinct : Bool) (imports : List Import) : Type 0 where
@@ -114,6 +119,7 @@ pub record AreImportsFit (config : Config) (types : List SubType) (distinct : Bo
   pub type_size : sizes types imports ≤ config.max_type_size
   pub small : sizes types imports ≤ 42 * length imports
   pub grounded_tables : All (HasGroundedElements config (import_scope config types (imported_spaces imports))) (imported_spaces imports).tables
+  pub grounded_globals : All (HasGroundedValue config (import_scope config types (imported_spaces imports))) (imported_spaces imports).globals
   pub floats : config.allow_floats ≡ false → All HasNoFloatValue (imported_spaces imports).globals
   pub apart : IsTrue distinct → AreDistinct {A = List ℕ × List ℕ} (map (λ (one : Import). (one.«module», one.name)) imports)
 
@@ -130,7 +136,8 @@ pub record IsEntityFit (config : Config) (types : List SubType) (added : EntityT
 -- an entity may be imported after these index spaces
 pub record IsFitBeside (config : Config) (types : List SubType) (spaces : IndexSpaces) (added : EntityType) : Type 0 where
   pub entity : IsEntityFit config types added
-  pub grounded : All (HasGroundedElements config (import_scope config types spaces)) (table_of added)
+  pub grounded_tables : All (HasGroundedElements config (import_scope config types spaces)) (table_of added)
+  pub grounded_globals : All (HasGroundedValue config (import_scope config types spaces)) (global_of added)
 
 -- an entity may be imported after these index spaces and this type size
 pub record IsNext (config : Config) (types : List SubType) (spaces : IndexSpaces) (size : ℕ) (added : EntityType) : Type 0 where

@@ -1,3 +1,8 @@
+ghost use Rattle.std.specs.Prelude.{◌≡◌, option_map};
+ghost use Rattle.smith_json.specs.Fields.{named, field_named};
+ghost use Rattle.smith_json.specs.Places.{field_of, fields_in};
+
+use crate::place::{Flag, Long, Place, Size, Word};
 use std::fmt;
 
 /// The kind of value that a field takes. Each field takes `null` too, which leaves it as it is.
@@ -44,365 +49,165 @@ pub struct Field {
 impl Field {
     /// Finds the field named `name`.
     pub fn named(name: &str) -> Option<&'static Field> {
-        FIELDS.iter().find(|field| field.name == name)
+        for field in &FIELDS {
+            if field.name == name {
+                return Some(field);
+            }
+        }
+        None
     }
 }
 
+/// The list of the fields, in the order of `Config`: the name, the place and one sentence of each, as
+/// `$row` writes them.
+macro_rules! fields {
+    ($row:ident) => {
+        [
+            $row!("min-types", Size(MinTypes), "The least number of types."),
+            $row!("max-types", Size(MaxTypes), "The greatest number of types."),
+            $row!("min-imports", Size(MinImports), "The least number of imports, compact groups counted by their items."),
+            $row!("max-imports", Size(MaxImports), "The greatest number of imports, compact groups counted by their items."),
+            $row!("min-tags", Size(MinTags), "The least number of tags."),
+            $row!("max-tags", Size(MaxTags), "The greatest number of tags."),
+            $row!("min-funcs", Size(MinFuncs), "The least number of functions."),
+            $row!("max-funcs", Size(MaxFuncs), "The greatest number of functions."),
+            $row!("min-globals", Size(MinGlobals), "The least number of globals."),
+            $row!("max-globals", Size(MaxGlobals), "The greatest number of globals."),
+            $row!("min-exports", Size(MinExports), "The least number of exports."),
+            $row!("max-exports", Size(MaxExports), "The greatest number of exports."),
+            $row!("min-element-segments", Size(MinElementSegments), "The least number of element segments."),
+            $row!("max-element-segments", Size(MaxElementSegments), "The greatest number of element segments."),
+            $row!("min-elements", Size(MinElements), "The least number of items in each element segment."),
+            $row!("max-elements", Size(MaxElements), "The greatest number of items in all element segments together."),
+            $row!("min-data-segments", Size(MinDataSegments), "The least number of data segments."),
+            $row!("max-data-segments", Size(MaxDataSegments), "The greatest number of data segments."),
+            $row!("min-memories", Word(MinMemories), "The least number of memories."),
+            $row!("max-memories", Size(MaxMemories), "The greatest number of memories."),
+            $row!("min-tables", Word(MinTables), "The least number of tables."),
+            $row!("max-tables", Size(MaxTables), "The greatest number of tables."),
+            $row!("max-memory32-bytes", Long(MaxMemory32Bytes), "The greatest minimum and maximum of a 32-bit memory, in bytes."),
+            $row!("max-memory64-bytes", MaxMemory64Bytes, "The greatest minimum and maximum of a 64-bit memory, in bytes."),
+            $row!("memory-max-size-required", Flag(MemoryMaxSizeRequired), "Whether each memory states a maximum."),
+            $row!("max-table-elements", Long(MaxTableElements), "The greatest minimum and maximum of a table, in elements."),
+            $row!("table-max-size-required", Flag(TableMaxSizeRequired), "Whether each table states a maximum."),
+            $row!("max-type-size", Word(MaxTypeSize), "The greatest sum of the sizes of imports and exports."),
+            $row!("const-expr-fuel", Word(ConstExprFuel), "The greatest number of instructions with operands that a constant expression nests before it takes a shortest end."),
+            $row!("limit-arrays-in-const-exprs", Flag(LimitArraysInConstExprs), "Whether the lengths of arrays in constant expressions are small numbers, paid from `const_expr_fuel`, in place of any i32 expression."),
+            $row!("allow-start-export", Flag(AllowStartExport), "Whether a module may have a start function."),
+            $row!("export-everything", Flag(ExportEverything), "Whether each function, table, memory, global and tag is exported, once."),
+            $row!("allow-floats", Flag(AllowFloats), "Whether f32 and f64 may occur in types and constants."),
+            $row!("disallow-traps", Flag(DisallowTraps), "Whether active segments stay inside their tables and memories, so that none of them traps. A start function still may."),
+            $row!("allow-invalid-funcs", Flag(AllowInvalidFuncs), "Whether a body may be raw bytes of the input, which need not be valid."),
+            $row!("reference-types-enabled", Flag(ReferenceTypesEnabled), "References as value types, tables of more than functions, element expressions, a second table."),
+            $row!("gc-enabled", Flag(GcEnabled), "Struct and array types, recursive groups, subtypes, typed references."),
+            $row!("custom-descriptors-enabled", Flag(CustomDescriptorsEnabled), "Exact references."),
+            $row!("multi-value-enabled", Flag(MultiValueEnabled), "Functions with several results."),
+            $row!("bulk-memory-enabled", Flag(BulkMemoryEnabled), "Passive and declared segments, and segments that name a table."),
+            $row!("simd-enabled", Flag(SimdEnabled), "The value type v128."),
+            $row!("exceptions-enabled", Flag(ExceptionsEnabled), "Tags and exception references."),
+            $row!("threads-enabled", Flag(ThreadsEnabled), "Shared memories."),
+            $row!("shared-everything-threads-enabled", Flag(SharedEverythingThreadsEnabled), "Shared types, tables, globals and functions."),
+            $row!("memory64-enabled", Flag(Memory64Enabled), "64-bit memories and tables."),
+            $row!("custom-page-sizes-enabled", Flag(CustomPageSizesEnabled), "Memories that state a page size, of 1 or 65,536 bytes."),
+            $row!("extended-const-enabled", Flag(ExtendedConstEnabled), "Addition, subtraction and multiplication in constant expressions."),
+            $row!("compact-imports-enabled", Flag(CompactImportsEnabled), "Import groups that share a module name, or a module name and a type."),
+            $row!("relaxed-simd-enabled", Flag(RelaxedSimdEnabled), "Relaxed vector instructions."),
+            $row!("saturating-float-to-int-enabled", Flag(SaturatingFloatToIntEnabled), "Conversions from floats to integers that saturate."),
+            $row!("sign-extension-ops-enabled", Flag(SignExtensionOpsEnabled), "Instructions that extend a sign."),
+            $row!("tail-call-enabled", Flag(TailCallEnabled), "Tail calls."),
+            $row!("wide-arithmetic-enabled", Flag(WideArithmeticEnabled), "Arithmetic on 128 bits."),
+            $row!("acquire-release-atomics-enabled", Flag(AcquireReleaseAtomicsEnabled), "Atomic accesses that acquire or release."),
+            $row!("multibyte-array-access-enabled", Flag(MultibyteArrayAccessEnabled), "Accesses to several bytes of an array."),
+            $row!("non-nullable-enabled", Flag(NonNullableEnabled), "References that aren't nullable, to what a struct or a function that exists gives without operands."),
+            $row!("allowed-instructions", AllowedInstructions, "The kinds of instructions that bodies may hold."),
+            $row!("memory-offset-choices", MemoryOffsetChoices, "The weights by which the offset of a memory access lies inside the memory."),
+            $row!("max-instructions", Size(MaxInstructions), "The number of instructions with operands, or with others inside, that are chosen for a body."),
+            $row!("canonicalize-nans", Flag(CanonicalizeNans), "Whether NaN results get one bit pattern."),
+            $row!("generate-custom-sections", Flag(GenerateCustomSections), "Whether custom sections are made."),
+            $row!("min-uleb-size", MinUlebSize, "The least length, in bytes, of an encoded whole number."),
+            $row!("max-aliases", Size(MaxAliases), "The greatest number of aliases of a component."),
+            $row!("max-components", Size(MaxComponents), "The greatest number of components of a component."),
+            $row!("max-instances", Size(MaxInstances), "The greatest number of instances of a component."),
+            $row!("max-modules", Size(MaxModules), "The greatest number of modules of a component."),
+            $row!("max-nesting-depth", Size(MaxNestingDepth), "The greatest depth of components inside one another."),
+            $row!("max-values", Size(MaxValues), "The greatest number of values of a component."),
+            $row!("available-imports", File, "Imports of which a module has some, in order, in place of drawn imports."),
+            $row!("exports", File, "The exports of a module, in place of drawn exports."),
+            $row!("module-shape", File, "The first types of a module, and all its imports and exports, in order."),
+        ]
+    };
+}
+
+/// The row of a field for readers.
+macro_rules! field {
+    ($name:literal, $place:ident $(($part:ident))?, $about:literal) => {
+        Field {
+            name: $name,
+            kind: kind!($place),
+            about: $about,
+        }
+    };
+}
+
+/// The row of a field for finding its place.
+macro_rules! place {
+    ($name:literal, $place:ident $(($part:ident))?, $about:literal) => {
+        ($name, Place::$place $(($place::$part))?)
+    };
+}
+
+/// The kind of the values at a place.
+macro_rules! kind {
+    (Size) => {
+        FieldKind::Whole(64)
+    };
+    (Word) => {
+        FieldKind::Whole(32)
+    };
+    (Long) => {
+        FieldKind::Whole(64)
+    };
+    (MinUlebSize) => {
+        FieldKind::Whole(8)
+    };
+    (MaxMemory64Bytes) => {
+        FieldKind::Whole(128)
+    };
+    (Flag) => {
+        FieldKind::Flag
+    };
+    (AllowedInstructions) => {
+        FieldKind::InstructionKinds
+    };
+    (MemoryOffsetChoices) => {
+        FieldKind::OffsetChoices
+    };
+    (File) => {
+        FieldKind::File
+    };
+}
+
 /// Every field, in the order of `Config`.
-pub static FIELDS: [Field; 71] = [
-    Field {
-        name: "min-types",
-        kind: FieldKind::Whole(64),
-        about: "The least number of types.",
-    },
-    Field {
-        name: "max-types",
-        kind: FieldKind::Whole(64),
-        about: "The greatest number of types.",
-    },
-    Field {
-        name: "min-imports",
-        kind: FieldKind::Whole(64),
-        about: "The least number of imports, compact groups counted by their items.",
-    },
-    Field {
-        name: "max-imports",
-        kind: FieldKind::Whole(64),
-        about: "The greatest number of imports, compact groups counted by their items.",
-    },
-    Field {
-        name: "min-tags",
-        kind: FieldKind::Whole(64),
-        about: "The least number of tags.",
-    },
-    Field {
-        name: "max-tags",
-        kind: FieldKind::Whole(64),
-        about: "The greatest number of tags.",
-    },
-    Field {
-        name: "min-funcs",
-        kind: FieldKind::Whole(64),
-        about: "The least number of functions.",
-    },
-    Field {
-        name: "max-funcs",
-        kind: FieldKind::Whole(64),
-        about: "The greatest number of functions.",
-    },
-    Field {
-        name: "min-globals",
-        kind: FieldKind::Whole(64),
-        about: "The least number of globals.",
-    },
-    Field {
-        name: "max-globals",
-        kind: FieldKind::Whole(64),
-        about: "The greatest number of globals.",
-    },
-    Field {
-        name: "min-exports",
-        kind: FieldKind::Whole(64),
-        about: "The least number of exports.",
-    },
-    Field {
-        name: "max-exports",
-        kind: FieldKind::Whole(64),
-        about: "The greatest number of exports.",
-    },
-    Field {
-        name: "min-element-segments",
-        kind: FieldKind::Whole(64),
-        about: "The least number of element segments.",
-    },
-    Field {
-        name: "max-element-segments",
-        kind: FieldKind::Whole(64),
-        about: "The greatest number of element segments.",
-    },
-    Field {
-        name: "min-elements",
-        kind: FieldKind::Whole(64),
-        about: "The least number of items in each element segment.",
-    },
-    Field {
-        name: "max-elements",
-        kind: FieldKind::Whole(64),
-        about: "The greatest number of items in all element segments together.",
-    },
-    Field {
-        name: "min-data-segments",
-        kind: FieldKind::Whole(64),
-        about: "The least number of data segments.",
-    },
-    Field {
-        name: "max-data-segments",
-        kind: FieldKind::Whole(64),
-        about: "The greatest number of data segments.",
-    },
-    Field {
-        name: "min-memories",
-        kind: FieldKind::Whole(32),
-        about: "The least number of memories.",
-    },
-    Field {
-        name: "max-memories",
-        kind: FieldKind::Whole(64),
-        about: "The greatest number of memories.",
-    },
-    Field {
-        name: "min-tables",
-        kind: FieldKind::Whole(32),
-        about: "The least number of tables.",
-    },
-    Field {
-        name: "max-tables",
-        kind: FieldKind::Whole(64),
-        about: "The greatest number of tables.",
-    },
-    Field {
-        name: "max-memory32-bytes",
-        kind: FieldKind::Whole(64),
-        about: "The greatest minimum and maximum of a 32-bit memory, in bytes.",
-    },
-    Field {
-        name: "max-memory64-bytes",
-        kind: FieldKind::Whole(128),
-        about: "The greatest minimum and maximum of a 64-bit memory, in bytes.",
-    },
-    Field {
-        name: "memory-max-size-required",
-        kind: FieldKind::Flag,
-        about: "Whether each memory states a maximum.",
-    },
-    Field {
-        name: "max-table-elements",
-        kind: FieldKind::Whole(64),
-        about: "The greatest minimum and maximum of a table, in elements.",
-    },
-    Field {
-        name: "table-max-size-required",
-        kind: FieldKind::Flag,
-        about: "Whether each table states a maximum.",
-    },
-    Field {
-        name: "max-type-size",
-        kind: FieldKind::Whole(32),
-        about: "The greatest sum of the sizes of imports and exports.",
-    },
-    Field {
-        name: "const-expr-fuel",
-        kind: FieldKind::Whole(32),
-        about: "The greatest number of instructions with operands that a constant expression nests before it takes a shortest end.",
-    },
-    Field {
-        name: "limit-arrays-in-const-exprs",
-        kind: FieldKind::Flag,
-        about: "Whether the lengths of arrays in constant expressions are small numbers, paid from `const_expr_fuel`, in place of any i32 expression.",
-    },
-    Field {
-        name: "allow-start-export",
-        kind: FieldKind::Flag,
-        about: "Whether a module may have a start function.",
-    },
-    Field {
-        name: "export-everything",
-        kind: FieldKind::Flag,
-        about: "Whether each function, table, memory, global and tag is exported, once.",
-    },
-    Field {
-        name: "allow-floats",
-        kind: FieldKind::Flag,
-        about: "Whether f32 and f64 may occur in types and constants.",
-    },
-    Field {
-        name: "disallow-traps",
-        kind: FieldKind::Flag,
-        about: "Whether active segments stay inside their tables and memories, so that none of them traps. A start function still may.",
-    },
-    Field {
-        name: "allow-invalid-funcs",
-        kind: FieldKind::Flag,
-        about: "Whether a body may be raw bytes of the input, which need not be valid.",
-    },
-    Field {
-        name: "reference-types-enabled",
-        kind: FieldKind::Flag,
-        about: "References as value types, tables of more than functions, element expressions, a second table.",
-    },
-    Field {
-        name: "gc-enabled",
-        kind: FieldKind::Flag,
-        about: "Struct and array types, recursive groups, subtypes, typed references.",
-    },
-    Field {
-        name: "custom-descriptors-enabled",
-        kind: FieldKind::Flag,
-        about: "Exact references.",
-    },
-    Field {
-        name: "multi-value-enabled",
-        kind: FieldKind::Flag,
-        about: "Functions with several results.",
-    },
-    Field {
-        name: "bulk-memory-enabled",
-        kind: FieldKind::Flag,
-        about: "Passive and declared segments, and segments that name a table.",
-    },
-    Field {
-        name: "simd-enabled",
-        kind: FieldKind::Flag,
-        about: "The value type v128.",
-    },
-    Field {
-        name: "exceptions-enabled",
-        kind: FieldKind::Flag,
-        about: "Tags and exception references.",
-    },
-    Field {
-        name: "threads-enabled",
-        kind: FieldKind::Flag,
-        about: "Shared memories.",
-    },
-    Field {
-        name: "shared-everything-threads-enabled",
-        kind: FieldKind::Flag,
-        about: "Shared types, tables, globals and functions.",
-    },
-    Field {
-        name: "memory64-enabled",
-        kind: FieldKind::Flag,
-        about: "64-bit memories and tables.",
-    },
-    Field {
-        name: "custom-page-sizes-enabled",
-        kind: FieldKind::Flag,
-        about: "Memories that state a page size, of 1 or 65,536 bytes.",
-    },
-    Field {
-        name: "extended-const-enabled",
-        kind: FieldKind::Flag,
-        about: "Addition, subtraction and multiplication in constant expressions.",
-    },
-    Field {
-        name: "compact-imports-enabled",
-        kind: FieldKind::Flag,
-        about: "Import groups that share a module name, or a module name and a type.",
-    },
-    Field {
-        name: "relaxed-simd-enabled",
-        kind: FieldKind::Flag,
-        about: "Relaxed vector instructions.",
-    },
-    Field {
-        name: "saturating-float-to-int-enabled",
-        kind: FieldKind::Flag,
-        about: "Conversions from floats to integers that saturate.",
-    },
-    Field {
-        name: "sign-extension-ops-enabled",
-        kind: FieldKind::Flag,
-        about: "Instructions that extend a sign.",
-    },
-    Field {
-        name: "tail-call-enabled",
-        kind: FieldKind::Flag,
-        about: "Tail calls.",
-    },
-    Field {
-        name: "wide-arithmetic-enabled",
-        kind: FieldKind::Flag,
-        about: "Arithmetic on 128 bits.",
-    },
-    Field {
-        name: "acquire-release-atomics-enabled",
-        kind: FieldKind::Flag,
-        about: "Atomic accesses that acquire or release.",
-    },
-    Field {
-        name: "multibyte-array-access-enabled",
-        kind: FieldKind::Flag,
-        about: "Accesses to several bytes of an array.",
-    },
-    Field {
-        name: "non-nullable-enabled",
-        kind: FieldKind::Flag,
-        about: "References that aren't nullable, to what a struct or a function that exists gives without operands.",
-    },
-    Field {
-        name: "allowed-instructions",
-        kind: FieldKind::InstructionKinds,
-        about: "The kinds of instructions that bodies may hold.",
-    },
-    Field {
-        name: "memory-offset-choices",
-        kind: FieldKind::OffsetChoices,
-        about: "The weights by which the offset of a memory access lies inside the memory.",
-    },
-    Field {
-        name: "max-instructions",
-        kind: FieldKind::Whole(64),
-        about: "The number of instructions with operands, or with others inside, that are chosen for a body.",
-    },
-    Field {
-        name: "canonicalize-nans",
-        kind: FieldKind::Flag,
-        about: "Whether NaN results get one bit pattern.",
-    },
-    Field {
-        name: "generate-custom-sections",
-        kind: FieldKind::Flag,
-        about: "Whether custom sections are made.",
-    },
-    Field {
-        name: "min-uleb-size",
-        kind: FieldKind::Whole(8),
-        about: "The least length, in bytes, of an encoded whole number.",
-    },
-    Field {
-        name: "max-aliases",
-        kind: FieldKind::Whole(64),
-        about: "The greatest number of aliases of a component.",
-    },
-    Field {
-        name: "max-components",
-        kind: FieldKind::Whole(64),
-        about: "The greatest number of components of a component.",
-    },
-    Field {
-        name: "max-instances",
-        kind: FieldKind::Whole(64),
-        about: "The greatest number of instances of a component.",
-    },
-    Field {
-        name: "max-modules",
-        kind: FieldKind::Whole(64),
-        about: "The greatest number of modules of a component.",
-    },
-    Field {
-        name: "max-nesting-depth",
-        kind: FieldKind::Whole(64),
-        about: "The greatest depth of components inside one another.",
-    },
-    Field {
-        name: "max-values",
-        kind: FieldKind::Whole(64),
-        about: "The greatest number of values of a component.",
-    },
-    Field {
-        name: "available-imports",
-        kind: FieldKind::File,
-        about: "Imports of which a module has some, in order, in place of drawn imports.",
-    },
-    Field {
-        name: "exports",
-        kind: FieldKind::File,
-        about: "The exports of a module, in place of drawn exports.",
-    },
-    Field {
-        name: "module-shape",
-        kind: FieldKind::File,
-        about: "The first types of a module, and all its imports and exports, in order.",
-    },
-];
+pub static FIELDS: [Field; 71] = fields!(field);
+
+/// The name and the place of every field, in the order of `Config`.
+static PLACES: [(&str, Place); 71] = fields!(place);
+
+/// Finds the place of the field named `name`.
+pub(crate) fn place_named(name: &str) -> Option<Place>
+    ensures { option_map field_of result ≡ field_named name.now }
+{
+    found(&PLACES, name)
+}
+
+/// Finds what stands first under `name`.
+fn found(table: &[(&str, Place)], name: &str) -> Option<Place>
+    ensures { option_map field_of result ≡ named name.now (fields_in table.now) }
+{
+    for (other, place) in table {
+        if name == *other {
+            return Some(*place);
+        }
+    }
+    None
+}

@@ -19,7 +19,8 @@ ghost use Rattle.smith_json.specs.Values.{
 };
 ghost use Rattle.smith_json.specs.Objects.{Sets, outcome};
 
-use crate::place::{Flag, Long, Place, Size, Word, place_named};
+use crate::field::place_named;
+use crate::place::{Flag, Long, Place, Size, Word};
 use crate::refusal::Fault;
 use crate::set::{set_flag, set_long, set_size, set_word};
 use bitflags::Flags;

@@ -3,12 +3,13 @@ use Rattle.std.proofs.Common.{◌≡◌, ℕ, ◌+◌, ◌*◌, ◌<◌, ◌≤�
 use Rattle.std.specs.Prelude.{All, slice_get}
 use Rattle.std.specs.List.{AllByRecursion as Each}
 use Rattle.std.specs.declared.ops.Range.{Range}
-use Rattle.std.proofs.lemmas.List.Elements.{All-append, All-from_recursion, recursion_from_All, All-weaker}
+use Rattle.std.proofs.lemmas.List.Elements.{All-append, All-from_recursion, All-map, recursion_from_All, All-weaker}
 use Rattle.std.proofs.lemmas.Option.{slice_get_within, slice_get-get_or, slice_get_read, get_or_from_slice_get}
 use Rattle.smith_types.specs.Features.{Features}
 use Rattle.smith_types.specs.Space.{Space}
-use Rattle.smith_types.specs.Entities.{IsFuncAt, IsFuncValid, IsGlobalValid}
-use Rattle.smith_types.specs.ValidTypes.{IsValTypeValid, IsGroupValid, AreTypesValid, values_of}
+use Rattle.smith_types.specs.Entities.{IsFuncAt, IsFuncValid, IsGlobalValid, IsTableValid}
+use Rattle.smith_types.specs.Segments.{IsElementValid}
+use Rattle.smith_types.specs.ValidTypes.{IsRefTypeValid, IsValTypeValid, IsGroupValid, AreTypesValid, values_of}
 use Rattle.smith_types.specs.declared.code.Code.{Code}
 use Rattle.smith_types.specs.declared.code.Instructions.{Instructions}
 use Rattle.smith_types.specs.declared.code.Instructions.TheVariants.{Arbitrary, Unreachable}
@@ -17,11 +18,13 @@ use Rattle.smith_types.specs.declared.composite_type.CompositeInnerType.TheVaria
 use Rattle.smith_types.specs.declared.composite_type.FuncType.{FuncType}
 use Rattle.smith_types.specs.declared.composite_type.SubType.{SubType}
 use Rattle.smith_types.specs.declared.entity_type.GlobalType.{GlobalType}
+use Rattle.smith_types.specs.declared.entity_type.TableType.{TableType}
+use Rattle.smith_types.specs.declared.segments.ElementSegment.{ElementSegment}
 use Rattle.smith_types.specs.declared.value_type.ValType.{ValType}
 use Rattle.smith_types.proofs.ValidityLemmas.{ends_within, group_at}
 use Rattle.smith_types.proofs.EntityGrowthLemmas.{IsValTypeValid-later}
 use Rattle.smith_contents.specs.Held.{IsRaw}
-use Rattle.smith_definitions.specs.Module.{Parts, IsValid, module_features, module_imports, module_types}
+use Rattle.smith_definitions.specs.Module.{Parts, IsValid, module_features, module_imports, module_types, segment_context}
 use Rattle.smith_instr.specs.Enabled.{IsEnabled}
 use Rattle.smith_instr.specs.Sequences.{IsBodyTyped}
 use Rattle.smith_instr.specs.declared.instr.Instr.{Instr}
@@ -64,11 +67,15 @@ pub module_scope : (m : Parts) → IsValid m → (index : ℕ) (function : FuncT
 module_scope m valid index function there locals locals_valid =
     let features = module_features m in
     let P = IsValTypeValid features (length m.types) in
+    let R = IsRefTypeValid features (length m.types) in
     let (params, results) = func_values features (module_types m) valid.types index function there in
     record {
       orderly = valid.types.orderly;
       funcs = valid.entities.funcs;
       globals = All-weaker (IsGlobalValid features m.types) (λ (global : GlobalType). P global.val_type) (λ (global : GlobalType) (h : IsGlobalValid features m.types global). h.value) m.globals valid.entities.globals;
+      tables = All-weaker (IsTableValid features m.types) (λ (table : TableType). R table.element_type) (λ (table : TableType) (h : IsTableValid features m.types table). h.element) m.tables valid.entities.tables;
+      elements = All-map R (λ (segment : ElementSegment). segment.ty) m.elems
+          (All-weaker (IsElementValid (segment_context m) m.tables) (λ (segment : ElementSegment). R segment.ty) (λ (segment : ElementSegment) (h : IsElementValid (segment_context m) m.tables segment). h.ty) m.elems valid.elements);
       locals = All-append P function.params locals params locals_valid;
       results = results;
       results_few = let wide = func_wide m.types index function there in omega arith;

@@ -1,6 +1,8 @@
 use smith_bytes::{ConfigFault, Count, Error, ShapeFault, Which, Why};
 use smith_config::OffsetChoicesFault;
 use smith_types::UnknownKind;
+use std::alloc::Global;
+use std::fmt;
 use std::test::Fail;
 
 // Each error, and what it holds, once at least.
@@ -114,42 +116,56 @@ const TEXTS: [(Error, &str); 29] = [
     ),
 ];
 
-#[test]
-fn texts_of_errors(rt: HostRuntime) -> Result<(), Fail> {
-    for (error, text) in TEXTS {
-        assert_eq!(rt; error.to_string(rt.alloc())?.as_str(), text);
+// Fails unless `value` is written as `wanted`.
+fn is_written<T: fmt::Display>(alloc: Global, value: &T, wanted: &str) -> Result<(), Fail> {
+    let text = value.to_string(alloc)?;
+    if text.as_str() == wanted {
+        Ok(())
+    } else {
+        Err(Fail::new(format_args!("{text} in place of {wanted}")))
+    }
+}
+
+// Fails unless each value is written as the text beside it.
+fn are_written<T: fmt::Display>(alloc: Global, cases: &[(T, &str)]) -> Result<(), Fail> {
+    for (value, wanted) in cases {
+        is_written(alloc, value, wanted)?;
     }
     Ok(())
+}
+
+#[test]
+fn texts_of_errors(rt: HostRuntime) -> Result<(), Fail> {
+    are_written(rt.alloc(), &TEXTS)
 }
 
 #[test]
 fn texts_of_offset_faults(rt: HostRuntime) -> Result<(), Fail> {
-    let cases = [
-        (
-            OffsetChoicesFault::NeedThree,
-            "need three numbers between commas",
-        ),
-        (
-            OffsetChoicesFault::Number(2),
-            "part 2 isn't a number of 32 bits",
-        ),
-        (OffsetChoicesFault::TooMany, "more than three parts"),
-        (
-            OffsetChoicesFault::AllZero,
-            "one of the three must be above zero",
-        ),
-    ];
-    for (fault, want) in cases {
-        let text = format!(in rt.alloc(); "{fault}")?;
-        assert_eq!(rt; text.as_str(), want);
-    }
-    Ok(())
+    are_written(
+        rt.alloc(),
+        &[
+            (
+                OffsetChoicesFault::NeedThree,
+                "need three numbers between commas",
+            ),
+            (
+                OffsetChoicesFault::Number(2),
+                "part 2 isn't a number of 32 bits",
+            ),
+            (OffsetChoicesFault::TooMany, "more than three parts"),
+            (
+                OffsetChoicesFault::AllZero,
+                "one of the three must be above zero",
+            ),
+        ],
+    )
 }
 
 #[test]
 fn the_text_of_an_unknown_kind(rt: HostRuntime) -> Result<(), Fail> {
-    let unknown = UnknownKind { part: 0 };
-    let text = format!(in rt.alloc(); "{unknown}")?;
-    assert_eq!(rt; text.as_str(), "part 0 names no kind of instructions");
-    Ok(())
+    is_written(
+        rt.alloc(),
+        &UnknownKind { part: 0 },
+        "part 0 names no kind of instructions",
+    )
 }

@@ -35,11 +35,11 @@ fn functions_take_what_the_bytes_say(rt: HostRuntime) {
 
 fn seed(
     alloc: Global,
+    config: &Config,
     groups: &[Items<SubType>],
     corpus: &mut Vec<Items<u8>>,
 ) -> Result<(), Error> {
-    let config = Config::default();
-    if let Some(seed) = spell(alloc, &config, groups, &[0])? {
+    if let Some(seed) = spell(alloc, config, groups, &[0])? {
         corpus.push(seed)?; // `Module::new` on these bytes, whatever a fuzzer puts behind them, has these groups and this function
     }
     Ok(())
@@ -73,7 +73,7 @@ fn one_group(alloc: Global) -> Result<Vec<Items<SubType>>, Error> {
 fn corpus_of(alloc: Global) -> Result<Vec<Items<u8>>, Error> {
     let groups = one_group(alloc)?;
     let mut corpus = Vec::new(alloc);
-    seed(alloc, groups.as_slice(), &mut corpus)?;
+    seed(alloc, &Config::default(), groups.as_slice(), &mut corpus)?;
     Ok(corpus)
 }
 

@@ -1,20 +1,30 @@
 use smith_bytes::{Error, Unstructured, limited_str};
 use std::test::Fail;
 
+// What `u` lends of its first bytes: a text, and two bytes.
+fn lent<'a>(u: &mut Unstructured<'a>) -> Result<(&'a str, &'a [u8]), Error> {
+    let name = limited_str(1000, u);
+    Ok((name, u.bytes(2)?))
+}
+
+// Whether `u`, which has `cde` and one byte more, draws on as it must.
+fn draws_on(u: &mut Unstructured<'_>) -> bool {
+    u.peek_bytes(3) == Some(b"cde".as_slice())
+        && u.arbitrary::<u8>() == b'c'
+        && u.bytes(3) == Err(Error::NotEnoughData)
+        && u.peek_bytes(3).is_none()
+        && u.len() == 2
+        && !u.is_empty()
+}
+
 #[test]
 fn what_is_lent_outlives_later_draws(rt: HostRuntime) -> Result<(), Fail> {
     for _ in 0..2 {
         let mut u = Unstructured::new(b"ab\xff\x09cde\x03");
-        let name = limited_str(1000, &mut u);
-        let bytes = u.bytes(2)?;
-        assert_eq!(rt; u.peek_bytes(3), Some(b"cde".as_slice()));
-        assert_eq!(rt; u.arbitrary::<u8>(), b'c');
-        assert_eq!(rt; u.bytes(3), Err(Error::NotEnoughData));
-        assert_eq!(rt; u.peek_bytes(3), None);
-        assert_eq!(rt; u.len(), 2);
+        let (name, bytes) = lent(&mut u)?;
+        assert!(rt; draws_on(&mut u));
         assert_eq!(rt; name, "ab");
         assert_eq!(rt; bytes, b"\xff\x09".as_slice());
-        assert!(rt; !u.is_empty());
     }
     Ok(())
 }

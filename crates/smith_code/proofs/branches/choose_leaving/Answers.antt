@@ -4,7 +4,7 @@ use Rattle.smith_code.proofs.ResultLemmas.{ok_like}
 use Rattle.smith_code.proofs.NodeLemmas.{br_node, return_node}
 use Rattle.smith_code.proofs.ChoiceLemmas.{leaving_none, leaving_out, leaving_there}
 use Rattle.std.proofs.lemmas.Option.{slice_get_read}
-use Rattle.smith_code.specs.Choices.{label_count}
+use Rattle.smith_code.specs.Offered.{label_count}
 use Rattle.smith_code.proofs.branches.choose_leaving.Goals.{then-count-eq0-via-then-count-eq0, then-count-eq0-via-else-count-eq0+then-arbitrary}
 use Rattle.smith_code.proofs.branches.choose_leaving.Goals as goal
 

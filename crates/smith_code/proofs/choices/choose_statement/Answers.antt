@@ -43,3 +43,27 @@ returns-in-Leaving-clause-exact c = ok_by c.choose_leaving.result _ _ _ (stateme
 
 pub returns-in-Table-clause-exact : goal.returns-in-Table-clause-exact
 returns-in-Table-clause-exact c = ok_by c.choose_table.result _ _ _ (statement_by (where_stands c.args.scope.now c.args.draft.now) c.args.u.now _ c.statement_families.result.now c.choose.result statement.Table c.statement_families.ensures (c.choose.ensures.exact statement.Nop) c.in-Table.is) (ok_node c.choose_table.result _ _ c.choose_table.ensures.exact)
+
+pub returns-in-TableChange-clause-exact : goal.returns-in-TableChange-clause-exact
+returns-in-TableChange-clause-exact c = ok_by c.choose_table_change.result _ _ _ (statement_by (where_stands c.args.scope.now c.args.draft.now) c.args.u.now _ c.statement_families.result.now c.choose.result statement.TableChange c.statement_families.ensures (c.choose.ensures.exact statement.Nop) c.in-TableChange.is) c.choose_table_change.ensures.exact
+
+pub returns-in-Bulk-clause-exact : goal.returns-in-Bulk-clause-exact
+returns-in-Bulk-clause-exact c = ok_by c.choose_bulk.result _ _ _ (statement_by (where_stands c.args.scope.now c.args.draft.now) c.args.u.now _ c.statement_families.result.now c.choose.result statement.Bulk c.statement_families.ensures (c.choose.ensures.exact statement.Nop) c.in-Bulk.is) c.choose_bulk.ensures.exact
+
+pub returns-in-CallIndirect-clause-exact : goal.returns-in-CallIndirect-clause-exact
+returns-in-CallIndirect-clause-exact c = ok_by c.choose_any_indirect.result _ _ _ (statement_by (where_stands c.args.scope.now c.args.draft.now) c.args.u.now _ c.statement_families.result.now c.choose.result statement.CallIndirect c.statement_families.ensures (c.choose.ensures.exact statement.Nop) c.in-CallIndirect.is) c.choose_any_indirect.ensures.exact
+
+pub returns-in-CallRef-clause-exact : goal.returns-in-CallRef-clause-exact
+returns-in-CallRef-clause-exact c = ok_by c.choose_any_by_reference.result _ _ _ (statement_by (where_stands c.args.scope.now c.args.draft.now) c.args.u.now _ c.statement_families.result.now c.choose.result statement.CallRef c.statement_families.ensures (c.choose.ensures.exact statement.Nop) c.in-CallRef.is) c.choose_any_by_reference.ensures.exact
+
+pub returns-in-TailCall-clause-exact : goal.returns-in-TailCall-clause-exact
+returns-in-TailCall-clause-exact c = ok_by c.choose_any_tail_call.result _ _ _ (statement_by (where_stands c.args.scope.now c.args.draft.now) c.args.u.now _ c.statement_families.result.now c.choose.result statement.TailCall c.statement_families.ensures (c.choose.ensures.exact statement.Nop) c.in-TailCall.is) c.choose_any_tail_call.ensures.exact
+
+pub returns-in-NullBranch-clause-exact : goal.returns-in-NullBranch-clause-exact
+returns-in-NullBranch-clause-exact c = ok_by c.choose_null_branch.result _ _ _ (statement_by (where_stands c.args.scope.now c.args.draft.now) c.args.u.now _ c.statement_families.result.now c.choose.result statement.NullBranch c.statement_families.ensures (c.choose.ensures.exact statement.Nop) c.in-NullBranch.is) c.choose_null_branch.ensures.exact
+
+pub returns-in-VectorStore-clause-exact : goal.returns-in-VectorStore-clause-exact
+returns-in-VectorStore-clause-exact c = ok_by c.choose_vector_store.result _ _ _ (statement_by (where_stands c.args.scope.now c.args.draft.now) c.args.u.now _ c.statement_families.result.now c.choose.result statement.VectorStore c.statement_families.ensures (c.choose.ensures.exact statement.Nop) c.in-VectorStore.is) c.choose_vector_store.ensures.exact
+
+pub returns-in-StoreLane-clause-exact : goal.returns-in-StoreLane-clause-exact
+returns-in-StoreLane-clause-exact c = ok_by c.choose_store_lane.result _ _ _ (statement_by (where_stands c.args.scope.now c.args.draft.now) c.args.u.now _ c.statement_families.result.now c.choose.result statement.StoreLane c.statement_families.ensures (c.choose.ensures.exact statement.Nop) c.in-StoreLane.is) c.choose_store_lane.ensures.exact

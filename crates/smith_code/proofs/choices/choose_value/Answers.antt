@@ -30,3 +30,27 @@ returns-in-Load-clause-exact c = ok_by c.choose_load.result _ _ _ (value_by (whe
 
 pub returns-in-Memory-clause-exact : goal.returns-in-Memory-clause-exact
 returns-in-Memory-clause-exact c = ok_by c.choose_memory.result _ _ _ (value_by (where_stands c.args.scope.now c.args.draft.now) c.args.wanted c.args.u.now _ c.value_families.result.now c.choose.result value.Memory c.value_families.ensures (c.choose.ensures.exact value.Leaf) c.in-Memory.is) c.choose_memory.ensures.exact
+
+pub returns-in-Table-clause-exact : goal.returns-in-Table-clause-exact
+returns-in-Table-clause-exact c = ok_by c.choose_table_value.result _ _ _ (value_by (where_stands c.args.scope.now c.args.draft.now) c.args.wanted c.args.u.now _ c.value_families.result.now c.choose.result value.Table c.value_families.ensures (c.choose.ensures.exact value.Leaf) c.in-Table.is) c.choose_table_value.ensures.exact
+
+pub returns-in-SelectTyped-clause-exact : goal.returns-in-SelectTyped-clause-exact
+returns-in-SelectTyped-clause-exact c = ok_like _ c.choose_select_typed.result (value_by (where_stands c.args.scope.now c.args.draft.now) c.args.wanted c.args.u.now _ c.value_families.result.now c.choose.result value.SelectTyped c.value_families.ensures (c.choose.ensures.exact value.Leaf) c.in-SelectTyped.is) c.choose_select_typed.ensures.exact
+
+pub returns-in-Reference-clause-exact : goal.returns-in-Reference-clause-exact
+returns-in-Reference-clause-exact c = ok_by c.choose_reference_value.result _ _ _ (value_by (where_stands c.args.scope.now c.args.draft.now) c.args.wanted c.args.u.now _ c.value_families.result.now c.choose.result value.Reference c.value_families.ensures (c.choose.ensures.exact value.Leaf) c.in-Reference.is) c.choose_reference_value.ensures.exact
+
+pub returns-in-CallIndirect-clause-exact : goal.returns-in-CallIndirect-clause-exact
+returns-in-CallIndirect-clause-exact c = ok_by c.choose_indirect.result _ _ _ (value_by (where_stands c.args.scope.now c.args.draft.now) c.args.wanted c.args.u.now _ c.value_families.result.now c.choose.result value.CallIndirect c.value_families.ensures (c.choose.ensures.exact value.Leaf) c.in-CallIndirect.is) c.choose_indirect.ensures.exact
+
+pub returns-in-CallRef-clause-exact : goal.returns-in-CallRef-clause-exact
+returns-in-CallRef-clause-exact c = ok_by c.choose_by_reference.result _ _ _ (value_by (where_stands c.args.scope.now c.args.draft.now) c.args.wanted c.args.u.now _ c.value_families.result.now c.choose.result value.CallRef c.value_families.ensures (c.choose.ensures.exact value.Leaf) c.in-CallRef.is) c.choose_by_reference.ensures.exact
+
+pub returns-in-TailCall-clause-exact : goal.returns-in-TailCall-clause-exact
+returns-in-TailCall-clause-exact c = ok_by c.choose_tail_call.result _ _ _ (value_by (where_stands c.args.scope.now c.args.draft.now) c.args.wanted c.args.u.now _ c.value_families.result.now c.choose.result value.TailCall c.value_families.ensures (c.choose.ensures.exact value.Leaf) c.in-TailCall.is) c.choose_tail_call.ensures.exact
+
+pub returns-in-NullBranch-clause-exact : goal.returns-in-NullBranch-clause-exact
+returns-in-NullBranch-clause-exact c = ok_by c.choose_kept.result _ _ _ (value_by (where_stands c.args.scope.now c.args.draft.now) c.args.wanted c.args.u.now _ c.value_families.result.now c.choose.result value.NullBranch c.value_families.ensures (c.choose.ensures.exact value.Leaf) c.in-NullBranch.is) c.choose_kept.ensures.exact
+
+pub returns-in-Vector-clause-exact : goal.returns-in-Vector-clause-exact
+returns-in-Vector-clause-exact c = ok_by c.choose_vector.result _ _ _ (value_by (where_stands c.args.scope.now c.args.draft.now) c.args.wanted c.args.u.now _ c.value_families.result.now c.choose.result value.Vector c.value_families.ensures (c.choose.ensures.exact value.Leaf) c.in-Vector.is) c.choose_vector.ensures.exact

@@ -1,5 +1,6 @@
 use Rattle.std.proofs.Common.{ap}
-use Rattle.smith_code.specs.Choices.{Chosen, or_nop}
+use Rattle.smith_code.specs.Choices.{or_nop}
+use Rattle.smith_code.specs.Chosen.{Chosen}
 use Rattle.smith_code.specs.Scopes.{where_stands}
 use Rattle.smith_code.proofs.ChoiceLemmas.{ok_by, store_by}
 use Rattle.smith_code.proofs.memories.choose_store.Goals as goal

@@ -3,7 +3,8 @@ use Rattle.smith_code.proofs.ResultLemmas.{ok_like}
 use Rattle.smith_code.proofs.NodeLemmas.{store_node}
 use Rattle.smith_code.proofs.ChoiceLemmas.{as_node, as_nop}
 use Rattle.std.proofs.Common.{ℕ, List, Option, ap}
-use Rattle.smith_code.specs.Choices.{giving, store_node as storing}
+use Rattle.smith_code.specs.Choices.{store_node as storing}
+use Rattle.smith_code.specs.Chosen.{giving}
 use Rattle.smith_code.specs.declared.memories.Access.{Access}
 use Rattle.smith_code.proofs.memories.store_of.Goals as goal
 

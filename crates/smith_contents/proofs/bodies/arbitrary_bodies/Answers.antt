@@ -1,7 +1,7 @@
 use Rattle.smith_draw.specs.Grounding.{standing_in}
 use Rattle.std.proofs.lemmas.Result.{IfOk-weaker}
 use Rattle.smith_draw.proofs.DrawingLemmas.{of_drawn}
-use Rattle.smith_contents.proofs.DrawnBodyLemmas.{bodies_each, bodies_valid, bodies_no_float, none_raw}
+use Rattle.smith_contents.proofs.DrawnBodyLemmas.{bodies_each, bodies_valid, bodies_no_float, bodies_granted, none_raw}
 use Rattle.smith_contents.proofs.bodies.arbitrary_bodies.Goals as goal
 
 pub returns : goal.returns
@@ -14,6 +14,7 @@ returns c =
       draws = draws;
       each = of_drawn _ draws (bodies_each config context c.args.count c.args.u.now);
       valid = valid;
+      granted = of_drawn _ draws (bodies_granted config context c.types-types.ensures.sound.orderly c.args.count c.args.u.now);
       floats = λ off. of_drawn _ draws (bodies_no_float config context c.args.count c.args.u.now off);
       no_raw = λ off. IfOk-weaker c.draw_bodies.result _ _ (λ bodies h. none_raw config _ bodies off h) valid;
     }

@@ -4,8 +4,9 @@ use Rattle.std.proofs.lemmas.Result.{IfOk-weaker}
 use Rattle.smith_bytes.specs.declared.error.Count.TheVariants as counts
 use Rattle.smith_types.specs.declared.segments.ElementSegment.{ElementSegment}
 use Rattle.smith_draw.specs.ConstScopes.{seen_by}
+use Rattle.smith_draw.specs.Grounding.{standing_in}
 use Rattle.smith_contents.specs.Held.{HasItems}
-use Rattle.smith_contents.specs.DrawnElements.{IsElementFit}
+use Rattle.smith_contents.specs.DrawnElements.{HasGroundedItems, IsElementFit}
 use Rattle.smith_contents.specs.ElementSegments.{elements_at}
 use Rattle.smith_contents.proofs.ElementCountLemmas.{elements_least, elements_taken}
 use Rattle.smith_contents.proofs.ElementFitLemmas.{elements_no_float}
@@ -30,6 +31,13 @@ returns-clause-enough c =
 
 pub returns-clause-floats : goal.returns-clause-floats
 returns-clause-floats c = λ calm. IfOk-weaker c.draw_elements.result _ _ (λ segments fit. elements_no_float calm segments fit) c.draw_elements.ensures.fit
+
+pub returns-clause-grounded : goal.returns-clause-grounded
+returns-clause-grounded c = λ none.
+    let config = c.args.config.now in
+    let spaces = c.args.spaces.now in
+    IfOk-weaker c.draw_elements.result _ _
+    (λ segments fit. All-weaker (IsElementFit config (seen_by config spaces true) spaces.entities.tables.now) (HasGroundedItems config (standing_in config spaces)) (λ segment one. one.grounded none) segments fit) c.draw_elements.ensures.fit
 
 pub returns-clause-none : goal.returns-clause-none
 returns-clause-none c = λ none empty. elements_taken c.args.config.now (seen_by c.args.config.now c.args.spaces.now true) c.args.spaces.now.entities.tables.now _ _ c.draw_elements.result none empty c.draw_elements.ensures.exact

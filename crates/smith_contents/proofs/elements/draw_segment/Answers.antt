@@ -21,4 +21,4 @@ returns-clause-fit c =
     let Offered = IsOffered c.args.config.now c.args.spaces.now.types.now.types c.args.spaces.now.entities.tables.now in
     let offered = drawn_is Offered _ (chosen_of Offered Passive c.args.kinds.now c.args.u.now c.requires.some c.requires.offered) c.choose-choice.ensures.exact in
     let items = c.in_ok-items.ensures in
-    element_fit c.args.config.now c.args.spaces.now _ _ _ _ _ c.args.total offered c.draw_kind-kind.ensures.placed c.in_ok-ty.ensures.may c.in_ok-ty.ensures.fits items.fit (rw c.most_items-most.ensures.exact at items.few)
+    element_fit c.args.config.now c.args.spaces.now _ _ _ _ _ c.args.total offered c.draw_kind-kind.ensures.placed c.in_ok-ty.ensures.may c.in_ok-ty.ensures.fits items.fit (rw c.most_items-most.ensures.exact at items.few) c.in_ok-ty.ensures.needed

@@ -52,7 +52,7 @@ loop-made-preserved c =
           c.goes_on.ensures.left
           drawn.left;
       kept =
-          kept_pushed c.args.config.now standing c.loop-made.globals _ _ _ c.in_ok-push.ensures.ok
+          kept_pushed c.args.config.now standing c.loop-made.globals _ _ _ c.requires.may.valid.orderly c.requires.may.funcs c.loop-made.invariant.defining.valid c.in_ok-push.ensures.ok
           (rw (c.as_slice.ensures, visible, ← seen) at drawn.kept);
     }
 

@@ -1,6 +1,7 @@
-use Rattle.std.proofs.Common.{refl}
+use Rattle.std.proofs.Common.{true, refl}
 use Rattle.smith_types.specs.IndexSpaces.{spaces_in}
 use Rattle.smith_draw.proofs.ConstStepLemmas.{passed_on}
+use Rattle.smith_definitions.proofs.KeptOfferLemmas.{kept_over}
 use Rattle.smith_definitions.proofs.StandsBehindLemmas.{entities_longer}
 use Rattle.smith_definitions.proofs.RequiredMoreLemmas.{is_over, required_more, export_refused}
 use Rattle.smith_definitions.proofs.shape_exports.make_export.Goals as goal
@@ -22,6 +23,13 @@ pub define_entity-requires-clause-valid : goal.define_entity-requires-clause-val
 define_entity-requires-clause-valid c =
     (is_over c.args.own_types c.args.config.now c.args.shape.now c.args.types.now c.entity_over.new.types c.args.one.now.1 c.args.one.now.2 c.entity_of_shape-theirs.result c.in_ok-added.added c.requires.shape c.requires.may.valid
     c.entity_of_shape-theirs.ensures c.in_ok-added.ensures.types c.in_ok-added.ensures.entity).entity
+
+pub define_entity-requires-clause-kept : goal.define_entity-requires-clause-kept
+define_entity-requires-clause-kept c =
+    let over =
+    is_over c.args.own_types c.args.config.now c.args.shape.now c.args.types.now c.entity_over.new.types c.args.one.now.1 c.args.one.now.2 c.entity_of_shape-theirs.result c.in_ok-added.added c.requires.shape c.requires.may.valid
+    c.entity_of_shape-theirs.ensures c.in_ok-added.ensures.types c.in_ok-added.ensures.entity in
+    kept_over c.args.config.now c.args.types.now (spaces_in c.args.spaces.now) c.args.definitions.now true c.requires.may c.entity_over.new.types.types _ over.grown c.requires.kept
 
 pub returns-in_err-define_entity-clause-refusal : goal.returns-in_err-define_entity-clause-refusal
 returns-in_err-define_entity-clause-refusal c =

@@ -1,0 +1,70 @@
+-- Modules whose bodies the examples draw, and bodies that bytes give.
+use Rattle.std.specs.Prelude.{ℕ, true, List, [], ◌∷◌}
+use Rattle.smith_types.specs.ExampleTypes.{final_type, giving, plain_func}
+use Rattle.smith_types.specs.declared.code.Code.{Code}
+use Rattle.smith_types.specs.declared.code.Instructions.TheVariants.{Arbitrary}
+use Rattle.smith_types.specs.declared.composite_type.CompositeInnerType.{CompositeInnerType}
+use Rattle.smith_types.specs.declared.entity_type.EntityType.TheVariants as entity
+use Rattle.smith_types.specs.declared.imports.Imports.TheVariants.{Single}
+use Rattle.smith_types.specs.declared.value_type.ValType.TheVariants.{I32}
+use Rattle.smith_config.specs.declared.config.Config.{Config}
+use Rattle.smith_config.specs.Config.{default_config}
+use Rattle.smith_definitions.specs.Module.{Parts}
+use Rattle.smith_examples.specs.ExampleModules.{empty_module, group_of}
+use Rattle.smith_examples.specs.ExampleParts.{import_named, trapping}
+use Rattle.smith_instr_examples.specs.ExampleBodies.{number}
+use Rattle.smith_code_examples.specs.ExampleBytes.{narrow}
+use Rattle.smith_program.specs.declared.program.Body.{Body}
+use Rattle.smith_program.specs.declared.program.Body.TheVariants as body
+
+-- one unit of fuel for each body, and raw bytes where they are drawn
+abbrev pub one_unit : Config
+one_unit = record default_config { max_instructions = 1; allow_invalid_funcs = true }
+
+-- a function of this type
+abbrev pub one_of : CompositeInnerType → Parts
+one_of ty = record (empty_module one_unit) {
+  types = final_type ty ∷ [];
+  groups = group_of 0 1 ∷ [];
+  funcs = 0 ∷ [];
+  num_defined_funcs = 1;
+  code = trapping ∷ [];
+  encodes_types = true;
+}
+
+-- a function that takes and gives nothing, one that gives an i32, and two of these
+abbrev pub plain : Parts
+plain = one_of plain_func
+
+abbrev pub narrow_function : Parts
+narrow_function = one_of (giving (I32 ∷ []))
+
+abbrev pub two_functions : Parts
+two_functions = record narrow_function { funcs = 0 ∷ 0 ∷ []; num_defined_funcs = 2; code = trapping ∷ trapping ∷ [] }
+
+-- a body of raw bytes
+abbrev pub raw : Code
+raw = record { locals = []; instructions = Arbitrary (7 ∷ 8 ∷ []) }
+
+-- two such functions, and between them one with raw bytes
+abbrev pub raw_between : Parts
+raw_between = record narrow_function { funcs = 0 ∷ 0 ∷ 0 ∷ []; num_defined_funcs = 3; code = trapping ∷ raw ∷ trapping ∷ [] }
+
+-- an imported function that gives nothing, and a function that gives an i32
+abbrev pub after_an_import : Parts
+after_an_import = record narrow_function {
+  types = final_type plain_func ∷ final_type (giving (I32 ∷ [])) ∷ [];
+  groups = group_of 0 1 ∷ group_of 1 2 ∷ [];
+  imports = Single (import_named [] (entity.Func 0)) ∷ [];
+  num_imports = 1;
+  funcs = 0 ∷ 1 ∷ [];
+  encodes_imports = true;
+  type_size = 2;
+}
+
+-- a constant as a body, and what gives it: no statement, then a value without operands
+abbrev pub constant : ℕ → Body
+constant n = body.Drawn (number n ∷ [])
+
+abbrev pub constant_bytes : ℕ → List ℕ
+constant_bytes n = 0 ∷ 0 ∷ narrow n
