@@ -1,5 +1,5 @@
--- Which instruction on many bytes of a memory the bytes choose. The choices, their order and how often each comes are rules of
--- this project.
+-- The instruction on several bytes of a memory that the bytes choose. The choices, their order and
+-- their weights are rules of this project.
 use Rattle.std.specs.Prelude.{ℕ, Option, Some, List, [], ◌∷◌}
 use Rattle.smith_types.specs.declared.entity_type.MemoryType.{MemoryType}
 use Rattle.smith_types.specs.declared.value_type.ValType.TheVariants.{I32}
@@ -23,7 +23,7 @@ memory_fill_node into =
 abbrev pub memory_fill_at : BodyContext → List ℕ → Chosen
 memory_fill_at context bytes = giving memory_fill_node (item_at context.memories bytes)
 
--- bytes are copied into a memory out of one
+-- bytes are copied into a memory from another or the same
 abbrev pub memory_copy_node : ℕ × MemoryType → ℕ × MemoryType → Option Node
 memory_copy_node into out =
     Some (node_of (address into.1.memory64 ∷ address out.1.memory64 ∷ narrower into.1.memory64 out.1.memory64 ∷ []) (instr.Memory (memory.Copy into.0 out.0)) 0)
@@ -34,7 +34,7 @@ memory_copied context into bytes = giving (memory_copy_node into) (item_at conte
 abbrev pub memory_copy_at : BodyContext → List ℕ → Chosen
 memory_copy_at context bytes = let into = item_at context.memories bytes in continued (memory_copied context) into.0 into.1
 
--- bytes are copied into a memory out of a data segment
+-- bytes are copied into a memory from a data segment
 abbrev pub memory_init_node : ℕ × MemoryType → ℕ → Option Node
 memory_init_node into segment =
     Some (node_of (address into.1.memory64 ∷ I32 ∷ I32 ∷ []) (instr.Memory (memory.Init into.0 segment)) 0)
@@ -52,7 +52,7 @@ data_drop_node segment = Some (node_of [] (instr.Memory (memory.DataDrop segment
 abbrev pub data_drop_at : BodyContext → List ℕ → Chosen
 data_drop_at context bytes = giving data_drop_node (index_at context.datas bytes)
 
--- what a statement does to many bytes of a memory or a data segment, each as likely
+-- the statements on several bytes of a memory or on a data segment, each with the same weight
 abbrev pub bulks : List Bulk
 bulks = bulk.Fill ∷ bulk.Copy ∷ bulk.Init ∷ bulk.DataDrop ∷ []
 

@@ -1,5 +1,5 @@
--- Which call through a table or a reference the bytes choose, and which tail call. The choices, their order and how often each comes
--- are rules of this project.
+-- The call through a table or a reference that the bytes choose, and the tail call. The choices,
+-- their order and their weights are rules of this project.
 use Rattle.std.specs.Prelude.{◌≡◌, ℕ, ◌-◌, ◌==◌, ◌&&◌, ◌||◌, Bool, true, false, Option, Some, None, option_map, List, [], ◌∷◌, ◌++◌, length, slice_get, All, if◌then◌else◌}
 use Rattle.smith_bytes.specs.Draws.{choose_at, range_at}
 use Rattle.smith_types.specs.Features.{Features}
@@ -24,7 +24,7 @@ use Rattle.smith_code.specs.declared.outcomes.Outcome.{Outcome}
 use Rattle.smith_code.specs.declared.outcomes.Outcome.TheVariants as outcome
 use Rattle.smith_code.specs.declared.node.Node.{Node}
 
--- what is wanted of a call is valid
+-- the wanted type of a call is valid
 abbrev pub IsOutcomeOver : Features → List SubType → Outcome → Type 0
 IsOutcomeOver features types (outcome.Wanted value) = IsValTypeValid features (length types) value
 IsOutcomeOver features types _ = Unit {0}
@@ -32,7 +32,7 @@ IsOutcomeOver features types _ = Unit {0}
 abbrev pub IsOutcome : BodyContext → Outcome → Type 0
 IsOutcome context outcome = IsOutcomeOver context.features context.types outcome
 
--- the values that a call leaves: a tail call does not come back, and leaves whatever is valid
+-- the values that a call leaves: a tail call is followed by any valid values
 abbrev pub IsLeftOver : Features → List SubType → Outcome → List ValType → Type 0
 IsLeftOver features types (outcome.Wanted value) values = values ≡ value ∷ []
 IsLeftOver features types outcome.Dropped values = values ≡ []
@@ -41,7 +41,8 @@ IsLeftOver features types outcome.Returned values = All (IsValTypeValid features
 abbrev pub IsLeft : BodyContext → Outcome → List ValType → Type 0
 IsLeft context outcome values = IsLeftOver context.features context.types outcome values
 
--- the results of a function may have this outcome, where the function of the body returns values of these types
+-- the results of a function may have this outcome, if the function of the body returns values of
+-- these types
 abbrev pub is_fit : List SubType → List ValType → Outcome → FuncType → Bool
 is_fit types returned (outcome.Wanted value) function = is_first_below types value function.results
 is_fit types returned outcome.Dropped function = true
@@ -59,11 +60,12 @@ is_fit_type context outcome index = is_fit_in context.types context.results outc
 abbrev pub is_returnable : BodyContext → ℕ → Bool
 is_returnable context index = is_fit_in context.types context.results outcome.Returned (function_at context index)
 
--- a reference type is below that of functions, shared ones or others (Validation, Control Instructions, call_indirect)
+-- a reference type matches that of functions, shared or unshared (Validation, Control Instructions,
+-- call_indirect)
 abbrev pub is_below_func : List SubType → RefType → Bool → Bool
 is_below_func types element shared = is_val_below types (Ref element) (nullable_to (Abstract shared abstract.Func))
 
--- it is below that of either
+-- it matches that of either
 abbrev pub holds_functions : List SubType → RefType → Bool
 holds_functions types element = is_below_func types element false || is_below_func types element true
 
@@ -75,13 +77,13 @@ is_function_table_at types None = false
 abbrev pub is_function_table : BodyContext → ℕ → Bool
 is_function_table context index = is_function_table_at context.types (slice_get context.tables index)
 
--- how many of the results are dropped
+-- the number of results that are dropped
 abbrev pub dropped_of : Outcome → FuncType → ℕ
 dropped_of (outcome.Wanted value) function = length function.results - 1
 dropped_of outcome.Dropped function = length function.results
 dropped_of outcome.Returned function = 0
 
--- a call of a function in a table: a tail call where its results are returned
+-- a call of a function in a table: a tail call if its results are returned
 abbrev pub indirect_instr : Outcome → ℕ → ℕ → Instr
 indirect_instr outcome.Returned table ty = instr.ReturnCallIndirect table ty
 indirect_instr _ table ty = instr.CallIndirect table ty
@@ -105,7 +107,7 @@ fit_type_at context outcome bytes = choose_at (offered (is_fit_type context outc
 unfoldable pub indirect_at : BodyContext → Outcome → List ℕ → Chosen
 indirect_at context outcome bytes = let ty = fit_type_at context outcome bytes in indirect_by context outcome ty.0 ty.1
 
--- a call of a function by a reference: a tail call where its results are returned
+-- a call of a function by a reference: a tail call if its results are returned
 abbrev pub by_reference_instr : Outcome → ℕ → Instr
 by_reference_instr outcome.Returned ty = instr.ReturnCallRef ty
 by_reference_instr _ ty = instr.CallRef ty
@@ -115,7 +117,7 @@ by_reference_node context outcome ty =
     option_map (λ (function : FuncType). node_of (function.params ++ nullable_to (Concrete ty) ∷ []) (by_reference_instr outcome ty) (dropped_of outcome function))
     (func_in (slice_get context.types ty))
 
--- such a call, of a type that fits, where a reference may name a type
+-- such a call, of a type that fits, if a reference may name a type
 unfoldable pub by_reference_at : BodyContext → Outcome → List ℕ → Chosen
 by_reference_at context outcome bytes =
     if context.features.reference_types && context.features.gc then giving (by_reference_node context outcome) (fit_type_at context outcome bytes)

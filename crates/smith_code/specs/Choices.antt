@@ -1,4 +1,5 @@
--- Which node the bytes choose. The choices, their order and how often each comes are rules of this project.
+-- The node that the bytes choose. The choices, their order and their weights are rules of this
+-- project.
 use Rattle.std.specs.Prelude.{ℕ, zero, suc, ◌-◌, ◌==◌, min, Bool, true, false, Option, Some, None, option_map, option_to_list, unwrap_or, List, [], ◌∷◌, ◌++◌, length, slice_get, slice_index_or, if◌then◌else◌, option_and_then}
 use Rattle.smith_bytes.specs.Draws.{bool_at, range_at, choose_at, whole_at}
 use Rattle.smith_types.specs.Features.{Features}
@@ -90,7 +91,7 @@ opening_at bytes = let number = range_at 0 5 bytes in (slice_index_or openings n
 unfoldable pub block_at : ValType → List ℕ → Chosen
 block_at wanted bytes = let opening = opening_at bytes in (Some (blocked opening.0 (block.Value wanted) [] (wanted ∷ []) 0), opening.1)
 
--- a label: 0 where there is none
+-- a label, or 0 if there is none
 abbrev pub label_at : BodyContext → List ℕ → ℕ × List ℕ
 label_at context bytes = range_at 0 (label_count context - 1) bytes
 

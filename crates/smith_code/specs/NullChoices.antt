@@ -1,4 +1,5 @@
--- Which branch on null the bytes choose. The choices, their order and how often each comes are rules of this project.
+-- The branch on null that the bytes choose. The choices, their order and their weights are rules of
+-- this project.
 use Rattle.std.specs.Prelude.{ℕ, ◌+◌, ◌-◌, nat_le, Bool, true, false, Option, Some, None, option_map, is_some, List, [], ◌∷◌, ◌++◌, length, slice_get, take, if◌then◌else◌}
 use Rattle.smith_bytes.specs.Draws.{bool_at, choose_at}
 use Rattle.smith_types.specs.declared.value_type.HeapType.{HeapType}
@@ -13,7 +14,7 @@ use Rattle.smith_code.specs.Offered.{label_count, offered}
 use Rattle.smith_code.specs.ReferenceChoices.{referent_at}
 use Rattle.smith_code.specs.declared.node.Node.{Node}
 
--- a label that takes at most so many values
+-- a label of at most `most` values
 abbrev pub is_short_at : ℕ → Option (List ValType) → Bool
 is_short_at most (Some taken) = nat_le (length taken) most
 is_short_at most None = false
@@ -25,7 +26,7 @@ is_short labels most index = is_short_at most (slice_get labels index)
 abbrev pub short_label_at : BodyContext → ℕ → List ℕ → Option ℕ × List ℕ
 short_label_at context most bytes = choose_at (offered (is_short context.labels most) (label_count context)) bytes
 
--- a reference that is not null: of null a branch is taken to a label that takes nothing
+-- a reference that is not null: for null a branch is taken to a label without values
 abbrev pub kept_node : RefType → ℕ → Option Node
 kept_node to label = Some (node_of (nullable_to to.heap_type ∷ []) (instr.BrOnNull label) 0)
 
@@ -34,7 +35,7 @@ unfoldable pub br_on_null_value_at : BodyContext → ValType → List ℕ → Ch
 br_on_null_value_at context (Ref to) bytes = giving (kept_node to) (short_label_at context 0 bytes)
 br_on_null_value_at context _ bytes = (None, bytes)
 
--- a branch on null whose values and reference are dropped where it is not taken
+-- a branch on null whose values and reference are dropped if it is not taken
 abbrev pub br_on_null_node : ℕ → HeapType → List ValType → Node
 br_on_null_node label heap_type taken = node_of (taken ++ nullable_to heap_type ∷ []) (instr.BrOnNull label) (length taken + 1)
 
@@ -44,13 +45,13 @@ br_on_null_by context (Some label) bytes =
     let heap_type = referent_at context.locals bytes in
     (option_map (br_on_null_node label heap_type.0) (slice_get context.labels label), heap_type.1)
 
--- such a branch, where references are values, to a label that takes at most two values
+-- such a branch, with reference types on, to a label of at most two values
 unfoldable pub br_on_null_at : BodyContext → List ℕ → Chosen
 br_on_null_at context bytes =
     let label = short_label_at context 2 bytes in
     if context.features.reference_types then br_on_null_by context label.0 label.1 else (None, bytes)
 
--- the type of the last of these values, if that is a reference
+-- the type of the last of these values, if it is a reference type
 abbrev pub reference_in : Option ValType → Option RefType
 reference_in (Some (Ref to)) = Some to
 reference_in _ = None
@@ -58,7 +59,7 @@ reference_in _ = None
 abbrev pub last_reference : List ValType → Option RefType
 last_reference taken = reference_in (slice_get taken (length taken - 1))
 
--- a label that takes a reference as its last value
+-- a label whose last value is a reference
 abbrev pub is_of_reference_at : Option (List ValType) → Bool
 is_of_reference_at (Some taken) = is_some (last_reference taken)
 is_of_reference_at None = false
@@ -66,7 +67,7 @@ is_of_reference_at None = false
 abbrev pub is_of_reference : List (List ValType) → ℕ → Bool
 is_of_reference labels index = is_of_reference_at (slice_get labels index)
 
--- a branch on a reference that is not null, whose other values are dropped where it is not taken
+-- a branch on a reference that is not null, whose other values are dropped if it is not taken
 abbrev pub br_on_non_null_node : ℕ → List ValType → RefType → Node
 br_on_non_null_node label taken to =
     node_of (take (length taken - 1) taken ++ nullable_to to.heap_type ∷ []) (instr.BrOnNonNull label) (length taken - 1)

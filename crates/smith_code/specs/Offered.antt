@@ -1,4 +1,4 @@
--- What is offered where an instruction is drawn.
+-- The items that are offered when an instruction is drawn.
 use Rattle.std.specs.Prelude.{◌≡◌, ℕ, zero, suc, Bool, true, false, ◌&&◌, ◌||◌, not, nat_lt, ◌==◌, Option, Some, None, List, [], ◌∷◌, ◌++◌, length, min, slice_get, if◌then◌else◌}
 use Rattle.std.specs.List.{Contains}
 use Rattle.smith_types.specs.Subtyping.{IsValBelow}
@@ -18,11 +18,11 @@ unfoldable pub offered : (ℕ → Bool) → ℕ → List ℕ
 offered test zero = []
 offered test (suc n) = offered test n ++ (if test n then n ∷ [] else [])
 
--- the innermost labels may be chosen
+-- only the 64 innermost labels may be chosen
 abbrev pub label_count : BodyContext → ℕ
 label_count context = min (length context.labels) 64
 
--- a value type that is there is below the wanted type
+-- a value type exists and matches the wanted type
 abbrev pub is_below_at : List SubType → ValType → Option ValType → Bool
 is_below_at types wanted (Some value) = is_val_below types value wanted
 is_below_at types wanted None = false

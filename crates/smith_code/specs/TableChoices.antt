@@ -1,4 +1,5 @@
--- Which table instruction the bytes choose. The choices, their order and how often each comes are rules of this project.
+-- The table instruction that the bytes choose. The choices, their order and their weights are rules
+-- of this project.
 use Rattle.std.specs.Prelude.{ℕ, Bool, true, false, ◌&&◌, Option, Some, None, option_map, List, [], ◌∷◌, length, slice_get, if◌then◌else◌}
 use Rattle.smith_bytes.specs.Draws.{bool_at, choose_at}
 use Rattle.smith_types.specs.declared.entity_type.TableType.{TableType}
@@ -18,16 +19,16 @@ use Rattle.smith_code.specs.declared.node.Node.{Node}
 use Rattle.smith_code.specs.declared.tables.TableChange.{TableChange}
 use Rattle.smith_code.specs.declared.tables.TableChange.TheVariants as change
 
--- a table whose references are of a type below the wanted type
+-- a table whose element type matches the wanted type
 abbrev pub is_table_below : BodyContext → ValType → ℕ → Bool
 is_table_below context wanted index =
     is_below_at context.types wanted (option_map (λ (table : TableType). Ref table.element_type) (slice_get context.tables index))
 
--- an element segment whose references are
+-- an element segment whose type does
 abbrev pub is_segment_below : BodyContext → ValType → ℕ → Bool
 is_segment_below context wanted index = is_below_at context.types wanted (option_map Ref (slice_get context.elements index))
 
--- a table whose addresses are of the wanted type, where references are values
+-- a table whose addresses have the wanted type, with reference types on
 abbrev pub is_table_addressed_at : ValType → Option TableType → Bool
 is_table_addressed_at wanted (Some table) = is_address wanted table.table64
 is_table_addressed_at wanted None = false
@@ -36,7 +37,7 @@ abbrev pub is_table_addressed : BodyContext → ValType → ℕ → Bool
 is_table_addressed context wanted index =
     context.features.reference_types && is_table_addressed_at wanted (slice_get context.tables index)
 
--- a reference out of a table
+-- a reference from a table
 abbrev pub table_get_node : BodyContext → ℕ → Option Node
 table_get_node context index =
     option_map (λ (table : TableType). node_of (address table.table64 ∷ []) (instr.Table (table_instr.Get index)) 0) (slice_get context.tables index)
@@ -52,19 +53,19 @@ table_growth_node context wanted true index =
     (slice_get context.tables index)
 table_growth_node context wanted false index = Some (node_of [] (instr.Table (table_instr.Size index)) 0)
 
--- that of a table whose addresses are of the wanted type
+-- that of a table whose addresses have the wanted type
 abbrev pub table_growth_at : BodyContext → ValType → List ℕ → Chosen
 table_growth_at context wanted bytes =
     let grown = bool_at bytes in
     giving (table_growth_node context wanted grown.0)
     (choose_at (offered (is_table_addressed context wanted) (indexed (length context.tables))) grown.1)
 
--- a table instruction that gives a value of the wanted type
+-- a table instruction that produces a value of the wanted type
 unfoldable pub table_value_at : BodyContext → ValType → List ℕ → Chosen
 table_value_at context (Ref reference) bytes = table_get_at context (Ref reference) bytes
 table_value_at context wanted bytes = table_growth_at context wanted bytes
 
--- a table, with its index, where references are values
+-- a table, with its index, if reference types are on
 abbrev pub held_table_at : BodyContext → List ℕ → Option (ℕ × TableType) × List ℕ
 held_table_at context bytes = if context.features.reference_types then item_at context.tables bytes else (None, bytes)
 
@@ -77,7 +78,7 @@ abbrev pub table_fill_node : ℕ × TableType → Option Node
 table_fill_node into =
     Some (node_of (address into.1.table64 ∷ Ref into.1.element_type ∷ address into.1.table64 ∷ []) (instr.Table (table_instr.Fill into.0)) 0)
 
--- references are copied into a table out of one whose references are of a type below
+-- references are copied into a table from one whose element type matches
 abbrev pub table_copy_node : BodyContext → ℕ × TableType → ℕ → Option Node
 table_copy_node context into from =
     option_map (λ (out : TableType). node_of (address into.1.table64 ∷ address out.table64 ∷ narrower into.1.table64 out.table64 ∷ []) (instr.Table (table_instr.Copy into.0 from)) 0)
@@ -90,7 +91,7 @@ table_copied context into bytes =
 abbrev pub table_copy_at : BodyContext → List ℕ → Chosen
 table_copy_at context bytes = let into = item_at context.tables bytes in continued (table_copied context) into.0 into.1
 
--- references are copied into a table out of an element segment whose references are of a type below
+-- references are copied into a table from an element segment whose type matches
 abbrev pub table_init_node : ℕ × TableType → ℕ → Option Node
 table_init_node into segment =
     Some (node_of (address into.1.table64 ∷ I32 ∷ I32 ∷ []) (instr.Table (table_instr.Init into.0 segment)) 0)
@@ -109,7 +110,7 @@ elem_drop_node segment = Some (node_of [] (instr.Table (table_instr.ElemDrop seg
 abbrev pub elem_drop_at : BodyContext → List ℕ → Chosen
 elem_drop_at context bytes = giving elem_drop_node (index_at (length context.elements) bytes)
 
--- what a statement does to a table or an element segment, each as likely
+-- the statements on a table or an element segment, each with the same weight
 abbrev pub table_changes : List TableChange
 table_changes = change.Set ∷ change.Fill ∷ change.Copy ∷ change.Init ∷ change.ElemDrop ∷ []
 

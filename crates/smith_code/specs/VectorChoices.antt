@@ -1,4 +1,5 @@
--- Which vector instruction the bytes choose. The choices, their order and how often each comes are rules of this project.
+-- The vector instruction that the bytes choose. The choices, their order and their weights are
+-- rules of this project.
 use Rattle.std.specs.Prelude.{ℕ, zero, suc, ◌-◌, ◌^◌, Option, Some, None, List, [], ◌∷◌, ◌++◌, if◌then◌else◌}
 use Rattle.smith_bytes.specs.Draws.{choose_at, range_at}
 use Rattle.smith_types.specs.declared.value_type.ValType.{ValType}
@@ -30,7 +31,7 @@ shuffled_at (suc count) bytes =
     let lane = range_at 0 31 before.1 in
     (before.0 ++ lane.0 ∷ [], lane.1)
 
--- the instruction with lanes that are drawn, where it has lanes
+-- the instruction with drawn lanes, if it has lanes
 unfoldable pub lanes_at : VectorInstr → List ℕ → VectorInstr × List ℕ
 lanes_at (vector.ExtractLane op other) bytes =
     let lane = range_at 0 ((lanes (extracted op)).0 - 1) bytes in
@@ -47,7 +48,7 @@ abbrev pub vector_by : Option VectorInstr → List ℕ → Option Node × List �
 vector_by None bytes = (None, bytes)
 vector_by (Some row) bytes = let op = lanes_at row bytes in (Some (vector_node op.0), op.1)
 
--- one whose result is of the wanted type
+-- one whose result has the wanted type
 unfoldable pub vector_row_at : ValType → List ℕ → Option Node × List ℕ
 vector_row_at wanted bytes = let row = choose_at (vector_rows wanted) bytes in vector_by row.0 row.1
 
@@ -60,7 +61,7 @@ vector_load_at memories bytes =
     let op = chosen_at load.V128 vector_loads bytes in
     accessing (vector_load_node op.0) (access_at memories (vector_bytes op.0) op.1)
 
--- a lane of bytes of this binary logarithm, and where a memory is accessed for it
+-- a lane of bytes of this binary logarithm, and the access to a memory for it
 abbrev pub lane_in : ℕ → Option Access → List ℕ → Option LaneAccess × List ℕ
 lane_in log2_bytes None bytes = (None, bytes)
 lane_in log2_bytes (Some access) bytes =
@@ -80,7 +81,7 @@ load_lane_node to = node_of (address to.access.wide ∷ V128 ∷ []) (instr.Vect
 abbrev pub load_lane_at : List MemoryType → List ℕ → Option Node × List ℕ
 load_lane_at memories bytes = accessing load_lane_node (lane_access_at memories bytes)
 
--- what may give a vector, each family in so many places as it is likely
+-- the families of vectors; the number of times that each is listed is its weight
 abbrev pub vector_families : List VectorFamily
 vector_families =
     family.Instr ∷
@@ -102,7 +103,7 @@ vector_of memories family.LoadLane bytes = load_lane_at memories bytes
 unfoldable pub vector_choice_at : List MemoryType → List ℕ → Option Node × List ℕ
 vector_choice_at memories bytes = let drawn = chosen_at family.Instr vector_families bytes in vector_of memories drawn.0 drawn.1
 
--- a vector, or a number that a vector instruction gives
+-- a vector, or a number that a vector instruction produces
 abbrev pub any_vector_at : List MemoryType → ValType → List ℕ → Option Node × List ℕ
 any_vector_at memories V128 bytes = vector_choice_at memories bytes
 any_vector_at memories wanted bytes = vector_row_at wanted bytes

@@ -1,4 +1,5 @@
--- Vector instructions by the type of their result, with lane 0 where they have lanes, and what they take and give.
+-- Vector instructions by the type of their result, with lane 0 if they have lanes, and the types of
+-- their operands and results.
 use Rattle.std.specs.Prelude.{List, [], ◌∷◌, replicate}
 use Rattle.smith_types.specs.declared.value_type.ValType.{ValType}
 use Rattle.smith_types.specs.declared.value_type.ValType.TheVariants as value
@@ -280,7 +281,7 @@ v128_vector_rows =
     vector.RelaxedFloatTernary relaxed_float_ternary.F64x2Nmadd ∷
     []
 
--- the vector instructions whose result is of this type
+-- the vector instructions whose result has this type
 abbrev pub vector_rows : ValType → List VectorInstr
 vector_rows value.I32 = i32_vector_rows
 vector_rows value.I64 = i64_vector_rows

@@ -92,7 +92,7 @@ impl<'a> Offer for TargetOffer<'a> {
     }
 }
 
-/// Whether `values` are below `wanted`, one by one.
+/// Whether each of `values` matches the type at its place in `wanted`.
 pub(crate) fn are_below(scope: &Scope<'_>, values: &[ValType], wanted: &[ValType]) -> bool
     requires scope { IsScope (bare scope.now) }
     requires values { AreValid (bare scope.now) values.now }

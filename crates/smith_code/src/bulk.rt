@@ -24,7 +24,7 @@ use smith_instr::{Instr, MemoryInstr};
 use smith_types::{MemoryType, ValType};
 use std::alloc::Global;
 
-/// What a statement does to many bytes of a memory, or to a data segment.
+/// Statements on several bytes of a memory, or on a data segment.
 #[derive(Clone, Copy)]
 enum Bulk {
     Fill,
@@ -39,7 +39,7 @@ fn bulks<'a>() -> &'a [Bulk]
     &[Bulk::Fill, Bulk::Copy, Bulk::Init, Bulk::DataDrop]
 }
 
-/// Chooses what is done to many bytes of a memory, or to a data segment.
+/// Chooses a statement on several bytes of a memory, or on a data segment.
 pub(crate) fn choose_bulk(
     alloc: Global,
     scope: &Scope<'_>,
@@ -142,7 +142,7 @@ fn choose_memory_init(
     init_of(alloc, scope, into, draft, u)
 }
 
-/// Chooses a data segment that is copied into the memory `into`.
+/// Chooses a data segment to copy into the memory `into`.
 fn init_of(
     alloc: Global,
     scope: &Scope<'_>,

@@ -25,7 +25,7 @@ use smith_instr::Instr;
 use smith_types::{HeapType, WasmFeatures};
 use std::alloc::Global;
 
-/// Chooses a call of a function in a table, whose results have the `outcome`.
+/// Chooses a call of a function in a table. Its results have the outcome `outcome`.
 pub(crate) fn choose_indirect(
     alloc: Global,
     scope: &Scope<'_>,
@@ -59,7 +59,8 @@ pub(crate) fn choose_indirect(
     Ok(Some(node))
 }
 
-/// The call of a function of the type `ty` in the table `table`.
+/// Returns the call of a function of the type `ty` in the table `table`, a tail call if its results
+/// are returned.
 fn indirect_instr(outcome: Outcome, table: u32, ty: u32) -> Instr
     ensures { result ≡ indirect_instr outcome table ty }
 {
@@ -69,7 +70,7 @@ fn indirect_instr(outcome: Outcome, table: u32, ty: u32) -> Instr
     }
 }
 
-/// Chooses a call of a function by a reference, whose results have the `outcome`.
+/// Chooses a call of a function by a reference. Its results have the outcome `outcome`.
 pub(crate) fn choose_by_reference(
     alloc: Global,
     scope: &Scope<'_>,
@@ -103,7 +104,8 @@ pub(crate) fn choose_by_reference(
     Ok(Some(node))
 }
 
-/// The call of a function of the type `ty` by a reference.
+/// Returns the call of a function of the type `ty` by a reference, a tail call if its results are
+/// returned.
 fn by_reference_instr(outcome: Outcome, ty: u32) -> Instr
     ensures { result ≡ by_reference_instr outcome ty }
 {
@@ -113,7 +115,7 @@ fn by_reference_instr(outcome: Outcome, ty: u32) -> Instr
     }
 }
 
-/// Whether references to a type of an index are values.
+/// Whether reference types may name a type by its index.
 fn may_name_types(scope: &Scope<'_>) -> bool
     ensures { result ≡ ((bare scope.now).features.reference_types && (bare scope.now).features.gc) }
 {
@@ -121,7 +123,7 @@ fn may_name_types(scope: &Scope<'_>) -> bool
         && scope.features.contains(WasmFeatures::GC)
 }
 
-/// Chooses a call of a function in a table whose results are dropped, or `nop` where there is none.
+/// Chooses a call of a function in a table whose results are dropped, or `nop` if there is none.
 pub(crate) fn choose_any_indirect(
     alloc: Global,
     scope: &Scope<'_>,
@@ -138,7 +140,8 @@ pub(crate) fn choose_any_indirect(
     or_nop(alloc, chosen)
 }
 
-/// Chooses a call of a function by a reference whose results are dropped, or `nop` where there is none.
+/// Chooses a call of a function by a reference whose results are dropped, or `nop` if there is
+/// none.
 pub(crate) fn choose_any_by_reference(
     alloc: Global,
     scope: &Scope<'_>,

@@ -25,11 +25,11 @@ pub(crate) enum ValueFamily {
     Reference,
     CallIndirect,
     CallRef,
-    /// A call that does not come back.
+    /// A tail call.
     TailCall,
-    /// A branch on null that may come back.
+    /// A branch on null.
     NullBranch,
-    /// A vector, or what a vector instruction gives.
+    /// A vector, or the result of a vector instruction.
     Vector,
 }
 
@@ -51,11 +51,11 @@ pub(crate) enum StatementFamily {
     Unreachable,
     LocalSet,
     TableChange,
-    /// An instruction on many bytes of a memory, or on a data segment.
+    /// An instruction on several bytes of a memory, or on a data segment.
     Bulk,
     CallIndirect,
     CallRef,
-    /// A call that does not come back.
+    /// A tail call.
     TailCall,
     /// A branch on null, or on a reference that is not null.
     NullBranch,
@@ -64,7 +64,7 @@ pub(crate) enum StatementFamily {
     StoreLane,
 }
 
-/// What may give a vector.
+/// Families of instructions that may produce a vector.
 #[derive(Clone, Copy)]
 pub(crate) enum VectorFamily {
     /// An instruction that accesses no memory.
@@ -149,7 +149,7 @@ pub(crate) fn statement_families<'a>() -> &'a [StatementFamily]
     ]
 }
 
-/// What may give a vector, each family in so many places as it is likely.
+/// Lists the families of vectors. The number of times that a family is listed is its weight.
 pub(crate) fn vector_families<'a>() -> &'a [VectorFamily]
     ensures { result.now ≡ vector_families }
 {

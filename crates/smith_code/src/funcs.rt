@@ -42,7 +42,7 @@ impl<'a> Offer for CallOffer<'a> {
     }
 }
 
-/// Whether the first result of `function` is below `wanted`.
+/// Whether the first result of `function` matches `wanted`.
 pub(crate) fn is_first_below(scope: &Scope<'_>, function: &FuncType, wanted: ValType) -> bool
     requires results { AreValid (bare scope.now) function.now.results }
     requires wanted { IsValid (bare scope.now) wanted }

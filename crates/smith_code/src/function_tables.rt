@@ -14,7 +14,7 @@ use crate::scope::{Scope, indexed};
 use smith_bytes::Unstructured;
 use smith_types::{AbstractHeapType, HeapType, RefType, ValType};
 
-/// The tables of functions.
+/// Tables of functions.
 #[derive(Clone, Copy)]
 struct FunctionTableOffer<'a> {
     scope: &'a Scope<'a>,
@@ -40,7 +40,7 @@ impl<'a> Offer for FunctionTableOffer<'a> {
     }
 }
 
-/// Whether references of the type `element` are to functions, shared ones or others.
+/// Whether references of the type `element` are to functions, shared or unshared.
 fn holds_functions(scope: &Scope<'_>, element: RefType) -> bool
     requires element { IsValInRange (bare scope.now).types (Ref element) }
     ensures { result ≡ holds_functions (bare scope.now).types element }
@@ -59,7 +59,7 @@ fn is_below_func(scope: &Scope<'_>, element: RefType, shared: bool) -> bool
     is_sub_type(scope, ValType::Ref(element), nullable_to(func))
 }
 
-/// Chooses a table of functions.
+/// Chooses a table of functions, if there is one.
 pub(crate) fn choose_function_table(scope: &Scope<'_>, u: &mut Unstructured<'_>) -> Option<u32>
     requires scope { IsScope (bare scope.now) }
     ensures exact { choose_at (offered (is_function_table (bare scope.now)) (indexed (length scope.now.tables.now))) u.old ≡ (result, u.new) }

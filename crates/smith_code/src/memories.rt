@@ -70,7 +70,8 @@ pub(crate) struct Access {
     pub wide: bool,
 }
 
-/// Draws where one of the memories is accessed, at an alignment of at most `2 ^ log2_bytes`, or none where there is no memory.
+/// Draws an access to one of the memories, with an alignment of at most `2 ^ log2_bytes`. Returns
+/// none if there is no memory.
 pub(crate) fn draw_access(
     scope: &Scope<'_>,
     log2_bytes: u32,
@@ -120,14 +121,14 @@ pub(crate) fn address(wide: bool) -> ValType
     if wide { ValType::I64 } else { ValType::I32 }
 }
 
-/// The type of a size that both of two memories or tables can have.
+/// Returns the narrower of the address types of two memories or tables.
 pub(crate) fn narrower(one: bool, other: bool) -> ValType
     ensures { result ≡ narrower one other }
 {
     if one { address(other) } else { ValType::I32 }
 }
 
-/// The memories whose addresses are of a wanted type.
+/// Memories whose addresses have a wanted type.
 #[derive(Clone, Copy)]
 struct AddressOffer<'a> {
     scope: &'a Scope<'a>,
@@ -154,7 +155,8 @@ impl<'a> Offer for AddressOffer<'a> {
     }
 }
 
-/// Whether the addresses of a memory or a table, of 64 bits where it is `wide`, are of the type `value`.
+/// Whether the addresses of a memory or a table have the type `value`. They have 64 bits if `wide`
+/// is set, else 32 bits.
 pub(crate) fn is_address(value: ValType, wide: bool) -> bool
     ensures { result ≡ is_address value wide }
 {

@@ -98,7 +98,8 @@ pub(crate) fn conditional(
     topped(alloc, operands, ValType::I32, instruction, drops)
 }
 
-/// Makes the node of `instruction`, which takes `operands` and `top` above them, and of whose results `drops` are dropped.
+/// Makes the node of `instruction`, which takes `operands` and then a `top`. Drops `drops` of its
+/// results.
 pub(crate) fn topped(
     alloc: Global,
     operands: &[ValType],
@@ -119,7 +120,7 @@ pub(crate) fn topped(
     })
 }
 
-/// The node that was `chosen`, or that of `nop`.
+/// Returns the node `chosen`, or that of `nop` if there is none.
 pub(crate) fn or_nop(alloc: Global, chosen: Option<Node>) -> Result<Node, Error>
     ensures exact { IfOk result (λ node. node ≡ unwrap_or chosen (node_of [] instr.Nop 0)) }
     ensures memory { IfErr result (λ e. e ≡ Error.Memory) }
@@ -130,7 +131,7 @@ pub(crate) fn or_nop(alloc: Global, chosen: Option<Node>) -> Result<Node, Error>
     }
 }
 
-/// Makes the node of `instruction`, which sets the local `index`, of the type `value`.
+/// Makes the node of `instruction`, which sets the local `index` of the type `value`.
 pub(crate) fn setter(
     alloc: Global,
     index: u32,

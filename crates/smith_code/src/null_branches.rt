@@ -25,7 +25,7 @@ use smith_instr::Instr;
 use smith_types::{Items, RefType, ValType, WasmFeatures};
 use std::alloc::Global;
 
-/// The labels that take at most a number of values.
+/// Labels of at most `most` values.
 #[derive(Clone, Copy)]
 struct ShortOffer<'a> {
     labels: &'a [Items<ValType>],
@@ -51,7 +51,7 @@ impl<'a> Offer for ShortOffer<'a> {
     }
 }
 
-/// The labels that take a reference as their last value.
+/// Labels whose last value is a reference.
 #[derive(Clone, Copy)]
 struct ReferenceLabelOffer<'a> {
     labels: &'a [Items<ValType>],
@@ -76,7 +76,7 @@ impl<'a> Offer for ReferenceLabelOffer<'a> {
     }
 }
 
-/// The type of the last of the values `taken`, if that is a reference.
+/// Returns the type of the last of the values `taken`, if it is a reference type.
 fn last_reference(taken: &[ValType]) -> Option<RefType>
     ensures { result ≡ last_reference taken.now }
 {
@@ -89,7 +89,7 @@ fn last_reference(taken: &[ValType]) -> Option<RefType>
     }
 }
 
-/// Chooses a label that takes at most `most` values.
+/// Chooses a label of at most `most` values, if there is one.
 fn choose_short(draft: &Draft, most: usize, u: &mut Unstructured<'_>) -> Option<u32>
     ensures exact { choose_at (offered (is_short draft.now.labels.items most) (min (length draft.now.labels.items) 64)) u.old ≡ (result, u.new) }
     ensures below { IfSome result (λ index. index < length draft.now.labels.items) }
@@ -101,7 +101,7 @@ fn choose_short(draft: &Draft, most: usize, u: &mut Unstructured<'_>) -> Option<
     Some(index as u32)
 }
 
-/// Chooses a label that takes a reference as its last value.
+/// Chooses a label whose last value is a reference, if there is one.
 fn choose_of_reference(draft: &Draft, u: &mut Unstructured<'_>) -> Option<u32>
     ensures exact { choose_at (offered (is_of_reference draft.now.labels.items) (min (length draft.now.labels.items) 64)) u.old ≡ (result, u.new) }
     ensures below { IfSome result (λ index. index < length draft.now.labels.items) }
@@ -113,7 +113,7 @@ fn choose_of_reference(draft: &Draft, u: &mut Unstructured<'_>) -> Option<u32>
     Some(index as u32)
 }
 
-/// Chooses a branch on null that gives a reference of the type `wanted` where it is not taken.
+/// Chooses a branch on null that leaves a reference of the type `wanted` if it is not taken.
 #[tactic(auto, unfolding(crate::specs::NullChoices::br_on_null_value_at))]
 pub(crate) fn choose_kept(
     alloc: Global,
@@ -220,7 +220,7 @@ fn choose_br_on_non_null(
     Ok(Some(node))
 }
 
-/// Chooses a branch on null, or on a reference that is not null, or `nop` where there is none.
+/// Chooses a branch on null, or on a reference that is not null, or `nop` if there is none.
 pub(crate) fn choose_null_branch(
     alloc: Global,
     scope: &Scope<'_>,

@@ -11,7 +11,7 @@ use crate::scope::{Scope, indexed};
 use smith_bytes::Unstructured;
 use smith_types::{FuncType, ValType};
 
-/// What becomes of the results of a call.
+/// Outcomes of the results of a call.
 #[derive(Clone, Copy)]
 pub(crate) enum Outcome {
     /// The first is a value of a wanted type, and the others are dropped.
@@ -22,7 +22,7 @@ pub(crate) enum Outcome {
     Returned,
 }
 
-/// The function types whose results may have an outcome.
+/// Function types whose results may have an outcome.
 #[derive(Clone, Copy)]
 struct TypeOffer<'a> {
     scope: &'a Scope<'a>,
@@ -52,7 +52,7 @@ impl<'a> Offer for TypeOffer<'a> {
     }
 }
 
-/// Whether the results of `function` may have the `outcome`.
+/// Whether the results of `function` may have the outcome `outcome`.
 pub(crate) fn is_fit(scope: &Scope<'_>, outcome: Outcome, function: &FuncType) -> bool
     requires scope { IsScope (bare scope.now) }
     requires outcome { IsOutcome (bare scope.now) outcome }
@@ -66,7 +66,7 @@ pub(crate) fn is_fit(scope: &Scope<'_>, outcome: Outcome, function: &FuncType) -
     }
 }
 
-/// How many of the results of `function` are dropped for the `outcome`.
+/// Returns the number of results of `function` that are dropped for the outcome `outcome`.
 pub(crate) fn dropped_of(outcome: Outcome, function: &FuncType) -> usize
     ensures { result ≡ dropped_of outcome function.now }
 {
@@ -77,7 +77,7 @@ pub(crate) fn dropped_of(outcome: Outcome, function: &FuncType) -> usize
     }
 }
 
-/// Chooses a function type whose results may have the `outcome`.
+/// Chooses a function type whose results may have the outcome `outcome`, if there is one.
 pub(crate) fn choose_fit_type(
     scope: &Scope<'_>,
     outcome: Outcome,

@@ -37,7 +37,7 @@ pub(crate) fn choose_select_typed(alloc: Global, wanted: ValType) -> Result<Opti
     Ok(Some(node))
 }
 
-/// Chooses an instruction on references that gives a value of the type `wanted`.
+/// Chooses an instruction on references that produces a value of the type `wanted`.
 #[tactic(auto, unfolding(crate::specs::ReferenceChoices::reference_value_at))]
 pub(crate) fn choose_reference_value(
     alloc: Global,
@@ -60,7 +60,7 @@ pub(crate) fn choose_reference_value(
     }
 }
 
-/// Chooses `ref.as_non_null`, where `to` is not null.
+/// Chooses `ref.as_non_null`, if `to` is not nullable.
 fn choose_non_null(alloc: Global, to: RefType) -> Result<Option<Node>, Error>
     ensures exact { IfOk result (λ chosen. chosen ≡ non_null_node to) }
     ensures offer { (context : BodyContext) (set : List ℕ) → IsValid context (Ref to) → IsOffer context set (Ref to ∷ []) result }
@@ -141,7 +141,7 @@ fn choose_is_null(
     Ok(Some(node))
 }
 
-/// Draws what a reference refers to: any function, anything outside, or what one of the locals refers to.
+/// Draws the heap type of a reference: `func`, `extern`, or that of one of the locals.
 pub(crate) fn draw_referent(scope: &Scope<'_>, u: &mut Unstructured<'_>) -> HeapType
     requires scope { IsScope (bare scope.now) }
     ensures exact { referent_at scope.now.locals.now u.old ≡ (result, u.new) }
@@ -161,7 +161,7 @@ pub(crate) fn draw_referent(scope: &Scope<'_>, u: &mut Unstructured<'_>) -> Heap
     }
 }
 
-/// What a reference of the type `value` refers to: any function where that is no type of references.
+/// Returns the heap type of the type `value`, or `func` if it is not a reference type.
 fn referent(value: ValType) -> HeapType
     ensures { result ≡ referent value }
 {
@@ -171,14 +171,14 @@ fn referent(value: ValType) -> HeapType
     }
 }
 
-/// The abstract heap type `ty`, not shared.
+/// Returns the unshared abstract heap type `ty`.
 fn unshared(ty: AbstractHeapType) -> HeapType
     ensures { result ≡ HeapType.Abstract false ty }
 {
     HeapType::Abstract { shared: false, ty }
 }
 
-/// The type of references to `heap_type` that may be null.
+/// Returns the type of nullable references to `heap_type`.
 pub(crate) fn nullable_to(heap_type: HeapType) -> ValType
     ensures { result ≡ nullable_to heap_type }
 {

@@ -42,7 +42,7 @@ use smith_instr::{Instr, TableInstr};
 use smith_types::{TableType, ValType, WasmFeatures};
 use std::alloc::Global;
 
-/// What a statement does to a table or an element segment.
+/// Statements on a table or an element segment.
 #[derive(Clone, Copy)]
 enum TableChange {
     Set,
@@ -64,7 +64,7 @@ fn table_changes<'a>() -> &'a [TableChange]
     ]
 }
 
-/// The tables whose references are of a type below a wanted type.
+/// Tables whose element type matches a wanted type.
 #[derive(Clone, Copy)]
 struct TableOffer<'a> {
     scope: &'a Scope<'a>,
@@ -93,7 +93,7 @@ impl<'a> Offer for TableOffer<'a> {
     }
 }
 
-/// The element segments whose references are of a type below a wanted type.
+/// Element segments whose type matches a wanted type.
 #[derive(Clone, Copy)]
 struct SegmentOffer<'a> {
     scope: &'a Scope<'a>,
@@ -122,7 +122,7 @@ impl<'a> Offer for SegmentOffer<'a> {
     }
 }
 
-/// The tables whose addresses are of a wanted type, where references are values.
+/// Tables whose addresses have a wanted type, if reference types are on.
 #[derive(Clone, Copy)]
 struct TableAddressOffer<'a> {
     scope: &'a Scope<'a>,
@@ -149,14 +149,14 @@ impl<'a> Offer for TableAddressOffer<'a> {
     }
 }
 
-/// Whether references are values.
+/// Whether reference types are on.
 fn has_references(scope: &Scope<'_>) -> bool
     ensures { result ≡ (bare scope.now).features.reference_types }
 {
     scope.features.contains(WasmFeatures::REFERENCE_TYPES)
 }
 
-/// Chooses a table instruction that gives a value of the type `wanted`.
+/// Chooses a table instruction that produces a value of the type `wanted`.
 pub(crate) fn choose_table_value(
     alloc: Global,
     scope: &Scope<'_>,
@@ -177,7 +177,7 @@ pub(crate) fn choose_table_value(
     }
 }
 
-/// Chooses a table whose references are of a type below `wanted`.
+/// Chooses a table whose element type matches `wanted`, if there is one.
 fn choose_table_below(scope: &Scope<'_>, wanted: ValType, u: &mut Unstructured<'_>) -> Option<u32>
     requires scope { IsScope (bare scope.now) }
     requires wanted { IsValInRange (bare scope.now).types wanted }
@@ -190,7 +190,7 @@ fn choose_table_below(scope: &Scope<'_>, wanted: ValType, u: &mut Unstructured<'
     Some(index as u32)
 }
 
-/// Chooses `table.get` of a table whose references are of a type below `wanted`.
+/// Chooses `table.get` of a table whose element type matches `wanted`.
 fn choose_table_get(
     alloc: Global,
     scope: &Scope<'_>,
@@ -218,7 +218,7 @@ fn choose_table_get(
     Ok(Some(node))
 }
 
-/// Chooses a table whose addresses are of the type `wanted`, where references are values.
+/// Chooses a table whose addresses have the type `wanted`. Returns none without reference types.
 fn choose_table_addressed(
     scope: &Scope<'_>,
     wanted: ValType,
@@ -233,7 +233,8 @@ fn choose_table_addressed(
     Some(index as u32)
 }
 
-/// Chooses the size or the growth of a table, which gives a value of the type `wanted`.
+/// Chooses `table.size` or `table.grow` of a table whose addresses have the type `wanted`, if there
+/// is one.
 fn choose_table_growth(
     alloc: Global,
     scope: &Scope<'_>,
@@ -254,7 +255,7 @@ fn choose_table_growth(
     growth_of(alloc, scope, wanted, grown, index, draft)
 }
 
-/// The growth of the table `index`, where it is `grown`, or its size.
+/// Makes `table.grow` of the table `index` if `grown` is set, else `table.size`.
 fn growth_of(
     alloc: Global,
     scope: &Scope<'_>,
@@ -284,7 +285,7 @@ fn growth_of(
     Ok(Some(node))
 }
 
-/// Chooses what is done to a table or an element segment.
+/// Chooses a statement on a table or an element segment.
 pub(crate) fn choose_table_change(
     alloc: Global,
     scope: &Scope<'_>,
@@ -306,7 +307,7 @@ pub(crate) fn choose_table_change(
     }
 }
 
-/// Draws a table, with its index, where references are values.
+/// Draws a table, and returns it with its index. Returns none without reference types.
 fn draw_held_table(scope: &Scope<'_>, u: &mut Unstructured<'_>) -> Option<(u32, TableType)>
     requires scope { IsScope (bare scope.now) }
     ensures exact { held_table_at (bare scope.now) u.old ≡ (result, u.new) }
@@ -430,7 +431,7 @@ fn choose_table_init(
     init_of(alloc, scope, into, draft, u)
 }
 
-/// Chooses an element segment that is copied into the table `into`.
+/// Chooses an element segment to copy into the table `into`.
 fn init_of(
     alloc: Global,
     scope: &Scope<'_>,
@@ -457,7 +458,7 @@ fn init_of(
     plain(alloc, &operands, instruction, 0)
 }
 
-/// Chooses an element segment whose references are of a type below `wanted`.
+/// Chooses an element segment whose type matches `wanted`, if there is one.
 fn choose_segment_below(scope: &Scope<'_>, wanted: ValType, u: &mut Unstructured<'_>) -> Option<u32>
     requires scope { IsScope (bare scope.now) }
     requires wanted { IsValInRange (bare scope.now).types wanted }

@@ -19,7 +19,7 @@ use smith_bytes::{Error, Unstructured};
 use smith_instr::Instr;
 use std::alloc::Global;
 
-/// The functions whose results the function of the body may return.
+/// Functions whose results the function of the body may return.
 #[derive(Clone, Copy)]
 struct ReturnOffer<'a> {
     scope: &'a Scope<'a>,
@@ -48,7 +48,7 @@ impl<'a> Offer for ReturnOffer<'a> {
     }
 }
 
-/// Chooses a function whose results the function of the body may return.
+/// Chooses a function whose results the function of the body may return, if there is one.
 fn choose_returnable(scope: &Scope<'_>, u: &mut Unstructured<'_>) -> Option<u32>
     requires scope { IsScope (bare scope.now) }
     ensures exact { choose_at (offered (is_returnable (bare scope.now)) (indexed (length scope.now.funcs.now))) u.old ≡ (result, u.new) }
@@ -87,7 +87,7 @@ fn choose_return_call(
     Ok(Some(node))
 }
 
-/// Chooses a tail call, which does not come back.
+/// Chooses a tail call.
 pub(crate) fn choose_tail_call(
     alloc: Global,
     scope: &Scope<'_>,
@@ -110,7 +110,7 @@ pub(crate) fn choose_tail_call(
     choose_by_reference(alloc, scope, Outcome::Returned, draft, u)
 }
 
-/// Chooses a tail call, or `nop` where there is none.
+/// Chooses a tail call, or `nop` if there is none.
 pub(crate) fn choose_any_tail_call(
     alloc: Global,
     scope: &Scope<'_>,

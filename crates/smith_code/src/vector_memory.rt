@@ -24,7 +24,7 @@ use smith_instr::{Instr, VectorLoad};
 use smith_types::ValType;
 use std::alloc::Global;
 
-/// Chooses a load of a vector, or none where there is no memory.
+/// Chooses a load of a vector. Returns none if there is no memory.
 pub(crate) fn choose_vector_load(
     alloc: Global,
     scope: &Scope<'_>,
@@ -47,7 +47,7 @@ pub(crate) fn choose_vector_load(
     Ok(Some(node))
 }
 
-/// The binary logarithm of the number of bytes that are read.
+/// Returns the binary logarithm of the number of bytes that `op` reads.
 fn log2_bytes(op: VectorLoad) -> u32
     ensures { result ≡ vector_bytes op }
 {
@@ -61,7 +61,7 @@ fn log2_bytes(op: VectorLoad) -> u32
     }
 }
 
-/// A lane of a vector, and where a memory is accessed for it.
+/// A lane of a vector, and the access to a memory for it.
 #[derive(Clone, Copy)]
 struct LaneAccess {
     /// The binary logarithm of the number of bytes of the lane.
@@ -70,7 +70,7 @@ struct LaneAccess {
     lane: u8,
 }
 
-/// Draws a lane, and where one of the memories is accessed for it, or none where there is no memory.
+/// Draws a lane, and an access to one of the memories for it. Returns none if there is no memory.
 fn draw_lane_access(scope: &Scope<'_>, u: &mut Unstructured<'_>) -> Option<LaneAccess>
     requires scope { IsScope (bare scope.now) }
     ensures exact { lane_access_at scope.now.memories.now u.old ≡ (result, u.new) }
@@ -89,7 +89,7 @@ fn draw_lane_access(scope: &Scope<'_>, u: &mut Unstructured<'_>) -> Option<LaneA
     })
 }
 
-/// The index of the last lane of `2 ^ log2_bytes` bytes.
+/// Returns the index of the last lane of `2 ^ log2_bytes` bytes.
 fn last_lane(log2_bytes: u32) -> u8
     requires { log2_bytes ≤ 3 }
     ensures { result ≡ 2 ^ (4 - log2_bytes) - 1 }
@@ -102,7 +102,7 @@ fn last_lane(log2_bytes: u32) -> u8
     }
 }
 
-/// Chooses a load into a lane, or none where there is no memory.
+/// Chooses a load into a lane. Returns none if there is no memory.
 pub(crate) fn choose_load_lane(
     alloc: Global,
     scope: &Scope<'_>,
@@ -129,7 +129,7 @@ pub(crate) fn choose_load_lane(
     Ok(Some(node))
 }
 
-/// Chooses a store of a vector, or `nop` where there are no vectors or no memory.
+/// Chooses a store of a vector, or `nop` if there are no vectors or no memory.
 pub(crate) fn choose_vector_store(
     alloc: Global,
     scope: &Scope<'_>,
@@ -152,7 +152,7 @@ pub(crate) fn choose_vector_store(
     plain(alloc, &operands, Instr::VectorStore(access.at), 0)
 }
 
-/// Chooses a store of a lane, or `nop` where there are no vectors or no memory.
+/// Chooses a store of a lane, or `nop` if there are no vectors or no memory.
 pub(crate) fn choose_store_lane(
     alloc: Global,
     scope: &Scope<'_>,

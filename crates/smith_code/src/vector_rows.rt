@@ -16,7 +16,8 @@ use smith_instr::{
 };
 use smith_types::ValType;
 
-/// The vector instructions whose result is of the type `wanted`, with lane 0 where they have lanes.
+/// Lists the vector instructions whose result has the type `wanted`, with lane 0 if they have
+/// lanes.
 pub(crate) fn vector_rows<'a>(wanted: ValType) -> &'a [VectorInstr]
     ensures { result.now ≡ vector_rows wanted }
 {
@@ -292,7 +293,7 @@ fn v128_vector_rows<'a>() -> &'a [VectorInstr]
     ]
 }
 
-/// The loads of a vector.
+/// Lists the loads of a vector.
 pub(crate) fn vector_loads<'a>() -> &'a [VectorLoad]
     ensures { result.now ≡ vector_loads }
 {

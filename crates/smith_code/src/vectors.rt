@@ -26,7 +26,8 @@ use smith_instr::{Instr, LaneExtract, LaneShape, VectorInstr};
 use smith_types::{ValType, WasmFeatures};
 use std::alloc::Global;
 
-/// Chooses a vector instruction that gives a value of the type `wanted`, or none where there are no vectors.
+/// Chooses a vector instruction that produces a value of the type `wanted`. Returns none without
+/// vectors.
 pub(crate) fn choose_vector(
     alloc: Global,
     scope: &Scope<'_>,
@@ -47,7 +48,7 @@ pub(crate) fn choose_vector(
     choose_any_vector(alloc, scope, wanted, draft, u)
 }
 
-/// Whether the feature of vectors is on.
+/// Whether vectors are on.
 pub(crate) fn has_vectors(scope: &Scope<'_>) -> bool
     ensures { result ≡ (bare scope.now).features.simd }
 {
@@ -122,7 +123,7 @@ fn choose_row(
     Ok(Some(node))
 }
 
-/// The instruction of `row` with lanes that are drawn, where it has lanes.
+/// Draws the lanes of `row`, if it has lanes.
 #[tactic(auto, unfolding(crate::specs::VectorChoices::lanes_at))]
 fn draw_lanes(row: VectorInstr, u: &mut Unstructured<'_>) -> VectorInstr
     ensures exact { lanes_at row u.old ≡ (result, u.new) }
@@ -155,7 +156,7 @@ fn draw_shuffle(u: &mut Unstructured<'_>) -> [u8; 16]
     lanes
 }
 
-/// The shape out of which a lane is extracted.
+/// Returns the shape from which a lane is extracted.
 fn extracted(op: LaneExtract) -> LaneShape
     ensures { result ≡ extracted op }
 {
@@ -169,7 +170,7 @@ fn extracted(op: LaneExtract) -> LaneShape
     }
 }
 
-/// The index of the last lane of a shape.
+/// Returns the index of the last lane of a shape.
 fn last_lane(shape: LaneShape) -> u8
     ensures { result ≡ (lanes shape).0 - 1 }
 {
@@ -181,7 +182,7 @@ fn last_lane(shape: LaneShape) -> u8
     }
 }
 
-/// The types of the operands, the last on top.
+/// Returns the types of the operands, the last on top.
 fn operands<'a>(op: VectorInstr) -> &'a [ValType]
     ensures { result.now ≡ vector_operands op }
 {
