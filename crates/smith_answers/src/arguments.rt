@@ -2,7 +2,7 @@ use crate::case::Case;
 use crate::fault::Fault;
 use std::str::FromStr;
 
-/// The argument of `case` at `place`, from 0.
+/// Returns the argument of `case` at `place`, from 0.
 pub(crate) fn word(case: &Case, place: usize) -> Result<&str, Fault> {
     match case.args().get(place) {
         Some(word) => Ok(word.as_str()),
@@ -10,7 +10,7 @@ pub(crate) fn word(case: &Case, place: usize) -> Result<&str, Fault> {
     }
 }
 
-/// The argument of `case` at `place`, from 0, as what `read` reads.
+/// Returns the argument of `case` at `place`, from 0, as `read` reads it.
 pub(crate) fn read<T, F: FnOnce(&str) -> Option<T>>(
     case: &Case,
     place: usize,
@@ -24,7 +24,7 @@ pub(crate) fn read<T, F: FnOnce(&str) -> Option<T>>(
     }
 }
 
-/// The argument of `case` at `place`, from 0, as a number.
+/// Returns the argument of `case` at `place`, from 0, as a number.
 pub(crate) fn number<T: FromStr>(case: &Case, place: usize) -> Result<T, Fault>
 where
     T::Err: Drop,
@@ -35,7 +35,7 @@ where
     }
 }
 
-/// The argument of `case` at `place`, from 0, as `true` or `false`.
+/// Returns the argument of `case` at `place`, from 0, as `true` or `false`.
 pub(crate) fn flag(case: &Case, place: usize) -> Result<bool, Fault> {
     match word(case, place)? {
         "true" => Ok(true),

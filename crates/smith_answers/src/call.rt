@@ -1,9 +1,9 @@
 /// A call of a case.
 #[derive(Clone, Copy)]
 pub(crate) enum Call {
-    /// A module, told by its text or its binary.
+    /// A module, answered with its text or its binary.
     Module(ModuleCall),
-    /// A program, told by its text or its binary.
+    /// A program, answered with its text or its binary.
     Program(ProgramCall),
     /// A configuration, or a check of one or of a shape.
     Config(ConfigCall),
@@ -11,13 +11,13 @@ pub(crate) enum Call {
     Draw(DrawCall),
     /// A draw of the byte source alone.
     Source(SourceCall),
-    /// A name that bytes draw.
+    /// A name drawn from bytes.
     Name(NameCall),
-    /// What a text reads as.
+    /// A parse of a text, or a set of kinds.
     Parser(ParserCall),
     /// A subtype test.
     Subtype(SubtypeCall),
-    /// What a type space tells.
+    /// A call on a type space.
     Space(SpaceCall),
     /// Copies of the types and imports of a shape.
     Copies,
@@ -25,7 +25,7 @@ pub(crate) enum Call {
     Recorded,
 }
 
-/// How a module is made.
+/// Calls that make a module.
 #[derive(Clone, Copy, PartialEq)]
 pub(crate) enum ModuleCall {
     New,
@@ -36,14 +36,14 @@ pub(crate) enum ModuleCall {
     Encode,
 }
 
-/// How a program is told.
+/// Forms of a program in an answer.
 #[derive(Clone, Copy)]
 pub(crate) enum ProgramCall {
     New,
     Encode,
 }
 
-/// What is asked of a configuration, or under it.
+/// Calls on a configuration, or under it.
 #[derive(Clone, Copy, PartialEq)]
 pub(crate) enum ConfigCall {
     Arbitrary,
@@ -55,7 +55,7 @@ pub(crate) enum ConfigCall {
     Spell,
 }
 
-/// What is drawn over a type space.
+/// Draws over a type space.
 #[derive(Clone, Copy)]
 pub(crate) enum DrawCall {
     Free(FreeCall),
@@ -65,7 +65,7 @@ pub(crate) enum DrawCall {
     Number(NumberCall),
 }
 
-/// What type is drawn.
+/// Draws of a type.
 #[derive(Clone, Copy)]
 pub(crate) enum FreeCall {
     Types,
@@ -83,7 +83,7 @@ pub(crate) enum FreeCall {
     Heap,
 }
 
-/// What type is drawn below or above another.
+/// Draws of a subtype or a supertype of another type.
 #[derive(Clone, Copy)]
 pub(crate) enum MatchingCall {
     Func,
@@ -98,7 +98,7 @@ pub(crate) enum MatchingCall {
     AboveHeap,
 }
 
-/// What the drawn type is of.
+/// Draws of the type of an entity, or of locals.
 #[derive(Clone, Copy)]
 pub(crate) enum EntityCall {
     Global,
@@ -108,7 +108,7 @@ pub(crate) enum EntityCall {
     Locals,
 }
 
-/// What the drawn expression is for.
+/// Draws of constant expressions, and the globals that they may read.
 #[derive(Clone, Copy)]
 pub(crate) enum ConstantCall {
     Expression,
@@ -116,7 +116,7 @@ pub(crate) enum ConstantCall {
     Globals,
 }
 
-/// What numbers are drawn.
+/// Draws of numbers.
 #[derive(Clone, Copy)]
 pub(crate) enum NumberCall {
     GraduallyGrow,
@@ -124,7 +124,7 @@ pub(crate) enum NumberCall {
     Offset,
 }
 
-/// What is drawn of the byte source.
+/// Draws of the byte source.
 #[derive(Clone, Copy)]
 pub(crate) enum SourceCall {
     Arbitrary,
@@ -137,7 +137,7 @@ pub(crate) enum SourceCall {
     ArbitraryLoop,
 }
 
-/// What name is drawn.
+/// Draws of a name.
 #[derive(Clone, Copy, PartialEq)]
 pub(crate) enum NameCall {
     LimitedStr,
@@ -147,7 +147,7 @@ pub(crate) enum NameCall {
     UniqueUrl,
 }
 
-/// What is read from a text.
+/// Parses of a text, and sets of kinds.
 #[derive(Clone, Copy)]
 pub(crate) enum ParserCall {
     OffsetChoices,
@@ -160,7 +160,7 @@ pub(crate) enum ParserCall {
     DefaultKinds,
 }
 
-/// What is below what.
+/// Subtype tests, by the form of the types.
 #[derive(Clone, Copy)]
 pub(crate) enum SubtypeCall {
     HeapType,
@@ -168,7 +168,7 @@ pub(crate) enum SubtypeCall {
     ValType,
 }
 
-/// What a type space tells.
+/// Calls on a type space.
 #[derive(Clone, Copy)]
 pub(crate) enum SpaceCall {
     Depth,
@@ -179,7 +179,7 @@ pub(crate) enum SpaceCall {
     Listed,
 }
 
-/// The name of the call that recorded answers are made by.
+/// The name of the call that makes recorded answers.
 pub(crate) const RECORDED: &str = "recorded";
 
 // Each call by its name.
@@ -420,7 +420,7 @@ static CALLS: [(&str, Call); 81] = [
     (RECORDED, Call::Recorded),
 ];
 
-/// The call of the name `name`, where there is one.
+/// Finds the call of the name `name`, if there is one.
 pub(crate) fn call_named(name: &str) -> Option<Call> {
     CALLS
         .iter()

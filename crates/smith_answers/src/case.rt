@@ -2,50 +2,50 @@ use crate::fault::Fault;
 use json::{Reader, Scratch, Token};
 use std::alloc::Global;
 
-/// A case: the value of each of its keys. The head of this program says what each key means.
+/// A case: the value of each of its keys. The documentation of this crate explains the keys.
 #[derive(Default, Drop)]
 pub(crate) struct Case {
-    /// Under `name`.
+    /// The value of `name`.
     pub(crate) name: Option<String>,
-    /// Under `call`.
+    /// The value of `call`.
     pub(crate) call: Option<String>,
     /// Whether there is a configuration under `config`.
     pub(crate) config: Option<()>,
-    /// Under `input`.
+    /// The value of `input`.
     pub(crate) input: Option<String>,
-    /// Under `inputs`.
+    /// The value of `inputs`.
     pub(crate) inputs: Option<String>,
-    /// Under `types`.
+    /// The value of `types`.
     pub(crate) types: Option<String>,
-    /// Under `shape`.
+    /// The value of `shape`.
     pub(crate) shape: Option<String>,
-    /// Under `available-imports`.
+    /// The value of `available-imports`.
     pub(crate) available_imports: Option<String>,
-    /// Under `exports`.
+    /// The value of `exports`.
     pub(crate) exports: Option<String>,
-    /// Under `module-shape`.
+    /// The value of `module-shape`.
     pub(crate) module_shape: Option<String>,
-    /// Under `args`.
+    /// The value of `args`.
     pub(crate) args: Option<Vec<String>>,
-    /// Under `answer`.
+    /// The value of `answer`.
     pub(crate) answer: Option<Vec<String>>,
-    /// Under `lines`.
+    /// The value of `lines`.
     pub(crate) lines: Option<Vec<String>>,
-    /// Under `pieces`.
+    /// The value of `pieces`.
     pub(crate) pieces: Option<Vec<String>>,
-    /// Under `absent`.
+    /// The value of `absent`.
     pub(crate) absent: Option<Vec<String>>,
-    /// Under `may`.
+    /// The value of `may`.
     pub(crate) may: Option<Vec<String>>,
 }
 
 impl Case {
-    /// The arguments of the call.
+    /// Returns the arguments of the call.
     pub(crate) fn args(&self) -> &[String] {
         list(&self.args)
     }
 
-    // The text under the key `key`, where that key has a text.
+    // Returns the text of the key `key`, if that key has a text.
     fn text_under<'c>(&'c mut self, key: &str) -> Option<&'c mut Option<String>> {
         match key {
             "name" => Some(&mut self.name),
@@ -61,7 +61,7 @@ impl Case {
         }
     }
 
-    // The list of texts under the key `key`, where that key has a list.
+    // Returns the list of texts of the key `key`, if that key has a list.
     fn list_under<'c>(&'c mut self, key: &str) -> Option<&'c mut Option<Vec<String>>> {
         match key {
             "args" => Some(&mut self.args),
@@ -75,7 +75,7 @@ impl Case {
     }
 }
 
-/// The texts of `texts`, none where no list is given.
+/// Returns the texts of `texts`, or none if there is no list.
 pub(crate) fn list(texts: &Option<Vec<String>>) -> &[String] {
     match texts {
         Some(texts) => texts.as_slice(),
@@ -83,8 +83,8 @@ pub(crate) fn list(texts: &Option<Vec<String>>) -> &[String] {
     }
 }
 
-/// Reads the case of `line` into `case`, whose fields are empty. After a fault `case` has the keys before it. The configuration is
-/// only passed over.
+/// Reads the case of `line` into `case`, whose fields are empty. After a fault `case` has the keys
+/// before it. The configuration is only skipped.
 pub(crate) fn read_case(alloc: Global, line: &str, case: &mut Case) -> Result<(), Fault> {
     let mut scratch = Scratch::new(alloc);
     let mut reader = Reader::new(line, &mut scratch)?;
@@ -103,7 +103,7 @@ pub(crate) fn read_case(alloc: Global, line: &str, case: &mut Case) -> Result<()
     Err(Fault::Syntax(reader.offset()))
 }
 
-// Whether nothing follows the object.
+// Checks that nothing follows the object.
 fn ended(reader: &mut Reader<'_>) -> Result<(), Fault> {
     match reader.next() {
         None => Ok(()),
@@ -131,7 +131,7 @@ fn read_member(
     }
 }
 
-// Puts `value` where nothing is yet.
+// Puts `value` into `slot`, which must be empty.
 fn put<T: Drop>(slot: &mut Option<T>, value: T, place: usize) -> Result<(), Fault> {
     if slot.is_some() {
         return Err(Fault::RepeatedKey(place));
@@ -140,7 +140,7 @@ fn put<T: Drop>(slot: &mut Option<T>, value: T, place: usize) -> Result<(), Faul
     Ok(())
 }
 
-// Passes over a value.
+// Skips a value.
 fn pass(reader: &mut Reader<'_>) -> Result<(), Fault> {
     match reader.skip_value(json::MAX_DEPTH) {
         Ok(()) => Ok(()),
@@ -155,7 +155,7 @@ fn read_text(alloc: Global, reader: &mut Reader<'_>) -> Result<String, Fault> {
     }
 }
 
-// The most texts of a list.
+// The greatest number of texts of a list.
 const MOST_TEXTS: usize = 100_000;
 
 fn read_list(alloc: Global, reader: &mut Reader<'_>) -> Result<Vec<String>, Fault> {
@@ -172,8 +172,8 @@ fn read_list(alloc: Global, reader: &mut Reader<'_>) -> Result<Vec<String>, Faul
     Err(Fault::Syntax(reader.offset()))
 }
 
-/// Reads on in `reader`, which begins at a case of at most `most` keys, to the value of the key `config`. False where the case has
-/// no such key.
+/// Moves `reader`, which is at the start of a case of at most `most` keys, to the value of the key
+/// `config`. Returns false if the case has no such key.
 pub(crate) fn goes_to_config(reader: &mut Reader<'_>, most: usize) -> bool {
     let _ = reader.next();
     for _ in 0..most {

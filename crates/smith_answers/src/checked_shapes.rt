@@ -1,6 +1,7 @@
-//! Shapes that are checked, copied or drawn over, each by its name, with its parts in the form that `add_part` reads.
+//! Shapes that are checked, copied or drawn over, each by its name, with its parts in the form that
+//! `add_part` reads.
 
-/// The shapes, besides those of `shapes.rt`.
+/// The shapes besides those of `shapes.rt`.
 pub(crate) static CHECKED_SHAPES: [(&str, &[&str]); 43] = [
     (
         "an open array below an open array",

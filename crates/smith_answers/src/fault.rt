@@ -1,13 +1,13 @@
 use smith_bytes::Error;
 use std::alloc::{AllocError, AllocFailed};
 
-/// Why a case can't be answered.
+/// Reasons why a case cannot be answered.
 #[derive(Clone, Copy, Debug, thiserror::Error)]
 pub(crate) enum Fault {
-    /// The line is no JSON object of strings and lists of strings, from this byte on.
+    /// The line is not a JSON object of strings and lists of strings, from this byte on.
     #[error("no object of a case, from byte {0} on")]
     Syntax(usize),
-    /// No key of a case.
+    /// A key that no case has.
     #[error("an unknown key before byte {0}")]
     UnknownKey(usize),
     /// The same key twice.
@@ -16,28 +16,28 @@ pub(crate) enum Fault {
     /// No name, or an empty one.
     #[error("no name")]
     NoName,
-    /// No call, or none of the calls.
+    /// No call, or an unknown one.
     #[error("an unknown call")]
     UnknownCall,
-    /// None of the shapes.
+    /// An unknown shape.
     #[error("an unknown shape")]
     UnknownShape,
-    /// None of the type spaces.
+    /// An unknown type space.
     #[error("an unknown type space")]
     UnknownTypes,
-    /// The input isn't hexadecimal.
+    /// An input that is not hexadecimal.
     #[error("the input isn't hexadecimal")]
     Input,
-    /// None of the ways to make several inputs.
+    /// An unknown way to make several inputs.
     #[error("unknown inputs")]
     UnknownInputs,
-    /// The argument of this place, from 0, is missing, or is none of the call.
+    /// The argument at this place, from 0, is missing, or is not valid for the call.
     #[error("argument {0} isn't one of the call")]
     Argument(usize),
-    /// There are more arguments than the call has.
+    /// More arguments than the call has.
     #[error("an argument too many")]
     TooManyArguments,
-    /// The call has no use for a key that is given.
+    /// A key that the call does not read.
     #[error("a key of which the call has no use")]
     UselessKey,
     /// Nothing is wanted, or an empty list.
@@ -46,23 +46,24 @@ pub(crate) enum Fault {
     /// A line or a piece is wanted that each answer has.
     #[error("an empty piece is wanted")]
     EmptyPiece,
-    /// The second run gives another answer.
+    /// The second run returns a different answer.
     #[error("the second run gives another answer")]
     Unsteady,
-    /// The call may not be made: the configuration, or what it is made over, isn't as the call asks.
+    /// The call may not be made: the configuration, or its context, does not meet the conditions of
+    /// the call.
     #[error("the call may not be made: {0}")]
     NotCallable(&'static str),
-    /// The configuration doesn't read.
+    /// The configuration cannot be read.
     #[error("the configuration, line {line}, column {column}: {fault:?}")]
     Config {
-        /// What is wrong.
+        /// The fault.
         fault: smith_json::Fault,
-        /// The line of what is wrong, from 1.
+        /// The line of the fault, from 1.
         line: usize,
         /// The column in that line, from 1.
         column: usize,
     },
-    /// Memory was refused, which is all that plain data is refused for.
+    /// Memory ran out, which is the only refusal of plain data.
     #[error("refused: Memory")]
     Memory,
 }

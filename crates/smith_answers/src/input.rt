@@ -1,7 +1,8 @@
 use crate::fault::Fault;
 use std::alloc::Global;
 
-/// The bytes of `text`: words between blanks, each hexadecimal bytes, or `BYTES*COUNT`, which stands for so many copies of the bytes.
+/// Returns the bytes of `text`: words separated by blanks, each hexadecimal bytes, or `BYTES*COUNT`
+/// for `COUNT` copies of the bytes.
 pub(crate) fn bytes_of(alloc: Global, text: &str) -> Result<Vec<u8>, Fault> {
     let mut bytes = Vec::new(alloc);
     for word in text.split_whitespace() {
@@ -10,7 +11,7 @@ pub(crate) fn bytes_of(alloc: Global, text: &str) -> Result<Vec<u8>, Fault> {
     Ok(bytes)
 }
 
-// The most copies that a word may ask for.
+// The greatest number of copies in a word.
 const MOST_COPIES: usize = 100_000;
 
 fn append_word(alloc: Global, word: &str, bytes: &mut Vec<u8>) -> Result<(), Fault> {

@@ -6,8 +6,9 @@ use crate::input::bytes_of;
 use crate::wanted::{check_wanted, first_difference};
 use std::alloc::{AllocError, Global};
 
-/// Answers the case of `line` twice, or once where the answer is a checksum, and appends to `report` the line `ok NAME`, or
-/// `not ok NAME: ` and the first difference. The result is whether the answers are as the case wants.
+/// Answers the case of `line` twice, or once if the answer is a checksum, and appends to `report`
+/// the line `ok NAME`, or `not ok NAME: ` and the first difference. Returns whether the answers are
+/// as the case wants.
 pub fn judge(alloc: Global, line: &str, report: &mut String) -> Result<bool, AllocError> {
     let mut case = Case::default();
     let judged = judged(alloc, line, &mut case);
@@ -20,7 +21,8 @@ pub fn judge(alloc: Global, line: &str, report: &mut String) -> Result<bool, All
     Ok(matches!(judged, Ok(None)))
 }
 
-// The first difference of the answers to the case of `line`, which is read into `case`, from what the case wants.
+// Returns the first difference between the answers to the case of `line`, which is read into
+// `case`, and those that the case wants.
 fn judged(alloc: Global, line: &str, case: &mut Case) -> Result<Option<String>, Fault> {
     read_case(alloc, line, case)?;
     if case.name.as_ref().is_none_or(|name| name.is_empty()) {
@@ -39,7 +41,7 @@ fn judged(alloc: Global, line: &str, case: &mut Case) -> Result<Option<String>, 
     }
 }
 
-// The first difference of the answer to `case`, which stands in `line`, over `input`.
+// Returns the first difference of the answer to `case`, which `line` holds, over `input`.
 fn of_input(alloc: Global, line: &str, case: &Case, input: &[u8]) -> Result<Option<String>, Fault> {
     let given = answer(alloc, line, case, input)?;
     if !is_recorded(case) {
@@ -51,7 +53,8 @@ fn of_input(alloc: Global, line: &str, case: &Case, input: &[u8]) -> Result<Opti
     }
 }
 
-// Compares two answers to a case. A refusal for want of memory is none to compare.
+// Checks that two answers to a case are equal. If they differ and memory ran out in one of them,
+// the fault is `Memory`.
 fn check_steady(first: &str, second: &str) -> Result<(), Fault> {
     if first == second {
         return Ok(());
@@ -63,7 +66,7 @@ fn check_steady(first: &str, second: &str) -> Result<(), Fault> {
     })
 }
 
-// Whether memory was refused to a call of an answer.
+// Whether memory ran out in a call of an answer.
 fn lacks_memory(answer: &str) -> bool {
     answer.contains("refused: Memory")
 }
@@ -75,7 +78,7 @@ fn is_recorded(case: &Case) -> bool {
         .is_some_and(|call| call.as_str() == RECORDED)
 }
 
-// Which bytes are inputs.
+// Bytes that are inputs.
 #[derive(Clone, Copy)]
 enum Bytes {
     All,
@@ -91,7 +94,7 @@ fn is_among(byte: u8, bytes: Bytes) -> bool {
     }
 }
 
-// The first difference over all inputs of one of `bytes`.
+// Returns the first difference over all inputs of one of `bytes`.
 fn of_each_byte(
     alloc: Global,
     line: &str,
@@ -112,7 +115,7 @@ fn of_each_byte(
     Ok(None)
 }
 
-// The first difference over `input` cut at each length, and over the whole of it.
+// Returns the first difference over `input` cut at each length, and over the whole of it.
 fn of_each_cut(
     alloc: Global,
     line: &str,

@@ -8,7 +8,8 @@ use smith_types::{
 };
 use std::alloc::Global;
 
-/// A group of `count` structs without fields, each below the next, and the last below the first.
+/// Makes a group of `count` structs without fields, each a subtype of the next, and the last of the
+/// first.
 pub(crate) fn cycle_of(alloc: Global, count: u32) -> Result<Items<SubType>, Fault> {
     let mut types = Items::new(alloc);
     for index in 0..count {
@@ -17,7 +18,7 @@ pub(crate) fn cycle_of(alloc: Global, count: u32) -> Result<Items<SubType>, Faul
     Ok(types)
 }
 
-// A constant field that refers to the type of the index `index`.
+// Returns a constant field that refers to the type at `index`.
 fn field_of(index: u32) -> FieldType {
     FieldType {
         element_type: StorageType::Val(ValType::Ref(RefType {
@@ -39,7 +40,7 @@ fn struct_of(is_final: bool, supertype: Option<u32>, fields: Items<FieldType>) -
     }
 }
 
-/// A group of a struct of `count` fields that refer to the first type.
+/// Makes a group of a struct of `count` fields that refer to the first type.
 pub(crate) fn wide_of(alloc: Global, count: u32) -> Result<Items<SubType>, Fault> {
     let mut fields = Items::new(alloc);
     for _ in 0..count {
@@ -50,15 +51,16 @@ pub(crate) fn wide_of(alloc: Global, count: u32) -> Result<Items<SubType>, Fault
     Ok(types)
 }
 
-// A struct below `supertype`, of a field that refers to the type `to`.
+// Makes a subtype of `supertype`, a struct of a field that refers to the type `to`.
 fn referring(alloc: Global, to: u32, supertype: Option<u32>) -> Result<SubType, Fault> {
     let mut fields = Items::new(alloc);
     fields.push(field_of(to))?;
     Ok(struct_of(false, supertype, fields))
 }
 
-/// A group of `count` structs that refer to the first type, each but the first below the one before, and of as many
-/// structs below the last of these, to which they refer. Each of the latter is matched along the whole chain.
+/// Makes a group of `count` structs that refer to the first type, each a subtype of the one before,
+/// and of `count` subtypes of the last of these that refer to it. A match of each of the latter
+/// follows the whole chain.
 pub(crate) fn fan_of(alloc: Global, count: u32) -> Result<Items<SubType>, Fault> {
     let mut types = Items::new(alloc);
     for index in 0..count {
@@ -71,7 +73,7 @@ pub(crate) fn fan_of(alloc: Global, count: u32) -> Result<Items<SubType>, Fault>
     Ok(types)
 }
 
-/// Adds `count` exports of the first global to `exports`, by the names 1, 2 and so on.
+/// Adds `count` exports of the first global to `exports`, with the names 1, 2 and so on.
 pub(crate) fn export_many(
     alloc: Global,
     count: u32,

@@ -10,18 +10,20 @@ use std::alloc::Global;
 
 /// Adds to `shape` the part that `part` writes, which is one of:
 ///
-/// - `group TYPE; TYPE`, a recursive group. A type is `struct FIELD,FIELD`, `array FIELD` or
-///   `func PARAM,PARAM -> RESULT`, after `open` where it isn't final and `below INDEX` where it has a supertype.
-/// - `chain COUNT`, a group of so many structs without fields, each but the first below the one before.
-/// - `cycle COUNT`, `wide COUNT`, `fan COUNT`, groups of many types or fields, and `exports COUNT`, which
-///   `large_parts.rt` explains.
-/// - `import MODULE NAME ENTITY`, an import by itself. An entity is `func INDEX`, `tag INDEX`,
-///   `table MINIMUM MAXIMUM REFERENCE`, `memory MINIMUM MAXIMUM` or `global VALUE`. The maximum may be left out. The
-///   limits come after `shared` and `i64`, the value type after `shared` and `mut`, where the entity is so. The limits
-///   of a memory come last after `pagesize 2^LOG2`, where it states the size of its pages.
+/// - `group TYPE; TYPE`, a recursive group. A type is `struct FIELD,FIELD`, `array FIELD` or `func
+///   PARAM,PARAM -> RESULT`, after `open` if it is not final and `below INDEX` if it has a
+///   supertype.
+/// - `chain COUNT`, a group of `COUNT` structs without fields, each a subtype of the one before.
+/// - `cycle COUNT`, `wide COUNT`, `fan COUNT`, groups of many types or fields, and `exports COUNT`,
+///   which `large_parts.rt` explains.
+/// - `import MODULE NAME ENTITY`, a single import. An entity is `func INDEX`, `tag INDEX`, `table
+///   MINIMUM MAXIMUM REFERENCE`, `memory MINIMUM MAXIMUM` or `global VALUE`. The maximum may be
+///   left out. The limits come after `shared` and `i64`, the value type after `shared` and `mut`,
+///   if the entity has these properties. The limits of a memory come last after `pagesize 2^LOG2`,
+///   if it states the size of its pages.
 /// - `items MODULE NAME ENTITY; NAME ENTITY`, a group of imports of one module.
-/// - `names MODULE NAME,NAME ENTITY`, a group of imports of one module and type, without names where `-` stands for
-///   them.
+/// - `names MODULE NAME,NAME ENTITY`, a group of imports of one module and type. `-` in place of
+///   the names means none.
 /// - an entity, which is defined.
 /// - `export NAME KIND INDEX`.
 pub(crate) fn add_part(alloc: Global, part: &str, shape: &mut Shape) -> Result<(), Fault> {
@@ -34,7 +36,7 @@ pub(crate) fn add_part(alloc: Global, part: &str, shape: &mut Shape) -> Result<(
     }
 }
 
-// The lists of a shape that parts are added to.
+// Lists of a shape that parts are added to.
 #[derive(Clone, Copy)]
 enum List {
     Groups,
@@ -43,7 +45,7 @@ enum List {
     Definitions,
 }
 
-// The list that a part is added to which begins with `word`.
+// Returns the list that a part which begins with `word` is added to.
 fn list_of_word(word: &str) -> List {
     match word {
         "group" | "chain" | "cycle" | "wide" | "fan" => List::Groups,
@@ -53,12 +55,12 @@ fn list_of_word(word: &str) -> List {
     }
 }
 
-// Adds `item` to `items`, where it is read.
+// Adds `item` to `items`, if it could be read.
 fn push<T: Drop>(items: &mut Items<T>, item: Result<T, Fault>) -> Result<(), Fault> {
     Ok(items.push(item?)?)
 }
 
-// The types of a part that begins with `word`.
+// Returns the types of a part that begins with `word`.
 fn types_of(alloc: Global, word: &str, rest: &str) -> Result<Items<SubType>, Fault> {
     if word == "group" {
         return group_of(alloc, rest);
@@ -72,7 +74,7 @@ fn types_of(alloc: Global, word: &str, rest: &str) -> Result<Items<SubType>, Fau
     }
 }
 
-// The imports of a part that begins with `word`.
+// Returns the imports of a part that begins with `word`.
 fn imports_of(alloc: Global, word: &str, rest: &str) -> Result<Imports, Fault> {
     match word {
         "import" => import_of(alloc, rest),
@@ -81,7 +83,7 @@ fn imports_of(alloc: Global, word: &str, rest: &str) -> Result<Imports, Fault> {
     }
 }
 
-// Adds to `exports` those of a part that begins with `word`.
+// Adds the exports of a part that begins with `word` to `exports`.
 fn add_exports(
     alloc: Global,
     word: &str,
@@ -94,12 +96,12 @@ fn add_exports(
     push(exports, export_of(alloc, rest))
 }
 
-// What is read, or the fault where nothing is.
+// Returns the value that was read, or the fault if there is none.
 fn known<T: Drop>(value: Option<T>) -> Result<T, Fault> {
     value.ok_or(Fault::UnknownShape)
 }
 
-// The first word of `text`, and what follows the blank after it.
+// Returns the first word of `text`, and the text after the blank that follows it.
 fn split_word(text: &str) -> (&str, &str) {
     text.trim().split_once(' ').unwrap_or((text.trim(), ""))
 }
@@ -122,7 +124,7 @@ fn chain_of(alloc: Global, count: u32) -> Result<Items<SubType>, Fault> {
     Ok(types)
 }
 
-/// A struct without fields that isn't final, below the type `supertype` where that is given.
+/// Makes an open struct without fields, a subtype of `supertype` if there is one.
 pub(crate) fn open_struct(alloc: Global, supertype: Option<u32>) -> SubType {
     SubType {
         is_final: false,
@@ -170,7 +172,7 @@ fn inner_of(alloc: Global, text: &str) -> Result<CompositeInnerType, Fault> {
     }
 }
 
-/// The function type that `text` writes: `i32,f64 -> i64`.
+/// Reads the function type that `text` writes: `i32,f64 -> i64`.
 pub(crate) fn function_of(alloc: Global, text: &str) -> Result<FuncType, Fault> {
     let Some((params, results)) = text.split_once("->") else {
         return Err(Fault::UnknownShape);
@@ -181,7 +183,7 @@ pub(crate) fn function_of(alloc: Global, text: &str) -> Result<FuncType, Fault> 
     })
 }
 
-// The items between commas in `text`, each as what `read` reads.
+// Reads the items between commas in `text`, each with `read`.
 fn list_of<T: Drop, F: Fn(&str) -> Option<T>>(
     alloc: Global,
     text: &str,
@@ -246,7 +248,7 @@ fn names_of(alloc: Global, text: &str) -> Result<Imports, Fault> {
     })
 }
 
-/// The entity that `text` writes.
+/// Reads the entity that `text` writes.
 pub(crate) fn entity_of(text: &str) -> Option<EntityType> {
     let (word, rest) = split_word(text);
     match word {
@@ -259,7 +261,7 @@ pub(crate) fn entity_of(text: &str) -> Option<EntityType> {
     }
 }
 
-// Whether `text` begins with `word`, and what follows that.
+// Returns whether `text` begins with `word`, and the text after it.
 fn take_word<'a>(text: &'a str, word: &str) -> (bool, &'a str) {
     match text.strip_prefix(word) {
         Some(rest) => (true, rest),
@@ -307,7 +309,8 @@ fn memory_of(text: &str) -> Option<MemoryType> {
     })
 }
 
-// The binary logarithm of the size of a page, where `text` begins with one, and what follows.
+// Reads the binary logarithm of the size of a page, if `text` begins with one. Returns the text
+// after it.
 fn page_size_of(text: &str) -> Option<(Option<u32>, &str)> {
     let Some(text) = text.strip_prefix("pagesize 2^") else {
         return Some((None, text));

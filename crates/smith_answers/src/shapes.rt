@@ -237,7 +237,7 @@ static SHAPES: [(&str, &[&str]); 47] = [
     ),
 ];
 
-// The parts of the shape of the name `name` among `shapes`.
+// Finds the parts of the shape of the name `name` among `shapes`.
 fn parts_in(
     shapes: &[(&'static str, &'static [&'static str])],
     name: &str,
@@ -248,7 +248,7 @@ fn parts_in(
         .map(|(_, parts)| *parts)
 }
 
-/// The shape of the name `name`.
+/// Makes the shape of the name `name`.
 pub(crate) fn shape_named(alloc: Global, name: &str) -> Result<Shape, Fault> {
     let mut shape = nothing(alloc);
     let Some(parts) = parts_in(&SHAPES, name).or_else(|| parts_in(&CHECKED_SHAPES, name)) else {

@@ -23,12 +23,12 @@ fn abstract_of(shared: bool, text: &str) -> Option<HeapType> {
         .map(|(_, ty)| HeapType::Abstract { shared, ty: *ty })
 }
 
-// What stands in parentheses after `keyword` in `text`.
+// Returns the text in parentheses after `keyword` in `text`. `keyword` includes the opening one.
 fn inside<'a>(text: &'a str, keyword: &str) -> Option<&'a str> {
     text.strip_prefix(keyword)?.strip_suffix(")")
 }
 
-/// The heap type that `text` writes: `any`, `(shared any)`, `0`, `(exact 0)`.
+/// Reads the heap type that `text` writes: `any`, `(shared any)`, `0`, `(exact 0)`.
 pub(crate) fn heap_type_of(text: &str) -> Option<HeapType> {
     if let Some(name) = inside(text, "(shared ") {
         return abstract_of(true, name);
@@ -42,7 +42,7 @@ pub(crate) fn heap_type_of(text: &str) -> Option<HeapType> {
     }
 }
 
-/// The reference type that `text` writes: `(ref any)`, `(ref null 0)`.
+/// Reads the reference type that `text` writes: `(ref any)`, `(ref null 0)`.
 pub(crate) fn ref_type_of(text: &str) -> Option<RefType> {
     let referred = inside(text, "(ref ")?;
     let (nullable, heap_type) = match referred.strip_prefix("null ") {
@@ -55,7 +55,7 @@ pub(crate) fn ref_type_of(text: &str) -> Option<RefType> {
     })
 }
 
-/// The value type that `text` writes.
+/// Reads the value type that `text` writes.
 pub(crate) fn val_type_of(text: &str) -> Option<ValType> {
     match text {
         "i32" => Some(ValType::I32),
@@ -67,7 +67,7 @@ pub(crate) fn val_type_of(text: &str) -> Option<ValType> {
     }
 }
 
-/// The storage type that `text` writes.
+/// Reads the storage type that `text` writes.
 pub(crate) fn storage_type_of(text: &str) -> Option<StorageType> {
     match text {
         "i8" => Some(StorageType::I8),
@@ -76,7 +76,7 @@ pub(crate) fn storage_type_of(text: &str) -> Option<StorageType> {
     }
 }
 
-/// The field type that `text` writes: a storage type, or `(mut TYPE)`.
+/// Reads the field type that `text` writes: a storage type, or `(mut TYPE)`.
 pub(crate) fn field_type_of(text: &str) -> Option<FieldType> {
     let (mutable, element_type) = match inside(text, "(mut ") {
         Some(element_type) => (true, element_type),

@@ -2,10 +2,10 @@ use crate::case::{Case, list};
 use crate::fault::Fault;
 use std::fmt;
 
-/// The first difference of an answer from what a case wants.
+/// First difference of an answer from the wanted one.
 #[derive(Clone, Copy, Drop)]
 pub(crate) enum Difference<'a> {
-    /// The kind of the answer is none of those that may come.
+    /// The kind of the answer is none of those allowed.
     Kind(&'a str),
     /// Another line at this place, from 1.
     Line {
@@ -20,7 +20,7 @@ pub(crate) enum Difference<'a> {
     NoLine(&'a str),
     /// No such piece.
     NoPiece(&'a str),
-    /// A piece that is to be absent.
+    /// A piece that must be absent.
     Piece(&'a str),
 }
 
@@ -73,8 +73,8 @@ fn has_blank(texts: &[String]) -> bool {
     texts.iter().any(|text| text.as_str().trim().is_empty())
 }
 
-/// The first difference of the answer `answer` from what `case` wants: of its kind, then of all of its lines, then of single lines,
-/// of pieces, and of absent pieces.
+/// Returns the first difference of the answer `answer` from the one that `case` wants: of its kind,
+/// then of all of its lines, then of single lines, of pieces, and of absent pieces.
 pub(crate) fn first_difference<'a>(answer: &'a str, case: &'a Case) -> Option<Difference<'a>> {
     let kind = kind_of(answer);
     if case.may.is_some() && !list(&case.may).iter().any(|may| may.as_str() == kind) {
@@ -91,7 +91,7 @@ pub(crate) fn first_difference<'a>(answer: &'a str, case: &'a Case) -> Option<Di
         .or_else(|| stray_piece(answer, list(&case.absent)))
 }
 
-/// The kind of an answer: the refusal that it tells, or `Ok`.
+/// Returns the kind of an answer: its refusal, or `Ok`.
 pub(crate) fn kind_of(answer: &str) -> &str {
     match answer.strip_prefix("refused: ") {
         Some(refusal) => refusal.trim_end(),
@@ -99,10 +99,10 @@ pub(crate) fn kind_of(answer: &str) -> &str {
     }
 }
 
-// The line that stands for all lines that follow.
+// The line that matches all further lines.
 const ANYTHING: &str = "...";
 
-// The first line of `answer` that isn't the line of its place in `wanted`.
+// Returns the first line of `answer` that is not the line at its place in `wanted`.
 fn other_line<'a>(answer: &'a str, wanted: &'a [String]) -> Option<Difference<'a>> {
     let mut place: usize = 0;
     for line in answer.lines() {
@@ -128,7 +128,7 @@ fn other_line<'a>(answer: &'a str, wanted: &'a [String]) -> Option<Difference<'a
     })
 }
 
-// The first of `wanted` that doesn't follow those before it among the lines of `answer`.
+// Returns the first of `wanted` that does not follow those before it among the lines of `answer`.
 fn missing_line<'a>(answer: &'a str, wanted: &'a [String]) -> Option<Difference<'a>> {
     let mut left = wanted;
     for line in answer.lines() {

@@ -121,7 +121,8 @@ fn push_exports(
 ///
 /// - `SeveralTables` if `shape` requires a second table and reference types are off.
 /// - `SeveralMemories` if `shape` requires a second memory and `config` allows at most one.
-/// - `EmptyChoose` if no expression has a reference type that is not nullable.
+/// - `EmptyChoose` if no expression has the type of an initialiser. This requires a reference type
+///   of `shape`, or of a field of a type, that is not nullable.
 pub fn make_required_exports(
     alloc: Global,
     config: &Config,

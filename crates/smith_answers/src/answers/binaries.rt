@@ -5,11 +5,11 @@ use smith_encode::encode;
 use std::alloc::Global;
 use wasm_smith::Module;
 
-// The most bytes of a binary that is told whole.
+// The greatest number of bytes of a binary that is written in full.
 const MOST_BYTES: usize = 200;
 
-/// Appends the number of bytes of `module` in the binary format and their checksum, and the bytes in hexadecimal where they are at
-/// most 200; or the refusal.
+/// Appends the number of bytes of `module` in the binary format and their checksum, and the bytes
+/// in hexadecimal if there are at most 200. Appends the refusal if `module` is refused.
 pub(crate) fn tell_binary(
     alloc: Global,
     module: &Module,
@@ -21,7 +21,7 @@ pub(crate) fn tell_binary(
     }
 }
 
-/// Appends the number of `bytes` and their checksum, and the bytes where they are at most 200.
+/// Appends the number of `bytes` and their checksum, and the bytes if there are at most 200.
 pub(crate) fn tell_bytes_whole(
     alloc: Global,
     bytes: &[u8],

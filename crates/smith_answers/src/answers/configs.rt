@@ -10,7 +10,7 @@ use smith_spell::spell;
 use smith_types::{Items, WasmFeatures};
 use std::alloc::Global;
 
-/// Appends what `call` gives of `config`, or under it.
+/// Appends the result of `call` on `config`, or under it.
 pub(crate) fn answer_config(
     alloc: Global,
     case: &Case,
@@ -37,7 +37,7 @@ fn told(call: ConfigCall, config: &mut Config, answer: &mut String) -> Result<()
     }
 }
 
-/// Appends the configuration that `input` draws, and its features.
+/// Appends the configuration drawn from `input`, and its features.
 pub(crate) fn answer_drawn_config(input: &[u8], answer: &mut String) -> Result<(), Fault> {
     tell_drawn_config(Config::arbitrary(&mut Unstructured::new(input)), answer)
 }
@@ -54,7 +54,8 @@ fn tell_config_and_features(config: &Config, answer: &mut String) -> Result<(), 
     tell_features(config.features(), answer)
 }
 
-// Appends whether a copy of `config` is equal: whether the shapes are, and what the two print for debugging.
+// Appends whether a copy of `config` is equal: whether the shapes are, and whether both print the
+// same for debugging.
 fn answer_copy(alloc: Global, config: &Config, answer: &mut String) -> Result<(), Fault> {
     tell_copy(alloc, config.clone(alloc), config, answer)
 }
@@ -109,7 +110,7 @@ fn tell_features(features: WasmFeatures, answer: &mut String) -> Result<(), Faul
     Ok(())
 }
 
-/// The shape under the key `shape` of `case`.
+/// Returns the shape under the key `shape` of `case`.
 pub(crate) fn shape_of(alloc: Global, case: &Case) -> Result<Shape, Fault> {
     match &case.shape {
         Some(name) => shape_named(alloc, name.as_str()),
@@ -117,7 +118,7 @@ pub(crate) fn shape_of(alloc: Global, case: &Case) -> Result<Shape, Fault> {
     }
 }
 
-// The use of a shape that the first argument names.
+// Returns the use of a shape that the first argument names.
 fn which_of(case: &Case) -> Result<Which, Fault> {
     at_most(case, 1)?;
     match word(case, 0)? {
@@ -139,7 +140,7 @@ fn checked_shape(
     tell_check(shape.check(alloc, which, config), answer)
 }
 
-// Appends what a check says.
+// Appends the result of a check.
 fn tell_check(checked: Result<(), Error>, answer: &mut String) -> Result<(), Fault> {
     match checked {
         Ok(()) => Ok(writeln!(answer, "passes")?),
@@ -147,7 +148,7 @@ fn tell_check(checked: Result<(), Error>, answer: &mut String) -> Result<(), Fau
     }
 }
 
-// The bytes that spell the groups and the functions of a shape.
+// Appends the bytes that spell the groups and the functions of a shape.
 fn spelled(alloc: Global, case: &Case, config: &Config, answer: &mut String) -> Result<(), Fault> {
     let shape = shape_of(alloc, case)?;
     let spelling = spell(

@@ -7,7 +7,8 @@ use smith_json::{ConfigRefusal, Refusal, read_config};
 use std::alloc::Global;
 use std::mem;
 
-/// Sets in `config`, which is the default, the fields and the shapes that `case` gives. The case stands in `line`.
+/// Sets the fields and the shapes of `case` in `config`, which is the default. `line` holds the
+/// case.
 pub(crate) fn set_config(
     alloc: Global,
     line: &str,
@@ -18,12 +19,12 @@ pub(crate) fn set_config(
     set_shapes(alloc, case, config)
 }
 
-/// The configuration `config`, in whose place the default stays.
+/// Returns the configuration `config`, and leaves the default in its place.
 pub(crate) fn taken(config: &mut Config) -> Config {
     mem::replace(config, Config::default())
 }
 
-// Sets the fields that the case of `line` gives.
+// Sets the fields of the case in `line`.
 fn set_fields(alloc: Global, line: &str, config: &mut Config) -> Result<(), Fault> {
     let mut scratch = Scratch::new(alloc);
     let mut reader = Reader::new(line, &mut scratch)?;
@@ -37,7 +38,7 @@ fn set_fields(alloc: Global, line: &str, config: &mut Config) -> Result<(), Faul
     }
 }
 
-// The fault of a configuration in `line` that is refused.
+// Returns the fault of a configuration in `line` that is refused.
 fn fault_of(refusal: Refusal, line: &str) -> Fault {
     let ConfigRefusal {
         fault,
@@ -63,7 +64,7 @@ fn set_shapes(alloc: Global, case: &Case, config: &mut Config) -> Result<(), Fau
     set_shape(alloc, &case.module_shape, &mut config.module_shape)
 }
 
-// Puts the shape of the name `name` into `slot`, where a name is given.
+// Puts the shape of the name `name` into `slot`, if there is a name.
 fn set_shape(alloc: Global, name: &Option<String>, slot: &mut Option<Shape>) -> Result<(), Fault> {
     if let Some(name) = name {
         *slot = Some(shape_named(alloc, name.as_str())?);

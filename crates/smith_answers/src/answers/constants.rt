@@ -32,7 +32,7 @@ pub(crate) fn answer_constant(
     }
 }
 
-// The value type that is the first argument, which is valid over the types.
+// Returns the value type of the first argument, which is valid over the types.
 fn wanted_of(over: &Over<'_>) -> Result<ValType, Fault>
     ensures { IfOk result (IsValTypeValid (features_of over.now.config.now) (length over.now.types.now.types)) }
 {
@@ -43,8 +43,9 @@ fn wanted_of(over: &Over<'_>) -> Result<ValType, Fault>
     Ok(wanted)
 }
 
-// An expression of the value type that is the first argument. The second is whether it may read defined globals.
-// Where there is a third, `count`, only the number of instructions is told.
+// Appends an expression of the value type of the first argument. The second argument says whether
+// it may read defined globals. With a third argument, `count`, only the number of instructions is
+// appended.
 fn answer_expression(
     over: &Over<'_>,
     u: &mut Unstructured<'_>,
@@ -98,9 +99,9 @@ fn tell_instructions(case: &Case, drawn: &[ConstInstr], answer: &mut String) -> 
     Ok(())
 }
 
-// The globals that a value of the type that is the first argument may be read of, among a variable and a constant
-// that are imported and a constant that is defined, all of an i32. The second argument is whether defined ones may be
-// read.
+// Appends the globals from which a value of the type of the first argument may be read. The globals
+// are an imported variable, an imported constant and a defined constant, all of type `i32`. The
+// second argument says whether defined ones may be read.
 fn answer_globals(over: &Over<'_>, answer: &mut String) -> Result<(), Fault>
     requires types { AreTypesValid (features_of over.now.config.now) over.now.types.now }
 {
@@ -130,7 +131,8 @@ fn readable_globals(
     globals_for_const_expr(over.alloc, over.config, &spaces, wanted, allow_defined)
 }
 
-// The type of elements that is the argument: valid over the types, and such that an initialiser may be drawn.
+// Returns the element type of the argument: valid over the types, and of a kind for which an
+// initialiser may be drawn.
 fn element_of(over: &Over<'_>) -> Result<RefType, Fault>
     ensures valid { IfOk result (IsRefTypeValid (features_of over.now.config.now) (length over.now.types.now.types)) }
     ensures created { IfOk result (λ element. element.nullable ≡ false → IsTrue over.now.config.now.gc_enabled) }
@@ -146,7 +148,7 @@ fn element_of(over: &Over<'_>) -> Result<RefType, Fault>
     Ok(element)
 }
 
-// An initialiser of a table whose elements are of the reference type that is the argument.
+// Appends an initialiser of a table whose elements have the reference type of the argument.
 fn answer_initialiser(
     over: &Over<'_>,
     u: &mut Unstructured<'_>,

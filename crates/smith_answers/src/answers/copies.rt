@@ -5,15 +5,15 @@ use smith_bytes::Error;
 use smith_types::{CompositeInnerType, CompositeType, ImportItem, Imports, Items, SubType};
 use std::alloc::Global;
 
-/// Appends a line for each group, type and import of the shape of `case`, and for each of their parts, that says
-/// whether a copy is equal. A group of imports is told first.
+/// Appends a line for each group, type and import of the shape of `case`, and for each of their
+/// parts, that says whether a copy is equal. A group of imports is printed before its lines.
 pub(crate) fn answer_copies(alloc: Global, case: &Case, answer: &mut String) -> Result<(), Fault> {
     let shape = shape_of(alloc, case)?;
     answer_groups(alloc, shape.groups.as_slice(), answer)?;
     answer_imports(alloc, shape.imports.as_slice(), answer)
 }
 
-// Appends whether `copy` is equal to `value`, which is of the type `name`.
+// Appends whether `copy` is equal to `value`, which has the type `name`.
 fn tell_copy<T: PartialEq + Drop>(
     name: &str,
     copy: Result<T, Error>,

@@ -15,8 +15,8 @@ use smith_bytes::Unstructured;
 use smith_config::Config;
 use std::alloc::Global;
 
-/// Appends what `call` draws from `input` over the types of `case`, and what it leaves. First `config` is sanitised. One that doesn't
-/// pass its check is none of a draw.
+/// Appends the result of the draw `call` from `input` over the types of `case`, and the bytes left.
+/// Sanitises `config` first. Fails with `NotCallable` if `config` does not pass its check.
 pub(crate) fn answer_draw(
     alloc: Global,
     case: &Case,

@@ -16,15 +16,15 @@ use smith_draw::{
 };
 use smith_types::TypeSpace;
 
-// What a drawn type may be.
+// Bounds of a drawn type.
 #[derive(Clone, Copy)]
 struct Bounds {
     must_share: bool,
     limit: u32,
 }
 
-// The bounds that the arguments give: whether the type must be shared, and below which index it may refer to types. Without
-// arguments it needn't be shared, and may refer to each type.
+// Returns the bounds in the arguments: whether the type must be shared, and the index below which
+// it may refer to types. Without arguments it need not be shared, and may refer to each type.
 fn bounds_of(over: &Over<'_>) -> Result<Bounds, Fault> {
     at_most(over.case, 2)?;
     if over.case.args().is_empty() {
@@ -66,7 +66,7 @@ pub(crate) fn answer_free_type(
     }
 }
 
-// Types that are drawn from the first on.
+// Appends types that are drawn into an empty type space.
 #[tactic(auto, using(smith_draw::proofs::CallerLemmas::passes_but_imports))]
 fn answer_types(over: &Over<'_>, u: &mut Unstructured<'_>, answer: &mut String) -> Result<(), Fault>
     requires passes { Passes over.now.config.now }
@@ -79,7 +79,8 @@ fn answer_types(over: &Over<'_>, u: &mut Unstructured<'_>, answer: &mut String) 
     }
 }
 
-// A group for each argument, which says whether the group may be empty. Without arguments one group that may be.
+// Draws a group for each argument, which says whether the group may be empty, and appends the
+// types. Without arguments, draws one group that may be empty.
 fn answer_groups(
     over: &Over<'_>,
     u: &mut Unstructured<'_>,
@@ -116,7 +117,7 @@ fn add_group(
     Ok(arbitrary_rec_group(alloc, config, types, &Entities::none(), allow_empty, u)?)
 }
 
-// A clone of one of the groups of the case, which may be empty.
+// Appends the types with a clone of one of the groups of the case, which may be empty.
 #[tactic(auto, using(smith_draw::proofs::CallerLemmas::passes_but_imports))]
 fn answer_clone(over: &Over<'_>, u: &mut Unstructured<'_>, answer: &mut String) -> Result<(), Fault>
     requires { Passes over.now.config.now }
@@ -135,7 +136,7 @@ fn answer_clone(over: &Over<'_>, u: &mut Unstructured<'_>, answer: &mut String) 
     }
 }
 
-// A type below one of the types of the case, of which the first may have subtypes.
+// Appends a subtype of one of the types of the case, of which the first may have subtypes.
 fn answer_subtype_of_one(
     over: &Over<'_>,
     bounds: Bounds,
@@ -186,7 +187,7 @@ fn answer_composite_type(
     )
 }
 
-// A part of a type.
+// Appends a part of a type.
 fn answer_part(
     over: &Over<'_>,
     call: FreeCall,

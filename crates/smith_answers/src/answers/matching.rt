@@ -16,7 +16,7 @@ use smith_draw::{
 };
 use smith_types::CompositeInnerType;
 
-/// Appends the type below or above the argument that `call` draws.
+/// Appends the subtype or supertype of the argument that `call` draws.
 pub(crate) fn answer_matching(
     over: &Over<'_>,
     call: MatchingCall,
@@ -36,7 +36,7 @@ pub(crate) fn answer_matching(
     }
 }
 
-// Appends the type that `$draw` draws below or above the argument, which `$read` reads.
+// Appends the subtype or supertype that `$draw` draws for the argument, which `$read` reads.
 macro_rules! tell_matching {
     ($draw:ident, $read:expr, $over:expr, $u:expr, $answer:expr) => {{
         let wanted = read($over.case, 0, $read)?;
@@ -48,7 +48,7 @@ macro_rules! tell_matching {
     }};
 }
 
-// A type below the argument.
+// Appends a subtype of the argument.
 fn answer_below(
     over: &Over<'_>,
     call: MatchingCall,
@@ -90,7 +90,7 @@ fn answer_below(
     }
 }
 
-// A type above the argument.
+// Appends a supertype of the argument.
 fn answer_above(
     over: &Over<'_>,
     call: MatchingCall,
@@ -122,7 +122,7 @@ fn answer_above(
     }
 }
 
-// A struct type that matches the type of the case whose index is the argument.
+// Appends a struct type that matches the type of the case at the index of the argument.
 fn answer_structure(
     over: &Over<'_>,
     u: &mut Unstructured<'_>,
@@ -142,7 +142,7 @@ fn answer_structure(
     )
 }
 
-// The type whose index is the argument.
+// Returns the type at the index of the argument.
 fn type_of<'a>(over: &Over<'a>) -> Result<&'a CompositeInnerType, Fault> {
     match over.types.types().get(number::<usize>(over.case, 0)?) {
         Some(ty) => Ok(&ty.composite_type.inner),
@@ -150,7 +150,8 @@ fn type_of<'a>(over: &Over<'a>) -> Result<&'a CompositeInnerType, Fault> {
     }
 }
 
-// A function type that matches the argument, which is written as in shapes: `func i32 -> i64`.
+// Appends a function type that matches the argument, which is written as in shapes: `func i32 ->
+// i64`.
 fn answer_function(
     over: &Over<'_>,
     u: &mut Unstructured<'_>,

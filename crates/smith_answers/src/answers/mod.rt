@@ -39,7 +39,7 @@ use crate::recorded::answer_recorded;
 use smith_config::Config;
 use std::alloc::Global;
 
-/// The answer to the call of `case`, which stands in `line`, over the bytes `input`.
+/// Returns the answer to the call of `case`, which `line` holds, over the bytes `input`.
 pub(crate) fn answer(
     alloc: Global,
     line: &str,
@@ -89,7 +89,7 @@ fn answer_configured(
     answer_over(alloc, line, case, call, &mut config, input, answer)
 }
 
-// Appends the answer to a call that has a configuration, which is set in `config`.
+// Appends the answer to a call that has a configuration. Sets `config` to it.
 fn answer_over(
     alloc: Global,
     line: &str,

@@ -11,9 +11,10 @@ use smith_text::text;
 use std::alloc::Global;
 use wasm_smith::{DuplicateImportsBehavior, Module};
 
-/// Appends the text of the module that `call` makes, or its binary where `call` encodes it, or the refusal. The configuration
-/// `config` is used up. Arguments of `Module::new`, and those of `Module::new_internal` after the first, name what is told
-/// afterwards: `debug` is a line of the module as it prints for debugging, `left` what the call leaves of the input.
+/// Appends the text of the module that `call` makes, or its binary if `call` encodes it, or the
+/// refusal. The configuration `config` is used up. The arguments of `Module::new`, and those of
+/// `Module::new_internal` after the first, name details to append: `debug` is the line that the
+/// module prints for debugging, `left` the bytes of the input that the call leaves.
 pub(crate) fn answer_module(
     alloc: Global,
     case: &Case,
@@ -30,14 +31,14 @@ pub(crate) fn answer_module(
     tell_left(details, &u, answer)
 }
 
-// What is told beside the text of a module.
+// Details that are appended to the text of a module.
 #[derive(Clone, Copy)]
 struct Details {
     debug: bool,
     left: bool,
 }
 
-// The details that arguments of `case` name.
+// Returns the details that the arguments of `case` name.
 fn details_of(case: &Case, call: ModuleCall) -> Result<Details, Fault> {
     let mut details = Details {
         debug: false,
@@ -65,7 +66,7 @@ fn tell_left(details: Details, u: &Unstructured<'_>, answer: &mut String) -> Res
     Ok(())
 }
 
-// The module that `call` makes, before it is made to terminate.
+// Makes the module of `call`, before it is made to terminate.
 fn made(
     alloc: Global,
     call: ModuleCall,
@@ -81,7 +82,8 @@ fn made(
     }
 }
 
-// The rule of duplicate imports: that of the first argument for the internal call, else the rule of `Module::new`.
+// Returns the rule of duplicate imports: that of the first argument for the internal call, else
+// that of `Module::new`.
 fn behavior_of(case: &Case, call: ModuleCall) -> Result<DuplicateImportsBehavior, Fault> {
     if call != ModuleCall::NewInternal {
         return Ok(DuplicateImportsBehavior::Allowed);
@@ -93,7 +95,7 @@ fn behavior_of(case: &Case, call: ModuleCall) -> Result<DuplicateImportsBehavior
     }
 }
 
-// A configuration that the first bytes draw, and a module of the others.
+// Draws a configuration from the first bytes, and a module from the others.
 fn of_drawn(alloc: Global, u: &mut Unstructured<'_>) -> Result<Module, Error> {
     match Config::arbitrary(u) {
         Ok(config) => Module::new(alloc, config, u),
@@ -116,7 +118,7 @@ fn tell_made(
     }
 }
 
-// Appends the text of `module`, after what `call` makes of it and before its details.
+// Appends the text of `module`, after the changes of `call` and before its details.
 fn tell_whole(
     alloc: Global,
     case: &Case,
@@ -150,7 +152,7 @@ fn tell_module(alloc: Global, module: &Module, answer: &mut String) -> Result<()
     }
 }
 
-// Adds fuel to `module` for each argument in turn, and tells each answer.
+// Adds fuel to `module` for each argument in turn, and appends each answer.
 fn terminate(
     alloc: Global,
     case: &Case,

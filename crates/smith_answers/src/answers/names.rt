@@ -10,8 +10,9 @@ use smith_bytes::{
 use std::alloc::Global;
 use std::collections::HashSet;
 
-/// Appends the name that `call` draws of `input`, what names are taken afterwards, and what it leaves. The first argument is the
-/// most bytes of a name, the others are the names that are taken.
+/// Appends the name that `call` draws from `input`, the names that are taken afterwards, and the
+/// bytes left. The first argument is the greatest number of bytes of a name, the others are the
+/// names that are taken.
 pub(crate) fn answer_name(
     alloc: Global,
     case: &Case,

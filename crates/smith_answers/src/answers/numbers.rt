@@ -19,10 +19,10 @@ pub(crate) fn answer_number(
     }
 }
 
-// The fault where numbers aren't in order.
+// The fault of numbers that are not in order.
 const UNORDERED: Fault = Fault::NotCallable("the numbers aren't in order");
 
-// A number from the first argument to the third, mostly up to the second.
+// Appends a number from the first argument to the third, mostly up to the second.
 fn answer_grown(case: &Case, u: &mut Unstructured<'_>, answer: &mut String) -> Result<(), Fault> {
     at_most(case, 3)?;
     let (min, inbounds, max) = (number(case, 0)?, number(case, 1)?, number(case, 2)?);
@@ -33,7 +33,8 @@ fn answer_grown(case: &Case, u: &mut Unstructured<'_>, answer: &mut String) -> R
     Ok(())
 }
 
-// Limits from the first argument to the second, the minimum mostly up to the third; the fourth is whether a maximum is required.
+// Appends limits from the first argument to the second, the minimum mostly up to the third. The
+// fourth argument says whether a maximum is required.
 fn answer_limits(case: &Case, u: &mut Unstructured<'_>, answer: &mut String) -> Result<(), Fault> {
     at_most(case, 4)?;
     let (least, most, inbounds) = (number(case, 0)?, number(case, 1)?, number(case, 2)?);
@@ -47,7 +48,8 @@ fn answer_limits(case: &Case, u: &mut Unstructured<'_>, answer: &mut String) -> 
     Ok(())
 }
 
-// An offset of a segment, whose size is the third argument, in what is of the first argument at least and the second at most.
+// Appends the offset of a segment. The third argument is its size, the first and the second are the
+// minimum and the maximum of the table or memory.
 fn answer_offset(case: &Case, u: &mut Unstructured<'_>, answer: &mut String) -> Result<(), Fault> {
     at_most(case, 3)?;
     let (min, max) = (number(case, 0)?, number(case, 1)?);

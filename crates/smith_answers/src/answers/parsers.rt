@@ -6,7 +6,7 @@ use smith_config::MemoryOffsetChoices;
 use smith_types::{InstructionKind, InstructionKinds};
 use std::str::FromStr;
 
-/// Appends what `call` reads of the argument, or a set of kinds.
+/// Appends the result of parsing the argument with `call`, or a set of kinds.
 pub(crate) fn answer_parser(
     case: &Case,
     call: ParserCall,
@@ -35,7 +35,7 @@ fn answer_choices(case: &Case, answer: &mut String) -> Result<(), Fault> {
     Ok(())
 }
 
-// The kind of each argument.
+// Appends the kind of each argument.
 fn answer_each_kind(case: &Case, answer: &mut String) -> Result<(), Fault> {
     let _first = word(case, 0)?;
     for name in case.args() {
@@ -68,7 +68,7 @@ fn answer_without_floats(case: &Case, answer: &mut String) -> Result<(), Fault> 
     }
 }
 
-// Whether the kinds that the first argument names contain the kind that the second names.
+// Appends whether the kinds that the first argument names contain the kind that the second names.
 fn answer_contains(case: &Case, answer: &mut String) -> Result<(), Fault> {
     at_most(case, 2)?;
     let Ok(kinds) = InstructionKinds::from_str(word(case, 0)?) else {

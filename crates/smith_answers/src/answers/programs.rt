@@ -12,8 +12,9 @@ use smith_program_binary::encode;
 use smith_program_text::text;
 use std::alloc::Global;
 
-/// Appends the text of the program of `input`, or its binary where `call` encodes it, or the refusal; and what is left of `input`.
-/// The configuration `config` is used up. Each argument is fuel that is added to the program.
+/// Appends the text of the program drawn from `input`, or its binary if `call` encodes it, or the
+/// refusal; then the bytes of `input` left. The configuration `config` is used up. Each argument is
+/// fuel that is added to the program.
 pub(crate) fn answer_program(
     alloc: Global,
     case: &Case,
@@ -28,7 +29,7 @@ pub(crate) fn answer_program(
     tell_rest(&u, answer)
 }
 
-// Appends what `call` tells of the program that is made, or the refusal.
+// Appends the form of the program that `call` names, or the refusal.
 fn tell_made(
     alloc: Global,
     case: &Case,
@@ -42,7 +43,7 @@ fn tell_made(
     }
 }
 
-// Appends what `call` tells of `program`, after fuel is added for each argument.
+// Appends the form of `program` that `call` names, after fuel is added for each argument.
 fn tell_program(
     alloc: Global,
     case: &Case,
@@ -57,7 +58,7 @@ fn tell_program(
     }
 }
 
-// Adds fuel to `program` for each argument in turn, and tells each answer.
+// Adds fuel to `program` for each argument in turn, and appends each answer.
 fn terminate(
     alloc: Global,
     case: &Case,

@@ -8,7 +8,7 @@ use std::alloc::Global;
 use std::fmt::Display;
 use std::str::FromStr;
 
-/// Appends what `call` draws of `input`, and what it leaves.
+/// Appends the result of the draw `call` from `input`, and the bytes left.
 pub(crate) fn answer_source(
     alloc: Global,
     case: &Case,
@@ -39,7 +39,7 @@ fn tell<T: Arbitrary + Display + Drop>(
     Ok(())
 }
 
-// A value of the type that is the argument.
+// Appends a value of the type that the argument names.
 fn answer_value(case: &Case, u: &mut Unstructured<'_>, answer: &mut String) -> Result<(), Fault> {
     at_most(case, 1)?;
     match word(case, 0)? {
@@ -74,7 +74,7 @@ where
     Ok(())
 }
 
-// A number of the type that is the first argument.
+// Appends a number of the type that the first argument names.
 fn answer_in_range(
     case: &Case,
     u: &mut Unstructured<'_>,
@@ -92,7 +92,7 @@ fn answer_in_range(
     }
 }
 
-// Whether a chance of the first argument in the second comes.
+// Appends whether a chance of the first argument in the second occurs.
 fn answer_ratio(case: &Case, u: &mut Unstructured<'_>, answer: &mut String) -> Result<(), Fault> {
     at_most(case, 2)?;
     let (n, m): (u8, u8) = (number(case, 0)?, number(case, 1)?);
@@ -103,7 +103,7 @@ fn answer_ratio(case: &Case, u: &mut Unstructured<'_>, answer: &mut String) -> R
     Ok(())
 }
 
-// One of the arguments.
+// Appends one of the arguments.
 fn answer_choice(case: &Case, u: &mut Unstructured<'_>, answer: &mut String) -> Result<(), Fault> {
     match u.choose(case.args()) {
         Ok(chosen) => Ok(writeln!(answer, "{:?}", chosen.as_str())?),
@@ -111,7 +111,7 @@ fn answer_choice(case: &Case, u: &mut Unstructured<'_>, answer: &mut String) -> 
     }
 }
 
-// As many bytes as the argument says.
+// Takes as many bytes as the argument says, and appends them.
 fn answer_bytes(case: &Case, u: &mut Unstructured<'_>, answer: &mut String) -> Result<(), Fault> {
     at_most(case, 1)?;
     match u.bytes(number(case, 0)?) {
@@ -120,7 +120,7 @@ fn answer_bytes(case: &Case, u: &mut Unstructured<'_>, answer: &mut String) -> R
     }
 }
 
-// As many bytes as the argument says, which stay.
+// Appends as many bytes as the argument says, and leaves them in the source.
 fn answer_peeked(case: &Case, u: &Unstructured<'_>, answer: &mut String) -> Result<(), Fault> {
     at_most(case, 1)?;
     match u.peek_bytes(number(case, 0)?) {
@@ -129,7 +129,8 @@ fn answer_peeked(case: &Case, u: &Unstructured<'_>, answer: &mut String) -> Resu
     }
 }
 
-// What a call of a loop answers: false or a refusal where the argument at its place says so, else true.
+// Returns the result of a call of a loop: false or a refusal if the argument at `place` says so,
+// else true.
 fn turn_of(case: &Case, place: usize) -> Result<bool, Error> {
     match case.args().get(place).map(|word| word.as_str()) {
         Some("false") => Ok(false),
@@ -138,7 +139,8 @@ fn turn_of(case: &Case, place: usize) -> Result<bool, Error> {
     }
 }
 
-// A loop from the first argument to the second, whose calls answer as the other arguments say.
+// Runs a loop of at least the first argument and at most the second, whose calls return the results
+// that the other arguments name. Appends the number of calls.
 fn answer_loop(
     _alloc: Global,
     case: &Case,

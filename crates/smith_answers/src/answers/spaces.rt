@@ -9,7 +9,7 @@ use smith_draw::{Entities, Spaces};
 use smith_types::{GlobalType, Items, SubType, TypeSpace, ValType};
 use std::alloc::Global;
 
-/// What a call of a case draws over.
+/// Context of a draw of a case.
 #[derive(Clone, Copy)]
 pub(crate) struct Over<'a> {
     /// The allocator.
@@ -22,7 +22,7 @@ pub(crate) struct Over<'a> {
     pub(crate) types: &'a TypeSpace,
 }
 
-/// The types `types`, without entities.
+/// Returns the types `types`, without entities.
 pub(crate) fn spaces_of<'a>(types: &'a TypeSpace) -> Spaces<'a>
     ensures types { result.types.now ≡ types.now }
     ensures functions { result.entities.funcs.now ≡ [] }
@@ -35,7 +35,7 @@ pub(crate) fn spaces_of<'a>(types: &'a TypeSpace) -> Spaces<'a>
     }
 }
 
-/// A global of an i32 that isn't shared.
+/// Returns the type of an unshared global of an `i32`.
 pub(crate) const fn number_global(mutable: bool) -> GlobalType
     ensures value { result.val_type ≡ I32 }
     ensures shared { result.shared ≡ false }
@@ -47,7 +47,7 @@ pub(crate) const fn number_global(mutable: bool) -> GlobalType
     }
 }
 
-/// The types `types` and the globals `globals`, of which two are imported.
+/// Returns the types `types` and the globals `globals`, of which two are imported.
 pub(crate) fn with_globals<'a>(types: &'a TypeSpace, globals: &'a [GlobalType]) -> Spaces<'a>
     ensures types { result.types.now ≡ types.now }
     ensures functions { result.entities.funcs.now ≡ [] }
@@ -64,7 +64,7 @@ pub(crate) fn with_globals<'a>(types: &'a TypeSpace, globals: &'a [GlobalType]) 
     }
 }
 
-/// The types under the key `types` of `case`: those of a shape, none where the key isn't given.
+/// Returns the types under the key `types` of `case`: those of a shape, or none without the key.
 pub(crate) fn types_of(alloc: Global, case: &Case) -> Result<TypeSpace, Fault> {
     let Some(name) = &case.types else {
         return Ok(TypeSpace::new(alloc));
@@ -73,7 +73,7 @@ pub(crate) fn types_of(alloc: Global, case: &Case) -> Result<TypeSpace, Fault> {
     types_in(alloc, shape.groups.as_slice())
 }
 
-// The types of `groups`.
+// Returns the types of `groups`.
 fn types_in(alloc: Global, groups: &[Items<SubType>]) -> Result<TypeSpace, Fault> {
     let mut types = TypeSpace::new(alloc);
     for group in groups {

@@ -10,7 +10,7 @@ use crate::type_names::{heap_type_of, ref_type_of, val_type_of};
 use smith_types::{HeapType, TypeSpace, ValType};
 use std::alloc::Global;
 
-/// Appends `yes` where the first argument is below the second, else `no`.
+/// Appends `yes` if the first argument is a subtype of the second, else `no`.
 pub(crate) fn answer_subtype(
     alloc: Global,
     case: &Case,
@@ -28,7 +28,7 @@ pub(crate) fn answer_subtype(
     Ok(())
 }
 
-// Whether the type that `heap_type` names stands.
+// Whether the type that `heap_type` names exists.
 fn is_standing(types: &TypeSpace, heap_type: HeapType) -> bool
     ensures { IsTrue result ↔ IsInRange types.now.types heap_type }
 {
@@ -39,7 +39,7 @@ fn is_standing(types: &TypeSpace, heap_type: HeapType) -> bool
     }
 }
 
-// Whether the type that `value` refers to stands.
+// Whether the type that `value` refers to exists.
 fn is_value_standing(types: &TypeSpace, value: ValType) -> bool
     ensures { IsTrue result → IsValInRange types.now.types value }
 {
@@ -49,7 +49,7 @@ fn is_value_standing(types: &TypeSpace, value: ValType) -> bool
     }
 }
 
-// The fault where a type is named that doesn't stand.
+// The fault of a name of a type that does not exist.
 const MISSING: Fault = Fault::NotCallable("a type doesn't stand");
 
 fn is_heap_below(types: &TypeSpace, case: &Case) -> Result<bool, Fault> {

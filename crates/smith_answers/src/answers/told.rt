@@ -12,7 +12,7 @@ pub(crate) fn tell<T: TextForm>(value: &T, answer: &mut String) -> Result<(), Fa
     Ok(())
 }
 
-/// Appends a line of what is drawn, or the refusal.
+/// Appends a line of the drawn value, or the refusal.
 pub(crate) fn tell_drawn<T: TextForm + Drop>(
     drawn: Result<T, Error>,
     answer: &mut String,
@@ -31,7 +31,8 @@ pub(crate) fn tell_values<T: TextForm>(values: &[T], answer: &mut String) -> Res
     Ok(())
 }
 
-/// Appends a line `group START END` for each group of `types`, after which its types follow, a line each.
+/// Appends a line `group START END` for each group of `types`, followed by a line for each of its
+/// types.
 pub(crate) fn tell_types(types: &TypeSpace, answer: &mut String) -> Result<(), Fault> {
     for group in types.rec_groups() {
         writeln!(answer, "group {} {}", group.start, group.end)?;
@@ -43,13 +44,13 @@ pub(crate) fn tell_types(types: &TypeSpace, answer: &mut String) -> Result<(), F
     Ok(())
 }
 
-/// Appends the line that tells the refusal `refusal`.
+/// Appends the line of the refusal `refusal`.
 pub(crate) fn tell_refusal(refusal: Error, answer: &mut String) -> Result<(), Fault> {
     writeln!(answer, "refused: {refusal:?}")?;
     Ok(())
 }
 
-/// Appends how many bytes `u` has left, and the next of these.
+/// Appends the number of bytes that `u` has left, and the next of these.
 pub(crate) fn tell_rest(u: &Unstructured<'_>, answer: &mut String) -> Result<(), Fault> {
     let count = u.len();
     writeln!(answer, "left {count}")?;
@@ -59,10 +60,10 @@ pub(crate) fn tell_rest(u: &Unstructured<'_>, answer: &mut String) -> Result<(),
     Ok(())
 }
 
-// The most bytes that are told of what is left.
+// The greatest number of bytes left that are written.
 const MOST_BYTES: usize = 16;
 
-/// Appends a line of `word` and `bytes` in hexadecimal, where there are any.
+/// Appends a line of `word` and `bytes` in hexadecimal, if there are any.
 pub(crate) fn tell_bytes(word: &str, bytes: &[u8], answer: &mut String) -> Result<(), Fault> {
     if bytes.is_empty() {
         return Ok(());

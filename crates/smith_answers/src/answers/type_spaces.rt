@@ -19,7 +19,7 @@ use smith_types::{
 };
 use std::alloc::Global;
 
-/// Appends what the type space of `case` tells by `call`.
+/// Appends the result of `call` on the type space of `case`.
 pub(crate) fn answer_space(
     alloc: Global,
     case: &Case,
@@ -47,10 +47,10 @@ fn answer_over(
     }
 }
 
-// The fault where a type is named that doesn't stand.
+// The fault of a name of a type that does not exist.
 const MISSING: Fault = Fault::NotCallable("a type doesn't stand");
 
-// The depth of the type of the index that is the argument.
+// Appends the depth of the type at the index of the argument.
 fn answer_depth(types: &TypeSpace, case: &Case, answer: &mut String) -> Result<(), Fault> {
     at_most(case, 1)?;
     let index: u32 = number(case, 0)?;
@@ -61,7 +61,7 @@ fn answer_depth(types: &TypeSpace, case: &Case, answer: &mut String) -> Result<(
     Ok(())
 }
 
-// The size of the entity that is the argument, which is written as in shapes.
+// Appends the size of the entity of the argument, which is written as in shapes.
 fn answer_size(types: &TypeSpace, case: &Case, answer: &mut String) -> Result<(), Fault> {
     at_most(case, 1)?;
     let entity = read(case, 0, entity_of)?;
@@ -72,10 +72,10 @@ fn answer_size(types: &TypeSpace, case: &Case, answer: &mut String) -> Result<()
     Ok(())
 }
 
-// The most parameters, and the most results, of a function whose size is told.
+// The greatest number of parameters, and of results, of a function whose size is written.
 const MOST_VALUES: usize = 1000;
 
-// Whether the type of `entity` stands and is of few values.
+// Whether the type of `entity` exists and has few values.
 fn is_small(types: &TypeSpace, entity: &EntityType) -> bool
     ensures typed { IsTrue result → IsTyped types.now.types entity.now }
     ensures fits { IsTrue result → size_in types.now.types entity.now < 2 ^ 32 }
@@ -94,7 +94,7 @@ fn is_small(types: &TypeSpace, entity: &EntityType) -> bool
     }
 }
 
-// Whether the type of the index that is the first argument matches that of the second.
+// Appends whether the type at the index of the first argument matches that of the second.
 fn answer_match(types: &TypeSpace, case: &Case, answer: &mut String) -> Result<(), Fault> {
     at_most(case, 2)?;
     let (a, b) = (composite_at(types, case, 0)?, composite_at(types, case, 1)?);
@@ -107,7 +107,8 @@ fn answer_match(types: &TypeSpace, case: &Case, answer: &mut String) -> Result<(
     Ok(())
 }
 
-// The composite type of the index that is the argument at `place`, which refers to types that stand.
+// Returns the composite type at the index of the argument at `place`. It refers only to types that
+// exist.
 #[tactic(auto, using(smith_types::proofs::ReferredTypeLemmas::inner_in_range))]
 fn composite_at<'a>(
     types: &'a TypeSpace,
@@ -126,7 +127,7 @@ fn composite_at<'a>(
     Ok(&ty.composite_type)
 }
 
-// The index of each type of the case as it is added, and then the types in their groups.
+// Appends the index of each type of the case as it is added, and then the types in their groups.
 fn answer_pushed(
     alloc: Global,
     case: &Case,
@@ -182,7 +183,7 @@ fn push_group(
     Ok(types.push_group()?)
 }
 
-// The types of the case that are right for the use that the argument names.
+// Appends the types of the case that are suitable for the use that the argument names.
 fn answer_listed(
     alloc: Global,
     types: &TypeSpace,

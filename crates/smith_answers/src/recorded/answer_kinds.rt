@@ -3,7 +3,7 @@ use std::alloc::Global;
 use std::collections::BTreeMap;
 use std::fmt;
 
-/// The number of answers of each kind, in the order of their texts.
+/// Numbers of answers of each kind, in the order of their texts.
 #[derive(Drop)]
 pub(crate) struct AnswerKinds {
     counts: BTreeMap<String, u32>,
@@ -25,7 +25,7 @@ impl AnswerKinds {
     }
 }
 
-/// Writes each kind after its number, with a comma after it.
+/// Writes the number and the text of each kind, each pair followed by a comma.
 impl fmt::Display for AnswerKinds {
     fn fmt<W: fmt::Write>(&self, f: &mut fmt::Formatter<W>) -> fmt::Result {
         for (kind, count) in &self.counts {

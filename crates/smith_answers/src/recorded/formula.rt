@@ -1,16 +1,17 @@
 use std::alloc::{AllocError, Global};
 
-/// A formula by which inputs are numbered.
+/// A formula that numbers inputs.
 #[derive(Clone, Copy)]
 pub(crate) enum Formula {
     /// Input k has k bytes, and byte i of it is `31 * i + 17 * k`, modulo 256.
     Plain,
-    /// Input k has `64 + 4 * k` bytes: numbers of a linear congruence whose state is k + 1 at first, whole where 4 divides k, else
-    /// modulo 2, 4 and 8 where k is 1, 2 and 3 modulo 4. Small numbers make large modules, since they seldom end a list.
+    /// Input k has `64 + 4 * k` bytes. They are numbers of a linear congruential generator with the
+    /// initial state k + 1: whole if 4 divides k, else modulo 2, 4 or 8 if k is 1, 2 or 3 modulo 4.
+    /// Small numbers make large modules, since they seldom end a list.
     Rich,
 }
 
-/// The formula of the name `name`, where there is one.
+/// Finds the formula of the name `name`, if there is one.
 pub(crate) fn formula_named(name: &str) -> Option<Formula> {
     match name {
         "plain" => Some(Formula::Plain),
@@ -47,12 +48,12 @@ fn rich_input(alloc: Global, number: u32) -> Result<Vec<u8>, AllocError> {
     Ok(input)
 }
 
-// The state after `state`, below 2^31. That multiples of 2^32 are lost on the way changes nothing.
+// Returns the state after `state`, below 2^31. The loss of multiples of 2^32 does not change it.
 fn next_state(state: u32) -> u32 {
     state.wrapping_mul(1_103_515_245).wrapping_add(12_345) & 0x7fff_ffff
 }
 
-// The bits that bytes of the input have.
+// Returns the mask of the bits that bytes of the input have.
 fn mask_of(number: u32) -> u8 {
     match number % 4 {
         0 => 255,

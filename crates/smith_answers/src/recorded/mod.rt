@@ -1,4 +1,5 @@
-//! Recorded answers: checksums of what generated inputs give, by which two ways to make the same modules are compared.
+//! Recorded answers: checksums of the results for generated inputs, to compare two ways to make the
+//! same modules.
 
 mod answer_kinds;
 mod formula;
@@ -16,12 +17,12 @@ use std::alloc::Global;
 use std::ops::Range;
 use wasm_smith::Module;
 
-// The number of inputs that a line tells.
+// The number of inputs of a line.
 const INPUTS_A_LINE: u32 = 64;
 
-/// Appends what generated inputs give under `config`. The arguments of `case` are the formula of the inputs, the first of their numbers
-/// and how many they are. For each 64 inputs there is a line: the first and the last number, how many answers there are of each kind,
-/// and the checksum of the answers.
+/// Appends the results for generated inputs under `config`. The arguments of `case` are the formula
+/// of the inputs, the first of their numbers and their count. Each 64 inputs have a line: the first
+/// and the last number, the number of answers of each kind, and the checksum of the answers.
 pub(crate) fn answer_recorded(
     alloc: Global,
     case: &Case,
@@ -61,13 +62,14 @@ fn append_line(
     Ok(())
 }
 
-// The module that `u` draws for a copy of `config`.
+// Draws a module from `u` for a copy of `config`.
 fn drawn(alloc: Global, config: &Config, u: &mut Unstructured<'_>) -> Result<Module, Error> {
     Module::new(alloc, config.clone(alloc)?, u)
 }
 
-// Feeds `hasher` with the answer to `input` and with what is left of it: the text of the module, or a line of the refusal; then a
-// line that says how many bytes are left, and these bytes. Gives the kind of the answer.
+// Feeds `hasher` with the answer to `input` and with the bytes left: the text of the module, or a
+// line of the refusal; then a line with the number of bytes left, and these bytes. Returns the kind
+// of the answer.
 fn feed(
     alloc: Global,
     config: &Config,
