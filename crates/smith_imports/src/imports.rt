@@ -46,7 +46,7 @@ fn note_import(types: &TypeSpace, grounds: &mut KeptGrounds, added: EntityType)
     grounds.note(types, index, false);
 }
 
-/// Draws the entity that the compact group `group` imports next. Returns none if it does not fit
+/// Draws the entity that the compact group `group` imports next. Returns none if no entity fits
 /// after `imported`.
 fn draw_next_entity(
     config: &Config,
@@ -267,8 +267,8 @@ fn add_group(
     }
 }
 
-/// Adds groups of imports to `imported`, until there is no room, a drawn bool ends them, or the
-/// next import does not fit.
+/// Adds groups of imports to `imported`, until there is no room, a drawn bool ends them, or no
+/// further import fits.
 fn add_groups(
     alloc: Global,
     config: &Config,

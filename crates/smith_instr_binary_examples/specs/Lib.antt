@@ -1,1 +1,2 @@
 pub mod ExampleInstructions
+pub mod ExampleSegments
