@@ -114,7 +114,8 @@ fn draw_offset(wide: bool, u: &mut Unstructured<'_>) -> u64
     offset as u64
 }
 
-/// Returns the type of the addresses of a memory or a table: of 64 bits if `wide` is set, else of 32 bits.
+/// Returns the type of the addresses of a memory or a table: of 64 bits if `wide` is set, else of
+/// 32 bits.
 pub(crate) fn address(wide: bool) -> ValType
     ensures { result ≡ address wide }
 {
