@@ -15,3 +15,5 @@ pub mod LeafChoiceLemmas
 pub mod PlainNodeLemmas
 pub mod VectorNodeLemmas
 pub mod VectorChoiceLemmas
+pub mod AtomicNodeLemmas
+pub mod AtomicChoiceLemmas

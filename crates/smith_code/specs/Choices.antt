@@ -19,6 +19,7 @@ use Rattle.smith_instr.specs.declared.memory.Store.TheVariants as store
 use Rattle.smith_instr.specs.declared.memory.MemoryInstr.TheVariants as memory
 use Rattle.smith_instr.specs.declared.numeric.NumericInstr.{NumericInstr}
 use Rattle.smith_code.specs.Accesses.{access_at}
+use Rattle.smith_code.specs.AtomicChoices.{atomic_at, atomic_store_at}
 use Rattle.smith_code.specs.Nodes.{blocked, is_node_allowed, node_of, setting}
 use Rattle.smith_code.specs.Offered.{func_in, function_at, is_addressed, is_callable, is_local_below, is_mutable, is_target, offered}
 use Rattle.smith_code.specs.Rows.{loads_of, numeric_rows, stores}
@@ -164,6 +165,7 @@ value_families =
     value.Vector ∷
     value.Vector ∷
     value.Vector ∷
+    value.Atomic ∷
     []
 
 -- a value of a family: none of a leaf
@@ -178,6 +180,7 @@ value_of context wanted value.Leaving bytes = leaving_at context bytes
 value_of context wanted value.Load bytes = load_at context wanted bytes
 value_of context wanted value.Memory bytes = memory_at context wanted bytes
 value_of context wanted value.Vector bytes = vector_at context wanted bytes
+value_of context wanted value.Atomic bytes = atomic_at context wanted bytes
 
 unfoldable pub value_choice_at : BodyContext → ValType → List ℕ → Chosen
 value_choice_at context wanted bytes = let family = chosen_at value.Leaf value_families bytes in value_of context wanted family.0 family.1
@@ -292,6 +295,8 @@ statement_families =
     statement.LocalSet ∷
     statement.VectorStore ∷
     statement.StoreLane ∷
+    statement.AtomicStore ∷
+    statement.Fence ∷
     []
 
 -- a statement of a family: none of `nop`
@@ -309,6 +314,8 @@ statement_of context statement.Unreachable bytes = (Some (node_of [] instr.Unrea
 statement_of context statement.LocalSet bytes = set_at context bytes
 statement_of context statement.VectorStore bytes = vector_store_at context bytes
 statement_of context statement.StoreLane bytes = store_lane_at context bytes
+statement_of context statement.AtomicStore bytes = atomic_store_at context bytes
+statement_of context statement.Fence bytes = (Some (node_of [] instr.AtomicFence 0), bytes)
 
 -- the node that was chosen, or `nop`
 abbrev pub or_nop : Chosen → Node × List ℕ

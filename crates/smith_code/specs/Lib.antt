@@ -6,6 +6,8 @@ pub mod Rows
 pub mod Accesses
 pub mod VectorRows
 pub mod VectorChoices
+pub mod AtomicRows
+pub mod AtomicChoices
 pub mod Choices
 pub mod Leaves
 pub mod Bodies

@@ -18,6 +18,7 @@ ghost use Rattle.smith_code.specs.Choices.{
 ghost use Rattle.smith_code.specs.Nodes.{IsNode, IsNodeAllowed, IsOffer};
 ghost use Rattle.smith_code.specs.Scopes.{AreLabels, IsScope, bare, where_stands};
 
+use crate::atomics::{choose_atomic, choose_atomic_store};
 use crate::blocks::{choose_any_block, choose_block};
 use crate::branches::{choose_branch, choose_leaving, choose_table};
 use crate::families::{StatementFamily, ValueFamily, statement_families, value_families};
@@ -91,6 +92,7 @@ fn choose_value(
         ValueFamily::Load => choose_load(alloc, scope, wanted, draft, u),
         ValueFamily::Memory => choose_memory(alloc, scope, wanted, draft, u),
         ValueFamily::Vector => choose_vector(alloc, scope, wanted, draft, u),
+        ValueFamily::Atomic => choose_atomic(alloc, scope, wanted, draft, u),
     }
 }
 
@@ -188,6 +190,8 @@ pub(crate) fn choose_statement(
         StatementFamily::LocalSet => choose_set(alloc, scope, draft, u),
         StatementFamily::VectorStore => choose_vector_store(alloc, scope, draft, u),
         StatementFamily::StoreLane => choose_store_lane(alloc, scope, draft, u),
+        StatementFamily::AtomicStore => choose_atomic_store(alloc, scope, draft, u),
+        StatementFamily::Fence => plain(alloc, &[], Instr::AtomicFence, 0),
     }
 }
 

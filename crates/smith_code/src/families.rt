@@ -20,6 +20,7 @@ pub(crate) enum ValueFamily {
     Memory,
     /// A vector, or what a vector instruction gives.
     Vector,
+    Atomic,
 }
 
 /// What may be a statement.
@@ -42,6 +43,9 @@ pub(crate) enum StatementFamily {
     VectorStore,
     /// A store of a lane of a vector.
     StoreLane,
+    AtomicStore,
+    /// `atomic.fence`.
+    Fence,
 }
 
 /// What may give a vector.
@@ -87,6 +91,7 @@ pub(crate) fn value_families<'a>() -> &'a [ValueFamily]
         ValueFamily::Vector,
         ValueFamily::Vector,
         ValueFamily::Vector,
+        ValueFamily::Atomic,
     ]
 }
 
@@ -113,6 +118,8 @@ pub(crate) fn statement_families<'a>() -> &'a [StatementFamily]
         StatementFamily::LocalSet,
         StatementFamily::VectorStore,
         StatementFamily::StoreLane,
+        StatementFamily::AtomicStore,
+        StatementFamily::Fence,
     ]
 }
 
