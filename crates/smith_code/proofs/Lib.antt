@@ -22,3 +22,5 @@ pub mod NullLemmas
 pub mod PlainNodeLemmas
 pub mod VectorNodeLemmas
 pub mod VectorChoiceLemmas
+pub mod AtomicNodeLemmas
+pub mod AtomicChoiceLemmas

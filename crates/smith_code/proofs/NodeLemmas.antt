@@ -56,7 +56,7 @@ pub more_valid : (context : BodyContext) (value : ValType) (values : List ValTyp
 more_valid context value values valid more = All-append (IsValid context) (value ∷ []) values (one_valid context value valid) more
 
 -- a type of numbers
-is_number : ValType → Bool
+pub is_number : ValType → Bool
 is_number I32 = true
 is_number I64 = true
 is_number F32 = true
@@ -86,7 +86,7 @@ signature_few op = search rules
 results_few : (op : NumericInstr) → length (signature op).results ≤ 2
 results_few op = search rules
 
-numbers_valid : (context : BodyContext) (values : List ValType) → list_all is_number values ≡ true → AreValid context values
+pub numbers_valid : (context : BodyContext) (values : List ValType) → list_all is_number values ≡ true → AreValid context values
 numbers_valid context values numbers = λ k d inside. number_valid context (get_or values k d) (AllPass-from_list_all is_number values numbers k d inside)
 
 -- the first of these types is this number

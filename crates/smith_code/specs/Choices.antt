@@ -23,6 +23,7 @@ use Rattle.smith_code.specs.BulkChoices.{bulk_at}
 use Rattle.smith_code.specs.CallChoices.{by_reference_at, indirect_at, tail_call_at}
 use Rattle.smith_code.specs.Chosen.{Chosen, giving}
 use Rattle.smith_code.specs.Accesses.{access_at}
+use Rattle.smith_code.specs.AtomicChoices.{atomic_at, atomic_store_at}
 use Rattle.smith_code.specs.Nodes.{blocked, is_node_allowed, node_of, setting}
 use Rattle.smith_code.specs.NullChoices.{br_on_null_value_at, null_branch_at}
 use Rattle.smith_code.specs.Offered.{func_in, function_at, is_addressed, is_callable, is_local_below, is_mutable, is_target, label_count, offered}
@@ -168,6 +169,7 @@ value_families =
     value.Vector ∷
     value.Vector ∷
     value.Vector ∷
+    value.Atomic ∷
     []
 
 -- a value of a family: none of a leaf
@@ -189,6 +191,7 @@ value_of context wanted value.CallRef bytes = by_reference_at context (outcome.W
 value_of context wanted value.TailCall bytes = tail_call_at context bytes
 value_of context wanted value.NullBranch bytes = br_on_null_value_at context wanted bytes
 value_of context wanted value.Vector bytes = vector_at context wanted bytes
+value_of context wanted value.Atomic bytes = atomic_at context wanted bytes
 
 unfoldable pub value_choice_at : BodyContext → ValType → List ℕ → Chosen
 value_choice_at context wanted bytes = let family = chosen_at value.Leaf value_families bytes in value_of context wanted family.0 family.1
@@ -310,6 +313,8 @@ statement_families =
     statement.NullBranch ∷
     statement.VectorStore ∷
     statement.StoreLane ∷
+    statement.AtomicStore ∷
+    statement.Fence ∷
     []
 
 -- a statement of a family: none of `nop`
@@ -333,6 +338,8 @@ statement_of context statement.TailCall bytes = tail_call_at context bytes
 statement_of context statement.NullBranch bytes = null_branch_at context bytes
 statement_of context statement.VectorStore bytes = vector_store_at context bytes
 statement_of context statement.StoreLane bytes = store_lane_at context bytes
+statement_of context statement.AtomicStore bytes = atomic_store_at context bytes
+statement_of context statement.Fence bytes = (Some (node_of [] instr.AtomicFence 0), bytes)
 
 -- the node that was chosen, or `nop`
 abbrev pub or_nop : Chosen → Node × List ℕ

@@ -13,6 +13,8 @@ pub mod NullChoices
 pub mod Accesses
 pub mod VectorRows
 pub mod VectorChoices
+pub mod AtomicRows
+pub mod AtomicChoices
 pub mod Choices
 pub mod Leaves
 pub mod Bodies

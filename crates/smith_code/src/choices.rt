@@ -18,6 +18,7 @@ ghost use Rattle.smith_code.specs.Choices.{
 ghost use Rattle.smith_code.specs.Nodes.{IsNode, IsNodeAllowed, IsOffer};
 ghost use Rattle.smith_code.specs.Scopes.{AreLabels, IsScope, bare, where_stands};
 
+use crate::atomics::{choose_atomic, choose_atomic_store};
 use crate::blocks::{choose_any_block, choose_block};
 use crate::branches::{choose_branch, choose_leaving, choose_table};
 use crate::bulk::choose_bulk;
@@ -112,6 +113,7 @@ fn choose_value(
         ValueFamily::TailCall => choose_tail_call(alloc, scope, draft, u),
         ValueFamily::NullBranch => choose_kept(alloc, scope, wanted, draft, u),
         ValueFamily::Vector => choose_vector(alloc, scope, wanted, draft, u),
+        ValueFamily::Atomic => choose_atomic(alloc, scope, wanted, draft, u),
     }
 }
 
@@ -215,6 +217,8 @@ pub(crate) fn choose_statement(
         StatementFamily::NullBranch => choose_null_branch(alloc, scope, draft, u),
         StatementFamily::VectorStore => choose_vector_store(alloc, scope, draft, u),
         StatementFamily::StoreLane => choose_store_lane(alloc, scope, draft, u),
+        StatementFamily::AtomicStore => choose_atomic_store(alloc, scope, draft, u),
+        StatementFamily::Fence => plain(alloc, &[], Instr::AtomicFence, 0),
     }
 }
 

@@ -31,6 +31,7 @@ pub(crate) enum ValueFamily {
     NullBranch,
     /// A vector, or the result of a vector instruction.
     Vector,
+    Atomic,
 }
 
 /// Families of instructions that may be a statement.
@@ -62,6 +63,9 @@ pub(crate) enum StatementFamily {
     VectorStore,
     /// A store of a lane of a vector.
     StoreLane,
+    AtomicStore,
+    /// `atomic.fence`.
+    Fence,
 }
 
 /// Families of instructions that may produce a vector.
@@ -114,6 +118,7 @@ pub(crate) fn value_families<'a>() -> &'a [ValueFamily]
         ValueFamily::Vector,
         ValueFamily::Vector,
         ValueFamily::Vector,
+        ValueFamily::Atomic,
     ]
 }
 
@@ -146,6 +151,8 @@ pub(crate) fn statement_families<'a>() -> &'a [StatementFamily]
         StatementFamily::NullBranch,
         StatementFamily::VectorStore,
         StatementFamily::StoreLane,
+        StatementFamily::AtomicStore,
+        StatementFamily::Fence,
     ]
 }
 

@@ -1,6 +1,7 @@
 //! Bodies of functions, drawn from bytes. The standard is the WebAssembly Core Specification 3.0.
 #![tactic(auto)]
 
+mod atomics;
 mod blocks;
 mod body;
 mod branches;

@@ -1,6 +1,7 @@
 use Rattle.smith_code.specs.Scopes.{where_stands}
 use Rattle.smith_code.specs.declared.families.StatementFamily.TheVariants as statement
 use Rattle.smith_code.proofs.ResultLemmas.{ok_like}
+use Rattle.smith_code.proofs.AtomicNodeLemmas.{fence_node}
 use Rattle.smith_code.proofs.NodeLemmas.{nop_node, stop_node}
 use Rattle.smith_code.proofs.ChoiceLemmas.{ok_by, ok_node, statement_by}
 use Rattle.smith_code.proofs.choices.choose_statement.Goals as goal
@@ -67,3 +68,12 @@ returns-in-VectorStore-clause-exact c = ok_by c.choose_vector_store.result _ _ _
 
 pub returns-in-StoreLane-clause-exact : goal.returns-in-StoreLane-clause-exact
 returns-in-StoreLane-clause-exact c = ok_by c.choose_store_lane.result _ _ _ (statement_by (where_stands c.args.scope.now c.args.draft.now) c.args.u.now _ c.statement_families.result.now c.choose.result statement.StoreLane c.statement_families.ensures (c.choose.ensures.exact statement.Nop) c.in-StoreLane.is) c.choose_store_lane.ensures.exact
+
+pub returns-in-AtomicStore-clause-exact : goal.returns-in-AtomicStore-clause-exact
+returns-in-AtomicStore-clause-exact c = ok_by c.choose_atomic_store.result _ _ _ (statement_by (where_stands c.args.scope.now c.args.draft.now) c.args.u.now _ c.statement_families.result.now c.choose.result statement.AtomicStore c.statement_families.ensures (c.choose.ensures.exact statement.Nop) c.in-AtomicStore.is) c.choose_atomic_store.ensures.exact
+
+pub returns-in-Fence-clause-node : goal.returns-in-Fence-clause-node
+returns-in-Fence-clause-node c = ok_like _ c.plain-in-Fence.result (fence_node (where_stands c.args.scope.now c.args.draft.now) c.args.draft.now.set.items) c.plain-in-Fence.ensures.exact
+
+pub returns-in-Fence-clause-exact : goal.returns-in-Fence-clause-exact
+returns-in-Fence-clause-exact c = ok_like _ c.plain-in-Fence.result (statement_by (where_stands c.args.scope.now c.args.draft.now) c.args.u.now _ c.statement_families.result.now c.choose.result statement.Fence c.statement_families.ensures (c.choose.ensures.exact statement.Nop) c.in-Fence.is) c.plain-in-Fence.ensures.exact

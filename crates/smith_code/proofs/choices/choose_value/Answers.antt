@@ -54,3 +54,6 @@ returns-in-NullBranch-clause-exact c = ok_by c.choose_kept.result _ _ _ (value_b
 
 pub returns-in-Vector-clause-exact : goal.returns-in-Vector-clause-exact
 returns-in-Vector-clause-exact c = ok_by c.choose_vector.result _ _ _ (value_by (where_stands c.args.scope.now c.args.draft.now) c.args.wanted c.args.u.now _ c.value_families.result.now c.choose.result value.Vector c.value_families.ensures (c.choose.ensures.exact value.Leaf) c.in-Vector.is) c.choose_vector.ensures.exact
+
+pub returns-in-Atomic-clause-exact : goal.returns-in-Atomic-clause-exact
+returns-in-Atomic-clause-exact c = ok_by c.choose_atomic.result _ _ _ (value_by (where_stands c.args.scope.now c.args.draft.now) c.args.wanted c.args.u.now _ c.value_families.result.now c.choose.result value.Atomic c.value_families.ensures (c.choose.ensures.exact value.Leaf) c.in-Atomic.is) c.choose_atomic.ensures.exact
