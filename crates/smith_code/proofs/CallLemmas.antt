@@ -1,35 +1,30 @@
 -- Calls through tables and references, and tail calls.
-use Rattle.std.proofs.Common.{◌≡◌, inl, inr, ℕ, ◌+◌, ◌*◌, ◌-◌, ◌<◌, ◌≤◌, ◌⊎◌, Bool, true, false, List, [], ◌∷◌, ◌++◌, Option, Some, None, length, length-append, get_or, drop, refl, sym, subst, ap, ◌∙◌, arith}
-use Rattle.std.specs.Prelude.{slice_get, All, IsTrue, option_map, ◌&&◌, ◌||◌, if◌then◌else◌}
-use Rattle.std.specs.List.{AllZip}
+use Rattle.std.proofs.Common.{◌≡◌, inl, inr, ℕ, ◌+◌, ◌-◌, ◌<◌, ◌≤◌, Bool, true, false, List, [], ◌∷◌, ◌++◌, Option, Some, None, length, length-append, get_or, drop, refl, sym, subst, ap, ◌∙◌, arith}
+use Rattle.std.specs.Prelude.{slice_get, IsTrue, option_map, ◌&&◌}
 use Rattle.std.proofs.lemmas.List.{append-nil}
 use Rattle.std.proofs.lemmas.List.Elements.{All-push, All-drop}
 use Rattle.std.proofs.lemmas.Option.{same_Some, slice_get-get_or, slice_get_within}
 use Rattle.smith_bytes.specs.Draws.{choose_at, range_at}
 use Rattle.smith_types.specs.Entities.{IsFuncAt}
-use Rattle.smith_types.specs.Subtyping.{IsRefBelow, IsValBelow, IsInRange, IsValInRange}
+use Rattle.smith_types.specs.Subtyping.{IsRefBelow}
 use Rattle.smith_types.specs.Types.{IsOrderly}
-use Rattle.smith_types.specs.ValidTypes.{IsHeapTypeValid}
 use Rattle.smith_types.specs.declared.value_type.AbstractHeapType.TheVariants as abstract
-use Rattle.smith_types.specs.declared.value_type.HeapType.{HeapType}
-use Rattle.smith_types.specs.declared.value_type.HeapType.TheVariants.{Abstract, Concrete, Exact}
+use Rattle.smith_types.specs.declared.value_type.HeapType.TheVariants.{Abstract, Concrete}
 use Rattle.smith_types.specs.declared.value_type.RefType.{RefType}
 use Rattle.smith_types.specs.declared.value_type.ValType.{ValType}
 use Rattle.smith_types.specs.declared.value_type.ValType.TheVariants.{Ref}
 use Rattle.smith_types.specs.declared.composite_type.FuncType.{FuncType}
-use Rattle.smith_types.specs.declared.composite_type.SubType.{SubType}
 use Rattle.smith_types.specs.declared.entity_type.TableType.{TableType}
-use Rattle.smith_instr.specs.Contexts.{BodyContext, IsValid, AreValid, AreBelow, IsFunction, IsRefValid, address, nullable_to}
+use Rattle.smith_instr.specs.Contexts.{BodyContext, IsValid, AreValid, address, nullable_to}
 use Rattle.smith_instr.specs.InstrTypes.{HasInstrType, IsFunctionTable, sets}
 use Rattle.smith_instr.specs.declared.instr.Instr.{Instr}
 use Rattle.smith_instr.specs.declared.instr.Instr.TheVariants as instr
 use Rattle.smith_instr.proofs.SequenceLemmas.{below_themselves}
 use Rattle.smith_code.specs.CallChoices.{IsLeft, IsOutcome, by_reference_at, by_reference_instr, by_reference_node, dropped_of, fit_type_at, holds_functions, indirect_at, indirect_by, indirect_instr, indirect_node, is_below_func, is_fit, is_fit_in, is_fit_type, is_function_table, is_function_table_at, is_returnable, return_call_at, return_call_node, tail_call_at}
-use Rattle.smith_code.specs.Chosen.{Chosen, giving}
+use Rattle.smith_code.specs.Chosen.{giving}
 use Rattle.smith_code.specs.Nodes.{IsNode, node_of}
 use Rattle.smith_code.specs.Offered.{func_in, function_at, offered}
 use Rattle.smith_code.specs.Scopes.{indexed, widest}
-use Rattle.smith_code.specs.declared.node.Node.{Node}
 use Rattle.smith_code.specs.declared.outcomes.Outcome.{Outcome}
 use Rattle.smith_code.specs.declared.outcomes.Outcome.TheVariants as outcome
 use Rattle.smith_code.proofs.NodeLemmas.{address_valid, first_below, func_wide, no_valid, one_valid, zip_length}

@@ -1,6 +1,6 @@
 -- Branches on null.
-use Rattle.std.proofs.Common.{◌≡◌, ℕ, suc, ◌+◌, ◌*◌, ◌-◌, ◌<◌, ◌≤◌, Bool, true, false, List, [], ◌∷◌, ◌++◌, Option, Some, None, length, length-append, get_or, take, drop, drop-cons, refl, sym, subst, ap, ◌∙◌, arith}
-use Rattle.std.specs.Prelude.{slice_get, IsTrue, option_map, is_some, if◌then◌else◌}
+use Rattle.std.proofs.Common.{◌≡◌, ℕ, suc, ◌+◌, ◌-◌, ◌<◌, ◌≤◌, Bool, true, false, List, [], ◌∷◌, ◌++◌, Option, Some, None, length, length-append, get_or, take, drop, drop-cons, refl, sym, subst, ap, ◌∙◌, arith}
+use Rattle.std.specs.Prelude.{slice_get, IsTrue, option_map, if◌then◌else◌}
 use Rattle.std.specs.List.{AllZip}
 use Rattle.std.proofs.Math.ListN.{drop_of_length-le}
 use Rattle.std.proofs.lemmas.Bool.{leb-true}
@@ -24,8 +24,7 @@ use Rattle.smith_code.specs.Nodes.{IsNode, node_of}
 use Rattle.smith_code.specs.NullChoices.{br_on_non_null_at, br_on_non_null_by, br_on_non_null_node, br_on_null_at, br_on_null_by, br_on_null_node, br_on_null_value_at, is_of_reference, is_short, is_short_at, kept_node, last_reference, null_branch_at, reference_in, short_label_at}
 use Rattle.smith_code.specs.Offered.{label_count, offered}
 use Rattle.smith_code.specs.ReferenceChoices.{referent_at}
-use Rattle.smith_code.specs.Scopes.{AreLabels, bare, context_of, widest}
-use Rattle.smith_code.specs.declared.node.Node.{Node}
+use Rattle.smith_code.specs.Scopes.{AreLabels, bare, context_of}
 use Rattle.smith_code.specs.declared.scope.Scope.{Scope}
 use Rattle.smith_code.proofs.NodeLemmas.{label_at, no_valid, one_valid, three_wide}
 use Rattle.smith_code.proofs.ReferenceChoiceLemmas.{gives_one, nullable_valid}

@@ -1,5 +1,5 @@
 -- What is chosen on references.
-use Rattle.std.proofs.Common.{◌≡◌, ℕ, zero, suc, ◌+◌, ◌-◌, ◌<◌, ◌≤◌, true, false, List, [], ◌∷◌, ◌++◌, Option, Some, None, length, get_or, refl, ap, ◌∙◌, arith}
+use Rattle.std.proofs.Common.{◌≡◌, ℕ, zero, suc, ◌+◌, ◌-◌, ◌<◌, ◌≤◌, true, false, List, [], ◌∷◌, ◌++◌, Some, None, length, get_or, refl, ap, ◌∙◌, arith}
 use Rattle.std.specs.Prelude.{slice_index_or, IsTrue}
 use Rattle.smith_bytes.specs.Draws.{bool_at, range_at}
 use Rattle.smith_types.specs.Expressions.{reference_to}
@@ -18,9 +18,8 @@ use Rattle.smith_instr.specs.InstrTypes.{HasInstrType, sets}
 use Rattle.smith_instr.specs.declared.instr.Instr.{Instr}
 use Rattle.smith_instr.specs.declared.instr.Instr.TheVariants as instr
 use Rattle.smith_instr.specs.declared.reference.ReferenceInstr.TheVariants as reference
-use Rattle.smith_code.specs.Chosen.{Chosen}
 use Rattle.smith_code.specs.Nodes.{IsNode, node_of}
-use Rattle.smith_code.specs.ReferenceChoices.{eq_node, eqref, externref, funcref, is_null_node, non_null_node, reference_value_at, referent, referent_at, select_typed_node, test_at}
+use Rattle.smith_code.specs.ReferenceChoices.{eq_node, eqref, externref, funcref, is_null_node, referent, referent_at, select_typed_node, test_at}
 use Rattle.smith_code.proofs.NodeLemmas.{more_valid, no_valid, one_valid, three_wide}
 use Rattle.smith_code.proofs.RowLemmas.{same_item}
 

@@ -1,6 +1,6 @@
 -- The node on references that the bytes choose. The choices, their order and their weights are
 -- rules of this project.
-use Rattle.std.specs.Prelude.{ℕ, Bool, true, false, Option, Some, None, List, [], ◌∷◌, if◌then◌else◌}
+use Rattle.std.specs.Prelude.{ℕ, false, Option, Some, None, List, [], ◌∷◌, if◌then◌else◌}
 use Rattle.smith_bytes.specs.Draws.{bool_at}
 use Rattle.smith_types.specs.Features.{Features}
 use Rattle.smith_types.specs.declared.value_type.AbstractHeapType.TheVariants as abstract

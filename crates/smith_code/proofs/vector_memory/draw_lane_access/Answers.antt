@@ -1,4 +1,3 @@
-use Rattle.std.proofs.Common.{arith}
 use Rattle.smith_code.proofs.VectorChoiceLemmas.{lane_access_none, lane_access_there}
 use Rattle.smith_code.proofs.vector_memory.draw_lane_access.Goals as goal
 

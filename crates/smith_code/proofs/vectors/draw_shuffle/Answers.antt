@@ -1,8 +1,7 @@
-use Rattle.std.proofs.Common.{◌≡◌, ◌<◌, ◌≤◌, ℕ, List, length, take, refl, sym, ap, ◌∙◌, arith}
+use Rattle.std.proofs.Common.{◌≡◌, ◌<◌, ℕ, List, length, refl, sym, ap, ◌∙◌, arith}
 use Rattle.std.proofs.lemmas.List.{take_all, take_more_set}
 use Rattle.std.proofs.lemmas.List.Elements.{All-replicate, All-set}
 use Rattle.std.proofs.Math.ListN.{length-set}
-use Rattle.smith_code.specs.VectorChoices.{shuffled_at}
 use Rattle.smith_code.proofs.VectorChoiceLemmas.{shuffled_none, shuffled_more}
 use Rattle.smith_code.proofs.vectors.draw_shuffle.Goals as goal
 
