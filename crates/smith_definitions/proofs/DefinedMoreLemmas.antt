@@ -18,8 +18,8 @@ use Rattle.smith_config.specs.Faults.{Passes}
 use Rattle.smith_config.specs.Features.{features_of}
 use Rattle.smith_config.specs.Sanitized.{IsSanitized}
 use Rattle.smith_contents.proofs.PlaceOfListLemmas.{slice_get-behind}
-use Rattle.smith_imports.specs.Imported.{HasNoFloatValue, HasGroundedElements}
-use Rattle.smith_definitions.specs.Defined.{nothing_defined, AreAdded, HasRoom, AreWithin, MayDefine, StandsBehind, AreFilled, AreDefinedMore, AreGlobalsDefined, HaveNoFloats, standing_in}
+use Rattle.smith_imports.specs.Imported.{HasNoFloatValue, HasGroundedElements, HasGroundedValue}
+use Rattle.smith_definitions.specs.Defined.{nothing_defined, AreAdded, HasRoom, AreWithin, MayDefine, StandsBehind, AreFilled, AreDefinedMore, AreGlobalsDefined, HaveNoFloats, drawn_over, standing_in}
 use Rattle.smith_definitions.specs.DefinedTables.{IsTableFit, AreTablesDrawn}
 use Rattle.smith_definitions.specs.Definitions.{Standing, Table, standing_over, standing_among, context_at, table_scope}
 use Rattle.smith_definitions.specs.Module.{IsTableInitialised}
@@ -40,6 +40,7 @@ pub record AddsTo (config : Config) (space : Space) (before : IndexSpaces) (so_f
   pub counts : AreCountsEnabled (features_of config) later
   pub tables : AreTablesDrawn config (standing_more space.types before so_far later) before.tables later.tables so_far.tables defined.tables
   pub globals : AreGlobalsDefined config (standing_more space.types before so_far later) before.globals so_far.globals → AreGlobalsDefined config (standing_more space.types before so_far later) later.globals defined.globals
+  pub grounded : AreAdded (HasGroundedValue config (drawn_over config (standing_more space.types before so_far later))) before.globals later.globals
   pub num_tags : defined.num_tags ≡ so_far.num_tags + (length later.tags - length before.tags)
   pub num_funcs : defined.num_funcs ≡ so_far.num_funcs + (length later.funcs - length before.funcs)
   pub num_memories : defined.num_memories ≡ so_far.num_memories + (length later.memories - length before.memories)
@@ -179,7 +180,8 @@ defined_more config space before later so_far defined adds =
     let same : length before.funcs - so_far.num_funcs ≡ length later.funcs - defined.num_funcs = omega (arith, whole, adds.num_funcs) in
     record {
       filled = adds.filled;
-      grounded = subst (λ (imported : ℕ). AreAdded (HasGroundedElements config (drawn imported)) before.tables later.tables) same (tables_added (HasGroundedElements config (drawn (length before.funcs - so_far.num_funcs))) (λ one fit. fit.grounded) adds.tables);
+      grounded_tables = subst (λ (imported : ℕ). AreAdded (HasGroundedElements config (drawn imported)) before.tables later.tables) same (tables_added (HasGroundedElements config (drawn (length before.funcs - so_far.num_funcs))) (λ one fit. fit.grounded) adds.tables);
+      grounded_globals = subst (λ (imported : ℕ). AreAdded (HasGroundedValue config (drawn imported)) before.globals later.globals) same adds.grounded;
       stands = λ imported now. stands_later config imported space before later so_far defined adds now;
     }
 

@@ -3,7 +3,7 @@ use Rattle.std.proofs.Common.{◌≡◌, ℕ, ◌+◌, ◌-◌, ◌≤◌, ◌<�
 use Rattle.std.specs.Prelude.{if◌then◌else◌}
 use Rattle.std.specs.List.{All}
 use Rattle.std.proofs.lemmas.List.{map-append, length-map}
-use Rattle.std.proofs.lemmas.List.Elements.{All-push}
+use Rattle.std.proofs.lemmas.List.Elements.{All-nil, All-push, All-map}
 use Rattle.smith_bytes.specs.Source.{KeepsPieces}
 use Rattle.smith_bytes.specs.Draws.{bool_at}
 use Rattle.smith_bytes.specs.Growth.{goes_at}
@@ -19,7 +19,8 @@ use Rattle.smith_config.specs.declared.config.Config.{Config}
 use Rattle.smith_config.specs.Features.{features_of}
 use Rattle.smith_draw.specs.ConstFloats.{GivesNoFloat}
 use Rattle.smith_definitions.specs.Definitions.{Standing, Global, context_at, global_scope, globals_of, initialised_at, global_at, globals_at}
-use Rattle.smith_definitions.specs.Defined.{IsGlobalInitialised, AreGlobalsDefined}
+use Rattle.smith_imports.specs.Imported.{HasGroundedValue}
+use Rattle.smith_definitions.specs.Defined.{AreAdded, IsGlobalInitialised, AreGlobalsDefined, drawn_over}
 use Rattle.smith_definitions.proofs.ExtensionLemmas.{all_kept}
 use Rattle.smith_definitions.proofs.DefinedLoop.{IsDefining, defined_start, defined_go, defined_stop, defined_full}
 
@@ -40,6 +41,7 @@ pub record AreDefining (config : Config) (standing : Standing) (before : List Gl
   pub valid : All (IsGlobalValid (features_of config) standing.types) globals
   pub defined : AreGlobalsDefined config standing before old → AreGlobalsDefined config standing globals initials
   pub floats : config.allow_floats ≡ false → AreNoFloats before → AreNoFloats globals
+  pub grounded : All (λ (one : Global). HasGroundedValue config (drawn_over config standing) one.0) made
   pub constants : config.allow_floats ≡ false → All HasNoFloat standing.types → All (All GivesNoFloat) (expressions old) → All (All GivesNoFloat) (expressions initials)
 
 -- how many globals stand
@@ -60,6 +62,7 @@ none_made config standing before old start valid = record {
   valid = valid;
   defined = λ stood. stood;
   floats = λ off calm. calm;
+  grounded = All-nil (λ (one : Global). HasGroundedValue config (drawn_over config standing) one.0);
   constants = λ off calm plain. plain;
 }
 
@@ -123,10 +126,10 @@ pub define_more : {config : Config} {standing : Standing} {before : List GlobalT
     → AreDefining config standing before old n globals initials start bytes → n < config.max_globals - length before
     → goes_at (nat_lt n (config.min_globals - length before)) bytes ≡ (b, mid) → b ≡ true → initialised_at config (global_scope config standing globals) mid ≡ (one, after)
     → IsGlobalValid (features_of config) standing.types one.0 → IsConstExpr (global_scope config standing globals) one.0.val_type one.1.1
-    → (config.allow_floats ≡ false → IsNoFloat one.0.val_type) → (config.allow_floats ≡ false → All HasNoFloat standing.types → All GivesNoFloat one.1.1)
+    → (config.allow_floats ≡ false → IsNoFloat one.0.val_type) → HasGroundedValue config (drawn_over config standing) one.0 → (config.allow_floats ≡ false → All HasNoFloat standing.types → All GivesNoFloat one.1.1)
     → more ≡ globals ++ one.0 ∷ [] → longer ≡ initials ++ one.1 ∷ [] → KeepsPieces bytes mid → KeepsPieces mid after
     → AreDefining config standing before old (n + 1) more longer start after
-define_more {config = config} {standing = standing} {before = before} {old = old} {globals = globals} {initials = initials} {mid = mid} {after = after} {one = one} now fewer go odd drawn valid typed calm plain next last p q =
+define_more {config = config} {standing = standing} {before = before} {old = old} {globals = globals} {initials = initials} {mid = mid} {after = after} {one = one} now fewer go odd drawn valid typed calm grounded plain next last p q =
     let behind = drawn_in config standing before now.made globals mid now.globals_are ∙ drawn in
     let place = index_is config (global_scope config standing globals) mid one after drawn in
     rw (next, last) (record {
@@ -141,8 +144,18 @@ define_more {config = config} {standing = standing} {before = before} {old = old
       valid = All-push (IsGlobalValid (features_of config) standing.types) globals one.0 now.valid valid;
       defined = λ stood. subst (λ (k : ℕ). AreGlobalsDefined config standing (globals ++ one.0 ∷ []) (initials ++ (k, one.1.1) ∷ [])) (sym place) (defined_more config standing globals one.0 initials one.1.1 (now.defined stood) typed);
       floats = λ off imported. All-push (λ (g : GlobalType). IsNoFloat g.val_type) globals one.0 (now.floats off imported) (calm off);
+      grounded = All-push (λ (g : Global). HasGroundedValue config (drawn_over config standing) g.0) now.made one now.grounded grounded;
       constants = λ off types stood. rw (map-append (λ (i : ℕ × List ConstInstr). i.1) initials (one.1 ∷ [])) (All-push (All GivesNoFloat) (expressions initials) one.1.1 (now.constants off types stood) (plain off types));
     })
+
+-- the globals that were drawn are added
+pub globals_added : {config : Config} {standing : Standing} {before : List GlobalType} {old : List (ℕ × List ConstInstr)} {n : ℕ} {globals : List GlobalType} {initials : List (ℕ × List ConstInstr)} {start bytes : List ℕ}
+    → AreDefining config standing before old n globals initials start bytes → AreAdded (HasGroundedValue config (drawn_over config standing)) before globals
+globals_added {config = config} {standing = standing} now = record {
+  more = map (λ (one : Global). one.0) now.made;
+  parts = now.globals_are;
+  each = All-map (HasGroundedValue config (drawn_over config standing)) (λ (one : Global). one.0) now.made now.grounded;
+}
 
 -- no global was drawn
 pub define_stop : {config : Config} {standing : Standing} {before : List GlobalType} {old : List (ℕ × List ConstInstr)} {n : ℕ} {globals : List GlobalType} {initials : List (ℕ × List ConstInstr)} {start bytes after : List ℕ} {b : Bool}

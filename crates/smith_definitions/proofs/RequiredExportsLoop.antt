@@ -30,9 +30,9 @@ use Rattle.smith_draw.specs.FuncSizes.{HasFewValues}
 use Rattle.smith_definitions.specs.Bounds.{counts_as}
 use Rattle.smith_imports.specs.ShapeImports.{count_in}
 use Rattle.smith_contents.specs.Exported.{IsStanding}
-use Rattle.smith_definitions.proofs.RequiredLimitLemmas.{no_limits, limits_both}
+use Rattle.smith_definitions.proofs.RequiredLimitLemmas.{no_limits, limits_both, no_types, types_both}
 use Rattle.smith_definitions.specs.Defined.{StandsBehind, drawn_beside}
-use Rattle.smith_definitions.specs.Required.{AddsLimitsOf, IsKeptType, MayRequire, MayDefineMore, IsRequiredMore, AreRequired, MayLackIn, MayRefuseExported, MayRefuseRequired}
+use Rattle.smith_definitions.specs.Required.{AddsLimitsOf, AddsTypesOf, IsKeptType, MayRequire, MayDefineMore, IsRequiredMore, AreRequired, MayLackIn, MayRefuseExported, MayRefuseRequired}
 use Rattle.smith_definitions.specs.RequiredExports.{Answers, Required, entity_of, standing_with, export_required_at, required_from, required_at}
 use Rattle.smith_definitions.specs.ShapesKept.{Export, IsSameExport, IsSameFuncType}
 use Rattle.smith_definitions.specs.declared.definitions.Definitions.{Definitions}
@@ -98,6 +98,7 @@ pub record AreRequiring (own_types : Bool) (config : Config) (shape : Shape) (ol
   pub limits : AddsLimitsOf shape old spaces
   pub unchanged : own_types ≡ false → types ≡ old_types
   pub lacking : HoldsUngroundedField config (drawn_beside config types.types spaces defined) → HoldsUngroundedField config (drawn_beside config old_types.types old old_defined)
+  pub types_of : AddsTypesOf shape old_types.types types.types
   pub few_values : All (HasFewValues most_listed) old_types.types → All (HasFewValues most_listed) types.types
   pub may : MayDefineMore config types spaces defined (length shape.exports - place)
   pub shape_may : MayRequire own_types config shape types
@@ -119,6 +120,7 @@ none_required own_types config shape types spaces defined start shape_may may = 
   limits = no_limits shape spaces;
   unchanged = λ off. refl;
   lacking = λ holds. holds;
+  types_of = no_types shape types.types;
   few_values = λ few. few;
   may = let same : length shape.exports - 0 ≡ length shape.exports = omega arith in rw same may;
   shape_may = shape_may;
@@ -147,6 +149,7 @@ module _ {own_types : Bool} {config : Config} {shape : Shape} {old_types types :
     limits = now.limits;
     unchanged = now.unchanged;
     lacking = now.lacking;
+    types_of = now.types_of;
     few_values = now.few_values;
     stands = now.stands;
   }
@@ -210,6 +213,7 @@ module _ {own_types : Bool} {config : Config} {shape : Shape} {old_types types :
           limits = limits_both now.limits more.limits;
           unchanged = λ off. more.unchanged off ∙ now.unchanged off;
           lacking = λ holds. now.lacking (more.lacking holds);
+          types_of = types_both shape old_types.types types.types more_types.types now.types_of more.types_of;
           few_values = λ few. more.few_values (now.few_values few);
           may = more.may (length shape.exports - (place + 1)) (rw steps at now.may);
           shape_may = record { valid = now.shape_may.valid; present = λ off. extends_both (now.shape_may.present off) more.types_grown };

@@ -45,10 +45,11 @@ use Rattle.smith_definitions.specs.Bounds.{counts_as}
 use Rattle.smith_imports.specs.ShapeImports.{count_in}
 use Rattle.smith_imports.specs.Imported.{entity_spaces}
 use Rattle.smith_imports.specs.ImportedEntities.{kind_of}
-use Rattle.smith_definitions.proofs.RequiredLimitLemmas.{limits_more}
+use Rattle.smith_definitions.proofs.RequiredLimitLemmas.{limits_more, no_types, type_more}
 use Rattle.smith_draw.proofs.FilledLemmas.{any_weaker, fields_before, later_ungrounded}
 use Rattle.smith_definitions.specs.Defined.{AreWithin, HasRoom, drawn_beside}
 use Rattle.smith_definitions.specs.Required.{
+  AddsTypesOf,
   MayDefineMore,
   HasNoSupertypes,
   IsKeptType,
@@ -188,6 +189,7 @@ pub record IsOver (own_types : Bool) (config : Config) (shape : Shape) (space ty
   pub enabled : 0 < length (tag_of added) → IsTrue config.exceptions_enabled
   pub unchanged : own_types ≡ false → types ≡ space
   pub lacking : (spaces : IndexSpaces) (defined : Definitions) → HoldsUngroundedField config (drawn_beside config types.types spaces defined) → HoldsUngroundedField config (drawn_beside config space.types spaces defined)
+  pub types_of : AddsTypesOf shape space.types types.types
   pub few_values : All (HasFewValues most_listed) space.types → All (HasFewValues most_listed) types.types
   pub same : IsKeptType own_types types.types (shape_types shape) added theirs
   pub kind : kind_of added ≡ of_kind
@@ -219,6 +221,7 @@ standing_over config shape space of_kind index theirs may valid at = record {
   enabled = λ some. may.valid.counts.tags (some_tag (shape_spaces shape) of_kind index theirs at some);
   unchanged = λ off. refl;
   lacking = λ spaces defined holds. holds;
+  types_of = no_types shape space.types;
   few_values = λ few. few;
   same = refl;
   kind = kind_is (shape_spaces shape) of_kind index theirs at;
@@ -261,6 +264,7 @@ module _ (config : Config) (shape : Shape) (space : Space) (may : MayRequire tru
       enabled = λ some. absurd (let none : 0 < 0 = some in omega arith);
       unchanged = λ off. absurd cc;
       lacking = no_field config space.types t function inner;
+      types_of = type_more shape space.types other t at;
       few_values = own_few;
       same = own_same;
       kind = refl;
@@ -277,6 +281,7 @@ module _ (config : Config) (shape : Shape) (space : Space) (may : MayRequire tru
       enabled = λ one. may.valid.counts.tags some;
       unchanged = λ off. absurd cc;
       lacking = no_field config space.types t function inner;
+      types_of = type_more shape space.types other t at;
       few_values = own_few;
       same = own_same;
       kind = refl;
@@ -295,6 +300,7 @@ module _ (config : Config) (shape : Shape) (space : Space) (may : MayRequire tru
     enabled = λ some. absurd (no_tag some);
     unchanged = λ off. refl;
     lacking = λ spaces defined holds. holds;
+    types_of = no_types shape space.types;
     few_values = λ few. few;
     same = same;
     kind = kind;
@@ -438,6 +444,7 @@ required_more {own_types = own_types} {config = config} {shape = shape} {space =
   limits = rw more.spaces_are (limits_more own_types types.types shape spaces one.2 theirs added over.same (rw over.kind (entity_stands (shape_spaces shape) one.1 one.2 theirs found)));
   unchanged = over.unchanged;
   lacking = λ holds. over.lacking spaces defined (lacking_before config types.types spaces later defined fuller added more holds);
+  types_of = over.types_of;
   few_values = over.few_values;
   may = may_more config space types spaces defined over.grown over.valid added later fuller over.entity more;
   stands = λ imported now. stands_more config imported space types spaces defined now over.valid over.grown added later fuller over.entity over.enabled more;

@@ -23,7 +23,7 @@ use Rattle.smith_draw.specs.ConstFloats.{GivesNoFloat}
 use Rattle.smith_draw.specs.Grounding.{without_globals}
 use Rattle.smith_draw.specs.declared.spaces.Spaces.{Spaces}
 use Rattle.smith_definitions.specs.Definitions.{Standing, standing_over, context_at, table_scope}
-use Rattle.smith_imports.specs.Imported.{HasNoFloatValue, HasGroundedElements}
+use Rattle.smith_imports.specs.Imported.{HasNoFloatValue, HasGroundedElements, HasGroundedValue}
 use Rattle.smith_definitions.specs.Module.{IsTableInitialised}
 use Rattle.smith_definitions.specs.Promises.{initial_of}
 use Rattle.smith_definitions.specs.Refusals.{MayRefuse}
@@ -164,7 +164,8 @@ pub record AreFilled (config : Config) (before spaces : IndexSpaces) : Type 0 wh
 -- index spaces have definitions after the items before, valid whatever was imported
 pub record AreDefinedMore (config : Config) (space : Space) (before : IndexSpaces) (so_far : Definitions) (spaces : IndexSpaces) (defined : Definitions) : Type 0 where
   pub filled : AreFilled config before spaces
-  pub grounded : AreAdded (HasGroundedElements config (drawn_beside config space.types spaces defined)) before.tables spaces.tables
+  pub grounded_tables : AreAdded (HasGroundedElements config (drawn_beside config space.types spaces defined)) before.tables spaces.tables
+  pub grounded_globals : AreAdded (HasGroundedValue config (drawn_beside config space.types spaces defined)) before.globals spaces.globals
   pub stands : (imported : IndexSpaces) → StandsBehind config imported space before so_far → StandsBehind config imported space spaces defined
 
 -- no global and no constant of the definitions is a float

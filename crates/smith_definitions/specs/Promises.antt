@@ -2,11 +2,13 @@
 use Rattle.std.specs.Prelude.{◌≡◌, ℕ, ◌<◌, Bool, false, IsTrue, List, [], ◌∷◌, ◌++◌, Option, Some, None, map, length, All}
 use Rattle.std.specs.List.{flat_map}
 use Rattle.smith_types.specs.Floats.{IsNoFloat}
+use Rattle.smith_types.specs.HeldValues.{values_in}
 use Rattle.smith_types.specs.Imports.{flattened}
 use Rattle.smith_types.specs.ValidTypes.{values_of}
 use Rattle.smith_types.specs.Exports.{AreDistinct}
 use Rattle.smith_types.specs.Segments.{IsElementInside, IsDataInside}
 use Rattle.smith_types.specs.declared.value_type.ValType.{ValType}
+use Rattle.smith_types.specs.declared.value_type.ValType.TheVariants.{Ref}
 use Rattle.smith_types.specs.declared.composite_type.SubType.{SubType}
 use Rattle.smith_types.specs.declared.entity_type.GlobalType.{GlobalType}
 use Rattle.smith_types.specs.declared.imports.Import.{Import}
@@ -16,9 +18,11 @@ use Rattle.smith_types.specs.declared.code.Code.{Code}
 use Rattle.smith_config.specs.declared.config.Config.{Config}
 use Rattle.smith_config.specs.InUse.{HasNoShapes, FixesImports, FixesExports}
 use Rattle.smith_draw.specs.ConstFloats.{GivesNoFloat}
+use Rattle.smith_draw.specs.Granted.{IsGranted}
 use Rattle.smith_contents.specs.ExportedItems.{AreAllExported}
 use Rattle.smith_contents.specs.Held.{expressions_of}
-use Rattle.smith_definitions.specs.Module.{Parts, module_spaces}
+use Rattle.smith_definitions.specs.Module.{Parts, module_context, module_spaces}
+use Rattle.smith_definitions.specs.Refusals.{HoldsNonNullable}
 
 -- no two imports have the same pair of names
 abbrev pub HasDistinctImports : Parts → Type 0
@@ -46,6 +50,16 @@ pub record HasNoFloats (m : Parts) : Type 0 where
   pub values : All IsNoFloat (module_values m)
   pub constants : All (All GivesNoFloat) (module_expressions m)
 
+-- the references of types, tables, globals and element segments are nullable, or
+-- `non_nullable_enabled` is on and they are grounded
+pub record HoldsGranted (config : Config) (m : Parts) : Type 0 where
+  pub values : All (IsGranted config (module_context m)) (values_in m.types (module_spaces m))
+  pub elements : All (λ (segment : ElementSegment). IsGranted config (module_context m) (Ref segment.ty)) m.elems
+
+-- and so are the references that are types of locals
+abbrev pub HasGrantedLocals : Config → Parts → Type 0
+HasGrantedLocals config m = All (IsGranted config (module_context m)) (flat_map (λ (body : Code). body.locals) m.code)
+
 -- every function, table, memory, global and tag is exported, in this order and by index, each once
 abbrev pub ExportsEverything : Parts → Type 0
 ExportsEverything m = AreAllExported (module_spaces m) m.exports
@@ -72,10 +86,13 @@ HasNoFuel m = m.fuel_globals ≡ []
 
 -- the properties of a drawn module that are requested: distinct names by the call that draws it,
 -- unless a shape fixes the imports; all exports, unless a shape fixes them; no floats, if there is
--- no shape; and always no counter of fuel
+-- no shape; references that are nullable or grounded, in locals always and elsewhere unless a shape
+-- in use holds one that is not nullable; and always no counter of fuel
 pub record KeepsPromises (distinct : Bool) (config : Config) (m : Parts) : Type 0 where
   pub names : IsTrue distinct → (FixesImports config → ⊥) → HasDistinctImports m
   pub no_floats : config.allow_floats ≡ false → HasNoShapes config → HasNoFloats m
+  pub granted : (HoldsNonNullable config → ⊥) → HoldsGranted config m
+  pub granted_locals : HasGrantedLocals config m
   pub everything : IsTrue config.export_everything → (FixesExports config → ⊥) → ExportsEverything m
   pub no_start : config.allow_start_export ≡ false → HasNoStart m
   pub inside : IsTrue config.disallow_traps → IsInside m

@@ -100,10 +100,15 @@ pub record MayRequire (own_types : Bool) (config : Config) (shape : Shape) (spac
   pub valid : IsShapeValid (use_of own_types) config shape
   pub present : own_types ≡ false → Extends (shape_types shape) space.types
 
--- tables and memories that are added have types of the shape's
+-- types that are added are the shape's
+abbrev pub AddsTypesOf : Shape → List SubType → List SubType → Type 0
+AddsTypesOf shape old new = All (λ t. Contains old t ⊎ Contains (shape_types shape) t) new
+
+-- tables, memories and globals that are added have types of the shape's
 pub record AddsLimitsOf (shape : Shape) (old new : IndexSpaces) : Type 0 where
   pub tables : All (λ table. Contains old.tables table ⊎ Contains (shape_spaces shape).tables table) new.tables
   pub memories : All (λ memory. Contains old.memories memory ⊎ Contains (shape_spaces shape).memories memory) new.memories
+  pub globals : All (λ global. Contains old.globals global ⊎ Contains (shape_spaces shape).globals global) new.globals
 
 -- the properties that an export of a shape, and the definition for it, preserve
 pub record IsRequiredMore (own_types : Bool) (config : Config) (shape : Shape) (old_types : Space) (old : IndexSpaces) (old_defined : Definitions) (types : Space) (spaces : IndexSpaces) (defined : Definitions) (one made : Export) : Type 0 where
@@ -117,6 +122,7 @@ pub record IsRequiredMore (own_types : Bool) (config : Config) (shape : Shape) (
   pub limits : AddsLimitsOf shape old spaces
   pub unchanged : own_types ≡ false → types ≡ old_types
   pub lacking : HoldsUngroundedField config (drawn_beside config types.types spaces defined) → HoldsUngroundedField config (drawn_beside config old_types.types old old_defined)
+  pub types_of : AddsTypesOf shape old_types.types types.types
   pub few_values : All (HasFewValues most_listed) old_types.types → All (HasFewValues most_listed) types.types
   pub may : (more : ℕ) → MayDefineMore config old_types old old_defined (more + 1) → MayDefineMore config types spaces defined more
   pub stands : (imported : IndexSpaces) → StandsBehind config imported old_types old old_defined → StandsBehind config imported types spaces defined
@@ -132,6 +138,7 @@ pub record AreRequired (own_types : Bool) (config : Config) (shape : Shape) (old
   pub limits : AddsLimitsOf shape old spaces
   pub unchanged : own_types ≡ false → types ≡ old_types
   pub lacking : HoldsUngroundedField config (drawn_beside config types.types spaces defined) → HoldsUngroundedField config (drawn_beside config old_types.types old old_defined)
+  pub types_of : AddsTypesOf shape old_types.types types.types
   pub few_values : All (HasFewValues most_listed) old_types.types → All (HasFewValues most_listed) types.types
   pub stands : (imported : IndexSpaces) → StandsBehind config imported old_types old old_defined → StandsBehind config imported types spaces defined
 

@@ -12,7 +12,8 @@ ghost use Rattle.smith_draw.specs.ConstFloats.{GivesNoFloat};
 ghost use Rattle.smith_draw.specs.ConstScopes.{AreSpacesValid, seen_by};
 ghost use Rattle.smith_draw.specs.Grounding.{standing_in};
 ghost use Rattle.smith_draw.specs.KeptOffers.{AreKeptOffers};
-ghost use Rattle.smith_definitions.specs.Defined.{IsFilled, MayInitialise, MayRefuseDrawn, AreGlobalsDefined, drawn_over};
+ghost use Rattle.smith_imports.specs.Imported.{HasGroundedValue};
+ghost use Rattle.smith_definitions.specs.Defined.{IsFilled, AreAdded, MayInitialise, MayRefuseDrawn, AreGlobalsDefined, drawn_over};
 ghost use Rattle.smith_definitions.specs.Definitions.{standing_among, initialised_at, globals_at};
 ghost use Rattle.smith_definitions.specs.NumberedGlobals.{SpellsGlobals};
 
@@ -41,6 +42,7 @@ fn draw_initialised_global(
     ensures valid { IfOk result (λ drawn. IsGlobalValid (features_of config.now) spaces.now.types.now.types drawn.0) }
     ensures initialised { IfOk result (λ drawn. IsConstExpr (seen_by config.now spaces.now true) drawn.0.val_type drawn.1.1) }
     ensures floats { config.now.allow_floats ≡ false → IfOk result (λ drawn. IsNoFloat drawn.0.val_type) }
+    ensures grounded { IfOk result (λ drawn. HasGroundedValue config.now (standing_in config.now spaces.now) drawn.0) }
     ensures constants { config.now.allow_floats ≡ false → All HasNoFloat spaces.now.types.now.types → IfOk result (λ drawn. All GivesNoFloat drawn.1.1) }
     ensures kept { OnOk result (AreKeptOffers (seen_by config.now spaces.now true) kept.new) }
     ensures refusal { IfErr result (MayRefuseDrawn config.now (standing_in config.now spaces.now)) }
@@ -74,6 +76,7 @@ fn push_globals<'a>(
     ensures valid { OnOk result (All (IsGlobalValid (features_of config.now) types.now.types) globals.new) }
     ensures defined { AreGlobalsDefined config.now (standing_among types.now.types funcs.now imported_funcs imported_globals globals.old) globals.old initials.old
         → OnOk result (AreGlobalsDefined config.now (standing_among types.now.types funcs.now imported_funcs imported_globals globals.old) globals.new initials.new) }
+    ensures grounded { OnOk result (AreAdded (HasGroundedValue config.now (drawn_over config.now (standing_among types.now.types funcs.now imported_funcs imported_globals globals.old))) globals.old globals.new) }
     ensures floats { config.now.allow_floats ≡ false → All (λ (global : GlobalType). IsNoFloat global.val_type) globals.old → OnOk result (All (λ (global : GlobalType). IsNoFloat global.val_type) globals.new) }
     ensures constants { config.now.allow_floats ≡ false → All HasNoFloat types.now.types → All (All GivesNoFloat) (map (λ (one : ℕ × List ConstInstr). one.1) initials.old)
         → OnOk result (All (All GivesNoFloat) (map (λ (one : ℕ × List ConstInstr). one.1) initials.new)) }
@@ -133,6 +136,7 @@ pub(crate) fn define_globals<'a>(
     ensures valid { OnOk result (All (IsGlobalValid (features_of config.now) types.now.types) globals.new) }
     ensures defined { AreGlobalsDefined config.now (standing_among types.now.types funcs.now imported_funcs imported_globals globals.old) globals.old initials.old
         → OnOk result (AreGlobalsDefined config.now (standing_among types.now.types funcs.now imported_funcs imported_globals globals.old) globals.new initials.new) }
+    ensures grounded { OnOk result (AreAdded (HasGroundedValue config.now (drawn_over config.now (standing_among types.now.types funcs.now imported_funcs imported_globals globals.old))) globals.old globals.new) }
     ensures floats { config.now.allow_floats ≡ false → All (λ (global : GlobalType). IsNoFloat global.val_type) globals.old → OnOk result (All (λ (global : GlobalType). IsNoFloat global.val_type) globals.new) }
     ensures constants { config.now.allow_floats ≡ false → All HasNoFloat types.now.types → All (All GivesNoFloat) (map (λ (one : ℕ × List ConstInstr). one.1) initials.old)
         → OnOk result (All (All GivesNoFloat) (map (λ (one : ℕ × List ConstInstr). one.1) initials.new)) }

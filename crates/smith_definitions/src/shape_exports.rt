@@ -17,7 +17,7 @@ ghost use Rattle.smith_imports.specs.ShapeImports.{count_in};
 ghost use Rattle.smith_contents.specs.Exported.{IsStanding};
 ghost use Rattle.smith_contents.specs.Exporting.{Export};
 ghost use Rattle.smith_definitions.specs.Defined.{StandsBehind, drawn_beside};
-ghost use Rattle.smith_definitions.specs.Required.{AddsLimitsOf, MayDefineMore, MayRequire, IsRequiredMore, AreRequired, MayLackIn, MayRefuseRequired, MayRefuseExported};
+ghost use Rattle.smith_definitions.specs.Required.{AddsLimitsOf, AddsTypesOf, MayDefineMore, MayRequire, IsRequiredMore, AreRequired, MayLackIn, MayRefuseRequired, MayRefuseExported};
 ghost use Rattle.smith_definitions.specs.RequiredExports.{Answers, entity_of, scope_beside, standing_with, export_required_at, required_at};
 ghost use Rattle.smith_definitions.specs.ShapesKept.{IsSameExport, IsSameType};
 
@@ -144,6 +144,7 @@ pub fn make_required_exports(
     ensures groups { OnOk result (Extends types.old.groups types.new.groups) }
     ensures types_most { OnOk result (length types.new.types ≤ length types.old.types + exported_of Types shape.now) }
     ensures lacking { OnOk result (HoldsUngroundedField config.now (drawn_beside config.now types.new.types (spaces_in spaces.new) definitions.new) → HoldsUngroundedField config.now (drawn_beside config.now types.old.types (spaces_in spaces.old) definitions.old)) }
+    ensures types_of { OnOk result (AddsTypesOf shape.now types.old.types types.new.types) }
     ensures few_values { All (HasFewValues most_listed) types.old.types → OnOk result (All (HasFewValues most_listed) types.new.types) }
     ensures spaces { OnOk result (AreSpacesGrown (spaces_in spaces.old) (spaces_in spaces.new)) }
     ensures limits { OnOk result (AddsLimitsOf shape.now (spaces_in spaces.old) (spaces_in spaces.new)) }

@@ -4,4 +4,5 @@ pub mod RefusedExamples
 pub mod ShapeExamples
 pub mod FaultyExamples
 pub mod PromiseExamples
+pub mod GrantedExamples
 mod ReachedExamples

@@ -1,5 +1,7 @@
-ghost use Rattle.std.specs.Prelude.{[], ◌∷◌, true, false, pos, Some, codes};
-ghost use Rattle.smith_types.specs.declared.value_type.ValType.TheVariants.{F32, F64, V128};
+ghost use Rattle.std.specs.Prelude.{[], ◌∷◌, true, false, pos, Some, None, codes};
+ghost use Rattle.smith_types.specs.declared.value_type.AbstractHeapType.TheVariants as heap;
+ghost use Rattle.smith_types.specs.declared.value_type.HeapType.TheVariants.{Concrete};
+ghost use Rattle.smith_types.specs.declared.value_type.ValType.TheVariants.{F32, F64, V128, Ref};
 ghost use Rattle.smith_types.specs.declared.composite_type.StorageType.TheVariants.{Val};
 ghost use Rattle.smith_types.specs.declared.entity_type.EntityType.TheVariants as entity;
 ghost use Rattle.smith_types.specs.declared.imports.Imports.TheVariants.{Single};
@@ -7,12 +9,13 @@ ghost use Rattle.smith_types.specs.declared.const_instr.ConstInstr.TheVariants.{
 ghost use Rattle.smith_types.specs.declared.segments.Elements.TheVariants.{Expressions};
 ghost use Rattle.smith_types.specs.declared.segments.Offset.TheVariants.{Const32};
 ghost use Rattle.smith_types.specs.declared.code.Instructions.TheVariants.{Unreachable};
-ghost use Rattle.smith_types.specs.ExampleTypes.{struct, constant};
+ghost use Rattle.smith_types.specs.ExampleTypes.{struct, constant, empty_struct, plain, not_null};
 ghost use Rattle.smith_config.specs.Config.{default_config};
 ghost use Rattle.smith_spell.specs.ExampleMembers.{final, taking};
-ghost use Rattle.smith_definitions.specs.Promises.{HasDistinctImports, HasNoFloats, ExportsEverything, HasNoStart, HasNoFuel, IsInside, WritesSections, KeepsPromises};
-ghost use Rattle.smith_examples.specs.ExampleShapes.{for_module, for_imports, for_exports, environment, exporting};
-ghost use Rattle.smith_examples.specs.ExampleParts.{global, number, import_named, passive_elements};
+ghost use Rattle.smith_definitions.specs.Promises.{HasDistinctImports, HasNoFloats, HoldsGranted, HasGrantedLocals, ExportsEverything, HasNoStart, HasNoFuel, IsInside, WritesSections, KeepsPromises};
+ghost use Rattle.smith_examples.specs.ExampleShapes.{for_module, for_imports, for_exports, environment, exporting, memories_in_and_out, non_nullable};
+ghost use Rattle.smith_examples.specs.ExampleParts.{global, table, number, import_named, passive_elements};
+ghost use Rattle.smith_examples.specs.ExampleReferences.{with_references, holding_reference};
 ghost use Rattle.smith_examples.specs.ExampleModules.{a_float, one_function, one_number, one_table, one_data_segment, one_import, one_of_each, all_of_each, two_elements, two_imports, two_exports, named_imports, exported_twice, last_bytes, filled_table, table_from_a_number};
 ghost use Rattle.smith_examples.specs.ExampleGiven.{counting_fuel};
 
@@ -32,6 +35,25 @@ fn floats()
     ensures in_an_expression { ¬ HasNoFloats (record one_number { defined_globals = (0, F64Const 0 ∷ []) ∷ [] }) }
     ensures in_the_initialiser_of_a_table { ¬ HasNoFloats (record one_table { defined_tables = Some (F32Const 0 ∷ []) ∷ [] }) }
     ensures in_an_element { ¬ HasNoFloats (record two_elements { elems = passive_elements (Expressions ((F32Const 0 ∷ []) ∷ [])) ∷ [] }) }
+{}
+
+fn references()
+    ensures a_number { HoldsGranted default_config one_number }
+    ensures that_may_be_null { HoldsGranted default_config one_table }
+    ensures to_a_struct { HoldsGranted with_references (holding_reference (final empty_struct ∷ []) (Concrete 0)) }
+    ensures to_a_struct_by_default { ¬ HoldsGranted default_config (holding_reference (final empty_struct ∷ []) (Concrete 0)) }
+    ensures in_a_global { ¬ HoldsGranted with_references (holding_reference [] (plain heap.Any)) }
+    ensures in_a_table { ¬ HoldsGranted with_references (record one_table { tables = table (not_null (plain heap.Any)) 1 None ∷ [] }) }
+    ensures in_a_parameter { ¬ HoldsGranted with_references (record one_number { types = final (taking (Ref (not_null (plain heap.Any)))) ∷ [] }) }
+    ensures in_a_segment { ¬ HoldsGranted with_references (record one_number { elems = record (passive_elements (Expressions [])) { ty = not_null (plain heap.Any) } ∷ [] }) }
+    ensures in_a_local { HoldsGranted with_references (record one_number { code = record { locals = Ref (not_null (plain heap.Any)) ∷ []; instructions = Unreachable } ∷ [] }) }
+{}
+
+fn locals()
+    ensures none { HasGrantedLocals default_config one_number }
+    ensures a_number { HasGrantedLocals default_config (record one_function { code = record { locals = F32 ∷ []; instructions = Unreachable } ∷ [] }) }
+    ensures to_functions { HasGrantedLocals with_references (record one_function { code = record { locals = Ref (not_null (plain heap.Func)) ∷ []; instructions = Unreachable } ∷ [] }) }
+    ensures to_anything { ¬ HasGrantedLocals with_references (record one_number { code = record { locals = Ref (not_null (plain heap.Any)) ∷ []; instructions = Unreachable } ∷ [] }) }
 {}
 
 fn exports()
@@ -85,6 +107,10 @@ fn asked_for()
     ensures a_float_where_they_may_be { KeepsPromises false default_config a_float }
     ensures a_float_beside_a_shape { KeepsPromises false (for_exports exporting (record default_config { allow_floats = false })) a_float }
     ensures a_float_beside_an_unused_shape { KeepsPromises false (for_module environment (for_exports exporting (record default_config { allow_floats = false }))) a_float }
+    ensures a_reference_that_nothing_grounds { ¬ KeepsPromises false with_references (holding_reference [] (plain heap.Any)) }
+    ensures the_same_beside_a_shape_that_holds_one { KeepsPromises false (for_module non_nullable with_references) (holding_reference [] (plain heap.Any)) }
+    ensures the_same_beside_another_shape { ¬ KeepsPromises false (for_exports memories_in_and_out with_references) (holding_reference [] (plain heap.Any)) }
+    ensures a_local_that_nothing_grounds { ¬ KeepsPromises false (for_module non_nullable with_references) (record one_number { code = record { locals = Ref (not_null (plain heap.Any)) ∷ []; instructions = Unreachable } ∷ [] }) }
     ensures everything_exported { KeepsPromises false two_exports.config two_exports }
     ensures not_everything_exported { ¬ KeepsPromises false two_exports.config one_function }
     ensures not_everything_beside_a_shape { KeepsPromises false (for_exports exporting two_exports.config) one_function }

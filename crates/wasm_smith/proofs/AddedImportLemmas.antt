@@ -12,10 +12,12 @@ use Rattle.smith_config.specs.declared.shape.Shape.{Shape}
 use Rattle.smith_config.specs.Faults.{Passes}
 use Rattle.smith_config.specs.InUse.{FixesImports}
 use Rattle.smith_config.specs.Sanitized.{IsSanitized}
-use Rattle.smith_imports.specs.Imported.{HasNoFloatValue, HasGroundedElements, IsImported, MayImport}
+use Rattle.smith_imports.specs.Imported.{HasNoFloatValue, HasGroundedElements, HasGroundedValue, IsImported, MayImport}
 use Rattle.smith_imports.specs.ImportedEntities.{import_scope}
 use Rattle.smith_draw.specs.ConstBounds.{HoldsUngroundedField}
+use Rattle.smith_draw.specs.Granted.{AreTypesGranted}
 use Rattle.smith_draw.proofs.FilledLemmas.{fields_imported}
+use Rattle.smith_imports.proofs.ImportsGrownLemmas.{ungrounded_imported}
 use Rattle.smith_imports.specs.declared.imported.Imported.{Imported}
 use Rattle.wasm_smith.specs.Begun.{begun_of}
 use Rattle.smith_definitions.specs.Bounds.{brought}
@@ -24,6 +26,7 @@ use Rattle.wasm_smith.specs.declared.build.drawn.Drawn.{Drawn}
 use Rattle.smith_definitions.proofs.ExtensionLemmas.{all_kept}
 use Rattle.smith_definitions.proofs.DefinedMoreLemmas.{none_float}
 use Rattle.wasm_smith.proofs.FreelyImportedLemmas.{freely_stands}
+use Rattle.wasm_smith.proofs.GrantedLaterLemmas.{types_later}
 
 -- no shape is there where the test for one says so
 pub none_there : (given : Option Shape) → false ≡ is_some given → given ≡ None
@@ -65,7 +68,7 @@ module _ (config : Config) (drawn : Drawn) (passes : Passes config) (sanitized :
     grown = grown_from_none (spaces_in drawn.imported.spaces) (spaces_in made.spaces) (old.free (free_of config free none)).imports.spaces
 
     -- what is grounded stays so with the imports, of which all functions are
-    grounded_later : HoldsGrounded config (drawn_next config drawn) drawn.imported.spaces.tables → HoldsGrounded config (drawn_next config (record drawn { imported = made })) made.spaces.tables
+    grounded_later : HoldsGrounded config (drawn_next config drawn) (spaces_in drawn.imported.spaces) → HoldsGrounded config (drawn_next config (record drawn { imported = made })) (spaces_in made.spaces)
     grounded_later held =
         let alone = old.free (free_of config free none) in
         let later = drawn_next config (record drawn { imported = made }) in
@@ -84,8 +87,11 @@ module _ (config : Config) (drawn : Drawn) (passes : Passes config) (sanitized :
         let in_scope : scope ≡ later = λ i. record later { imported_funcs = sym all_imported i } in
         record {
           fields = λ lacks. held.fields (subst (HoldsUngroundedField config) (sym same) (fields_imported config earlier later growth refl lacks));
+          types = types_later config earlier later (ungrounded_imported config earlier later growth) drawn.types.types (subst (AreTypesGranted config) same held.types);
           elements = subst (λ (context : Context). All (HasGroundedElements config context) made.spaces.tables) in_scope
               (subst (λ (each : IndexSpaces). All (HasGroundedElements config (import_scope config drawn.types.types each)) each.tables) (sym so_far.counts.spaces) so_far.fit.grounded_tables);
+          globals = subst (λ (context : Context). All (HasGroundedValue config context) made.spaces.globals) in_scope
+              (subst (λ (each : IndexSpaces). All (HasGroundedValue config (import_scope config drawn.types.types each)) each.globals) (sym so_far.counts.spaces) so_far.fit.grounded_globals);
         }
 
     -- what stands may be drawn over with the imports

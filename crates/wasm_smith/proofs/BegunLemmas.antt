@@ -127,12 +127,15 @@ of_one {A = A} before more all h =
       | inr one ↦ one
     ]) all h
 
--- the tables and memories that a module shape brings are its own
+-- the tables, memories and globals that a module shape brings are its own
 pub tables_of_shape : (shape : Shape) (spaces : IndexSpaces) → AddsLimitsOf shape (imported_spaces (shape_imports shape)) spaces → All (Contains (shape_spaces shape).tables) spaces.tables
 tables_of_shape shape spaces added = of_one (imported_spaces (shape_imports shape)).tables shape.tables spaces.tables added.tables
 
 pub memories_of_shape : (shape : Shape) (spaces : IndexSpaces) → AddsLimitsOf shape (imported_spaces (shape_imports shape)) spaces → All (Contains (shape_spaces shape).memories) spaces.memories
 memories_of_shape shape spaces added = of_one (imported_spaces (shape_imports shape)).memories shape.memories spaces.memories added.memories
+
+pub globals_of_shape : (shape : Shape) (spaces : IndexSpaces) → AddsLimitsOf shape (imported_spaces (shape_imports shape)) spaces → All (Contains (shape_spaces shape).globals) spaces.globals
+globals_of_shape shape spaces added = of_one (imported_spaces (shape_imports shape)).globals shape.globals spaces.globals added.globals
 
 -- what is made of a refusal is that refusal
 pub refused_with : {X Y A B : Type 0} (f : A → B) (of_part : X → A × List ℕ) (of_whole : Y → B × List ℕ) (e : Error) (part : Result (A × List ℕ) Error) (result : Result Y Error) → Answers of_part (Err e) part → IsErrAnd result (λ y. y ≡ e) → Answers of_whole result (then_with f part)
@@ -150,7 +153,7 @@ taken_enabled config spaces sanitized within tags = record {
   several_memories = λ some. lt-ltb 1 config.max_memories (omega (arith, within.memories, some));
 }
 
--- of the tables, and of the memories, that a shape offers
+-- of the tables, of the memories, and of the globals, that a shape offers
 pub offered_all : {A : Type 0} (offered defined taken : List A) → All (Contains offered) taken → All (Contains (offered ++ defined)) taken
 offered_all offered defined taken h = All-weaker (Contains offered) (Contains (offered ++ defined)) (λ x one. Contains-append_left offered defined x one) taken h
 

@@ -16,8 +16,6 @@ use Rattle.smith_types.specs.ValidTypes.{AreTypesValid}
 use Rattle.smith_types.specs.declared.composite_type.SubType.{SubType}
 use Rattle.smith_types.specs.declared.entity_type.EntityType.{EntityType}
 use Rattle.smith_types.specs.declared.entity_type.ExportKind.{ExportKind}
-use Rattle.smith_types.specs.declared.entity_type.TableType.{TableType}
-use Rattle.smith_types.specs.declared.value_type.ValType.TheVariants.{Ref}
 use Rattle.smith_config.specs.declared.config.Config.{Config}
 use Rattle.smith_config.specs.declared.shape.Shape.{Shape}
 use Rattle.smith_config.specs.Features.{features_of}
@@ -25,9 +23,10 @@ use Rattle.smith_config.specs.InUse.{FixesImports}
 use Rattle.smith_config.specs.Shapes.{most_listed, shape_spaces, shape_types, space_of}
 use Rattle.smith_draw.specs.ConstBounds.{HoldsUngroundedField}
 use Rattle.smith_draw.specs.FuncSizes.{HasFewValues, IsSmall}
+use Rattle.smith_draw.specs.Granted.{AreTypesGranted, HasGranted}
 use Rattle.smith_draw.specs.Grounding.{over}
 use Rattle.smith_draw.proofs.FilledLemmas.{ungrounded_before}
-use Rattle.smith_imports.specs.Imported.{HasGroundedElements}
+use Rattle.smith_imports.specs.Imported.{HasGroundedElements, HasGroundedValue}
 use Rattle.smith_contents.proofs.SizedLemmas.{shape_few}
 use Rattle.wasm_smith.specs.Begun.{Begun, HasNothing, IsBegun, IsBegunByModule, IsBegunByImports}
 use Rattle.wasm_smith.specs.DrawnSteps.{AreTypesDrawn, HoldsGrounded, drawn_next}
@@ -37,12 +36,13 @@ use Rattle.wasm_smith.specs.declared.build.drawn.Drawn.{Drawn}
 use Rattle.wasm_smith.proofs.BegunLemmas.{module_used, imports_used}
 use Rattle.wasm_smith.proofs.BegunStandsLemmas.{begun_stands}
 use Rattle.wasm_smith.proofs.GrownSizeLemmas.{stands_typed}
+use Rattle.wasm_smith.proofs.GrantedLaterLemmas.{elements_later, globals_later}
 use Rattle.wasm_smith.proofs.LackingLemmas.{shape_grounded}
 
 -- what is known of the types, the tables and the exports that a module begins with
 record MayBegin (config : Config) (drawn : Drawn) : Type 0 where
   few_values : All (HasFewValues most_listed) drawn.types.types
-  grounded : (HoldsNonNullable config → ⊥) → HoldsGrounded config (drawn_next config drawn) drawn.imported.spaces.tables
+  grounded : (HoldsNonNullable config → ⊥) → HoldsGrounded config (drawn_next config drawn) (spaces_in drawn.imported.spaces)
   exports : AreExportsValid (spaces_in drawn.imported.spaces) drawn.contents.exports
 
 no_exports : (spaces : IndexSpaces) → AreExportsValid spaces []
@@ -51,27 +51,30 @@ no_exports spaces = record {
   distinct = record { once = λ i j item one other. absurd cc };
 }
 
--- of a shape's types and tables
-of_shape : (config : Config) (functions : Context) (shape : Shape) (types : Space) (tables : List TableType) → types ≡ space_of shape.groups → All (Contains (shape_spaces shape).tables) tables
-    → HoldsGrounded config (over functions (shape_types shape)) (shape_spaces shape).tables → HoldsGrounded config (over functions types.types) tables
-of_shape config functions shape types tables same taken h =
-    let Grounded = HasGroundedElements config (over functions (shape_types shape)) in
+-- of a shape's types, tables and globals
+of_shape : (config : Config) (functions : Context) (shape : Shape) (types : Space) (spaces : IndexSpaces) → types ≡ space_of shape.groups → All (Contains (shape_spaces shape).tables) spaces.tables → All (Contains (shape_spaces shape).globals) spaces.globals
+    → HoldsGrounded config (over functions (shape_types shape)) (shape_spaces shape) → HoldsGrounded config (over functions types.types) spaces
+of_shape config functions shape types spaces same tables globals h =
+    let Elements = HasGroundedElements config (over functions (shape_types shape)) in
+    let Values = HasGroundedValue config (over functions (shape_types shape)) in
     rw same (record {
       fields = h.fields;
-      elements = All-weaker (Contains (shape_spaces shape).tables) Grounded (λ table one. All-contains Grounded (shape_spaces shape).tables table h.elements one) tables taken;
+      types = h.types;
+      elements = All-weaker (Contains (shape_spaces shape).tables) Elements (λ table one. All-contains Elements (shape_spaces shape).tables table h.elements one) spaces.tables tables;
+      globals = All-weaker (Contains (shape_spaces shape).globals) Values (λ global one. All-contains Values (shape_spaces shape).globals global h.globals one) spaces.globals globals;
     })
 
 by_module : (config : Config) (shape : Shape) (drawn : Drawn) → config.module_shape ≡ Some shape → AreShapesValid config → IsBegunByModule config shape drawn → MayBegin config drawn
 by_module config shape drawn given valid begun = record {
   few_values = rw begun.types (shape_few shape (module_used config shape given valid).short);
-  grounded = λ none. of_shape config (drawn_next config drawn) shape drawn.types drawn.imported.spaces.tables begun.types begun.tables (shape_grounded config (drawn_next config drawn) which.ModuleShape shape (rw given refl) none);
+  grounded = λ none. of_shape config (drawn_next config drawn) shape drawn.types (spaces_in drawn.imported.spaces) begun.types begun.tables begun.globals (shape_grounded config (drawn_next config drawn) which.ModuleShape shape (rw given refl) none);
   exports = begun.exports_valid;
 }
 
 by_imports : (config : Config) (shape : Shape) (bytes : List ℕ) (drawn : Drawn) → config.module_shape ≡ None → config.available_imports ≡ Some shape → AreShapesValid config → IsBegunByImports config shape bytes drawn → MayBegin config drawn
 by_imports config shape bytes drawn none given valid begun = record {
   few_values = rw begun.types (shape_few shape (imports_used config shape none given valid).short);
-  grounded = λ never. of_shape config (drawn_next config drawn) shape drawn.types drawn.imported.spaces.tables begun.types begun.tables (shape_grounded config (drawn_next config drawn) which.AvailableImports shape (rw (none, given) refl) never);
+  grounded = λ never. of_shape config (drawn_next config drawn) shape drawn.types (spaces_in drawn.imported.spaces) begun.types begun.tables begun.globals (shape_grounded config (drawn_next config drawn) which.AvailableImports shape (rw (none, given) refl) never);
   exports = rw begun.exports (no_exports (spaces_in drawn.imported.spaces));
 }
 
@@ -79,10 +82,17 @@ freely : (config : Config) (drawn : Drawn) → HasNothing drawn → MayBegin con
 freely config drawn nothing =
     let types : drawn.types.types ≡ [] = ap (λ (b : Begun). b.types.types) nothing.begun in
     let tables : drawn.imported.spaces.tables ≡ [] = ap (λ (b : Begun). b.spaces.tables) nothing.begun in
+    let globals : drawn.imported.spaces.globals ≡ [] = ap (λ (b : Begun). b.spaces.globals) nothing.begun in
     let exports : drawn.contents.exports ≡ [] = ap (λ (b : Begun). b.exports) nothing.begun in
+    let context = drawn_next config drawn in
     record {
       few_values = rw types (All-nil (HasFewValues most_listed));
-      grounded = λ never. record { fields = rw types (λ h. absurd (omega (arith, h.2))); elements = rw tables (All-nil (HasGroundedElements config (drawn_next config drawn))) };
+      grounded = λ never. record {
+        fields = rw types (λ h. absurd (omega (arith, h.2)));
+        types = subst (All (HasGranted config context)) (sym types) (All-nil (HasGranted config context));
+        elements = rw tables (All-nil (HasGroundedElements config context));
+        globals = rw globals (All-nil (HasGroundedValue config context));
+      };
       exports = rw exports (no_exports (spaces_in drawn.imported.spaces));
     }
 
@@ -105,22 +115,28 @@ pub record AreTypesBehind (config : Config) (functions : Context) (old new : Spa
   floats : config.allow_floats ≡ false → All HasNoFloat old.types → All HasNoFloat new.types
   few_values : (most : ℕ) → 20 ≤ most → All (HasFewValues most) old.types → All (HasFewValues most) new.types
   grounded : ¬ HoldsUngroundedField config (over functions old.types) → ¬ HoldsUngroundedField config (over functions new.types)
+  granted : AreTypesGranted config (over functions old.types) → AreTypesGranted config (over functions new.types)
 
--- elements that are grounded stay so as types are added
-tables_later : (config : Config) (functions : Context) (old new : Space) → Extends old.types new.types → (tables : List TableType) → All (HasGroundedElements config (over functions old.types)) tables → All (HasGroundedElements config (over functions new.types)) tables
-tables_later config functions old new longer tables h =
+-- what is grounded stays so as types are added, and so are these
+grounded_later : (config : Config) (functions : Context) (old new : Space) (spaces : IndexSpaces) → AreTypesBehind config functions old new → HoldsGrounded config (over functions old.types) spaces → HoldsGrounded config (over functions new.types) spaces
+grounded_later config functions old new spaces more h =
     let before = over functions old.types in
     let later = over functions new.types in
     let growth : IsContextGrown before later = record {
       features = refl;
-      types = longer;
+      types = more.longer;
       funcs = all_kept functions.funcs;
       globals = all_kept functions.globals;
       imported_funcs = refl;
       imported_globals = refl;
       visible = omega arith;
     } in
-    All-weaker (HasGroundedElements config before) (HasGroundedElements config later) (λ table grounded lacks. grounded (ungrounded_before config before later growth (Ref table.element_type) lacks)) tables h
+    record {
+      fields = more.grounded h.fields;
+      types = more.granted h.types;
+      elements = elements_later config before later (ungrounded_before config before later growth) spaces.tables h.elements;
+      globals = globals_later config before later (ungrounded_before config before later growth) spaces.globals h.globals;
+    }
 
 -- what a module has begun with may be drawn over once such types stand behind it
 types_drawn : (config : Config) (bytes : List ℕ) (drawn : Drawn) (types : Space) → AreShapesValid config → IsBegun config bytes drawn → AreTypesBehind config (drawn_next config drawn) drawn.types types → AreTypesDrawn config (record drawn { types = types })
@@ -130,7 +146,7 @@ types_drawn config bytes drawn types valid begun more =
       may = record {
         so_far = stands_typed config drawn types (begun_stands config bytes drawn begun) more.valid more.longer more.most;
         few_values = more.few_values most_listed (omega arith) may.few_values;
-        grounded = λ none. let old = may.grounded none in record { fields = more.grounded old.fields; elements = tables_later config (drawn_next config drawn) drawn.types types more.longer drawn.imported.spaces.tables old.elements };
+        grounded = λ none. grounded_later config (drawn_next config drawn) drawn.types types (spaces_in drawn.imported.spaces) more (may.grounded none);
         exports = may.exports;
         least_types = more.least;
       };
@@ -151,11 +167,12 @@ module _ {X : Type 0} (config : Config) (functions : Context) (old new : Space) 
   pub types_behind : (result : Result X Error) → OnOk result (AreTypesValid (features_of config) new) → OnOk result (Extends old.types new.types)
       → (length old.types ≤ config.max_types → OnOk result (length new.types ≤ config.max_types)) → (config.max_types ≤ length old.types → OnOk result (new ≡ old)) → OnOk result (config.min_types ≤ length new.types)
       → (config.allow_floats ≡ false → All HasNoFloat old.types → OnOk result (All HasNoFloat new.types)) → ((most : ℕ) → 20 ≤ most → All (HasFewValues most) old.types → OnOk result (All (HasFewValues most) new.types))
-      → (¬ HoldsUngroundedField config (over functions old.types) → OnOk result (¬ HoldsUngroundedField config (over functions new.types))) → OnOk result (AreTypesBehind config functions old new)
-  types_behind (Ok made) valid longer most full least floats few_values grounded =
+      → (¬ HoldsUngroundedField config (over functions old.types) → OnOk result (¬ HoldsUngroundedField config (over functions new.types)))
+      → (AreTypesGranted config (over functions old.types) → OnOk result (AreTypesGranted config (over functions new.types))) → OnOk result (AreTypesBehind config functions old new)
+  types_behind (Ok made) valid longer most full least floats few_values grounded granted =
       let same : config.max_types ≤ length old.types → length new.types ≡ length old.types = λ filled. ap (λ (space : Space). length space.types) (full filled) in
-      record { valid = valid; longer = longer; most = stays_within config.max_types (length old.types) (length new.types) most same; least = least; floats = floats; few_values = few_values; grounded = grounded }
-  types_behind (Err e) valid longer most full least floats few_values grounded = tt
+      record { valid = valid; longer = longer; most = stays_within config.max_types (length old.types) (length new.types) most same; least = least; floats = floats; few_values = few_values; grounded = grounded; granted = granted }
+  types_behind (Err e) valid longer most full least floats few_values grounded granted = tt
 
 -- then what a module has begun with may be drawn over
 pub drawn_behind : {X : Type 0} (config : Config) (bytes : List ℕ) (drawn : Drawn) (types : Space) (result : Result X Error) → AreShapesValid config → IsBegun config bytes drawn → OnOk result (AreTypesBehind config (drawn_next config drawn) drawn.types types)

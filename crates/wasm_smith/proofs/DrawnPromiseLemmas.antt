@@ -6,12 +6,15 @@ use Rattle.wasm_smith.specs.DrawnParts.{IsDrawnFor}
 use Rattle.smith_definitions.specs.InterestingValues.{HasInterestingValues}
 use Rattle.smith_definitions.specs.Promises.{KeepsPromises}
 use Rattle.wasm_smith.specs.declared.build.drawn.Drawn.{Drawn}
+use Rattle.wasm_smith.proofs.GrantedModuleLemmas.{granted_drawn, locals_drawn}
 use Rattle.wasm_smith.proofs.NoFloatLemmas.{no_floats_drawn}
 
 pub drawn_promises : (distinct : Bool) (config : Config) (drawn : Drawn) → IsDrawnFor distinct config drawn → KeepsPromises distinct config (parts_of config drawn)
 drawn_promises distinct config drawn h = record {
   names = λ asked free. (h.free free).apart asked;
   no_floats = λ off none. no_floats_drawn config drawn (h.floats off none);
+  granted = λ none. granted_drawn config drawn h.whole h.granted (h.grounded none);
+  granted_locals = locals_drawn config drawn h.whole h.granted;
   everything = λ all free. h.contents.exports.everything free all;
   no_start = h.contents.no_start;
   inside = λ on. record { elements = h.contents.segments.elements_inside on; data_segments = h.contents.segments.data_inside on };

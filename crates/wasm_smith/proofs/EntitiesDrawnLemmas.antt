@@ -1,6 +1,5 @@
 -- What stands once entities are defined behind imports may be drawn over, and is refused only as a module may be.
 use Rattle.std.proofs.Common.{◌≡◌, ◌≤◌, ◌^◌, ℕ, [], inl, inr, refl, subst, sym, arith}
-use Rattle.std.proofs.lemmas.List.Elements.{All-weaker}
 use Rattle.std.specs.Prelude.{false, All, Result, Ok, Err, OnOk}
 use Rattle.smith_bytes.specs.declared.error.Count.{Count}
 use Rattle.smith_bytes.specs.declared.error.Count.TheVariants as counts
@@ -10,14 +9,13 @@ use Rattle.smith_types.specs.Floats.{HasNoFloat}
 use Rattle.smith_types.specs.Grown.{IsContextGrown}
 use Rattle.smith_types.specs.Imports.{IndexSpaces, flattened, imported_spaces}
 use Rattle.smith_types.specs.IndexSpaces.{spaces_in}
-use Rattle.smith_types.specs.declared.value_type.ValType.TheVariants.{Ref}
 use Rattle.smith_types.specs.declared.index_spaces.IndexSpaces.{IndexSpaces as Held}
 use Rattle.smith_config.specs.declared.config.Config.{Config}
 use Rattle.smith_config.specs.Faults.{Passes, minimum_of}
 use Rattle.smith_config.specs.Sanitized.{IsSanitized}
 use Rattle.smith_draw.specs.ConstBounds.{HoldsUngroundedField}
 use Rattle.smith_draw.proofs.FilledLemmas.{fields_before, ungrounded_before}
-use Rattle.smith_imports.specs.Imported.{HasGroundedElements}
+use Rattle.smith_imports.specs.Imported.{HasGroundedElements, HasGroundedValue}
 use Rattle.smith_imports.specs.ShapeImports.{count_in}
 use Rattle.wasm_smith.specs.Begun.{IsOfEntities, StandsSoFar}
 use Rattle.smith_definitions.specs.Defined.{AreDefinedMore, AreFilled, HasRoom, HaveNoFloats, MayDefine, MayRefuseDefined, drawn_beside}
@@ -31,6 +29,7 @@ use Rattle.smith_definitions.proofs.StandsBehindLemmas.{defined_end}
 use Rattle.smith_definitions.proofs.DefinedLemmas.{all_behind}
 use Rattle.smith_definitions.proofs.DefinedMoreLemmas.{filled_grown, may_define_behind}
 use Rattle.wasm_smith.proofs.ExportsGrownLemmas.{exports_grown}
+use Rattle.wasm_smith.proofs.GrantedLaterLemmas.{elements_later, globals_later, types_later}
 use Rattle.wasm_smith.proofs.NonNullableLemmas.{holds_or_not}
 use Rattle.wasm_smith.proofs.StandsDefinedLemmas.{stands_defined}
 
@@ -60,7 +59,7 @@ at_least config before spaces filled _ is = absurd is
 
 -- what is grounded stays so once entities are defined
 grounded_later : (config : Config) (drawn : Drawn) (spaces : Held) (defined : Definitions) → StandsSoFar config drawn → AreDefinedMore config drawn.types (spaces_in drawn.imported.spaces) drawn.definitions (spaces_in spaces) defined
-    → HoldsGrounded config (drawn_next config drawn) drawn.imported.spaces.tables → HoldsGrounded config (drawn_beside config drawn.types.types (spaces_in spaces) defined) spaces.tables
+    → HoldsGrounded config (drawn_next config drawn) (spaces_in drawn.imported.spaces) → HoldsGrounded config (drawn_beside config drawn.types.types (spaces_in spaces) defined) (spaces_in spaces)
 grounded_later config drawn spaces defined now made old =
     let before = drawn_next config drawn in
     let later = drawn_beside config drawn.types.types (spaces_in spaces) defined in
@@ -74,11 +73,12 @@ grounded_later config drawn spaces defined now made old =
       imported_globals = refl;
       visible = omega arith;
     } in
-    let Earlier = HasGroundedElements config before in
-    let Later = HasGroundedElements config later in
+    let was = ungrounded_before config before later growth in
     record {
       fields = λ lacks. old.fields (fields_before config before later growth refl lacks);
-      elements = all_behind Later (All-weaker Earlier Later (λ table grounded lacks. grounded (ungrounded_before config before later growth (Ref table.element_type) lacks)) drawn.imported.spaces.tables old.elements) made.grounded;
+      types = types_later config before later was drawn.types.types old.types;
+      elements = all_behind (HasGroundedElements config later) (elements_later config before later was drawn.imported.spaces.tables old.elements) made.grounded_tables;
+      globals = all_behind (HasGroundedValue config later) (globals_later config before later was drawn.imported.spaces.globals old.globals) made.grounded_globals;
     }
 
 -- what stands once they are defined

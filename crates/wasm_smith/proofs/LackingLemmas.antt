@@ -22,6 +22,7 @@ use Rattle.smith_types.specs.declared.composite_type.FieldType.{FieldType}
 use Rattle.smith_types.specs.declared.composite_type.StorageType.{StorageType}
 use Rattle.smith_types.specs.declared.composite_type.StorageType.TheVariants.{I8, I16, Val}
 use Rattle.smith_types.specs.declared.composite_type.SubType.{SubType}
+use Rattle.smith_types.specs.declared.entity_type.GlobalType.{GlobalType}
 use Rattle.smith_types.specs.declared.entity_type.TableType.{TableType}
 use Rattle.smith_types.specs.declared.value_type.ValType.{ValType}
 use Rattle.smith_types.specs.declared.value_type.ValType.TheVariants.{Ref}
@@ -31,10 +32,11 @@ use Rattle.smith_config.specs.declared.shape.Shape.{Shape}
 use Rattle.smith_config.specs.Shapes.{shape_imports, shape_spaces, shape_types, shape_values}
 use Rattle.smith_draw.specs.ConstBounds.{IsNonNullable, IsUngrounded}
 use Rattle.smith_draw.specs.ConstScopes.{fields_of}
+use Rattle.smith_draw.specs.Granted.{HasGranted, IsGranted}
 use Rattle.smith_draw.specs.Grounding.{over}
 use Rattle.smith_draw.proofs.FilledLemmas.{any_weaker}
 use Rattle.smith_draw.proofs.NullableLemmas.{ungrounded_not_null}
-use Rattle.smith_imports.specs.Imported.{HasGroundedElements}
+use Rattle.smith_imports.specs.Imported.{HasGroundedElements, HasGroundedValue}
 use Rattle.wasm_smith.specs.Begun.{MayRefuseBegun}
 use Rattle.smith_definitions.specs.Bounds.{brought_by_module}
 use Rattle.wasm_smith.specs.DrawnSteps.{HoldsGrounded}
@@ -67,29 +69,56 @@ no_field inner values (k, value, inside, at, never) =
     (All-map MayBeNull (λ (field : FieldType). unpacked field.element_type) (fields_of inner) (fields_null inner (held_from_values MayBeNull inner values)))
     (k, inside, at) never
 
--- where no value of types and index spaces is such a reference, no field of a type and no element of a table is one, whatever is grounded
-grounded_values : (config : Config) (functions : Context) (types : List SubType) (spaces : IndexSpaces) → ¬ Any IsNonNullable (values_in types spaces) → HoldsGrounded config (over functions types) spaces.tables
-grounded_values config functions types spaces none =
-    let (of_types, of_tables, of_globals) = all_values_apart MayBeNull types spaces (none_has IsNonNullable (values_in types spaces) none) in
-    let context = over functions types in
-    record {
-      fields = λ (k, t, inside, at, holds). no_field t.composite_type.inner (All-contains (λ (t : SubType). All MayBeNull (values_of t.composite_type.inner)) types t of_types (k, inside, at))
-          (any_weaker (IsUngrounded config context) IsNonNullable (ungrounded_not_null config context) (field_values (fields_of t.composite_type.inner)) holds);
-      elements = All-weaker (λ (table : TableType). MayBeNull (Ref table.element_type)) (HasGroundedElements config context) (λ table may lacks. may lacks.0) spaces.tables of_tables;
-    }
+-- a value that may be null is no such reference, whatever is grounded
+granted_null : (config : Config) (context : Context) (value : ValType) → MayBeNull value → IsGranted config context value
+granted_null config context value may lacks = may (ungrounded_not_null config context value lacks)
 
--- a shape that is used holds no such reference in its types and its tables where no shape that is used holds one
-pub shape_grounded : (config : Config) (functions : Context) (for_use : Which) (shape : Shape) → shape_for config for_use ≡ Some shape → (HoldsNonNullable config → ⊥) → HoldsGrounded config (over functions (shape_types shape)) (shape_spaces shape).tables
-shape_grounded config functions for_use shape used none =
-    grounded_values config functions (shape_types shape) (shape_spaces shape)
-    (λ holds. none (for_use, subst (λ (one : Option Shape). IsSomeAnd one (λ each. Any IsNonNullable (shape_values each))) (sym used) holds))
+-- no value of types, tables and globals is such a reference in a context, which may have other types
+pub record AreValuesGranted (config : Config) (context : Context) (types : List SubType) (spaces : IndexSpaces) : Type 0 where
+  pub types : All (HasGranted config context) types
+  pub elements : All (HasGroundedElements config context) spaces.tables
+  pub globals : All (HasGroundedValue config context) spaces.globals
 
--- nor in its tables over any types
-pub grounded_tables_of : (config : Config) (context : Context) (for_use : Which) (shape : Shape) → shape_for config for_use ≡ Some shape → (HoldsNonNullable config → ⊥) → All (HasGroundedElements config context) (shape_spaces shape).tables
-grounded_tables_of config context for_use shape used none =
-    let never : ¬ Any IsNonNullable (values_in (shape_types shape) (shape_spaces shape)) = λ holds. none (for_use, subst (λ (one : Option Shape). IsSomeAnd one (λ each. Any IsNonNullable (shape_values each))) (sym used) holds) in
-    let (of_types, of_tables, of_globals) = all_values_apart MayBeNull (shape_types shape) (shape_spaces shape) (none_has IsNonNullable (values_in (shape_types shape) (shape_spaces shape)) never) in
-    All-weaker (λ (table : TableType). MayBeNull (Ref table.element_type)) (HasGroundedElements config context) (λ table may lacks. may lacks.0) (shape_spaces shape).tables of_tables
+module _ (config : Config) (types : List SubType) (spaces : IndexSpaces) (none : ¬ Any IsNonNullable (values_in types spaces)) where
+  apart : All (λ (t : SubType). All MayBeNull (values_of t.composite_type.inner)) types × All (λ (table : TableType). MayBeNull (Ref table.element_type)) spaces.tables × All (λ (global : GlobalType). MayBeNull global.val_type) spaces.globals
+  apart = all_values_apart MayBeNull types spaces (none_has IsNonNullable (values_in types spaces) none)
+
+  -- where none may not be null, none is such a reference, whatever is grounded
+  granted_values : (context : Context) → AreValuesGranted config context types spaces
+  granted_values context =
+      let (of_types, of_tables, of_globals) = apart in
+      let granted = granted_null config context in
+      record {
+        types = All-weaker (λ (t : SubType). All MayBeNull (values_of t.composite_type.inner)) (HasGranted config context)
+            (λ t h. All-weaker MayBeNull (IsGranted config context) granted (values_of t.composite_type.inner) h) types of_types;
+        elements = All-weaker (λ (table : TableType). MayBeNull (Ref table.element_type)) (HasGroundedElements config context) (λ table. granted (Ref table.element_type)) spaces.tables of_tables;
+        globals = All-weaker (λ (global : GlobalType). MayBeNull global.val_type) (HasGroundedValue config context) (λ global. granted global.val_type) spaces.globals of_globals;
+      }
+
+  grounded_values : (functions : Context) → HoldsGrounded config (over functions types) spaces
+  grounded_values functions =
+      let (of_types, of_tables, of_globals) = apart in
+      let context = over functions types in
+      let all = granted_values context in
+      record {
+        fields = λ (k, t, inside, at, holds). no_field t.composite_type.inner (All-contains (λ (t : SubType). All MayBeNull (values_of t.composite_type.inner)) types t of_types (k, inside, at))
+            (any_weaker (IsUngrounded config context) IsNonNullable (ungrounded_not_null config context) (field_values (fields_of t.composite_type.inner)) holds);
+        types = all.types;
+        elements = all.elements;
+        globals = all.globals;
+      }
+
+module _ (config : Config) (context : Context) (for_use : Which) (shape : Shape) (used : shape_for config for_use ≡ Some shape) (none : HoldsNonNullable config → ⊥) where
+  none_held : ¬ Any IsNonNullable (shape_values shape)
+  none_held holds = none (for_use, subst (λ (one : Option Shape). IsSomeAnd one (λ each. Any IsNonNullable (shape_values each))) (sym used) holds)
+
+  -- a shape that is used holds no such reference where no shape that is used holds one
+  pub shape_grounded : HoldsGrounded config (over context (shape_types shape)) (shape_spaces shape)
+  shape_grounded = grounded_values config (shape_types shape) (shape_spaces shape) none_held context
+
+  -- nor over any types
+  pub shape_granted : AreValuesGranted config context (shape_types shape) (shape_spaces shape)
+  shape_granted = granted_values config (shape_types shape) (shape_spaces shape) none_held context
 
 -- what a module shape is made over
 abbrev beside_shape : Config → Shape → Context

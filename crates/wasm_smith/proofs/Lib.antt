@@ -9,6 +9,7 @@ pub mod DrawnPromiseLemmas
 pub mod ReachedLemmas
 pub mod CountingLemmas
 pub mod NoFloatLemmas
+pub mod GrantedModuleLemmas
 pub mod BegunLemmas
 pub mod TypesGrownLemmas
 pub mod GrownSizeLemmas
@@ -19,6 +20,7 @@ pub mod NonNullableLemmas
 pub mod StandsWholeLemmas
 pub mod KeptShapeLemmas
 pub mod PartsLemmas
+pub mod GrantedLaterLemmas
 pub mod LackingLemmas
 pub mod BegunTypedLemmas
 pub mod AddedImportLemmas

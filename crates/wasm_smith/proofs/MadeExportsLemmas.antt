@@ -1,7 +1,7 @@
 -- What stands once the exports of a module are made: those of a module shape, those of a shape for exports, or free ones.
 use Rattle.std.proofs.Common.{◌≡◌, ◌∙◌, ◌⊎◌, ℕ, ◌+◌, ◌<◌, ◌≤◌, ◌^◌, ◌||◌, false, true, List, [], length, inl, inr, refl, subst, sym, ap, arith}
 use Rattle.std.specs.Prelude.{All, IfSome, IsSome, Option, Some, None, is_some, if◌then◌else◌}
-use Rattle.std.proofs.lemmas.List.Elements.{All-contains, All-weaker}
+use Rattle.std.proofs.lemmas.List.Elements.{All-contains}
 use Rattle.smith_bytes.specs.declared.error.Count.{Count}
 use Rattle.smith_bytes.specs.declared.error.Count.TheVariants as counts
 use Rattle.smith_bytes.specs.declared.error.Error.{Error}
@@ -12,7 +12,6 @@ use Rattle.smith_types.specs.Grown.{Extends, IsContextGrown, AreSpacesGrown}
 use Rattle.smith_types.specs.Imports.{flattened, imported_spaces}
 use Rattle.smith_types.specs.IndexSpaces.{spaces_in}
 use Rattle.smith_types.specs.Space.{Space}
-use Rattle.smith_types.specs.declared.value_type.ValType.TheVariants.{Ref}
 use Rattle.smith_types.specs.declared.composite_type.SubType.{SubType}
 use Rattle.smith_types.specs.declared.index_spaces.IndexSpaces.{IndexSpaces as Held}
 use Rattle.smith_types.proofs.EntityGrowthLemmas.{no_fewer}
@@ -21,11 +20,12 @@ use Rattle.smith_config.specs.declared.shape.Shape.{Shape}
 use Rattle.smith_config.specs.Faults.{Passes}
 use Rattle.smith_config.specs.InUse.{FixesExports}
 use Rattle.smith_config.specs.Sanitized.{IsSanitized}
-use Rattle.smith_config.specs.Shapes.{IsShapeValid, most_listed, shape_spaces}
+use Rattle.smith_config.specs.Shapes.{IsShapeValid, most_listed, shape_spaces, shape_types}
 use Rattle.smith_draw.specs.ConstBounds.{HoldsUngroundedField}
 use Rattle.smith_draw.specs.FuncSizes.{HasFewValues}
+use Rattle.smith_draw.specs.Granted.{HasGranted}
 use Rattle.smith_draw.proofs.FilledLemmas.{ungrounded_before}
-use Rattle.smith_imports.specs.Imported.{HasGroundedElements}
+use Rattle.smith_imports.specs.Imported.{HasGroundedElements, HasGroundedValue}
 use Rattle.smith_imports.specs.ShapeImports.{count_in}
 use Rattle.smith_contents.specs.Exporting.{Export, exported_size}
 use Rattle.smith_contents.specs.declared.exported.Exports.{Exports}
@@ -37,14 +37,15 @@ use Rattle.wasm_smith.specs.Contents.{MayHoldContents}
 use Rattle.smith_definitions.specs.Defined.{StandsBehind, drawn_beside}
 use Rattle.wasm_smith.specs.DrawnSteps.{AreEntitiesDrawn, AreExportsDrawn, HoldsGrounded, IsBeyond, MayGoOn, drawn_next}
 use Rattle.smith_definitions.specs.Refusals.{AreShapesValid, HoldsNonNullable, MayRefuse, shape_for}
-use Rattle.smith_definitions.specs.Required.{AddsLimitsOf, MayDefineMore, MayLackIn, MayRefuseRequired}
+use Rattle.smith_definitions.specs.Required.{AddsLimitsOf, AddsTypesOf, MayDefineMore, MayLackIn, MayRefuseRequired}
 use Rattle.smith_definitions.specs.declared.definitions.Definitions.{Definitions}
 use Rattle.wasm_smith.specs.declared.build.drawn.Drawn.{Drawn}
 use Rattle.wasm_smith.proofs.BroughtLemmas.{few_added, few_brought}
 use Rattle.smith_definitions.proofs.ExtensionLemmas.{all_kept}
 use Rattle.smith_definitions.proofs.DefinedMoreLemmas.{stands_within}
 use Rattle.smith_definitions.proofs.StandsBehindLemmas.{defined_end}
-use Rattle.wasm_smith.proofs.LackingLemmas.{grounded_tables_of}
+use Rattle.wasm_smith.proofs.GrantedLaterLemmas.{elements_later, globals_later, types_later}
+use Rattle.wasm_smith.proofs.LackingLemmas.{shape_granted}
 use Rattle.wasm_smith.proofs.NonNullableLemmas.{holds_or_not}
 use Rattle.wasm_smith.proofs.StandsWholeLemmas.{either_kept, not_types, stands_required, stands_whole}
 
@@ -144,13 +145,13 @@ module _ (config : Config) (shape : Shape) (drawn : Drawn) (none : config.module
   required_refuses e refused = lacks_so e refused
 
   required_grounded : (types : Space) (spaces : Held) (defined : Definitions) → Extends drawn.types.types types.types → AreSpacesGrown (spaces_in drawn.imported.spaces) (spaces_in spaces)
-      → (HoldsUngroundedField config (drawn_beside config types.types (spaces_in spaces) defined) → HoldsUngroundedField config (drawn_next config drawn)) → AddsLimitsOf shape (spaces_in drawn.imported.spaces) (spaces_in spaces)
-      → StandsBehind config (imported_spaces (flattened drawn.imported.groups)) types (spaces_in spaces) defined → (HoldsNonNullable config → ⊥) → HoldsGrounded config (drawn_beside config types.types (spaces_in spaces) defined) spaces.tables
-  required_grounded types spaces defined longer grown lacking limits stands never =
+      → (HoldsUngroundedField config (drawn_beside config types.types (spaces_in spaces) defined) → HoldsUngroundedField config (drawn_next config drawn)) → AddsTypesOf shape drawn.types.types types.types → AddsLimitsOf shape (spaces_in drawn.imported.spaces) (spaces_in spaces)
+      → StandsBehind config (imported_spaces (flattened drawn.imported.groups)) types (spaces_in spaces) defined → (HoldsNonNullable config → ⊥) → HoldsGrounded config (drawn_beside config types.types (spaces_in spaces) defined) (spaces_in spaces)
+  required_grounded types spaces defined longer grown lacking listed limits stands never =
       let old = drawn_next config drawn in
       let new = drawn_beside config types.types (spaces_in spaces) defined in
       let before = may.grounded never in
-      let theirs = grounded_tables_of config new which.Exports shape (rw (none, given) refl) never in
+      let theirs = shape_granted config new which.Exports shape (rw (none, given) refl) never in
       let growth : IsContextGrown old new = record {
         features = refl;
         types = longer;
@@ -160,14 +161,21 @@ module _ (config : Config) (shape : Shape) (drawn : Drawn) (none : config.module
         imported_globals = refl;
         visible = omega arith;
       } in
-      let Earlier = HasGroundedElements config old in
-      let Later = HasGroundedElements config new in
+      let was = ungrounded_before config old new growth in
+      let Types = HasGranted config new in
+      let Elements = HasGroundedElements config new in
+      let Values = HasGroundedValue config new in
       record {
         fields = λ field. before.fields (lacking field);
+        types =
+            either_kept Types drawn.types.types (shape_types shape) types.types (types_later config old new was drawn.types.types before.types)
+            (λ t h. All-contains Types (shape_types shape) t theirs.types h) listed;
         elements =
-            either_kept Later drawn.imported.spaces.tables (shape_spaces shape).tables spaces.tables
-            (All-weaker Earlier Later (λ table grounded lacks. grounded (ungrounded_before config old new growth (Ref table.element_type) lacks)) drawn.imported.spaces.tables before.elements)
-            (λ table h. All-contains Later (shape_spaces shape).tables table theirs h) limits.tables;
+            either_kept Elements drawn.imported.spaces.tables (shape_spaces shape).tables spaces.tables (elements_later config old new was drawn.imported.spaces.tables before.elements)
+            (λ table h. All-contains Elements (shape_spaces shape).tables table theirs.elements h) limits.tables;
+        globals =
+            either_kept Values drawn.imported.spaces.globals (shape_spaces shape).globals spaces.globals (globals_later config old new was drawn.imported.spaces.globals before.globals)
+            (λ global h. All-contains Values (shape_spaces shape).globals global theirs.globals h) limits.globals;
       }
 
 -- the exports of a shape are made behind what stands
@@ -176,13 +184,14 @@ module _ (config : Config) (shape : Shape) (drawn : Drawn) (types : Space) (spac
       → (HoldsUngroundedField config (drawn_beside config types.types (spaces_in spaces) defined) → HoldsUngroundedField config (drawn_next config drawn)) → (All (HasFewValues most_listed) drawn.types.types → All (HasFewValues most_listed) types.types)
       → ((count : Count) → (count ≡ counts.Types → ⊥) → count_in (spaces_in spaces) count ≡ count_in (spaces_in drawn.imported.spaces) count + exported_of count shape)
       → AreSpacesGrown (spaces_in drawn.imported.spaces) (spaces_in spaces)
+      → AddsTypesOf shape drawn.types.types types.types
       → AddsLimitsOf shape (spaces_in drawn.imported.spaces) (spaces_in spaces)
       → StandsBehind config (imported_spaces (flattened drawn.imported.groups)) types (spaces_in spaces) defined
       → AreExportsDrawn config (record drawn { types = types; imported = record drawn.imported { spaces = spaces }; definitions = defined })
-  required_drawn now longer most lacking few counted grown limits stands = record {
+  required_drawn now longer most lacking few counted grown listed limits stands = record {
     whole = stands_required config shape drawn types spaces defined none given now.may.so_far longer most counted limits stands;
     few_values = few now.may.few_values;
-    grounded = required_grounded config shape drawn none given now.may types spaces defined longer grown lacking limits stands;
+    grounded = required_grounded config shape drawn none given now.may types spaces defined longer grown lacking listed limits stands;
     least_types = let before = now.may.least_types in let fewer = no_fewer drawn.types.types longer.more in let end = ap (λ (all : List SubType). length all) longer.parts in omega (arith, before, fewer, end);
     least = λ count is. let before = now.least count is in let here = counted count (not_types count is) in omega (arith, before, here);
     small = λ without. let shapeless = without.exports in absurd cc;

@@ -12,9 +12,9 @@ use Rattle.smith_imports.specs.declared.imported.Imported.{Imported}
 use Rattle.smith_contents.specs.declared.exported.Exports.{Exports}
 use Rattle.wasm_smith.specs.Begun.{Begun, StandsWhole}
 use Rattle.wasm_smith.specs.Build.{GivesOrLacks, begun_typed_at, defined_at, exported_at, exports_of, imported_at, in_full, module_at, module_of}
-use Rattle.wasm_smith.specs.DrawnContents.{AreContents, HasNoFloatContents, behind_exports_at, imported_in}
+use Rattle.wasm_smith.specs.DrawnContents.{AreContents, HasGrantedContents, HasNoFloatContents, behind_exports_at, imported_in}
 use Rattle.wasm_smith.specs.DrawnParts.{IsDrawnFor}
-use Rattle.wasm_smith.specs.DrawnSteps.{AreExportsDrawn, AreFreeImports, HasSameImports}
+use Rattle.wasm_smith.specs.DrawnSteps.{AreExportsDrawn, AreFreeImports, HasSameImports, drawn_next}
 use Rattle.smith_definitions.specs.Module.{Parts}
 use Rattle.smith_definitions.specs.InterestingValues.{AreAll, IsInteresting32, IsInteresting64}
 use Rattle.wasm_smith.specs.declared.build.contents.Contents.{Contents}
@@ -79,9 +79,9 @@ written_so flag same written some = written (rw same.groups at some)
 pub drawn_for : {distinct : Bool} {config : Config} {before : Imported} {drawn : Drawn} (contents : Contents) (flag : Bool) (narrow wide : List ℕ) → AreExportsDrawn config drawn
     → ((FixesImports config → ⊥) → AreFreeImports distinct config before) → HasSameImports before drawn.imported → (0 < length before.groups → IsTrue flag)
     → AreContents config drawn.types.types (imported_in drawn.imported) (spaces_in drawn.imported.spaces) drawn.imported.type_size contents → (config.allow_floats ≡ false → HasNoShapes config → HasNoFloatContents contents)
-    → AreAll (IsInteresting32 drawn.imported.spaces.tables drawn.imported.spaces.memories) narrow → AreAll (IsInteresting64 drawn.imported.spaces.tables drawn.imported.spaces.memories) wide
+    → HasGrantedContents config (drawn_next config drawn) drawn.imported.spaces.tables contents → AreAll (IsInteresting32 drawn.imported.spaces.tables drawn.imported.spaces.memories) narrow → AreAll (IsInteresting64 drawn.imported.spaces.tables drawn.imported.spaces.memories) wide
     → IsDrawnFor distinct config (record drawn { contents = contents; encodes_imports = flag; interesting_values32 = narrow; interesting_values64 = wide })
-drawn_for {drawn = drawn} contents flag narrow wide h free same written kept calm those32 those64 =
+drawn_for {drawn = drawn} contents flag narrow wide h free same written kept calm granted those32 those64 =
     let later : Drawn = record drawn { contents = contents; encodes_imports = flag; interesting_values32 = narrow; interesting_values64 = wide } in
     record {
       whole = whole_with later refl refl refl h.whole;
@@ -93,4 +93,6 @@ drawn_for {drawn = drawn} contents flag narrow wide h free same written kept cal
       interesting32 = those32;
       encodes_imports = written_so flag same written;
       floats = λ off none. let so_far = h.floats off none in record { types = so_far.types; defined = so_far.defined; contents = calm off none };
+      grounded = h.grounded;
+      granted = granted;
     }

@@ -2,6 +2,7 @@
 use Rattle.std.proofs.Common.{◌≡◌, ◌⊎◌, List, refl, sym, subst, inl, inr}
 use Rattle.std.specs.Prelude.{Option, Some, None, Result, Ok, Err, IfErr, All}
 use Rattle.smith_types.specs.Expressions.{Context}
+use Rattle.smith_types.specs.Imports.{IndexSpaces}
 use Rattle.smith_types.specs.declared.entity_type.TableType.{TableType}
 use Rattle.smith_config.specs.declared.config.Config.{Config}
 use Rattle.smith_config.specs.declared.shape.Shape.{Shape}
@@ -48,15 +49,9 @@ module _ (config : Config) (context : Context) (tables : List TableType) where
   elements_refuse e (inl (inr (empty, lacking))) = subst (MayRefuseContents config context tables) (sym empty) lacking
   elements_refuse e (inr (unmet, asked, off)) = subst (MayRefuseContents config context tables) (sym unmet) (tt, (asked, off))
 
-  item_there : HasUngroundedElements config context tables → All (HasGroundedElements config context) tables → ⊥
-  item_there (k, table, inside, is, lacks) each = each k table inside (rw is lacks)
-
-  -- where there may be nothing to choose from, a shape that is used holds a reference that may not be null
-  pub lacks_so : ((HoldsNonNullable config → ⊥) → HoldsGrounded config context tables) → MayLackItem config context tables → HoldsNonNullable config
-  lacks_so grounded lack = elim (holds_or_not config) [
-    | inl holds ↦ holds
-    | inr none ↦ let all = grounded none in elim lack [ inl field ↦ absurd (all.fields field) | inr table ↦ absurd (item_there table all.elements) ]
-  ]
+  -- no element is ungrounded where each table's elements are grounded
+  pub none_lacks : All (HasGroundedElements config context) tables → HasUngroundedElements config context tables → ⊥
+  none_lacks each (k, table, inside, is, lacks) = each k table inside (rw is lacks)
 
   -- contents are refused where a module may be
   pub contents_refuse : {X : Type 0} (r : Result X Error) → (MayLackItem config context tables → HoldsNonNullable config) → IfErr r (MayRefuseContents config context tables) → IfErr r (MayRefuse config)
@@ -67,6 +62,13 @@ module _ (config : Config) (context : Context) (tables : List TableType) where
   contents_refuse (Err (errors.IncorrectFormat why)) lacks h = h
   contents_refuse (Err (errors.Config fault)) lacks h = h
   contents_refuse (Err (errors.Shape for_use fault)) lacks h = h
+
+-- where there may be nothing to choose from, a shape that is used holds a reference that may not be null
+pub lacks_so : (config : Config) (context : Context) (spaces : IndexSpaces) → ((HoldsNonNullable config → ⊥) → HoldsGrounded config context spaces) → MayLackItem config context spaces.tables → HoldsNonNullable config
+lacks_so config context spaces grounded lack = elim (holds_or_not config) [
+  | inl holds ↦ holds
+  | inr none ↦ let all = grounded none in elim lack [ inl field ↦ absurd (all.fields field) | inr table ↦ absurd (none_lacks config context spaces.tables all.elements table) ]
+]
 
 -- without a shape for them, imports are refused where a module may be
 pub imports_refuse : (config : Config) (e : Error) → (FixesImports config → ⊥) → MayRefuseImports config e → MayRefuse config e

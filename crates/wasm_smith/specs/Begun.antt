@@ -95,6 +95,7 @@ pub record IsBegunByModule (config : Config) (shape : Shape) (drawn : Drawn) : T
   pub counted : (count : Count) → (count ≡ counts.Types → ⊥) → (count ≡ counts.Imports → ⊥) → count_in (spaces_in drawn.imported.spaces) count ≡ brought_by_module count shape
   pub tables : All (Contains (shape_spaces shape).tables) drawn.imported.spaces.tables
   pub memories : All (Contains (shape_spaces shape).memories) drawn.imported.spaces.memories
+  pub globals : All (Contains (shape_spaces shape).globals) drawn.imported.spaces.globals
   pub exports : AllZip (IsSameExport (λ mine yours. mine ≡ yours) (spaces_in drawn.imported.spaces) (shape_spaces shape)) drawn.contents.exports shape.exports
   pub exports_valid : AreExportsValid (spaces_in drawn.imported.spaces) drawn.contents.exports
 
@@ -109,6 +110,7 @@ pub record IsBegunByImports (config : Config) (shape : Shape) (bytes : List ℕ)
   pub within : AreImportsWithin config (shape_types shape) (flattened drawn.imported.groups)
   pub tables : All (Contains (shape_spaces shape).tables) drawn.imported.spaces.tables
   pub memories : All (Contains (shape_spaces shape).memories) drawn.imported.spaces.memories
+  pub globals : All (Contains (shape_spaces shape).globals) drawn.imported.spaces.globals
   pub spaces : spaces_in drawn.imported.spaces ≡ imported_spaces (flattened drawn.imported.groups)
   pub exports : drawn.contents.exports ≡ []
 

@@ -10,13 +10,16 @@ use Rattle.smith_types.specs.Floats.{IsNoFloat}
 use Rattle.smith_types.specs.Imports.{IndexSpaces, flattened, imported_spaces}
 use Rattle.smith_types.specs.Segments.{IsElementValid, IsElementInside, IsDataValid, IsDataInside}
 use Rattle.smith_types.specs.declared.composite_type.SubType.{SubType}
+use Rattle.smith_types.specs.declared.entity_type.TableType.{TableType}
 use Rattle.smith_types.specs.declared.segments.ElementSegment.{ElementSegment}
 use Rattle.smith_types.specs.declared.code.Code.{Code}
 use Rattle.smith_config.specs.declared.config.Config.{Config}
 use Rattle.smith_config.specs.Features.{features_of}
 use Rattle.smith_config.specs.InUse.{FixesExports}
+use Rattle.smith_draw.specs.Granted.{IsGranted}
 use Rattle.smith_draw.specs.Grounding.{without_globals}
 use Rattle.smith_draw.specs.ConstFloats.{GivesNoFloat}
+use Rattle.smith_contents.specs.DrawnElements.{HasGroundedItems}
 use Rattle.smith_contents.specs.Held.{HasItems}
 use Rattle.smith_contents.specs.ExportedItems.{AreAllExported}
 use Rattle.smith_contents.specs.DataSegments.{data_at}
@@ -31,6 +34,7 @@ use Rattle.smith_contents.specs.declared.exported.Exports.{Exports}
 use Rattle.smith_imports.specs.Steps.{◌>>=◌, section_flag_at}
 use Rattle.wasm_smith.specs.declared.build.contents.Contents.{Contents}
 use Rattle.smith_definitions.specs.declared.definitions.Definitions.{Definitions}
+use Rattle.smith_imports.specs.Imported.{HasGroundedElements}
 use Rattle.smith_imports.specs.declared.imported.Imported.{Imported}
 use Rattle.wasm_smith.specs.declared.build.segments.Segments.{Segments}
 
@@ -113,6 +117,12 @@ pub record AreContents (config : Config) (types : List SubType) (imported spaces
 -- no item of an element segment is a float
 abbrev pub HaveNoFloatItems : List ElementSegment → Type 0
 HaveNoFloatItems segments = All (All GivesNoFloat) (flat_map (λ (segment : ElementSegment). expressions_of segment.items) segments)
+
+-- references are nullable or grounded: those of the locals of bodies, and, if the elements of all
+-- tables are, those of the items of segments
+pub record HasGrantedContents (config : Config) (context : Context) (tables : List TableType) (contents : Contents) : Type 0 where
+  pub items : All (HasGroundedElements config context) tables → All (HasGroundedItems config context) contents.segments.elements
+  pub locals : All (IsGranted config context) (flat_map (λ (body : Code). body.locals) contents.code)
 
 -- no item of a segment and no local of a body is a float
 pub record HasNoFloatContents (contents : Contents) : Type 0 where

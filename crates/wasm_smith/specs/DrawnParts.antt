@@ -9,8 +9,9 @@ use Rattle.smith_config.specs.InUse.{HasNoShapes, FixesImports}
 use Rattle.smith_imports.specs.ShapeImports.{count_in}
 use Rattle.wasm_smith.specs.Begun.{StandsWhole, IsOfEntities}
 use Rattle.smith_definitions.specs.Defined.{HaveNoFloats}
-use Rattle.wasm_smith.specs.DrawnContents.{AreContents, HasNoFloatContents, imported_in}
-use Rattle.wasm_smith.specs.DrawnSteps.{AreFreeImports}
+use Rattle.wasm_smith.specs.DrawnContents.{AreContents, HasGrantedContents, HasNoFloatContents, imported_in}
+use Rattle.wasm_smith.specs.DrawnSteps.{AreFreeImports, HoldsGrounded, drawn_next}
+use Rattle.smith_definitions.specs.Refusals.{HoldsNonNullable}
 use Rattle.smith_definitions.specs.InterestingValues.{AreAll, IsInteresting32, IsInteresting64}
 use Rattle.wasm_smith.specs.declared.build.drawn.Drawn.{Drawn}
 
@@ -31,3 +32,5 @@ pub record IsDrawnFor (distinct : Bool) (config : Config) (drawn : Drawn) : Type
   pub interesting32 : AreAll (IsInteresting32 drawn.imported.spaces.tables drawn.imported.spaces.memories) drawn.interesting_values32
   pub encodes_imports : 0 < length drawn.imported.groups → IsTrue drawn.encodes_imports
   pub floats : config.allow_floats ≡ false → HasNoShapes config → HasNoFloatParts drawn
+  pub grounded : (HoldsNonNullable config → ⊥) → HoldsGrounded config (drawn_next config drawn) (spaces_in drawn.imported.spaces)
+  pub granted : HasGrantedContents config (drawn_next config drawn) drawn.imported.spaces.tables drawn.contents

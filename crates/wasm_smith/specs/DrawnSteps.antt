@@ -6,9 +6,8 @@ use Rattle.smith_types.specs.Exports.{AreDistinct, AreExportsValid}
 use Rattle.smith_types.specs.Expressions.{Context}
 use Rattle.smith_types.specs.Floats.{HasNoFloat}
 use Rattle.smith_types.specs.Grown.{Extends, AreSpacesGrown}
-use Rattle.smith_types.specs.Imports.{flattened}
+use Rattle.smith_types.specs.Imports.{IndexSpaces, flattened}
 use Rattle.smith_types.specs.IndexSpaces.{spaces_in}
-use Rattle.smith_types.specs.declared.entity_type.TableType.{TableType}
 use Rattle.smith_types.specs.declared.imports.Import.{Import}
 use Rattle.smith_config.specs.declared.config.Config.{Config}
 use Rattle.smith_config.specs.declared.shape.Shape.{Shape}
@@ -17,7 +16,8 @@ use Rattle.smith_config.specs.InUse.{HasNoShapes, FixesImports, shapes_of}
 use Rattle.smith_config.specs.Shapes.{most_listed, shape_imports, shape_spaces, shape_types, space_of}
 use Rattle.smith_draw.specs.ConstBounds.{HoldsUngroundedField}
 use Rattle.smith_draw.specs.FuncSizes.{HasFewValues, IsSmall}
-use Rattle.smith_imports.specs.Imported.{HasNoImports, HasGroundedElements}
+use Rattle.smith_draw.specs.Granted.{AreTypesGranted}
+use Rattle.smith_imports.specs.Imported.{HasNoImports, HasGroundedElements, HasGroundedValue}
 use Rattle.smith_imports.specs.ShapeImports.{kept_groups, taken_from, count_in}
 use Rattle.smith_imports.specs.declared.imported.Imported.{Imported}
 use Rattle.wasm_smith.specs.Begun.{Begun, StandsSoFar, StandsWhole, IsOfEntities}
@@ -30,11 +30,13 @@ use Rattle.wasm_smith.specs.declared.build.drawn.Drawn.{Drawn}
 abbrev pub drawn_next : Config → Drawn → Context
 drawn_next config drawn = drawn_beside config drawn.types.types (spaces_in drawn.imported.spaces) drawn.definitions
 
--- no field of a type, and no element of a table, is a reference that is not nullable and not
--- grounded
-pub record HoldsGrounded (config : Config) (context : Context) (tables : List TableType) : Type 0 where
+-- references are nullable or grounded: those of the fields, parameters and results of types, of the
+-- elements of tables, and of the values of globals
+pub record HoldsGrounded (config : Config) (context : Context) (spaces : IndexSpaces) : Type 0 where
   pub fields : HoldsUngroundedField config context → ⊥
-  pub elements : All (HasGroundedElements config context) tables
+  pub types : AreTypesGranted config context
+  pub elements : All (HasGroundedElements config context) spaces.tables
+  pub globals : All (HasGroundedValue config context) spaces.globals
 
 -- without shapes function types are small, and so is the amount that imports add to the type size
 pub record HasSmallSizes (config : Config) (drawn : Drawn) : Type 0 where
@@ -52,7 +54,7 @@ pub record HasNoFloatSoFar (drawn : Drawn) : Type 0 where
 pub record MayGoOn (config : Config) (drawn : Drawn) : Type 0 where
   pub so_far : StandsSoFar config drawn
   pub few_values : All (HasFewValues most_listed) drawn.types.types
-  pub grounded : (HoldsNonNullable config → ⊥) → HoldsGrounded config (drawn_next config drawn) drawn.imported.spaces.tables
+  pub grounded : (HoldsNonNullable config → ⊥) → HoldsGrounded config (drawn_next config drawn) (spaces_in drawn.imported.spaces)
   pub exports : AreExportsValid (spaces_in drawn.imported.spaces) drawn.contents.exports
   pub least_types : config.min_types ≤ length drawn.types.types
 
@@ -91,7 +93,7 @@ pub record AreEntitiesDrawn (config : Config) (drawn : Drawn) : Type 0 where
 pub record AreExportsDrawn (config : Config) (drawn : Drawn) : Type 0 where
   pub whole : StandsWhole config drawn
   pub few_values : All (HasFewValues most_listed) drawn.types.types
-  pub grounded : (HoldsNonNullable config → ⊥) → HoldsGrounded config (drawn_next config drawn) drawn.imported.spaces.tables
+  pub grounded : (HoldsNonNullable config → ⊥) → HoldsGrounded config (drawn_next config drawn) (spaces_in drawn.imported.spaces)
   pub least_types : config.min_types ≤ length drawn.types.types
   pub least : (count : Count) → IsOfEntities count → minimum_of config count ≤ count_in (spaces_in drawn.imported.spaces) count
   pub small : HasNoShapes config → HasSmallSizes config drawn

@@ -7,11 +7,11 @@ ghost use Rattle.smith_types.specs.IndexSpaces.{spaces_in};
 ghost use Rattle.smith_config.specs.Faults.{Passes};
 ghost use Rattle.smith_config.specs.Sanitized.{IsSanitized};
 ghost use Rattle.wasm_smith.specs.Build.{GivesOrLacks, in_full};
-ghost use Rattle.wasm_smith.specs.DrawnSteps.{AreExportsDrawn};
+ghost use Rattle.wasm_smith.specs.DrawnSteps.{AreExportsDrawn, drawn_next};
 ghost use Rattle.smith_definitions.specs.Defined.{drawn_beside};
 ghost use Rattle.smith_definitions.specs.Refusals.{AreShapesValid, MayRefuse};
 ghost use Rattle.wasm_smith.specs.Contents.{MayHoldContents, MayRefuseContents};
-ghost use Rattle.wasm_smith.specs.DrawnContents.{TellsImported, AreExportsMade, AreContents, HasNoFloatContents, imported_in, behind_exports_at};
+ghost use Rattle.wasm_smith.specs.DrawnContents.{TellsImported, AreExportsMade, AreContents, HasGrantedContents, HasNoFloatContents, imported_in, behind_exports_at};
 ghost use Rattle.smith_imports.specs.Imported.{spaces_of};
 ghost use Rattle.smith_imports.specs.Steps.{Gives};
 
@@ -86,6 +86,7 @@ pub(crate) fn draw_behind_exports(
     ensures kept { IfOk result (AreContents config.now types.now.types (imported_in imported.now) (spaces_of imported.now) imported.now.type_size) }
     ensures exports { IfOk result (λ contents. contents.exports ≡ made.exports) }
     ensures floats { config.now.allow_floats ≡ false → All HasNoFloat types.now.types → IfOk result HasNoFloatContents }
+    ensures granted { IfOk result (HasGrantedContents config.now (drawn_beside config.now types.now.types (spaces_of imported.now) definitions.now) (spaces_of imported.now).tables) }
     ensures refusal { IfErr result (MayRefuseContents config.now (drawn_beside config.now types.now.types (spaces_of imported.now) definitions.now) (spaces_of imported.now).tables) }
     ensures left { KeepsPieces u.old u.new }
 {
@@ -124,6 +125,7 @@ pub(crate) fn draw_contents(
     ensures kept { IfOk result (AreContents config.now drawn.now.types.types (imported_in drawn.now.imported) (spaces_in drawn.now.imported.spaces) drawn.now.imported.type_size) }
     ensures exports { IfOk result (λ contents. contents.exports ≡ made.exports) }
     ensures floats { config.now.allow_floats ≡ false → All HasNoFloat drawn.now.types.types → IfOk result HasNoFloatContents }
+    ensures granted { IfOk result (HasGrantedContents config.now (drawn_next config.now drawn.now) drawn.now.imported.spaces.tables) }
     ensures refusal { IfErr result (MayRefuse config.now) }
     ensures left { KeepsPieces u.old u.new }
 {

@@ -4,7 +4,8 @@ ghost use Rattle.smith_types.specs.Floats.{HasNoFloat};
 ghost use Rattle.smith_definitions.specs.Defined.{drawn_beside};
 ghost use Rattle.wasm_smith.specs.Contents.{MayHoldContents, MayRefuseContents};
 ghost use Rattle.wasm_smith.specs.DrawnContents.{TellsImported, AreSegmentsFit, HaveNoFloatItems, imported_in, all_segments_at};
-ghost use Rattle.smith_imports.specs.Imported.{spaces_of};
+ghost use Rattle.smith_contents.specs.DrawnElements.{HasGroundedItems};
+ghost use Rattle.smith_imports.specs.Imported.{HasGroundedElements, spaces_of};
 ghost use Rattle.smith_imports.specs.Steps.{Gives};
 
 use crate::build::segment_spaces::segment_spaces;
@@ -52,6 +53,8 @@ pub(crate) fn draw_segments(
     ensures exact { Gives (λ segments. (segments, u.new)) result (all_segments_at config.now types.now.types (imported_in imported.now) (spaces_of imported.now) u.old) }
     ensures fit { IfOk result (AreSegmentsFit config.now types.now.types (imported_in imported.now) (spaces_of imported.now)) }
     ensures floats { All HasNoFloat types.now.types → IfOk result (λ segments. HaveNoFloatItems segments.elements) }
+    ensures grounded { All (HasGroundedElements config.now (drawn_beside config.now types.now.types (spaces_of imported.now) definitions.now)) (spaces_of imported.now).tables
+        → IfOk result (λ segments. All (HasGroundedItems config.now (drawn_beside config.now types.now.types (spaces_of imported.now) definitions.now)) segments.elements) }
     ensures refusal { IfErr result (MayRefuseContents config.now (drawn_beside config.now types.now.types (spaces_of imported.now) definitions.now) (spaces_of imported.now).tables) }
     ensures left { KeepsPieces u.old u.new }
 {

@@ -8,6 +8,7 @@ ghost use Rattle.smith_config.specs.Sanitized.{IsSanitized};
 ghost use Rattle.smith_draw.specs.ConstBounds.{HoldsUngroundedField};
 ghost use Rattle.smith_draw.specs.Drawing.{DrawsInto};
 ghost use Rattle.smith_draw.specs.FuncSizes.{HasFewValues};
+ghost use Rattle.smith_draw.specs.Granted.{AreTypesGranted};
 ghost use Rattle.smith_draw.specs.Grounding.{over};
 ghost use Rattle.smith_draw.specs.RecGroups.{types_at};
 ghost use Rattle.wasm_smith.specs.Build.{functions_over};
@@ -42,6 +43,7 @@ pub(crate) fn add_more_types(
     ensures floats { config.now.allow_floats ≡ false → All HasNoFloat types.old.types → OnOk result (All HasNoFloat types.new.types) }
     ensures few_values { (most : ℕ) → 20 ≤ most → All (HasFewValues most) types.old.types → OnOk result (All (HasFewValues most) types.new.types) }
     ensures grounded { ¬ HoldsUngroundedField config.now (over (functions_over config.now funcs.now imported_funcs) types.old.types) → OnOk result (¬ HoldsUngroundedField config.now (over (functions_over config.now funcs.now imported_funcs) types.new.types)) }
+    ensures granted { AreTypesGranted config.now (over (functions_over config.now funcs.now imported_funcs) types.old.types) → OnOk result (AreTypesGranted config.now (over (functions_over config.now funcs.now imported_funcs) types.new.types)) }
 {
     let entities = Entities {
         funcs,

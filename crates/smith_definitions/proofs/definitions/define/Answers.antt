@@ -75,6 +75,7 @@ returns-clause-defined c =
       };
       tables = rw (over.types, over.funcs, over.imported_funcs, over.globals, c.as_slice-func_types.ensures, c.as_slice-all_globals.ensures, c.len-funcs_before.ensures, c.len-globals_before.ensures, c.len-globals_defined.ensures) at c.in_ok-define_tables.ensures.drawn;
       globals = rw (c.as_slice-func_types.ensures, c.len-funcs_before.ensures, c.len-globals_before.ensures, c.len-globals_defined.ensures) at c.in_ok-define_globals.ensures.defined;
+      grounded = rw (c.as_slice-func_types.ensures, c.len-funcs_before.ensures) at c.in_ok-define_globals.ensures.grounded;
       num_tags = rw (c.len.ensures, c.len-tags_before.ensures) refl;
       num_funcs = rw (c.len-2.ensures, c.len-funcs_before.ensures) refl;
       num_memories = rw (c.len-3.ensures, c.len-memories_before.ensures) refl;

@@ -4,7 +4,7 @@ use Rattle.std.proofs.lemmas.List.{length-take-le}
 use Rattle.smith_bytes.specs.declared.error.Count.TheVariants as counts
 use Rattle.smith_definitions.specs.Definitions.{standing_among, global_scope}
 use Rattle.smith_definitions.proofs.KeptOfferLemmas.{kept_pushed}
-use Rattle.smith_definitions.proofs.GlobalsLoop.{none_made, define_more, define_stop, define_full, count_is}
+use Rattle.smith_definitions.proofs.GlobalsLoop.{none_made, define_more, define_stop, define_full, count_is, globals_added}
 use Rattle.smith_definitions.proofs.globals.push_globals.Goals as goal
 
 pub loop-made-init : goal.loop-made-init
@@ -18,6 +18,12 @@ loop-made-init c =
 pub returns-then-not-goes_on-clause-exact : goal.returns-then-not-goes_on-clause-exact
 returns-then-not-goes_on-clause-exact c =
     define_stop c.loop-made.invariant.defining (rw (c.saturating_sub-made-end.ensures, c.len-before.ensures) at c.loop-made-test.true) (rw (c.saturating_sub-least.ensures, c.len-before.ensures) at c.goes_on.ensures.exact) c.if-not-goes_on.true
+
+pub returns-then-not-goes_on-clause-grounded : goal.returns-then-not-goes_on-clause-grounded
+returns-then-not-goes_on-clause-grounded c = globals_added c.loop-made.invariant.defining
+
+pub returns-clause-grounded : goal.returns-clause-grounded
+returns-clause-grounded c = globals_added c.loop-made.invariant.defining
 
 pub draw_initialised_global-requires-clause-spaces : goal.draw_initialised_global-requires-clause-spaces
 draw_initialised_global-requires-clause-spaces c =
@@ -46,6 +52,7 @@ loop-made-preserved c =
           drawn.valid
           (rw (c.as_slice.ensures, visible, ← seen) at drawn.initialised)
           drawn.floats
+          drawn.grounded
           drawn.constants
           c.in_ok-push.ensures.ok
           c.in_ok-push-2.ensures.ok

@@ -38,6 +38,9 @@ returns-clause-limits c = IfOk-weaker c.push_exports.result _ _ (λ exports made
 pub returns-clause-lacking : goal.returns-clause-lacking
 returns-clause-lacking c = IfOk-weaker c.push_exports.result _ _ (λ exports made. made.lacking) c.push_exports.ensures.required
 
+pub returns-clause-types_of : goal.returns-clause-types_of
+returns-clause-types_of c = IfOk-weaker c.push_exports.result _ _ (λ exports made. made.types_of) c.push_exports.ensures.required
+
 pub returns-clause-few_values : goal.returns-clause-few_values
 returns-clause-few_values c = λ few. IfOk-weaker c.push_exports.result _ _ (λ exports made. made.few_values few) c.push_exports.ensures.required
 

@@ -1,7 +1,18 @@
-use Rattle.std.proofs.Common.{rules, refl}
+use Rattle.std.proofs.Common.{rules, arith, [], refl}
+use Rattle.std.proofs.lemmas.List.Elements.{All-head}
+use Rattle.smith_bytes.specs.declared.error.Which.TheVariants as which
+use Rattle.smith_types.specs.declared.value_type.AbstractHeapType.TheVariants as heap
+use Rattle.smith_types.specs.ExampleTypes.{plain}
 use Rattle.smith_config.specs.Config.{default_config}
 use Rattle.smith_config.specs.InUse.{FixesImports}
-use Rattle.smith_examples.specs.ExampleShapes.{for_exports, exporting}
+use Rattle.smith_draw.specs.Granted.{IsGranted}
+use Rattle.smith_definitions.specs.Module.{module_context}
+use Rattle.smith_definitions.specs.Promises.{HoldsGranted}
+use Rattle.smith_definitions.specs.Refusals.{HoldsNonNullable}
+use Rattle.smith_examples.specs.ExampleModules.{one_number}
+use Rattle.smith_examples.specs.ExampleReferences.{with_references, holding_reference}
+use Rattle.smith_examples.specs.ExampleShapes.{for_exports, exporting, memories_in_and_out}
+use Rattle.smith_examples.proofs.GrantedExamples.{any_not_granted, to_any}
 use Rattle.smith_examples.proofs.PromiseExamples.{not_distinct, past_the_table}
 use Rattle.smith_examples.proofs.ShapeExamples.{no_imports_fixed}
 use Rattle.smith_examples.proofs.promises.asked_for.Goals as goal
@@ -17,3 +28,26 @@ returns-clause-one_name_twice_beside_exports_of_a_shape c = λ kept. not_distinc
 
 pub returns-clause-a_trap : goal.returns-clause-a_trap
 returns-clause-a_trap c = λ kept. past_the_table (record { elements = (kept.inside refl).elements; data_segments = (kept.inside refl).data_segments })
+
+-- no shape that is used holds a reference that may not be null
+none_given : HoldsNonNullable with_references → ⊥
+none_given (which.AvailableImports, holds) = absurd holds
+none_given (which.Exports, holds) = absurd holds
+none_given (which.ModuleShape, holds) = absurd holds
+
+none_exported : HoldsNonNullable (for_exports memories_in_and_out with_references) → ⊥
+none_exported (which.AvailableImports, holds) = absurd holds
+none_exported (which.Exports, (place, value, inside, at, strict)) = omega (arith, inside)
+none_exported (which.ModuleShape, holds) = absurd holds
+
+unheld : ¬ HoldsGranted with_references (holding_reference [] (plain heap.Any))
+unheld held = any_not_granted _ _ _ _ (All-head (IsGranted with_references (module_context (holding_reference [] (plain heap.Any)))) to_any [] held.values)
+
+pub returns-clause-a_reference_that_nothing_grounds : goal.returns-clause-a_reference_that_nothing_grounds
+returns-clause-a_reference_that_nothing_grounds c = λ kept. unheld (kept.granted none_given)
+
+pub returns-clause-the_same_beside_another_shape : goal.returns-clause-the_same_beside_another_shape
+returns-clause-the_same_beside_another_shape c = λ kept. unheld (kept.granted none_exported)
+
+pub returns-clause-a_local_that_nothing_grounds : goal.returns-clause-a_local_that_nothing_grounds
+returns-clause-a_local_that_nothing_grounds c = λ kept. any_not_granted _ _ _ _ (All-head (IsGranted with_references (module_context one_number)) to_any [] kept.granted_locals)

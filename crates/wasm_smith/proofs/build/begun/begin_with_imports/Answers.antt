@@ -28,6 +28,7 @@ returns-clause-begun c =
       within = fit.within;
       tables = subst (λ (all : IndexSpaces). All (Contains (shape_spaces shape).tables) all.tables) (sym spaces) (offered_all offered.tables shape.tables taken.tables fit.tables);
       memories = subst (λ (all : IndexSpaces). All (Contains (shape_spaces shape).memories) all.memories) (sym spaces) (offered_all offered.memories shape.memories taken.memories fit.memories);
+      globals = subst (λ (all : IndexSpaces). All (Contains (shape_spaces shape).globals) all.globals) (sym spaces) (offered_all offered.globals shape.globals taken.globals fit.globals);
       spaces = spaces;
       exports = ap (λ (begun : Begun). begun.exports) c.requires.nothing.begun;
     }

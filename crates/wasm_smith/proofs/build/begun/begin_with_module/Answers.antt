@@ -13,7 +13,7 @@ use Rattle.smith_definitions.specs.Defined.{nothing_defined}
 use Rattle.smith_definitions.specs.Bounds.{exported_of}
 use Rattle.smith_definitions.specs.declared.definitions.Definitions.{Definitions}
 use Rattle.smith_definitions.specs.RequiredExports.{Required, standing_with, then_with}
-use Rattle.wasm_smith.proofs.BegunLemmas.{stands_alone, may_begin, brought_so, tables_of_shape, memories_of_shape, refused_with}
+use Rattle.wasm_smith.proofs.BegunLemmas.{stands_alone, may_begin, brought_so, tables_of_shape, memories_of_shape, globals_of_shape, refused_with}
 use Rattle.wasm_smith.proofs.build.begun.begin_with_module.Goals as goal
 
 pub types_of_shape-requires-clause-following : goal.types_of_shape-requires-clause-following
@@ -72,6 +72,7 @@ returns-clause-begun c =
       counted = λ count types imports. made.counted count types ∙ (ap (λ (spaces : IndexSpaces). count_in spaces count + exported_of count shape) kept.spaces ∙ brought_so count shape types imports);
       tables = tables_of_shape shape (spaces_in c.make_shape_exports.new.spaces) (rw kept.spaces at made.limits);
       memories = memories_of_shape shape (spaces_in c.make_shape_exports.new.spaces) (rw kept.spaces at made.limits);
+      globals = globals_of_shape shape (spaces_in c.make_shape_exports.new.spaces) (rw kept.spaces at made.limits);
       exports = made.kept;
       exports_valid = made.valid;
     }

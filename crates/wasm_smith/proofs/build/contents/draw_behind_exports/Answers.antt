@@ -10,3 +10,8 @@ returns-in_err-code-clause-left c = λ whole h.
 pub returns-clause-left : goal.returns-clause-left
 returns-clause-left c = λ whole h.
     c.arbitrary_bodies.ensures.draws.left whole (c.draw_segments.ensures.left whole (c.arbitrary_start-start.ensures.draws.left whole (c.draw_section_flag-encodes_types.ensures.draws.left whole h)))
+
+pub returns-clause-granted : goal.returns-clause-granted
+returns-clause-granted c =
+    let over = c.segment_spaces-spaces.ensures in
+    record { items = c.in_ok-segments.ensures.grounded; locals = rw (over.types, over.funcs, over.imported_funcs) at c.in_ok-code.ensures.granted }

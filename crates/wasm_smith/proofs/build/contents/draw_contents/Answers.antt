@@ -1,3 +1,4 @@
+use Rattle.smith_types.specs.IndexSpaces.{spaces_in}
 use Rattle.wasm_smith.proofs.ContentsLemmas.{imports_told}
 use Rattle.wasm_smith.proofs.MadeExportsLemmas.{may_hold_contents}
 use Rattle.wasm_smith.specs.DrawnSteps.{drawn_next}
@@ -13,4 +14,4 @@ draw_behind_exports-requires-clause-told c = imports_told c.requires.drawn
 pub returns-clause-refusal : goal.returns-clause-refusal
 returns-clause-refusal c =
     let drawn = c.args.drawn.now in
-    contents_refuse c.args.config.now (drawn_next c.args.config.now drawn) drawn.imported.spaces.tables c.draw_behind_exports.result (lacks_so c.args.config.now (drawn_next c.args.config.now drawn) drawn.imported.spaces.tables c.requires.drawn.grounded) c.draw_behind_exports.ensures.refusal
+    contents_refuse c.args.config.now (drawn_next c.args.config.now drawn) drawn.imported.spaces.tables c.draw_behind_exports.result (lacks_so c.args.config.now (drawn_next c.args.config.now drawn) (spaces_in drawn.imported.spaces) c.requires.drawn.grounded) c.draw_behind_exports.ensures.refusal

@@ -38,7 +38,7 @@ returns-clause-drawn c =
     let made = c.in_ok-made.ensures in
     let contents = c.in_ok-drawn.ensures in
     drawn_for _ _ _ _ made.drawn c.in_ok-add_imports.ensures.free (same_imports c.in_ok-add_definitions.ensures.imports made.imports) (rw c.len.ensures at c.draw_section_flag-encodes_imports.ensures.written) contents.kept
-    (λ off none. contents.floats off (made.drawn.floats off none).types) (rw (c.as_slice.ensures, c.as_slice-2.ensures) at c.in_ok-narrow.ensures.narrow)
+    (λ off none. contents.floats off (made.drawn.floats off none).types) contents.granted (rw (c.as_slice.ensures, c.as_slice-2.ensures) at c.in_ok-narrow.ensures.narrow)
     (rw (c.as_slice.ensures, c.as_slice-2.ensures) at c.in_ok-narrow.ensures.wide)
 
 pub returns-clause-kept : goal.returns-clause-kept

@@ -39,7 +39,7 @@ returns-in-Some-clause-drawn c =
     let none : c.args.config.now.module_shape ≡ None = none_given c.args.config.now.module_shape cc in
     let made = c.in_ok-exports.ensures in
     required_drawn c.args.config.now c.in-Some.shape c.args.drawn.now c.make_required_exports.new.types c.make_required_exports.new.spaces c.make_required_exports.new.definitions none c.in-Some.is c.requires.entities made.types made.types_most made.lacking made.few_values
-    made.counted made.spaces made.limits (made.stands (imported_spaces (flattened c.args.drawn.now.imported.groups)) c.requires.entities.may.so_far.stands)
+    made.counted made.spaces made.types_of made.limits (made.stands (imported_spaces (flattened c.args.drawn.now.imported.groups)) c.requires.entities.may.so_far.stands)
 
 pub returns-in-Some-clause-size : goal.returns-in-Some-clause-size
 returns-in-Some-clause-size c =

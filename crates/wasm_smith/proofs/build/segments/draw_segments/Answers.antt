@@ -7,7 +7,7 @@ use Rattle.wasm_smith.proofs.ContentsLemmas.{may_draw_elements, spaces_valid, me
 use Rattle.smith_draw.proofs.ConstStepLemmas.{passed_on}
 use Rattle.smith_imports.specs.Imported.{spaces_of}
 use Rattle.smith_definitions.specs.Defined.{drawn_beside}
-use Rattle.wasm_smith.proofs.RefusalLemmas.{elements_refuse}
+use Rattle.wasm_smith.proofs.RefusalLemmas.{elements_refuse, none_lacks}
 use Rattle.wasm_smith.proofs.SegmentScopeLemmas.{seen_over}
 use Rattle.wasm_smith.proofs.build.segments.draw_segments.Goals as goal
 
@@ -46,3 +46,10 @@ returns-in_err-elements-clause-refusal c =
     passed_on _ c.from_residual.result c.in_err-elements.field-0.0 c.from_residual.ensures.1
     (elements_refuse c.args.config.now (drawn_beside c.args.config.now c.args.types.now.types (spaces_of c.args.imported.now) c.args.definitions.now) (spaces_of c.args.imported.now).tables c.in_err-elements.field-0.0
     (rw (over.types, over.funcs, over.imported_funcs, over.tables, c.len.ensures) at c.in_err-elements.ensures.refusal))
+
+pub returns-clause-grounded : goal.returns-clause-grounded
+returns-clause-grounded c = λ each.
+    let over = c.segment_spaces-spaces.ensures in
+    let context = drawn_beside c.args.config.now c.args.types.now.types (spaces_of c.args.imported.now) c.args.definitions.now in
+    let grounded = rw (over.types, over.funcs, over.imported_funcs, over.tables, c.len.ensures) at c.in_ok-elements.ensures.grounded in
+    grounded (none_lacks c.args.config.now context (spaces_of c.args.imported.now).tables each)

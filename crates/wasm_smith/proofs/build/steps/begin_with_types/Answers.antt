@@ -15,4 +15,4 @@ pub returns-clause-drawn : goal.returns-clause-drawn
 returns-clause-drawn c =
     let more = c.add_more_types.ensures in
     drawn_behind c.args.config.now c.args.u.now c.begin.new.drawn c.add_more_types.new.types c.add_more_types.result c.requires.valid c.in_ok-begin.ensures.begun
-    (types_behind c.args.config.now (drawn_next c.args.config.now c.begin.new.drawn) c.begin.new.drawn.types c.add_more_types.new.types c.add_more_types.result more.valid more.types more.most more.full more.least more.floats more.few_values (rw c.as_slice-funcs.ensures at more.grounded))
+    (types_behind c.args.config.now (drawn_next c.args.config.now c.begin.new.drawn) c.begin.new.drawn.types c.add_more_types.new.types c.add_more_types.result more.valid more.types more.most more.full more.least more.floats more.few_values (rw c.as_slice-funcs.ensures at more.grounded) (rw c.as_slice-funcs.ensures at more.granted))

@@ -1,0 +1,59 @@
+-- A module holds no reference that may not be null and is not grounded where the parts that were drawn hold none.
+use Rattle.std.proofs.Common.{ℕ, subst}
+use Rattle.std.specs.Prelude.{All}
+use Rattle.std.specs.List.{flat_map}
+use Rattle.std.proofs.lemmas.List.Elements.{All-weaker}
+use Rattle.smith_types.specs.Expressions.{Context}
+use Rattle.smith_types.specs.Grounded.{IsGrounded}
+use Rattle.smith_types.specs.IndexSpaces.{spaces_in}
+use Rattle.smith_types.specs.declared.code.Code.{Code}
+use Rattle.smith_types.specs.declared.segments.ElementSegment.{ElementSegment}
+use Rattle.smith_types.specs.declared.value_type.ValType.{ValType}
+use Rattle.smith_types.specs.declared.value_type.ValType.TheVariants as vals
+use Rattle.smith_types.proofs.HeldValueLemmas.{all_values_joined}
+use Rattle.smith_config.specs.declared.config.Config.{Config}
+use Rattle.smith_draw.specs.ConstBounds.{IsUngrounded}
+use Rattle.smith_draw.specs.Granted.{IsGranted}
+use Rattle.smith_contents.specs.DrawnElements.{HasGroundedItems}
+use Rattle.smith_definitions.specs.Module.{Parts, module_context}
+use Rattle.smith_definitions.specs.Promises.{HasGrantedLocals, HoldsGranted}
+use Rattle.smith_definitions.proofs.StandsBehindLemmas.{left_over}
+use Rattle.wasm_smith.specs.Begun.{StandsWhole}
+use Rattle.wasm_smith.specs.Build.{parts_of}
+use Rattle.wasm_smith.specs.DrawnContents.{HasGrantedContents}
+use Rattle.wasm_smith.specs.DrawnSteps.{HoldsGrounded, drawn_next}
+use Rattle.wasm_smith.specs.declared.build.drawn.Drawn.{Drawn}
+use Rattle.wasm_smith.proofs.GrantedLaterLemmas.{elements_later, globals_later, types_later, value_later}
+
+module _ (config : Config) (drawn : Drawn) (whole : StandsWhole config drawn) where
+  abbrev m : Parts
+  m = parts_of config drawn
+
+  abbrev before : Context
+  before = drawn_next config drawn
+
+  abbrev context : Context
+  context = module_context m
+
+  -- what isn't defined is imported, and globals ground nothing
+  was_ungrounded : (value : ValType) → IsUngrounded config context value → IsUngrounded config before value
+  was_ungrounded (vals.Ref reference) (not_null, none) = (
+    not_null,
+    λ on grounded. none on (subst (λ (imported : ℕ). IsGrounded (record context { imported_funcs = imported }) reference.heap_type) (left_over whole.stands.funcs) grounded),
+  )
+  was_ungrounded vals.I32 never = never
+  was_ungrounded vals.I64 never = never
+  was_ungrounded vals.F32 never = never
+  was_ungrounded vals.F64 never = never
+  was_ungrounded vals.V128 never = never
+
+  module _ (contents : HasGrantedContents config before drawn.imported.spaces.tables drawn.contents) where
+    pub locals_drawn : HasGrantedLocals config m
+    locals_drawn = All-weaker (IsGranted config before) (IsGranted config context) (value_later config before context was_ungrounded) (flat_map (λ (body : Code). body.locals) drawn.contents.code) contents.locals
+
+    pub granted_drawn : HoldsGrounded config before (spaces_in drawn.imported.spaces) → HoldsGranted config m
+    granted_drawn held = record {
+      values = all_values_joined (IsGranted config context) drawn.types.types (spaces_in drawn.imported.spaces) (types_later config before context was_ungrounded drawn.types.types held.types)
+          (elements_later config before context was_ungrounded drawn.imported.spaces.tables held.elements) (globals_later config before context was_ungrounded drawn.imported.spaces.globals held.globals);
+      elements = All-weaker (HasGroundedItems config before) (HasGroundedItems config context) (λ (segment : ElementSegment). value_later config before context was_ungrounded (vals.Ref segment.ty)) drawn.contents.segments.elements (contents.items held.elements);
+    }
