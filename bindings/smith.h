@@ -18,7 +18,7 @@
  *
  * The module is the one that the definitions of this project give. But for raw bodies it is valid by the WebAssembly Core
  * Specification 3.0 and, for proposals beyond it that the configuration turns on (by default shared memories, compact imports and, in
- * bodies, arithmetic on 128 bits), by rules of this project; docs/DEFINITIONS.md lists both. Each body is typed over it. What smith_binary writes is a binary of it. All
+ * bodies, atomic accesses and arithmetic on 128 bits), by rules of this project; docs/DEFINITIONS.md lists both. Each body is typed over it. What smith_binary writes is a binary of it. All
  * this is proved for every input. Nothing checks that a caller in C keeps the rules above.
  *
  * {"max-instructions": 0} makes every body `unreachable`. A function may run forever, also the start function, since nothing counts
