@@ -1,6 +1,6 @@
 -- What stands once the exports of a module are made: those of a module shape, those of a shape for exports, or free ones.
 use Rattle.std.proofs.Common.{◌≡◌, ◌∙◌, ◌⊎◌, ℕ, ◌+◌, ◌<◌, ◌≤◌, ◌^◌, ◌||◌, false, true, List, [], length, inl, inr, refl, subst, sym, ap, arith}
-use Rattle.std.specs.Prelude.{All, IfSome, IsSome, Option, Some, None, is_some, if◌then◌else◌}
+use Rattle.std.specs.Prelude.{All, IfOk, IfSome, IsSome, IsTrue, Option, Some, None, Result, Ok, Err, is_some, if◌then◌else◌}
 use Rattle.std.proofs.lemmas.List.Elements.{All-contains}
 use Rattle.smith_bytes.specs.declared.error.Count.{Count}
 use Rattle.smith_bytes.specs.declared.error.Count.TheVariants as counts
@@ -169,7 +169,7 @@ module _ (config : Config) (shape : Shape) (drawn : Drawn) (none : config.module
         fields = λ field. before.fields (lacking field);
         types =
             either_kept Types drawn.types.types (shape_types shape) types.types (types_later config old new was drawn.types.types before.types)
-            (λ t h. All-contains Types (shape_types shape) t theirs.types h) listed;
+            (λ t h. All-contains Types (shape_types shape) t theirs.of_types h) listed;
         elements =
             either_kept Elements drawn.imported.spaces.tables (shape_spaces shape).tables spaces.tables (elements_later config old new was drawn.imported.spaces.tables before.elements)
             (λ table h. All-contains Elements (shape_spaces shape).tables table theirs.elements h) limits.tables;
@@ -209,13 +209,21 @@ module _ (config : Config) (shape : Shape) (drawn : Drawn) (types : Space) (spac
   }
 
 -- nothing is added where the exports were made before
-pub nothing_beyond : (config : Config) (drawn : Drawn) (exports : List Export) → exports ≡ drawn.contents.exports → IsBeyond config (begun_of drawn) (record (begun_of drawn) { exports = exports })
-nothing_beyond config drawn exports same =
+pub exports_beyond : (config : Config) (drawn : Drawn) (exports : List Export) → (IsTrue (is_some config.module_shape) → exports ≡ drawn.contents.exports) → IsBeyond config (begun_of drawn) (record (begun_of drawn) { exports = exports })
+exports_beyond config drawn exports same =
     let spaces = spaces_in drawn.imported.spaces in
     record {
       types = all_kept drawn.types.types;
       groups = all_kept drawn.types.groups;
       imports = λ fixes. refl;
       spaces = record { tags = all_kept spaces.tags; funcs = all_kept spaces.funcs; tables = all_kept spaces.tables; memories = all_kept spaces.memories; globals = all_kept spaces.globals };
-      exports = λ shaped. same;
+      exports = same;
     }
+
+pub nothing_beyond : (config : Config) (drawn : Drawn) (exports : List Export) → exports ≡ drawn.contents.exports → IsBeyond config (begun_of drawn) (record (begun_of drawn) { exports = exports })
+nothing_beyond config drawn exports same = exports_beyond config drawn exports (λ shaped. same)
+
+-- exports that are drawn change nothing else
+pub drawn_beyond : (config : Config) (drawn : Drawn) (made : Result Exports Error) → config.module_shape ≡ None → IfOk made (λ made. IsBeyond config (begun_of drawn) (record (begun_of drawn) { exports = made.exports }))
+drawn_beyond config drawn (Ok made) none = exports_beyond config drawn made.exports (λ shaped. let never = subst (λ (one : Option Shape). IsTrue (is_some one)) none shaped in absurd cc)
+drawn_beyond config drawn (Err e) none = tt

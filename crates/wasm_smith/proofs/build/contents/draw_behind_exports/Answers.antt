@@ -14,4 +14,4 @@ returns-clause-left c = λ whole h.
 pub returns-clause-granted : goal.returns-clause-granted
 returns-clause-granted c =
     let over = c.segment_spaces-spaces.ensures in
-    record { items = c.in_ok-segments.ensures.grounded; locals = rw (over.types, over.funcs, over.imported_funcs) at c.in_ok-code.ensures.granted }
+    record { items = c.in_ok-segments.ensures.grounded; locals = rw (over.types, over.funcs, over.imported_funcs, c.len.ensures) at c.in_ok-code.ensures.granted }

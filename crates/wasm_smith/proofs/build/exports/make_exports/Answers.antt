@@ -7,7 +7,7 @@ use Rattle.smith_draw.proofs.ConstStepLemmas.{passed_on}
 use Rattle.wasm_smith.specs.Begun.{Begun}
 use Rattle.wasm_smith.proofs.ContentsLemmas.{may_draw_exports}
 use Rattle.wasm_smith.proofs.RefusalLemmas.{exports_refuse}
-use Rattle.wasm_smith.proofs.MadeExportsLemmas.{exports_used, exports_free, none_given, stands_already, may_hold_contents, required_size, may_require, types_room, required_refuses, required_drawn, required_beyond, nothing_beyond}
+use Rattle.wasm_smith.proofs.MadeExportsLemmas.{exports_used, exports_free, none_given, stands_already, may_hold_contents, required_size, may_require, types_room, required_refuses, required_drawn, required_beyond, drawn_beyond, nothing_beyond}
 use Rattle.wasm_smith.proofs.build.exports.make_exports.Goals as goal
 
 pub returns-then-is_some-clause-beyond : goal.returns-then-is_some-clause-beyond
@@ -67,6 +67,9 @@ arbitrary_exports-requires c =
           (may_hold_contents c.args.config.now c.args.drawn.now c.requires.passes c.requires.sanitized c.requires.valid (stands_already c.args.config.now c.args.drawn.now c.requires.entities))
           (exports_free c.args.config.now none c.in_default.is);
     }
+
+pub returns-clause-beyond : goal.returns-clause-beyond
+returns-clause-beyond c = drawn_beyond c.args.config.now c.args.drawn.now c.arbitrary_exports.result (none_given c.args.config.now.module_shape cc)
 
 pub returns-clause-refusal : goal.returns-clause-refusal
 returns-clause-refusal c =
