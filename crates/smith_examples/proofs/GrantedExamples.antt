@@ -1,5 +1,5 @@
 -- What the examples of references that may not be null have in common.
-use Rattle.std.proofs.Common.{ℕ, zero, suc, List, [], ◌∷◌, refl, ap, ◌∙◌, inl, inr}
+use Rattle.std.proofs.Common.{ℕ, zero, suc, List, [], ◌∷◌, length, refl, ap, ◌∙◌, inl, inr}
 use Rattle.std.proofs.lemmas.Option.{same_Some}
 use Rattle.smith_types.specs.declared.value_type.AbstractHeapType.TheVariants as heap
 use Rattle.smith_types.specs.declared.value_type.ValType.{ValType}
@@ -12,6 +12,7 @@ use Rattle.smith_types.specs.Features.{Features}
 use Rattle.smith_types.specs.Grounded.{IsGrounded}
 use Rattle.smith_draw.specs.Granted.{IsGranted}
 use Rattle.smith_spell.specs.ExampleMembers.{final, taking}
+use Rattle.smith_definitions.specs.Module.{Parts, module_features, module_imports}
 use Rattle.smith_examples.specs.ExampleReferences.{with_references}
 
 -- a reference to anything
@@ -30,6 +31,10 @@ over features types globals imported_funcs imported_globals = record {
   visible = 0;
 }
 
+-- a function type that takes it
+abbrev taken : List SubType
+taken = final (taking to_any) ∷ []
+
 module _ (features : Features) (globals : List GlobalType) (imported_funcs imported_globals : ℕ) where
   nothing_grounds : ¬ IsGrounded (over features [] globals imported_funcs imported_globals) (plain heap.Any)
   nothing_grounds (inl (index, g)) =
@@ -38,11 +43,8 @@ module _ (features : Features) (globals : List GlobalType) (imported_funcs impor
   nothing_grounds (inr (function, index, at, below)) = cc at
 
   -- it is not granted where there is no type, nor beside a function type that takes it
-  pub any_not_granted : ¬ IsGranted with_references (over features [] globals imported_funcs imported_globals) to_any
-  any_not_granted granted = granted (refl, λ on. nothing_grounds)
-
-  abbrev taken : List SubType
-  taken = final (taking to_any) ∷ []
+  any_ungranted : ¬ IsGranted with_references (over features [] globals imported_funcs imported_globals) to_any
+  any_ungranted granted = granted (refl, λ on. nothing_grounds)
 
   nothing_beside : ¬ IsGrounded (over features taken globals imported_funcs imported_globals) (plain heap.Any)
   nothing_beside (inl (zero, g)) =
@@ -54,5 +56,15 @@ module _ (features : Features) (globals : List GlobalType) (imported_funcs impor
       cc at
   nothing_beside (inr (function, index, at, below)) = cc at
 
-  pub any_taken : ¬ IsGranted with_references (over features taken globals imported_funcs imported_globals) to_any
-  any_taken granted = granted (refl, λ on. nothing_beside)
+  taken_ungranted : ¬ IsGranted with_references (over features taken globals imported_funcs imported_globals) to_any
+  taken_ungranted granted = granted (refl, λ on. nothing_beside)
+
+-- the same over the globals of a module
+abbrev in_module : Parts → List SubType → Context
+in_module m types = over (module_features m) types m.globals (length (module_imports m).funcs) (length (module_imports m).globals)
+
+pub any_not_granted : (m : Parts) → ¬ IsGranted with_references (in_module m []) to_any
+any_not_granted m = any_ungranted (module_features m) m.globals (length (module_imports m).funcs) (length (module_imports m).globals)
+
+pub any_taken : (m : Parts) → ¬ IsGranted with_references (in_module m taken) to_any
+any_taken m = taken_ungranted (module_features m) m.globals (length (module_imports m).funcs) (length (module_imports m).globals)

@@ -41,13 +41,13 @@ none_exported (which.Exports, (place, value, inside, at, strict)) = omega (arith
 none_exported (which.ModuleShape, holds) = absurd holds
 
 unheld : ¬ HoldsGranted with_references (holding_reference [] (plain heap.Any))
-unheld held = any_not_granted _ _ _ _ (All-head (IsGranted with_references (module_context (holding_reference [] (plain heap.Any)))) to_any [] held.values)
+unheld held = any_not_granted (holding_reference [] (plain heap.Any)) (All-head (IsGranted with_references (module_context (holding_reference [] (plain heap.Any)))) to_any [] held.values)
 
 pub returns-clause-a_reference_that_nothing_grounds : goal.returns-clause-a_reference_that_nothing_grounds
 returns-clause-a_reference_that_nothing_grounds c = λ kept. unheld (kept.granted none_given)
 
 pub returns-clause-the_same_beside_another_shape : goal.returns-clause-the_same_beside_another_shape
-returns-clause-the_same_beside_another_shape c = λ kept. unheld (kept.granted none_exported)
+returns-clause-the_same_beside_another_shape c = λ kept. unheld (record { values = (kept.granted none_exported).values; elements = (kept.granted none_exported).elements })
 
 pub returns-clause-a_local_that_nothing_grounds : goal.returns-clause-a_local_that_nothing_grounds
-returns-clause-a_local_that_nothing_grounds c = λ kept. any_not_granted _ _ _ _ (All-head (IsGranted with_references (module_context one_number)) to_any [] kept.granted_locals)
+returns-clause-a_local_that_nothing_grounds c = λ kept. any_not_granted one_number (All-head (IsGranted with_references (module_context one_number)) to_any [] kept.granted_locals)

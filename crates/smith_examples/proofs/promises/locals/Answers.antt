@@ -23,4 +23,4 @@ returns-clause-to_functions c =
     All-from_recursion Granted (to_function ∷ []) (granted, tt)
 
 pub returns-clause-to_anything : goal.returns-clause-to_anything
-returns-clause-to_anything c = λ held. any_not_granted _ _ _ _ (All-head (IsGranted with_references (module_context one_number)) to_any [] held)
+returns-clause-to_anything c = λ held. any_not_granted one_number (All-head (IsGranted with_references (module_context one_number)) to_any [] held)

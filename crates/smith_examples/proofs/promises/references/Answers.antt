@@ -36,16 +36,16 @@ pub returns-clause-to_a_struct_by_default : goal.returns-clause-to_a_struct_by_d
 returns-clause-to_a_struct_by_default c = λ held. All-head (IsGranted default_config (module_context beside)) to_struct [] held.values (refl, λ on. absurd cc)
 
 pub returns-clause-in_a_global : goal.returns-clause-in_a_global
-returns-clause-in_a_global c = λ held. any_not_granted _ _ _ _ (All-head (IsGranted with_references (module_context (holding_reference [] (plain heap.Any)))) to_any [] held.values)
+returns-clause-in_a_global c = λ held. any_not_granted (holding_reference [] (plain heap.Any)) (All-head (IsGranted with_references (module_context (holding_reference [] (plain heap.Any)))) to_any [] held.values)
 
 pub returns-clause-in_a_table : goal.returns-clause-in_a_table
-returns-clause-in_a_table c = λ held. any_not_granted _ _ _ _ (All-head (IsGranted with_references (module_context one_table)) to_any [] held.values)
+returns-clause-in_a_table c = λ held. any_not_granted one_table (All-head (IsGranted with_references (module_context one_table)) to_any [] held.values)
 
 pub returns-clause-in_a_parameter : goal.returns-clause-in_a_parameter
 returns-clause-in_a_parameter c = λ held.
     let m : Parts = record one_number { types = final (taking to_any) ∷ [] } in
-    any_taken _ _ _ _ (All-head (IsGranted with_references (module_context m)) to_any (I32 ∷ []) held.values)
+    any_taken m (All-head (IsGranted with_references (module_context m)) to_any (I32 ∷ []) held.values)
 
 pub returns-clause-in_a_segment : goal.returns-clause-in_a_segment
 returns-clause-in_a_segment c = λ held.
-    any_not_granted _ _ _ _ (All-head (HasGroundedItems with_references (module_context one_number)) (record (passive_elements (Expressions [])) { ty = not_null (plain heap.Any) }) [] held.elements)
+    any_not_granted one_number (All-head (HasGroundedItems with_references (module_context one_number)) (record (passive_elements (Expressions [])) { ty = not_null (plain heap.Any) }) [] held.elements)
