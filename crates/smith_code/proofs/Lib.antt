@@ -13,6 +13,7 @@ pub mod ChoiceLemmas
 pub mod ItemLemmas
 pub mod TableLemmas
 pub mod BulkLemmas
+pub mod AggregateLemmas
 pub mod ExactLemmas
 pub mod TargetLemmas
 pub mod LeafChoiceLemmas

@@ -1,14 +1,19 @@
 //! Bodies of functions, drawn from bytes. The standard is the WebAssembly Core Specification 3.0.
 #![tactic(auto)]
 
+mod aggregates;
 mod blocks;
 mod body;
 mod branches;
 mod bulk;
 mod calls;
 mod choices;
+mod creations;
 mod drawn;
 mod families;
+mod field_reads;
+mod field_writes;
+mod fields;
 mod funcs;
 mod function_tables;
 mod globals;
@@ -20,6 +25,7 @@ mod node;
 mod null_branches;
 mod numeric;
 mod offer;
+mod operands;
 mod outcomes;
 mod reference_values;
 mod references;
