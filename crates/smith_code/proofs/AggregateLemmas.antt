@@ -4,7 +4,7 @@ use Rattle.std.specs.Prelude.{slice_get, option_map, map, All, ◌&&◌, if◌th
 use Rattle.std.proofs.lemmas.Bool.{leb-true}
 use Rattle.std.proofs.lemmas.List.{get_or-map, length-map}
 use Rattle.std.proofs.lemmas.List.Elements.{All-from_recursion, All-replicate}
-use Rattle.std.proofs.lemmas.Option.{same_Some, slice_get_within}
+use Rattle.std.proofs.lemmas.Option.{same_Some, slice_get-get_or, slice_get_within}
 use Rattle.smith_types.specs.Expressions.{IsArrayAt, IsDefaultable, IsStructAt, field_values, reference_to, unpacked}
 use Rattle.smith_types.specs.Grounded.{are_defaultable, is_defaultable}
 use Rattle.smith_types.specs.Matching.{IsStorageMatch}
@@ -24,12 +24,18 @@ use Rattle.smith_types.specs.declared.composite_type.SubType.{SubType}
 use Rattle.smith_types.proofs.GroundedLemmas.{defaults_each, default_for}
 use Rattle.smith_draw.specs.Below.{is_val_below}
 use Rattle.smith_draw.specs.ConstScopes.{fields_of}
-use Rattle.smith_instr.specs.AggregateTypes.{IsOfBytes, IsReadBy, IsSegmentOf, value_of}
+use Rattle.smith_bytes.specs.Draws.{choose_at}
+use Rattle.smith_instr.specs.AggregateTypes.{IsFieldAt, IsOfBytes, IsReadBy, IsSegmentOf, value_of}
 use Rattle.smith_instr.specs.Contexts.{BodyContext, IsValid, AreValid, created_reference, nullable_to}
-use Rattle.smith_code.specs.Aggregates.{names_types}
-use Rattle.smith_code.specs.Fields.{AreFieldsValid, element_in, element_of, extension_of, is_of_bytes, is_of_references, is_storage_below, struct_in, struct_of}
-use Rattle.smith_code.specs.Scopes.{IsScope}
+use Rattle.smith_code.specs.Aggregates.{array_at, array_there, created_array_at, field_at, field_there, fields_with, is_array, is_created_array, is_field, is_struct, names_types}
+use Rattle.smith_code.specs.Chosen.{giving}
+use Rattle.smith_code.specs.Fields.{AreFieldsValid, element_in, element_of, extension_of, is_of_bytes, is_of_references, is_storage_below, is_usable, is_usable_in, struct_in, struct_of}
+use Rattle.smith_code.specs.Offered.{offered}
+use Rattle.smith_code.specs.Scopes.{IsScope, indexed}
 use Rattle.smith_code.specs.TableChoices.{is_segment_below}
+use Rattle.smith_code.specs.declared.aggregates.StructField.{StructField}
+use Rattle.smith_code.specs.declared.fields.FieldUse.{FieldUse}
+use Rattle.smith_code.proofs.ItemLemmas.{given_none, given_some}
 use Rattle.smith_code.proofs.OfferLemmas.{both, tested}
 use Rattle.smith_code.proofs.TableLemmas.{segment_below_at}
 
@@ -55,8 +61,8 @@ array_option : (types : List SubType) (index : ℕ) (element : FieldType) (o : O
 array_option types index element (Some t) at is = (t, at, inner_element t.composite_type.inner element is)
 array_option types index element None at is = cc
 
-pub array_there : (types : List SubType) (index : ℕ) (element : FieldType) → element_in (slice_get types index) ≡ Some element → IsArrayAt types index element
-array_there types index element is = array_option types index element (slice_get types index) refl is
+pub array_is : (types : List SubType) (index : ℕ) (element : FieldType) → element_in (slice_get types index) ≡ Some element → IsArrayAt types index element
+array_is types index element is = array_option types index element (slice_get types index) refl is
 
 -- what fields take is valid
 pub struct_fields : (context : BodyContext) (index : ℕ) (fields : List FieldType) → IsScope context → IsStructAt context.types index fields → AreFieldsValid context fields
@@ -138,3 +144,57 @@ storage_match types storage.I16 storage.I8 orderly is = cc
 storage_match types storage.I16 (storage.Val b) orderly is = cc
 storage_match types (storage.Val a) storage.I8 orderly is = cc
 storage_match types (storage.Val a) storage.I16 orderly is = cc
+
+-- an array type that is chosen
+pub array_none : (context : BodyContext) (way : FieldUse) (bytes left : List ℕ) → choose_at (offered (is_array context way) (indexed (length context.types))) bytes ≡ (None, left) → array_at context way bytes ≡ (None, left)
+unfolding array_at
+array_none context way bytes left drawn = given_none (array_there context) (choose_at (offered (is_array context way) (indexed (length context.types))) bytes) left drawn
+
+pub array_some : (context : BodyContext) (way : FieldUse) (bytes left : List ℕ) (index : ℕ) (element : FieldType) → choose_at (offered (is_array context way) (indexed (length context.types))) bytes ≡ (Some index, left) → element_in (slice_get context.types index) ≡ Some element
+    → array_at context way bytes ≡ (Some (index, element), left)
+unfolding array_at
+array_some context way bytes left index element drawn at =
+    given_some (array_there context) (choose_at (offered (is_array context way) (indexed (length context.types))) bytes) left index (Some (index, element)) drawn
+    (ap (λ (o : Option FieldType). option_map (λ (element : FieldType). (index, element)) o) at)
+
+pub created_array_none : (context : BodyContext) (wanted : ValType) (way : FieldUse) (bytes left : List ℕ) → choose_at (offered (is_created_array context wanted way) (indexed (length context.types))) bytes ≡ (None, left)
+    → created_array_at context wanted way bytes ≡ (None, left)
+unfolding created_array_at
+created_array_none context wanted way bytes left drawn = given_none (array_there context) (choose_at (offered (is_created_array context wanted way) (indexed (length context.types))) bytes) left drawn
+
+pub created_array_some : (context : BodyContext) (wanted : ValType) (way : FieldUse) (bytes left : List ℕ) (index : ℕ) (element : FieldType) → choose_at (offered (is_created_array context wanted way) (indexed (length context.types))) bytes ≡ (Some index, left)
+    → element_in (slice_get context.types index) ≡ Some element → created_array_at context wanted way bytes ≡ (Some (index, element), left)
+unfolding created_array_at
+created_array_some context wanted way bytes left index element drawn at =
+    given_some (array_there context) (choose_at (offered (is_created_array context wanted way) (indexed (length context.types))) bytes) left index (Some (index, element)) drawn
+    (ap (λ (o : Option FieldType). option_map (λ (element : FieldType). (index, element)) o) at)
+
+-- a field that is chosen
+pub field_none : (context : BodyContext) (way : FieldUse) (bytes left : List ℕ) → choose_at (offered (is_struct context way) (indexed (length context.types))) bytes ≡ (None, left) → field_at context way bytes ≡ (None, left)
+unfolding field_at
+field_none context way bytes left drawn = rw drawn refl
+
+pub field_without : (context : BodyContext) (way : FieldUse) (bytes middle left : List ℕ) (ty : ℕ) (structure : StructType) → choose_at (offered (is_struct context way) (indexed (length context.types))) bytes ≡ (Some ty, middle)
+    → struct_in (slice_get context.types ty) ≡ Some structure → choose_at (fields_with context.types way structure.fields) middle ≡ (None, left) → field_at context way bytes ≡ (None, left)
+unfolding field_at
+field_without context way bytes middle left ty structure drawn at drawn' = rw (drawn, at) (given_none (field_there ty structure.fields) (choose_at (fields_with context.types way structure.fields) middle) left drawn')
+
+pub field_some : (context : BodyContext) (way : FieldUse) (bytes middle left : List ℕ) (ty index : ℕ) (structure : StructType) (d : FieldType) → choose_at (offered (is_struct context way) (indexed (length context.types))) bytes ≡ (Some ty, middle)
+    → struct_in (slice_get context.types ty) ≡ Some structure → choose_at (fields_with context.types way structure.fields) middle ≡ (Some index, left) → index < length structure.fields
+    → field_at context way bytes ≡ (Some (record { ty = ty; index = index; field = get_or structure.fields index d }), left)
+unfolding field_at
+field_some context way bytes middle left ty index structure d drawn at drawn' inside =
+    rw (drawn, at)
+    (given_some (field_there ty structure.fields) (choose_at (fields_with context.types way structure.fields) middle) left index (Some (record { ty = ty; index = index; field = get_or structure.fields index d })) drawn'
+    (ap (λ (o : Option FieldType). option_map (λ (field : FieldType). record { ty = ty; index = index; field = field }) o) (slice_get-get_or structure.fields index d inside)))
+
+pub field_is : (context : BodyContext) (ty index : ℕ) (structure : StructType) (d : FieldType) → struct_in (slice_get context.types ty) ≡ Some structure → index < length structure.fields → IsFieldAt context ty index (get_or structure.fields index d)
+field_is context ty index structure d at inside =
+    record { fields = structure.fields; structure = struct_there context.types ty structure at; there = slice_get-get_or structure.fields index d inside }
+
+-- a field is tested by its type
+pub field_tested : (types : List SubType) (way : FieldUse) (fields : List FieldType) (index : ℕ) (d : FieldType) (r : Bool) → index < length fields → r ≡ is_usable types way (get_or fields index d) → r ≡ is_field types way fields index
+field_tested types way fields index d r inside is = is ∙ sym (ap (λ (o : Option FieldType). is_usable_in types way o) (slice_get-get_or fields index d inside))
+
+pub field_usable : (types : List SubType) (way : FieldUse) (fields : List FieldType) (index : ℕ) (d : FieldType) → index < length fields → is_field types way fields index ≡ true → is_usable types way (get_or fields index d) ≡ true
+field_usable types way fields index d inside is = subst (λ (o : Option FieldType). is_usable_in types way o ≡ true) (slice_get-get_or fields index d inside) is

@@ -14,6 +14,8 @@ pub mod ItemLemmas
 pub mod TableLemmas
 pub mod BulkLemmas
 pub mod AggregateLemmas
+pub mod CreationLemmas
+pub mod FieldLemmas
 pub mod ExactLemmas
 pub mod TargetLemmas
 pub mod LeafChoiceLemmas
