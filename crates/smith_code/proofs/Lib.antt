@@ -16,6 +16,7 @@ pub mod BulkLemmas
 pub mod AggregateLemmas
 pub mod CreationLemmas
 pub mod FieldLemmas
+pub mod CastLemmas
 pub mod ExactLemmas
 pub mod TargetLemmas
 pub mod LeafChoiceLemmas

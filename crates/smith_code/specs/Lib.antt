@@ -10,6 +10,7 @@ pub mod Items
 pub mod TableChoices
 pub mod CreationChoices
 pub mod FieldChoices
+pub mod CastChoices
 pub mod BulkChoices
 pub mod ReferenceChoices
 pub mod CallChoices

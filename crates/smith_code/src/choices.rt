@@ -24,7 +24,11 @@ use crate::bulk::choose_bulk;
 use crate::calls::{
     choose_any_by_reference, choose_any_indirect, choose_by_reference, choose_indirect,
 };
+use crate::casts::choose_cast;
+use crate::creations::choose_creation;
 use crate::families::{StatementFamily, ValueFamily, statement_families, value_families};
+use crate::field_reads::choose_field_read;
+use crate::field_writes::choose_field_write;
 use crate::funcs::{choose_callable, function_of};
 use crate::globals::choose_mutable;
 use crate::locals::choose_local;
@@ -112,6 +116,9 @@ fn choose_value(
         ValueFamily::TailCall => choose_tail_call(alloc, scope, draft, u),
         ValueFamily::NullBranch => choose_kept(alloc, scope, wanted, draft, u),
         ValueFamily::Vector => choose_vector(alloc, scope, wanted, draft, u),
+        ValueFamily::Creation => choose_creation(alloc, scope, wanted, draft, u),
+        ValueFamily::FieldRead => choose_field_read(alloc, scope, wanted, draft, u),
+        ValueFamily::Cast => choose_cast(alloc, scope, wanted, draft, u),
     }
 }
 
@@ -215,6 +222,7 @@ pub(crate) fn choose_statement(
         StatementFamily::NullBranch => choose_null_branch(alloc, scope, draft, u),
         StatementFamily::VectorStore => choose_vector_store(alloc, scope, draft, u),
         StatementFamily::StoreLane => choose_store_lane(alloc, scope, draft, u),
+        StatementFamily::FieldWrite => choose_field_write(alloc, scope, draft, u),
     }
 }
 

@@ -31,6 +31,12 @@ pub(crate) enum ValueFamily {
     NullBranch,
     /// A vector, or what a vector instruction gives.
     Vector,
+    /// A struct or an array that is created.
+    Creation,
+    /// A field of a struct, or an element of an array.
+    FieldRead,
+    /// A cast, a test or a conversion of a reference, or an instruction on an i31.
+    Cast,
 }
 
 /// Families of instructions that may be a statement.
@@ -62,6 +68,8 @@ pub(crate) enum StatementFamily {
     VectorStore,
     /// A store of a lane of a vector.
     StoreLane,
+    /// A write to a struct or an array.
+    FieldWrite,
 }
 
 /// What may give a vector.
@@ -114,6 +122,11 @@ pub(crate) fn value_families<'a>() -> &'a [ValueFamily]
         ValueFamily::Vector,
         ValueFamily::Vector,
         ValueFamily::Vector,
+        ValueFamily::Creation,
+        ValueFamily::Creation,
+        ValueFamily::Creation,
+        ValueFamily::FieldRead,
+        ValueFamily::Cast,
     ]
 }
 
@@ -146,6 +159,7 @@ pub(crate) fn statement_families<'a>() -> &'a [StatementFamily]
         StatementFamily::NullBranch,
         StatementFamily::VectorStore,
         StatementFamily::StoreLane,
+        StatementFamily::FieldWrite,
     ]
 }
 

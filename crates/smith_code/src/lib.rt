@@ -7,6 +7,7 @@ mod body;
 mod branches;
 mod bulk;
 mod calls;
+mod casts;
 mod choices;
 mod creations;
 mod drawn;

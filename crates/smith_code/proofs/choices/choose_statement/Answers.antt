@@ -67,3 +67,6 @@ returns-in-VectorStore-clause-exact c = ok_by c.choose_vector_store.result _ _ _
 
 pub returns-in-StoreLane-clause-exact : goal.returns-in-StoreLane-clause-exact
 returns-in-StoreLane-clause-exact c = ok_by c.choose_store_lane.result _ _ _ (statement_by (where_stands c.args.scope.now c.args.draft.now) c.args.u.now _ c.statement_families.result.now c.choose.result statement.StoreLane c.statement_families.ensures (c.choose.ensures.exact statement.Nop) c.in-StoreLane.is) c.choose_store_lane.ensures.exact
+
+pub returns-in-FieldWrite-clause-exact : goal.returns-in-FieldWrite-clause-exact
+returns-in-FieldWrite-clause-exact c = ok_by c.choose_field_write.result _ _ _ (statement_by (where_stands c.args.scope.now c.args.draft.now) c.args.u.now _ c.statement_families.result.now c.choose.result statement.FieldWrite c.statement_families.ensures (c.choose.ensures.exact statement.Nop) c.in-FieldWrite.is) c.choose_field_write.ensures.exact
