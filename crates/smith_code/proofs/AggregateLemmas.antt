@@ -147,42 +147,35 @@ storage_match types (storage.Val a) storage.I16 orderly is = cc
 
 -- an array type that is chosen
 pub array_none : (context : BodyContext) (way : FieldUse) (bytes left : List ℕ) → choose_at (offered (is_array context way) (indexed (length context.types))) bytes ≡ (None, left) → array_at context way bytes ≡ (None, left)
-unfolding array_at
 array_none context way bytes left drawn = given_none (array_there context) (choose_at (offered (is_array context way) (indexed (length context.types))) bytes) left drawn
 
 pub array_some : (context : BodyContext) (way : FieldUse) (bytes left : List ℕ) (index : ℕ) (element : FieldType) → choose_at (offered (is_array context way) (indexed (length context.types))) bytes ≡ (Some index, left) → element_in (slice_get context.types index) ≡ Some element
     → array_at context way bytes ≡ (Some (index, element), left)
-unfolding array_at
 array_some context way bytes left index element drawn at =
     given_some (array_there context) (choose_at (offered (is_array context way) (indexed (length context.types))) bytes) left index (Some (index, element)) drawn
     (ap (λ (o : Option FieldType). option_map (λ (element : FieldType). (index, element)) o) at)
 
 pub created_array_none : (context : BodyContext) (wanted : ValType) (way : FieldUse) (bytes left : List ℕ) → choose_at (offered (is_created_array context wanted way) (indexed (length context.types))) bytes ≡ (None, left)
     → created_array_at context wanted way bytes ≡ (None, left)
-unfolding created_array_at
 created_array_none context wanted way bytes left drawn = given_none (array_there context) (choose_at (offered (is_created_array context wanted way) (indexed (length context.types))) bytes) left drawn
 
 pub created_array_some : (context : BodyContext) (wanted : ValType) (way : FieldUse) (bytes left : List ℕ) (index : ℕ) (element : FieldType) → choose_at (offered (is_created_array context wanted way) (indexed (length context.types))) bytes ≡ (Some index, left)
     → element_in (slice_get context.types index) ≡ Some element → created_array_at context wanted way bytes ≡ (Some (index, element), left)
-unfolding created_array_at
 created_array_some context wanted way bytes left index element drawn at =
     given_some (array_there context) (choose_at (offered (is_created_array context wanted way) (indexed (length context.types))) bytes) left index (Some (index, element)) drawn
     (ap (λ (o : Option FieldType). option_map (λ (element : FieldType). (index, element)) o) at)
 
 -- a field that is chosen
 pub field_none : (context : BodyContext) (way : FieldUse) (bytes left : List ℕ) → choose_at (offered (is_struct context way) (indexed (length context.types))) bytes ≡ (None, left) → field_at context way bytes ≡ (None, left)
-unfolding field_at
 field_none context way bytes left drawn = rw drawn refl
 
 pub field_without : (context : BodyContext) (way : FieldUse) (bytes middle left : List ℕ) (ty : ℕ) (structure : StructType) → choose_at (offered (is_struct context way) (indexed (length context.types))) bytes ≡ (Some ty, middle)
     → struct_in (slice_get context.types ty) ≡ Some structure → choose_at (fields_with context.types way structure.fields) middle ≡ (None, left) → field_at context way bytes ≡ (None, left)
-unfolding field_at
 field_without context way bytes middle left ty structure drawn at drawn' = rw (drawn, at) (given_none (field_there ty structure.fields) (choose_at (fields_with context.types way structure.fields) middle) left drawn')
 
 pub field_some : (context : BodyContext) (way : FieldUse) (bytes middle left : List ℕ) (ty index : ℕ) (structure : StructType) (d : FieldType) → choose_at (offered (is_struct context way) (indexed (length context.types))) bytes ≡ (Some ty, middle)
     → struct_in (slice_get context.types ty) ≡ Some structure → choose_at (fields_with context.types way structure.fields) middle ≡ (Some index, left) → index < length structure.fields
     → field_at context way bytes ≡ (Some (record { ty = ty; index = index; field = get_or structure.fields index d }), left)
-unfolding field_at
 field_some context way bytes middle left ty index structure d drawn at drawn' inside =
     rw (drawn, at)
     (given_some (field_there ty structure.fields) (choose_at (fields_with context.types way structure.fields) middle) left index (Some (record { ty = ty; index = index; field = get_or structure.fields index d })) drawn'

@@ -10,7 +10,7 @@ use Rattle.smith_types.specs.declared.composite_type.SubType.{SubType}
 use Rattle.smith_types.specs.declared.value_type.AbstractHeapType.{AbstractHeapType}
 use Rattle.smith_types.specs.declared.value_type.AbstractHeapType.TheVariants as abstract
 use Rattle.smith_types.specs.declared.value_type.HeapType.{HeapType}
-use Rattle.smith_types.specs.declared.value_type.HeapType.TheVariants.{Abstract}
+use Rattle.smith_types.specs.declared.value_type.HeapType.TheVariants.{Abstract, Concrete, Exact}
 use Rattle.smith_types.specs.declared.value_type.RefType.{RefType}
 use Rattle.smith_types.specs.declared.value_type.ValType.{ValType}
 use Rattle.smith_types.specs.declared.value_type.ValType.TheVariants.{I32, I64, F32, F64, V128, Ref}
@@ -23,7 +23,7 @@ use Rattle.smith_instr.specs.declared.aggregate.AggregateInstr.TheVariants as ag
 use Rattle.smith_instr.specs.declared.instr.Instr.TheVariants as instr
 use Rattle.smith_instr.specs.declared.reference.ReferenceInstr.TheVariants as reference
 use Rattle.smith_code.specs.Aggregates.{names_types}
-use Rattle.smith_code.specs.CastChoices.{above_at, cast_at, cast_choice_at, cast_for, conversion_at, conversion_of, conversions, is_above, is_above_at, is_i31_below, scalar_at, scalar_of, scalars, with_null}
+use Rattle.smith_code.specs.CastChoices.{above_at, cast_at, cast_choice_at, cast_for, conversion_at, conversion_of, conversions, converted_to, i31_node, is_above, is_above_at, is_i31_below, scalar_at, scalar_of, scalars, with_null}
 use Rattle.smith_code.specs.CreationChoices.{aggregate_of}
 use Rattle.smith_code.specs.Nodes.{IsNode, node_of}
 use Rattle.smith_code.specs.NullChoices.{reference_in}
@@ -68,12 +68,10 @@ local_other context to index d inside is other = not_above context.types to (get
 
 -- the type that is drawn above a reference type
 pub above_none : (context : BodyContext) (to : RefType) (bytes left : List ℕ) → choose_at (offered (is_above context to) (indexed (length context.locals))) bytes ≡ (None, left) → above_at context to bytes ≡ (with_null to, left)
-unfolding above_at
 above_none context to bytes left drawn = rw drawn refl
 
 pub above_some : (context : BodyContext) (to from : RefType) (bytes left : List ℕ) (index : ℕ) (d : ValType) → choose_at (offered (is_above context to) (indexed (length context.locals))) bytes ≡ (Some index, left) → index < length context.locals
     → get_or context.locals index d ≡ Ref from → above_at context to bytes ≡ (from, left)
-unfolding above_at
 above_some context to from bytes left index d drawn inside at =
     let there : slice_get context.locals index ≡ Some (Ref from) = slice_get-get_or context.locals index d inside ∙ ap (λ (value : ValType). Some value) at in
     rw (drawn, there) refl
@@ -128,6 +126,15 @@ i31_shared_gives context set to orderly valid below =
     gives_one context set (Ref to) (reference_to (Abstract true abstract.I31)) (I32 ∷ []) (instr.Aggregate aggregate.RefI31Shared) (λ more. (refl, refl))
     (tested context.types orderly (reference_to (Abstract true abstract.I31)) (Ref to) below) valid refl (omega arith) (one_valid context I32 tt)
 
+pub i31_first : (context : BodyContext) (to : RefType) → is_i31_below context to false ≡ true → Some (aggregate_of (I32 ∷ []) aggregate.RefI31) ≡ i31_node context to
+i31_first context to below = rw below refl
+
+pub i31_second : (context : BodyContext) (to : RefType) → is_i31_below context to false ≡ false → is_i31_below context to true ≡ true → Some (aggregate_of (I32 ∷ []) aggregate.RefI31Shared) ≡ i31_node context to
+i31_second context to other below = rw (other, below) refl
+
+pub i31_none : (context : BodyContext) (to : RefType) → is_i31_below context to false ≡ false → is_i31_below context to true ≡ false → None ≡ i31_node context to
+i31_none context to other another = rw (other, another) refl
+
 -- conversions between references of inside and outside
 pub inside_gives : (context : BodyContext) (set : List ℕ) (nullable shared : Bool) → IsValid context (internal shared nullable) → IsNode context set (internal shared nullable ∷ []) (aggregate_of (external shared nullable ∷ []) aggregate.AnyConvertExtern)
 inside_gives context set nullable shared valid =
@@ -142,6 +149,26 @@ outside_gives context set nullable shared named valid =
     let valid' : IsValid context (internal shared nullable) = (valid.0, record { heap_type = (gc, valid.1.heap_type.1); nullable = valid.1.nullable }) in
     gives_one context set (external shared nullable) (external shared nullable) (internal shared nullable ∷ []) (instr.Aggregate aggregate.ExternConvertAny) (λ more. (shared, nullable, (refl, refl)))
     (IsValBelow-refl context.types (external shared nullable)) valid refl (omega arith) (one_valid context (internal shared nullable) valid')
+
+-- no conversion to any other heap type
+pub converted_other : (nullable shared : Bool) (ty : AbstractHeapType) → (ty ≡ abstract.Any → ⊥) → (ty ≡ abstract.Extern → ⊥) → None ≡ converted_to nullable (Abstract shared ty)
+converted_other nullable shared abstract.Any any extern = absurd (any refl)
+converted_other nullable shared abstract.Extern any extern = absurd (extern refl)
+converted_other nullable shared abstract.Func any extern = refl
+converted_other nullable shared abstract.Exn any extern = refl
+converted_other nullable shared abstract.NoExn any extern = refl
+converted_other nullable shared abstract.None any extern = refl
+converted_other nullable shared abstract.NoExtern any extern = refl
+converted_other nullable shared abstract.NoFunc any extern = refl
+converted_other nullable shared abstract.Eq any extern = refl
+converted_other nullable shared abstract.Struct any extern = refl
+converted_other nullable shared abstract.Array any extern = refl
+converted_other nullable shared abstract.I31 any extern = refl
+
+pub converted_index : (nullable : Bool) (heap_type : HeapType) → ((shared : Bool) (ty : AbstractHeapType) → heap_type ≡ Abstract shared ty → ⊥) → None ≡ converted_to nullable heap_type
+converted_index nullable (Abstract shared ty) other = absurd (other shared ty refl)
+converted_index nullable (Concrete index) other = refl
+converted_index nullable (Exact index) other = refl
 
 -- what is chosen
 pub scalar_by : (context : BodyContext) (bytes left : List ℕ) (rows : List Scalar) (drawn kind : Scalar) → rows ≡ scalars → chosen_at scalar.Length rows bytes ≡ (drawn, left) → drawn ≡ kind → scalar_at context bytes ≡ scalar_of context kind left

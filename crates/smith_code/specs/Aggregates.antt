@@ -35,11 +35,11 @@ is_created_array context wanted way index = is_created_below context wanted inde
 abbrev pub array_there : BodyContext → ℕ → Option (ℕ × FieldType)
 array_there context index = option_map (λ (element : FieldType). (index, element)) (element_in (slice_get context.types index))
 
-unfoldable pub array_at : BodyContext → FieldUse → List ℕ → Option (ℕ × FieldType) × List ℕ
+abbrev pub array_at : BodyContext → FieldUse → List ℕ → Option (ℕ × FieldType) × List ℕ
 array_at context way bytes = giving (array_there context) (choose_at (offered (is_array context way) (indexed (length context.types))) bytes)
 
 -- one whose created values are below the wanted type
-unfoldable pub created_array_at : BodyContext → ValType → FieldUse → List ℕ → Option (ℕ × FieldType) × List ℕ
+abbrev pub created_array_at : BodyContext → ValType → FieldUse → List ℕ → Option (ℕ × FieldType) × List ℕ
 created_array_at context wanted way bytes =
     giving (array_there context) (choose_at (offered (is_created_array context wanted way) (indexed (length context.types))) bytes)
 
@@ -82,7 +82,7 @@ abbrev pub field_in : BodyContext → FieldUse → ℕ → Option StructType →
 field_in context way ty None bytes = (None, bytes)
 field_in context way ty (Some structure) bytes = giving (field_there ty structure.fields) (choose_at (fields_with context.types way structure.fields) bytes)
 
-unfoldable pub field_at : BodyContext → FieldUse → List ℕ → Option StructField × List ℕ
+abbrev pub field_at : BodyContext → FieldUse → List ℕ → Option StructField × List ℕ
 field_at context way bytes =
     let ty = choose_at (offered (is_struct context way) (indexed (length context.types))) bytes in
     continued (λ (ty : ℕ) (bytes : List ℕ). field_in context way ty (struct_in (slice_get context.types ty)) bytes) ty.0 ty.1

@@ -48,7 +48,7 @@ above_in context to (Some index) = unwrap_or (reference_in (slice_get context.lo
 above_in context to None = with_null to
 
 -- a type above a reference type: that of a local, or the type with null where there is none
-unfoldable pub above_at : BodyContext → RefType → List ℕ → RefType × List ℕ
+abbrev pub above_at : BodyContext → RefType → List ℕ → RefType × List ℕ
 above_at context to bytes =
     let index = choose_at (offered (is_above context to) (indexed (length context.locals))) bytes in
     (above_in context to index.0, index.1)

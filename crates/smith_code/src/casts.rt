@@ -334,15 +334,13 @@ fn choose_i31(
     ensures offer { IsOffer (where_stands scope.now draft.now) draft.now.set.items (Ref to ∷ []) result }
     ensures memory { IfErr result (λ e. e ≡ Error.Memory) }
 {
-    let op = if is_i31_below(scope, to, false) {
-        AggregateInstr::RefI31
-    } else if is_i31_below(scope, to, true) {
-        AggregateInstr::RefI31Shared
-    } else {
-        return Ok(None);
-    };
-    let node = plain(alloc, &[ValType::I32], Instr::Aggregate(op), 0)?;
-    Ok(Some(node))
+    if is_i31_below(scope, to, false) {
+        return converted(alloc, ValType::I32, AggregateInstr::RefI31);
+    }
+    if is_i31_below(scope, to, true) {
+        return converted(alloc, ValType::I32, AggregateInstr::RefI31Shared);
+    }
+    Ok(None)
 }
 
 /// Whether an i31, which is `shared` or not, is of a type below `to`.
@@ -400,6 +398,7 @@ fn abstract_reference(shared: bool, nullable: bool, ty: AbstractHeapType) -> Val
     })
 }
 
+/// Makes the node of `op`, which takes `from`.
 fn converted(alloc: Global, from: ValType, op: AggregateInstr) -> Result<Option<Node>, Error>
     ensures exact { IfOk result (λ chosen. chosen ≡ Some (aggregate_of (from ∷ []) op)) }
     ensures memory { IfErr result (λ e. e ≡ Error.Memory) }
