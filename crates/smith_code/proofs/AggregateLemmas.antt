@@ -27,9 +27,10 @@ use Rattle.smith_draw.specs.ConstScopes.{fields_of}
 use Rattle.smith_bytes.specs.Draws.{choose_at}
 use Rattle.smith_instr.specs.AggregateTypes.{IsFieldAt, IsOfBytes, IsReadBy, IsSegmentOf, value_of}
 use Rattle.smith_instr.specs.Contexts.{BodyContext, IsValid, AreValid, created_reference, nullable_to}
-use Rattle.smith_code.specs.Aggregates.{array_at, array_there, created_array_at, field_at, field_there, fields_with, is_array, is_created_array, is_field, is_struct, names_types}
+use Rattle.smith_code.specs.Aggregates.{array_at, array_there, created_array_at, field_at, field_in, field_there, fields_with, is_array, is_created_array, is_field, is_struct, names_types}
 use Rattle.smith_code.specs.Chosen.{giving}
 use Rattle.smith_code.specs.Fields.{AreFieldsValid, element_in, element_of, extension_of, is_of_bytes, is_of_references, is_storage_below, is_usable, is_usable_in, struct_in, struct_of}
+use Rattle.smith_code.specs.Items.{continued}
 use Rattle.smith_code.specs.Offered.{offered}
 use Rattle.smith_code.specs.Scopes.{IsScope, indexed}
 use Rattle.smith_code.specs.TableChoices.{is_segment_below}
@@ -167,18 +168,22 @@ created_array_some context wanted way bytes left index element drawn at =
 
 -- a field that is chosen
 pub field_none : (context : BodyContext) (way : FieldUse) (bytes left : List ℕ) → choose_at (offered (is_struct context way) (indexed (length context.types))) bytes ≡ (None, left) → field_at context way bytes ≡ (None, left)
-field_none context way bytes left drawn = rw drawn refl
+field_none context way bytes left drawn = ap (λ (d : Option ℕ × List ℕ). continued (λ (ty : ℕ) (bytes : List ℕ). field_in context way ty (struct_in (slice_get context.types ty)) bytes) d.0 d.1) drawn
 
 pub field_without : (context : BodyContext) (way : FieldUse) (bytes middle left : List ℕ) (ty : ℕ) (structure : StructType) → choose_at (offered (is_struct context way) (indexed (length context.types))) bytes ≡ (Some ty, middle)
     → struct_in (slice_get context.types ty) ≡ Some structure → choose_at (fields_with context.types way structure.fields) middle ≡ (None, left) → field_at context way bytes ≡ (None, left)
-field_without context way bytes middle left ty structure drawn at drawn' = rw (drawn, at) (given_none (field_there ty structure.fields) (choose_at (fields_with context.types way structure.fields) middle) left drawn')
+field_without context way bytes middle left ty structure drawn at drawn' =
+    ap (λ (d : Option ℕ × List ℕ). continued (λ (ty : ℕ) (bytes : List ℕ). field_in context way ty (struct_in (slice_get context.types ty)) bytes) d.0 d.1) drawn
+    ∙ ap (λ (o : Option StructType). field_in context way ty o middle) at
+    ∙ (given_none (field_there ty structure.fields) (choose_at (fields_with context.types way structure.fields) middle) left drawn')
 
 pub field_some : (context : BodyContext) (way : FieldUse) (bytes middle left : List ℕ) (ty index : ℕ) (structure : StructType) (d : FieldType) → choose_at (offered (is_struct context way) (indexed (length context.types))) bytes ≡ (Some ty, middle)
     → struct_in (slice_get context.types ty) ≡ Some structure → choose_at (fields_with context.types way structure.fields) middle ≡ (Some index, left) → index < length structure.fields
     → field_at context way bytes ≡ (Some (record { ty = ty; index = index; field = get_or structure.fields index d }), left)
 field_some context way bytes middle left ty index structure d drawn at drawn' inside =
-    rw (drawn, at)
-    (given_some (field_there ty structure.fields) (choose_at (fields_with context.types way structure.fields) middle) left index (Some (record { ty = ty; index = index; field = get_or structure.fields index d })) drawn'
+    ap (λ (d : Option ℕ × List ℕ). continued (λ (ty : ℕ) (bytes : List ℕ). field_in context way ty (struct_in (slice_get context.types ty)) bytes) d.0 d.1) drawn
+    ∙ ap (λ (o : Option StructType). field_in context way ty o middle) at
+    ∙ (given_some (field_there ty structure.fields) (choose_at (fields_with context.types way structure.fields) middle) left index (Some (record { ty = ty; index = index; field = get_or structure.fields index d })) drawn'
     (ap (λ (o : Option FieldType). option_map (λ (field : FieldType). record { ty = ty; index = index; field = field }) o) (slice_get-get_or structure.fields index d inside)))
 
 pub field_is : (context : BodyContext) (ty index : ℕ) (structure : StructType) (d : FieldType) → struct_in (slice_get context.types ty) ≡ Some structure → index < length structure.fields → IsFieldAt context ty index (get_or structure.fields index d)

@@ -23,7 +23,7 @@ use Rattle.smith_instr.specs.declared.aggregate.AggregateInstr.TheVariants as ag
 use Rattle.smith_instr.specs.declared.instr.Instr.TheVariants as instr
 use Rattle.smith_instr.specs.declared.reference.ReferenceInstr.TheVariants as reference
 use Rattle.smith_code.specs.Aggregates.{names_types}
-use Rattle.smith_code.specs.CastChoices.{above_at, cast_at, cast_choice_at, cast_for, conversion_at, conversion_of, conversions, converted_to, i31_node, is_above, is_above_at, is_i31_below, scalar_at, scalar_of, scalars, with_null}
+use Rattle.smith_code.specs.CastChoices.{above_at, above_in, cast_at, cast_choice_at, cast_for, conversion_at, conversion_of, conversions, converted_to, i31_node, is_above, is_above_at, is_i31_below, scalar_at, scalar_of, scalars, with_null}
 use Rattle.smith_code.specs.CreationChoices.{aggregate_of}
 use Rattle.smith_code.specs.Nodes.{IsNode, node_of}
 use Rattle.smith_code.specs.NullChoices.{reference_in}
@@ -46,35 +46,36 @@ null_above types to = record { heap = itself; nullable = λ h. refl }
 pub null_valid : (context : BodyContext) (to : RefType) → IsValid context (Ref to) → IsValid context (Ref (with_null to))
 null_valid context to valid = nullable_valid context to.heap_type valid.0 valid.1.heap_type
 
--- what is above a reference type is one
-not_above : (types : List SubType) (to : RefType) (value : ValType) → is_val_below types (Ref to) value ≡ true → ((from : RefType) → value ≡ Ref from → ⊥) → ⊥
-not_above types to (Ref from) is other = other from refl
-not_above types to I32 is other = cc
-not_above types to I64 is other = cc
-not_above types to F32 is other = cc
-not_above types to F64 is other = cc
-not_above types to V128 is other = cc
+-- the type of a local, or the type with null
+pub read_valid : (context : BodyContext) (value : ValType) (to : RefType) → IsValid context value → IsValid context (Ref to) → IsValid context (Ref (unwrap_or (reference_in (Some value)) (with_null to)))
+read_valid context (Ref from) to valid valid' = valid
+read_valid context I32 to valid valid' = null_valid context to valid'
+read_valid context I64 to valid valid' = null_valid context to valid'
+read_valid context F32 to valid valid' = null_valid context to valid'
+read_valid context F64 to valid valid' = null_valid context to valid'
+read_valid context V128 to valid valid' = null_valid context to valid'
 
--- of a local that is chosen
-pub local_is : (context : BodyContext) (to : RefType) (index : ℕ) (d : ValType) → index < length context.locals → is_above context to index ≡ true → is_val_below context.types (Ref to) (get_or context.locals index d) ≡ true
-local_is context to index d inside is = subst (λ (o : Option ValType). is_above_at context.types to o ≡ true) (slice_get-get_or context.locals index d inside) is
+read_below : (types : List SubType) (value : ValType) (to : RefType) → IsOrderly types → is_val_below types (Ref to) value ≡ true → IsRefBelow types to (unwrap_or (reference_in (Some value)) (with_null to))
+read_below types (Ref from) to orderly is = tested types orderly (Ref to) (Ref from) is
+read_below types I32 to orderly is = null_above types to
+read_below types I64 to orderly is = null_above types to
+read_below types F32 to orderly is = null_above types to
+read_below types F64 to orderly is = null_above types to
+read_below types V128 to orderly is = null_above types to
 
-pub local_above : (context : BodyContext) (to from : RefType) (index : ℕ) (d : ValType) → IsOrderly context.types → index < length context.locals → is_above context to index ≡ true → get_or context.locals index d ≡ Ref from → IsRefBelow context.types to from
-local_above context to from index d orderly inside is at =
-    tested context.types orderly (Ref to) (Ref from) (subst (λ (value : ValType). is_val_below context.types (Ref to) value ≡ true) at (local_is context to index d inside is))
-
-pub local_other : (context : BodyContext) (to : RefType) (index : ℕ) (d : ValType) → index < length context.locals → is_above context to index ≡ true → ((from : RefType) → get_or context.locals index d ≡ Ref from → ⊥) → ⊥
-local_other context to index d inside is other = not_above context.types to (get_or context.locals index d) (local_is context to index d inside is) other
+pub read_above : (context : BodyContext) (to : RefType) (index : ℕ) (d : ValType) → IsOrderly context.types → index < length context.locals → is_above context to index ≡ true
+    → IsRefBelow context.types to (unwrap_or (reference_in (Some (get_or context.locals index d))) (with_null to))
+read_above context to index d orderly inside is =
+    read_below context.types (get_or context.locals index d) to orderly (subst (λ (o : Option ValType). is_above_at context.types to o ≡ true) (slice_get-get_or context.locals index d inside) is)
 
 -- the type that is drawn above a reference type
 pub above_none : (context : BodyContext) (to : RefType) (bytes left : List ℕ) → choose_at (offered (is_above context to) (indexed (length context.locals))) bytes ≡ (None, left) → above_at context to bytes ≡ (with_null to, left)
-above_none context to bytes left drawn = rw drawn refl
+above_none context to bytes left drawn = ap (λ (d : Option ℕ × List ℕ). (above_in context to d.0, d.1)) drawn
 
-pub above_some : (context : BodyContext) (to from : RefType) (bytes left : List ℕ) (index : ℕ) (d : ValType) → choose_at (offered (is_above context to) (indexed (length context.locals))) bytes ≡ (Some index, left) → index < length context.locals
-    → get_or context.locals index d ≡ Ref from → above_at context to bytes ≡ (from, left)
-above_some context to from bytes left index d drawn inside at =
-    let there : slice_get context.locals index ≡ Some (Ref from) = slice_get-get_or context.locals index d inside ∙ ap (λ (value : ValType). Some value) at in
-    rw (drawn, there) refl
+pub above_some : (context : BodyContext) (to : RefType) (bytes left : List ℕ) (index : ℕ) (d : ValType) → choose_at (offered (is_above context to) (indexed (length context.locals))) bytes ≡ (Some index, left) → index < length context.locals
+    → above_at context to bytes ≡ (unwrap_or (reference_in (Some (get_or context.locals index d))) (with_null to), left)
+above_some context to bytes left index d drawn inside =
+    ap (λ (d : Option ℕ × List ℕ). (above_in context to d.0, d.1)) drawn ∙ ap (λ (o : Option ValType). (unwrap_or (reference_in o) (with_null to), left)) (slice_get-get_or context.locals index d inside)
 
 -- a cast, and a test
 pub cast_gives : (context : BodyContext) (set : List ℕ) (to from : RefType) → IsValid context (Ref to) → IsValid context (Ref from) → IsRefBelow context.types to from

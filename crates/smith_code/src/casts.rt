@@ -1,4 +1,4 @@
-ghost use Rattle.std.specs.Prelude.{◌≡◌, ◌<◌, true, Some, [], ◌∷◌, length, IfOk, IfErr, IfSome};
+ghost use Rattle.std.specs.Prelude.{◌≡◌, ◌<◌, true, Some, unwrap_or, [], ◌∷◌, length, IfOk, IfErr, IfSome};
 ghost use Rattle.smith_bytes.specs.Source.{KeepsPieces};
 ghost use Rattle.smith_types.specs.Subtyping.{IsRefBelow};
 ghost use Rattle.smith_types.specs.declared.value_type.ValType.TheVariants.{I32, Ref};
@@ -23,6 +23,7 @@ ghost use Rattle.smith_code.specs.CastChoices.{
 };
 ghost use Rattle.smith_code.specs.CreationChoices.{aggregate_of};
 ghost use Rattle.smith_code.specs.Nodes.{IsOffer};
+ghost use Rattle.smith_code.specs.NullChoices.{reference_in};
 ghost use Rattle.smith_code.specs.Scopes.{IsScope, bare, where_stands};
 
 use crate::aggregates::names_types;
@@ -283,9 +284,16 @@ fn draw_above(scope: &Scope<'_>, to: RefType, u: &mut Unstructured<'_>) -> RefTy
     let Some(index) = choose_offered(&AboveOffer { scope, to }, u) else {
         return with_null(to);
     };
-    match scope.locals[index] {
-        ValType::Ref(from) => from,
-        _ => with_null(to),
+    reference_or(scope.locals[index], with_null(to))
+}
+
+/// Returns the type of references that `value` is, or `other` where it is none.
+fn reference_or(value: ValType, other: RefType) -> RefType
+    ensures { result ≡ unwrap_or (reference_in (Some value)) other }
+{
+    match value {
+        ValType::Ref(reference) => reference,
+        _ => other,
     }
 }
 
