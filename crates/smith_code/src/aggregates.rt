@@ -330,13 +330,7 @@ pub(crate) fn choose_field(
     ensures usable { IfSome result (λ chosen. is_usable (bare scope.now).types of chosen.field ≡ true) }
     ensures left { KeepsPieces u.old u.new }
 {
-    let ty = choose_offered(
-        &StructOffer {
-            scope: &*scope,
-            of,
-        },
-        u,
-    )?;
+    let ty = choose_offered(&StructOffer { scope: &*scope, of }, u)?;
     let structure = struct_type_at(scope, ty)?;
     let fields = structure.fields.as_slice();
     let index = choose_offered(

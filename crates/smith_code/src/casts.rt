@@ -1,4 +1,4 @@
-ghost use Rattle.std.specs.Prelude.{◌≡◌, ◌<◌, true, Some, unwrap_or, [], ◌∷◌, length, IfOk, IfErr, IfSome};
+ghost use Rattle.std.specs.Prelude.{◌≡◌, true, Some, unwrap_or, [], ◌∷◌, IfOk, IfErr, IfSome};
 ghost use Rattle.smith_bytes.specs.Source.{KeepsPieces};
 ghost use Rattle.smith_types.specs.Subtyping.{IsRefBelow};
 ghost use Rattle.smith_types.specs.declared.value_type.ValType.TheVariants.{I32, Ref};
@@ -102,11 +102,7 @@ impl<'a> Offer for AboveOffer<'a> {
     }
 
     fn is_offered(&self, index: usize) -> bool {
-        is_below(
-            self.scope,
-            ValType::Ref(self.to),
-            self.scope.locals[index],
-        )
+        is_below(self.scope, ValType::Ref(self.to), self.scope.locals[index])
     }
 }
 
@@ -205,11 +201,7 @@ fn choose_scalar(
 }
 
 /// Makes the node of `op`, which takes a reference to the abstract heap type `ty`, null among them.
-fn out_of(
-    alloc: Global,
-    ty: AbstractHeapType,
-    op: AggregateInstr,
-) -> Result<Option<Node>, Error>
+fn out_of(alloc: Global, ty: AbstractHeapType, op: AggregateInstr) -> Result<Option<Node>, Error>
     ensures exact { IfOk result (λ chosen. chosen ≡ Some (aggregate_of (nullable_to (HeapType.Abstract false ty) ∷ []) op)) }
     ensures memory { IfErr result (λ e. e ≡ Error.Memory) }
 {
