@@ -94,6 +94,7 @@ fn choose_value(
     ensures memory { IfErr result (λ e. e ≡ Error.Memory) }
     ensures left { KeepsPieces u.old u.new }
 {
+    let outcome = Outcome::Wanted(wanted);
     match choose(value_families(), u) {
         ValueFamily::Leaf => Ok(None),
         ValueFamily::Numeric => choose_numeric(alloc, wanted, u),
@@ -107,12 +108,8 @@ fn choose_value(
         ValueFamily::Table => choose_table_value(alloc, scope, wanted, draft, u),
         ValueFamily::SelectTyped => choose_select_typed(alloc, wanted),
         ValueFamily::Reference => choose_reference_value(alloc, scope, wanted, draft, u),
-        ValueFamily::CallIndirect => {
-            choose_indirect(alloc, scope, Outcome::Wanted(wanted), draft, u)
-        }
-        ValueFamily::CallRef => {
-            choose_by_reference(alloc, scope, Outcome::Wanted(wanted), draft, u)
-        }
+        ValueFamily::CallIndirect => choose_indirect(alloc, scope, outcome, draft, u),
+        ValueFamily::CallRef => choose_by_reference(alloc, scope, outcome, draft, u),
         ValueFamily::TailCall => choose_tail_call(alloc, scope, draft, u),
         ValueFamily::NullBranch => choose_kept(alloc, scope, wanted, draft, u),
         ValueFamily::Vector => choose_vector(alloc, scope, wanted, draft, u),
