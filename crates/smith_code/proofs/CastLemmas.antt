@@ -151,6 +151,19 @@ outside_gives context set nullable shared named valid =
     gives_one context set (external shared nullable) (external shared nullable) (internal shared nullable ∷ []) (instr.Aggregate aggregate.ExternConvertAny) (λ more. (shared, nullable, (refl, refl)))
     (IsValBelow-refl context.types (external shared nullable)) valid refl (omega arith) (one_valid context (internal shared nullable) valid')
 
+pub inside_for : (context : BodyContext) (set : List ℕ) (to : RefType) (shared : Bool) → to.heap_type ≡ Abstract shared abstract.Any → IsValid context (Ref to) → IsNode context set (Ref to ∷ []) (aggregate_of (external shared to.nullable ∷ []) aggregate.AnyConvertExtern)
+inside_for context set to shared is valid =
+    subst
+    (λ (h : HeapType). IsValid context (Ref (record { nullable = to.nullable; heap_type = h })) → IsNode context set (Ref (record { nullable = to.nullable; heap_type = h }) ∷ []) (aggregate_of (external shared to.nullable ∷ []) aggregate.AnyConvertExtern))
+    (sym is) (inside_gives context set to.nullable shared) valid
+
+pub outside_for : (context : BodyContext) (set : List ℕ) (to : RefType) (shared : Bool) → names_types context ≡ true → to.heap_type ≡ Abstract shared abstract.Extern → IsValid context (Ref to)
+    → IsNode context set (Ref to ∷ []) (aggregate_of (internal shared to.nullable ∷ []) aggregate.ExternConvertAny)
+outside_for context set to shared named is valid =
+    subst
+    (λ (h : HeapType). IsValid context (Ref (record { nullable = to.nullable; heap_type = h })) → IsNode context set (Ref (record { nullable = to.nullable; heap_type = h }) ∷ []) (aggregate_of (internal shared to.nullable ∷ []) aggregate.ExternConvertAny))
+    (sym is) (outside_gives context set to.nullable shared named) valid
+
 -- no conversion to any other heap type
 pub converted_other : (nullable shared : Bool) (ty : AbstractHeapType) → (ty ≡ abstract.Any → ⊥) → (ty ≡ abstract.Extern → ⊥) → None ≡ converted_to nullable (Abstract shared ty)
 converted_other nullable shared abstract.Any any extern = absurd (any refl)
