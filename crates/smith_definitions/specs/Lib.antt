@@ -11,3 +11,4 @@ pub mod Refusals
 pub mod CollectedValues
 pub mod RequiredExports
 pub mod Required
+pub mod KeptInitials

@@ -1,4 +1,4 @@
-ghost use Rattle.std.specs.Prelude.{◌≡◌, Bool, true, IfErr, OnOk};
+ghost use Rattle.std.specs.Prelude.{◌≡◌, Bool, true, false, IfErr, OnOk};
 ghost use Rattle.smith_bytes.specs.Source.{KeepsPieces};
 ghost use Rattle.smith_types.specs.Entities.{AreEntitiesValid, IsTableValid, IsGlobalValid};
 ghost use Rattle.smith_types.specs.IndexSpaces.{spaces_in};
@@ -10,14 +10,17 @@ ghost use Rattle.smith_draw.specs.ConstScopes.{AreSpacesValid, seen_by};
 ghost use Rattle.smith_draw.specs.KeptOffers.{AreKeptOffers};
 ghost use Rattle.smith_imports.specs.Imported.{entity_spaces};
 ghost use Rattle.smith_definitions.specs.Defined.{AreWithin, drawn_beside};
+ghost use Rattle.smith_definitions.specs.KeptInitials.{AreInitialsKept};
 ghost use Rattle.smith_definitions.specs.Required.{MayDefineMore, IsInitialised, IsDefinedMore, MayRefuseInitial, MayRefuseEntity};
 ghost use Rattle.smith_definitions.specs.RequiredExports.{Answers, next_index, several, scope_beside, defined_with_at, entity_required_at};
 
 use crate::definitions::Definitions;
+use crate::kept_initials::KeptInitials;
 use crate::standing::standing;
+use crate::table_init::draw_table_init;
 use smith_bytes::{Error, Unstructured, Why};
 use smith_config::Config;
-use smith_draw::{KeptOffers, Spaces, arbitrary_table_init, draw_const_expr};
+use smith_draw::{KeptOffers, Spaces, draw_const_expr};
 use smith_types::{EntityType, ExportKind, GlobalType, IndexSpaces, TableType, TypeSpace};
 use std::alloc::Global;
 
@@ -72,18 +75,21 @@ fn define_table(
     types: &TypeSpace,
     spaces: &IndexSpaces,
     table: TableType,
+    kept: &mut KeptOffers,
     definitions: &mut Definitions,
     u: &mut Unstructured<'_>,
 ) -> Result<(), Error>
     requires may { MayDefineMore config.now types.now (spaces_in spaces.now) definitions.old 1 }
     requires valid { IsTableValid (features_of config.now) types.now.types table }
+    requires kept { AreKeptOffers (scope_beside config.now types.now.types (spaces_in spaces.now) definitions.old false) kept.old }
     ensures exact { Answers (λ _. (definitions.new, u.new)) result (defined_with_at config.now types.now.types (spaces_in spaces.now) definitions.old (EntityType.Table table) u.old) }
     ensures initialised { OnOk result (IsInitialised config.now types.now.types (spaces_in spaces.now) definitions.old definitions.new (EntityType.Table table)) }
+    ensures kept { OnOk result (AreKeptOffers (scope_beside config.now types.now.types (spaces_in spaces.now) definitions.old false) kept.new) }
     ensures refusal { IfErr result (MayRefuseConstExpr config.now (drawn_beside config.now types.now.types (spaces_in spaces.now) definitions.old) (Ref table.element_type)) }
     ensures left { KeepsPieces u.old u.new }
 {
     let spaces = scope(types, spaces, definitions);
-    let initial = arbitrary_table_init(alloc, config, &spaces, table.element_type, u)?;
+    let initial = draw_table_init(alloc, config, &spaces, table.element_type, kept, u)?;
     definitions.tables.push(initial)
 }
 
@@ -121,24 +127,26 @@ fn define_initial(
     types: &TypeSpace,
     spaces: &IndexSpaces,
     added: EntityType,
-    kept: &mut KeptOffers,
+    kept: &mut KeptInitials,
     definitions: &mut Definitions,
     u: &mut Unstructured<'_>,
 ) -> Result<(), Error>
     requires may { MayDefineMore config.now types.now (spaces_in spaces.now) definitions.old 1 }
     requires valid { AreEntitiesValid (features_of config.now) types.now.types (entity_spaces added) }
-    requires kept { AreKeptOffers (scope_beside config.now types.now.types (spaces_in spaces.now) definitions.old true) kept.old }
+    requires kept { AreInitialsKept config.now types.now.types (spaces_in spaces.now) definitions.old kept.old }
     ensures exact { Answers (λ _. (definitions.new, u.new)) result (defined_with_at config.now types.now.types (spaces_in spaces.now) definitions.old added u.old) }
     ensures initialised { OnOk result (IsInitialised config.now types.now.types (spaces_in spaces.now) definitions.old definitions.new added) }
-    ensures kept { OnOk result (AreKeptOffers (scope_beside config.now types.now.types (spaces_in spaces.now) definitions.old true) kept.new) }
+    ensures kept { OnOk result (AreInitialsKept config.now types.now.types (spaces_in spaces.now) definitions.old kept.new) }
     ensures refusal { IfErr result (MayRefuseInitial config.now (drawn_beside config.now types.now.types (spaces_in spaces.now) definitions.old) added) }
     ensures left { KeepsPieces u.old u.new }
 {
     match added {
         EntityType::Table(table) => {
-            return define_table(alloc, config, types, spaces, table, definitions, u);
+            let kept = &mut kept.tables;
+            return define_table(alloc, config, types, spaces, table, kept, definitions, u);
         }
         EntityType::Global(global) => {
+            let kept = &mut kept.globals;
             return define_global(alloc, config, types, spaces, global, kept, definitions, u);
         }
         EntityType::Tag(_) => definitions.num_tags += 1,
@@ -156,16 +164,16 @@ pub(crate) fn define_entity(
     types: &TypeSpace,
     added: EntityType,
     spaces: &mut IndexSpaces,
-    kept: &mut KeptOffers,
+    kept: &mut KeptInitials,
     definitions: &mut Definitions,
     u: &mut Unstructured<'_>,
 ) -> Result<(), Error>
     requires may { MayDefineMore config.now types.now (spaces_in spaces.old) definitions.old 1 }
     requires valid { AreEntitiesValid (features_of config.now) types.now.types (entity_spaces added) }
-    requires kept { AreKeptOffers (scope_beside config.now types.now.types (spaces_in spaces.old) definitions.old true) kept.old }
+    requires kept { AreInitialsKept config.now types.now.types (spaces_in spaces.old) definitions.old kept.old }
     ensures exact { Answers (λ _. ((spaces_in spaces.new, definitions.new), u.new)) result (entity_required_at config.now types.now.types (spaces_in spaces.old) definitions.old added u.old) }
     ensures defined { OnOk result (IsDefinedMore config.now types.now.types (spaces_in spaces.old) definitions.old (spaces_in spaces.new) definitions.new added) }
-    ensures kept { OnOk result (AreKeptOffers (scope_beside config.now types.now.types (spaces_in spaces.new) definitions.new true) kept.new) }
+    ensures kept { OnOk result (AreInitialsKept config.now types.now.types (spaces_in spaces.new) definitions.new kept.new) }
     ensures refusal { IfErr result (MayRefuseEntity config.now (drawn_beside config.now types.now.types (spaces_in spaces.old) definitions.old) added) }
     ensures left { KeepsPieces u.old u.new }
 {

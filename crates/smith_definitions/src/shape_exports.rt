@@ -10,24 +10,24 @@ ghost use Rattle.smith_types.specs.Imports.{IndexSpaces as Spaces, imported_spac
 ghost use Rattle.smith_types.specs.IndexSpaces.{spaces_in};
 ghost use Rattle.smith_config.specs.Shapes.{most_listed, shape_imports, shape_spaces, shape_types, IsShapeValid};
 ghost use Rattle.smith_draw.specs.ConstBounds.{HoldsUngroundedField};
-ghost use Rattle.smith_draw.specs.KeptOffers.{AreKeptOffers};
 ghost use Rattle.smith_draw.specs.FuncSizes.{HasFewValues};
 ghost use Rattle.smith_definitions.specs.Bounds.{exported_of};
 ghost use Rattle.smith_imports.specs.ShapeImports.{count_in};
 ghost use Rattle.smith_contents.specs.Exported.{IsStanding};
 ghost use Rattle.smith_contents.specs.Exporting.{Export};
 ghost use Rattle.smith_definitions.specs.Defined.{StandsBehind, drawn_beside};
+ghost use Rattle.smith_definitions.specs.KeptInitials.{AreInitialsKept};
 ghost use Rattle.smith_definitions.specs.Required.{AddsLimitsOf, MayDefineMore, MayRequire, IsRequiredMore, AreRequired, MayLackIn, MayRefuseRequired, MayRefuseExported};
-ghost use Rattle.smith_definitions.specs.RequiredExports.{Answers, entity_of, scope_beside, standing_with, export_required_at, required_at};
+ghost use Rattle.smith_definitions.specs.RequiredExports.{Answers, entity_of, standing_with, export_required_at, required_at};
 ghost use Rattle.smith_definitions.specs.ShapesKept.{IsSameExport, IsSameType};
 
 use crate::definitions::Definitions;
+use crate::kept_initials::KeptInitials;
 use crate::required_entities::{define_entity, next_index};
 use crate::required_types::entity_over;
 use crate::shape_entities::entity_of_shape;
 use smith_bytes::{Error, Unstructured};
 use smith_config::{Config, Shape};
-use smith_draw::KeptOffers;
 use smith_types::{ExportKind, IndexSpaces, Items, Name, TypeSpace, imported_spaces_of};
 use std::alloc::Global;
 
@@ -41,7 +41,7 @@ fn make_export(
     one: &(Name, ExportKind, u32),
     types: &mut TypeSpace,
     spaces: &mut IndexSpaces,
-    kept: &mut KeptOffers,
+    kept: &mut KeptInitials,
     definitions: &mut Definitions,
     u: &mut Unstructured<'_>,
 ) -> Result<(Name, ExportKind, u32), Error>
@@ -50,11 +50,11 @@ fn make_export(
     requires shape { MayRequire own_types config.now shape.now types.old }
     requires may { MayDefineMore config.now types.old (spaces_in spaces.old) definitions.old 1 }
     requires room { length types.old.types + 1 < 2 ^ 32 }
-    requires kept { AreKeptOffers (scope_beside config.now types.old.types (spaces_in spaces.old) definitions.old true) kept.old }
+    requires kept { AreInitialsKept config.now types.old.types (spaces_in spaces.old) definitions.old kept.old }
     ensures exact { (before : List Export) → Answers (λ made. (standing_with types.new (spaces_in spaces.new) definitions.new (before ++ made ∷ []), u.new)) result
         (export_required_at own_types config.now shape.now one.now (standing_with types.old (spaces_in spaces.old) definitions.old before) u.old (entity_of (shape_spaces shape.now) one.now.1 one.now.2)) }
     ensures required { IfOk result (IsRequiredMore own_types config.now shape.now types.old (spaces_in spaces.old) definitions.old types.new (spaces_in spaces.new) definitions.new one.now) }
-    ensures kept { OnOk result (AreKeptOffers (scope_beside config.now types.new.types (spaces_in spaces.new) definitions.new true) kept.new) }
+    ensures kept { OnOk result (AreInitialsKept config.now types.new.types (spaces_in spaces.new) definitions.new kept.new) }
     ensures refusal { IfErr result (MayRefuseExported config.now (drawn_beside config.now types.old.types (spaces_in spaces.old) definitions.old) shape.now one.now) }
     ensures left { KeepsPieces u.old u.new }
 {
@@ -88,7 +88,7 @@ fn push_exports(
 {
     let imported = imported_spaces_of(alloc, shape.imports.as_slice())?;
     let mut exports = Items::with_capacity(alloc, shape.exports.len())?;
-    let mut kept = KeptOffers::new(alloc);
+    let mut kept = KeptInitials::new(alloc);
     for one in shape.exports.as_slice() {
         let made = make_export(
             alloc,

@@ -1,4 +1,4 @@
-use Rattle.std.proofs.Common.{true}
+use Rattle.std.proofs.Common.{true, false}
 use Rattle.std.proofs.lemmas.Result.{on_ok_weaker}
 use Rattle.smith_types.specs.IndexSpaces.{spaces_in}
 use Rattle.smith_definitions.proofs.KeptOfferLemmas.{kept_beside}
@@ -6,6 +6,10 @@ use Rattle.smith_definitions.proofs.required_entities.define_entity.Goals as goa
 
 pub returns-clause-kept : goal.returns-clause-kept
 returns-clause-kept c =
+    let made = c.in_ok-define_initial.ensures in
     on_ok_weaker c.push.result
-    (λ longer. kept_beside c.args.config.now c.args.types.now (spaces_in c.args.spaces.now) c.args.definitions.now true c.requires.may _ _ c.args.added _ c.in_ok-define_initial.ensures.initialised longer c.in_ok-define_initial.ensures.kept)
+    (λ longer. record {
+      tables = kept_beside c.args.config.now c.args.types.now (spaces_in c.args.spaces.now) c.args.definitions.now false c.requires.may _ _ c.args.added _ made.initialised longer made.kept.tables;
+      globals = kept_beside c.args.config.now c.args.types.now (spaces_in c.args.spaces.now) c.args.definitions.now true c.requires.may _ _ c.args.added _ made.initialised longer made.kept.globals;
+    })
     c.push.ensures.ok

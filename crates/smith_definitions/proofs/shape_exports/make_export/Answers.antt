@@ -1,4 +1,4 @@
-use Rattle.std.proofs.Common.{true, refl}
+use Rattle.std.proofs.Common.{true, false, refl}
 use Rattle.smith_types.specs.IndexSpaces.{spaces_in}
 use Rattle.smith_draw.proofs.ConstStepLemmas.{passed_on}
 use Rattle.smith_definitions.proofs.KeptOfferLemmas.{kept_over}
@@ -29,7 +29,10 @@ define_entity-requires-clause-kept c =
     let over =
     is_over c.args.own_types c.args.config.now c.args.shape.now c.args.types.now c.entity_over.new.types c.args.one.now.1 c.args.one.now.2 c.entity_of_shape-theirs.result c.in_ok-added.added c.requires.shape c.requires.may.valid
     c.entity_of_shape-theirs.ensures c.in_ok-added.ensures.types c.in_ok-added.ensures.entity in
-    kept_over c.args.config.now c.args.types.now (spaces_in c.args.spaces.now) c.args.definitions.now true c.requires.may c.entity_over.new.types.types _ over.grown c.requires.kept
+    record {
+      tables = kept_over c.args.config.now c.args.types.now (spaces_in c.args.spaces.now) c.args.definitions.now false c.requires.may c.entity_over.new.types.types _ over.grown c.requires.kept.tables;
+      globals = kept_over c.args.config.now c.args.types.now (spaces_in c.args.spaces.now) c.args.definitions.now true c.requires.may c.entity_over.new.types.types _ over.grown c.requires.kept.globals;
+    }
 
 pub returns-in_err-define_entity-clause-refusal : goal.returns-in_err-define_entity-clause-refusal
 returns-in_err-define_entity-clause-refusal c =
