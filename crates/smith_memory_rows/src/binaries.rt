@@ -1,4 +1,5 @@
 use crate::made_configurations::set_minimums;
+use crate::tries::is_refused;
 use smith_bytes::{Error, Unstructured};
 use smith_config::Config;
 use smith_encode::{EncodeError, encode};
@@ -54,6 +55,5 @@ fn refusals_of_parts(alloc: Global) -> Result<usize, Fail> {
 
 #[test]
 fn binaries(rt: HostRuntime) -> Result<(), Fail> {
-    assert!(rt; refusals_of_parts(rt.alloc())? > 0);
-    Ok(())
+    is_refused("an encoding", refusals_of_parts(rt.alloc()))
 }

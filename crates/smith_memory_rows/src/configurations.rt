@@ -1,6 +1,6 @@
 use crate::made_configurations::{config_of_memories, set_available_imports, set_exports};
 use crate::made_shapes::{one_of_each, ping_and_memory, three_memories};
-use crate::tries::refused;
+use crate::tries::{is_never_refused, is_refused, refused};
 use smith_bytes::{Error, Which};
 use smith_config::{Config, Shape};
 use smith_memory::{Ended, Tried, refusals};
@@ -53,8 +53,7 @@ fn refusals_of_a_copy(alloc: Global) -> Result<usize, Fail> {
 // A configuration with two shapes is copied.
 #[test]
 fn copies(rt: HostRuntime) -> Result<(), Fail> {
-    assert!(rt; refusals_of_a_copy(rt.alloc())? > 0);
-    Ok(())
+    is_refused("a copy", refusals_of_a_copy(rt.alloc()))
 }
 
 // A check of a shape.
@@ -99,8 +98,8 @@ fn refusals_of_memories(alloc: Global) -> Result<usize, Fail> {
 // A shape without types and exports is checked without memory.
 #[test]
 fn checks(rt: HostRuntime) -> Result<(), Fail> {
-    assert!(rt; refusals_of_exports(rt.alloc())? > 0);
-    assert!(rt; refusals_of_imports(rt.alloc())? > 0);
-    assert!(rt; refusals_of_memories(rt.alloc())? == 0);
-    Ok(())
+    let alloc = rt.alloc();
+    is_refused("a check of exports", refusals_of_exports(alloc))?;
+    is_refused("a check of imports", refusals_of_imports(alloc))?;
+    is_never_refused("a check of memories", refusals_of_memories(alloc))
 }

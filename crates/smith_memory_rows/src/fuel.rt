@@ -1,4 +1,4 @@
-use crate::tries::refused;
+use crate::tries::{is_refused, refused};
 use smith_bytes::{Error, Unstructured};
 use smith_config::Config;
 use smith_memory::{Ended, Tried, refusals};
@@ -74,6 +74,5 @@ fn refusals_of_a_function(alloc: Global) -> Result<usize, Fail> {
 
 #[test]
 fn counters(rt: HostRuntime) -> Result<(), Fail> {
-    assert!(rt; refusals_of_a_function(rt.alloc())? > 0);
-    Ok(())
+    is_refused("a counter", refusals_of_a_function(rt.alloc()))
 }

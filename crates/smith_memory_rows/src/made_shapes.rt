@@ -158,18 +158,28 @@ fn exports_of_each(alloc: Global) -> Result<Items<(Name, ExportKind, u32)>, Erro
     Ok(exports)
 }
 
+// Defines one of each kind.
+fn define_each(shape: &mut Shape) -> Result<(), Error> {
+    shape.funcs.push(0)?;
+    shape.tags.push(1)?;
+    shape.tables.push(EXTERNAL_TABLE)?;
+    shape.memories.push(TEN_PAGES)?;
+    shape.globals.push(constant(ValType::F32))
+}
+
+// Exports the one of each kind that `shape` defines.
+fn export_each(alloc: Global, mut shape: Shape) -> Result<Shape, Error> {
+    define_each(&mut shape)?;
+    shape.exports = exports_of_each(alloc)?;
+    Ok(shape)
+}
+
 /// Makes a shape of an export of each kind: a function from i32 to i64, a constant f32, a memory, a table, and a tag of an f32.
 pub(crate) fn one_of_each(alloc: Global) -> Result<Shape, Error> {
-    Ok(Shape {
-        groups: types_of_each(alloc)?,
-        imports: Items::new(alloc),
-        funcs: Items::from_slice(alloc, &[0])?,
-        tags: Items::from_slice(alloc, &[1])?,
-        tables: Items::from_slice(alloc, &[EXTERNAL_TABLE])?,
-        memories: Items::from_slice(alloc, &[TEN_PAGES])?,
-        globals: Items::from_slice(alloc, &[constant(ValType::F32)])?,
-        exports: exports_of_each(alloc)?,
-    })
+    export_each(
+        alloc,
+        shape_of(alloc, types_of_each(alloc)?, Items::new(alloc)),
+    )
 }
 
 // Makes the type of the function `ping`.

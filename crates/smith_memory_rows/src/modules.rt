@@ -1,7 +1,7 @@
 use crate::made_configurations::{
     config_of_memories, set_available_imports, set_exports, set_minimums, set_module_shape,
 };
-use crate::tries::{is_left, refused};
+use crate::tries::{is_left, is_refused, refused};
 use smith_bytes::{Error, Unstructured};
 use smith_config::Config;
 use smith_memory::{Ended, Tried, refusals};
@@ -48,7 +48,7 @@ fn made(answer: Result<Module, Error>) -> Ended {
 }
 
 // What is set in a configuration.
-#[derive(Clone, Copy, Debug)]
+#[derive(Clone, Copy)]
 enum Asked {
     Nothing,
     /// Two imports at most, and a global at least.
@@ -112,31 +112,37 @@ const EACH: &[u8] = &[
 
 const ZEROS: &[u8] = &[0; 512];
 
+// Fails unless a module of `input` is refused at first, where nothing is asked for.
+fn plain_is_refused(alloc: Global, module: &str, input: &'static [u8]) -> Result<(), Fail> {
+    is_refused(module, refusals_of(alloc, Asked::Nothing, input))
+}
+
 #[test]
-fn modules_without_shapes(rt: HostRuntime) -> Result<(), Fail> {
-    for (asked, input) in [
-        (Asked::Nothing, [].as_slice()),
-        (Asked::Nothing, CLONE),
-        (Asked::Nothing, SEGMENT),
-        (Asked::Nothing, SPELLED),
-        (Asked::Imports, GROUP),
-        (Asked::EachPart, EACH),
-    ] {
-        let refusals = refusals_of(rt.alloc(), asked, input)?;
-        assert!(rt; refusals > 0, "at {asked:?}");
-    }
-    Ok(())
+fn modules_without_minimums(rt: HostRuntime) -> Result<(), Fail> {
+    let alloc = rt.alloc();
+    plain_is_refused(alloc, "the empty module", &[])?;
+    plain_is_refused(alloc, "a cloned group", CLONE)?;
+    plain_is_refused(alloc, "a segment", SEGMENT)?;
+    plain_is_refused(alloc, "types", SPELLED)
+}
+
+#[test]
+fn modules_with_minimums(rt: HostRuntime) -> Result<(), Fail> {
+    let alloc = rt.alloc();
+    is_refused("imports", refusals_of(alloc, Asked::Imports, GROUP))?;
+    is_refused("each part", refusals_of(alloc, Asked::EachPart, EACH))
 }
 
 #[test]
 fn modules_with_shapes(rt: HostRuntime) -> Result<(), Fail> {
-    for (asked, input) in [
-        (Asked::AvailableImports, [1, 1].as_slice()),
-        (Asked::Exports, &[]),
-        (Asked::ModuleShape, ZEROS),
-    ] {
-        let refusals = refusals_of(rt.alloc(), asked, input)?;
-        assert!(rt; refusals > 0, "at {asked:?}");
-    }
-    Ok(())
+    let alloc = rt.alloc();
+    is_refused(
+        "available imports",
+        refusals_of(alloc, Asked::AvailableImports, &[1, 1]),
+    )?;
+    is_refused("exports", refusals_of(alloc, Asked::Exports, &[]))?;
+    is_refused(
+        "a module shape",
+        refusals_of(alloc, Asked::ModuleShape, ZEROS),
+    )
 }

@@ -1,11 +1,11 @@
-use crate::tries::is_left;
+use crate::tries::{is_left, is_refused};
 use smith_bytes::{Error, Unstructured, unique_kebab_string, unique_string, unique_url};
 use smith_memory::{Ended, Tried, refusals};
 use std::alloc::{AllocError, Global};
 use std::collections::HashSet;
 use std::test::Fail;
 
-#[derive(Clone, Copy, Debug)]
+#[derive(Clone, Copy)]
 enum Kind {
     Text,
     Kebab,
@@ -82,9 +82,8 @@ fn refusals_of(alloc: Global, kind: Kind) -> Result<usize, Fail> {
 
 #[test]
 fn names(rt: HostRuntime) -> Result<(), Fail> {
-    for kind in [Kind::Text, Kind::Kebab, Kind::Url] {
-        let refusals = refusals_of(rt.alloc(), kind)?;
-        assert!(rt; refusals > 0, "at {kind:?}");
-    }
-    Ok(())
+    let alloc = rt.alloc();
+    is_refused("a text", refusals_of(alloc, Kind::Text))?;
+    is_refused("a name in kebab case", refusals_of(alloc, Kind::Kebab))?;
+    is_refused("a URL", refusals_of(alloc, Kind::Url))
 }

@@ -1,5 +1,5 @@
 use crate::made_types::{function, with_type};
-use crate::tries::refused;
+use crate::tries::{is_refused, refused};
 use smith_bytes::Error;
 use smith_config::Config;
 use smith_memory::{Ended, Tried, refusals};
@@ -98,7 +98,7 @@ fn refusals_of_types(alloc: Global) -> Result<usize, Fail> {
 
 #[test]
 fn spellings(rt: HostRuntime) -> Result<(), Fail> {
-    assert!(rt; refusals_of_functions(rt.alloc())? > 0);
-    assert!(rt; refusals_of_types(rt.alloc())? > 0);
-    Ok(())
+    let alloc = rt.alloc();
+    is_refused("a spelling of functions", refusals_of_functions(alloc))?;
+    is_refused("a spelling of types", refusals_of_types(alloc))
 }

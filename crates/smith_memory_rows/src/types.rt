@@ -1,4 +1,5 @@
 use crate::made_types::empty_struct;
+use crate::tries::is_refused;
 use smith_bytes::Error;
 use smith_memory::{Ended, Tried, refusals};
 use smith_types::TypeSpace;
@@ -53,6 +54,5 @@ fn grouped(types: &mut TypeSpace) -> Ended {
 
 #[test]
 fn types(rt: HostRuntime) -> Result<(), Fail> {
-    assert!(rt; refusals(rt.alloc(), 16, &mut Pushes)? > 0);
-    Ok(())
+    is_refused("a push", refusals(rt.alloc(), 16, &mut Pushes))
 }

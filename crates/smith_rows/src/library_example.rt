@@ -69,11 +69,20 @@ fn one_group(alloc: Global) -> Result<Vec<Items<SubType>>, Error> {
     Ok(groups)
 }
 
+// Adds what is found for `groups` by default.
+fn seed_by_default(
+    alloc: Global,
+    groups: &[Items<SubType>],
+    corpus: &mut Vec<Items<u8>>,
+) -> Result<(), Error> {
+    seed(alloc, &Config::default(), groups, corpus)
+}
+
 // A corpus of what is found for the group.
 fn corpus_of(alloc: Global) -> Result<Vec<Items<u8>>, Error> {
     let groups = one_group(alloc)?;
     let mut corpus = Vec::new(alloc);
-    seed(alloc, &Config::default(), groups.as_slice(), &mut corpus)?;
+    seed_by_default(alloc, groups.as_slice(), &mut corpus)?;
     Ok(corpus)
 }
 
