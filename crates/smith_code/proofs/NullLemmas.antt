@@ -27,7 +27,8 @@ use Rattle.smith_code.specs.ReferenceChoices.{referent_at}
 use Rattle.smith_code.specs.Scopes.{AreLabels, bare, context_of}
 use Rattle.smith_code.specs.declared.scope.Scope.{Scope}
 use Rattle.smith_code.proofs.NodeLemmas.{label_at, no_valid, one_valid, three_wide}
-use Rattle.smith_code.proofs.ReferenceChoiceLemmas.{gives_one, nullable_valid}
+use Rattle.smith_code.proofs.PlainLemmas.{gives_one}
+use Rattle.smith_code.proofs.ReferenceChoiceLemmas.{nullable_valid}
 
 -- a label that takes at most so many values
 short_option : (labels : List (List ValType)) (most index : ℕ) (o : Option (List ValType)) → slice_get labels index ≡ o → is_short_at most o ≡ true → (taken : List ValType) × (slice_get labels index ≡ Some taken) × (length taken ≤ most)

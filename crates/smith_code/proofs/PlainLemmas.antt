@@ -8,23 +8,12 @@ use Rattle.smith_instr.specs.ReferenceTypes.{narrower}
 use Rattle.smith_instr.specs.declared.instr.Instr.{Instr}
 use Rattle.smith_code.specs.Nodes.{IsNode, node_of}
 use Rattle.smith_code.proofs.NodeLemmas.{address_valid, more_valid, no_valid, one_valid, three_wide}
+use Rattle.smith_code.proofs.PlainNodeLemmas.{plain_node}
 
 -- an instruction that gives nothing
 pub gives_none : (context : BodyContext) (set : List ℕ) (operands : List ValType) (instruction : Instr) → ((more : List ℕ) → HasInstrType context (set ++ more) instruction operands []) → sets instruction ≡ [] → length operands ≤ 7 → AreValid context operands
     → IsNode context set [] (node_of operands instruction 0)
-gives_none context set operands instruction typed none few operands_valid = record {
-  results = [];
-  dropped = [];
-  typed = typed;
-  below = tt;
-  given = no_valid context;
-  spare = no_valid context;
-  drops = refl;
-  sets_local = none;
-  few = let wide = three_wide context.types in omega arith;
-  valid = operands_valid;
-  inside = tt;
-}
+gives_none context set operands instruction typed none few operands_valid = plain_node context set operands [] instruction typed none operands_valid (no_valid context) few
 
 -- an instruction that gives one value
 pub gives_one : (context : BodyContext) (set : List ℕ) (wanted value : ValType) (operands : List ValType) (instruction : Instr) → ((more : List ℕ) → HasInstrType context (set ++ more) instruction operands (value ∷ [])) → IsValBelow context.types value wanted → IsValid context wanted

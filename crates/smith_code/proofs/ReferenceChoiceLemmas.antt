@@ -1,10 +1,10 @@
 -- What is chosen on references.
-use Rattle.std.proofs.Common.{◌≡◌, ℕ, zero, suc, ◌+◌, ◌-◌, ◌<◌, ◌≤◌, true, false, List, [], ◌∷◌, ◌++◌, Some, None, length, get_or, refl, ap, ◌∙◌, arith}
+use Rattle.std.proofs.Common.{◌≡◌, ℕ, zero, suc, ◌+◌, ◌-◌, ◌<◌, ◌≤◌, true, false, List, [], ◌∷◌, Some, None, length, get_or, refl, ap, ◌∙◌, arith}
 use Rattle.std.specs.Prelude.{slice_index_or, IsTrue}
 use Rattle.smith_bytes.specs.Draws.{bool_at, range_at}
 use Rattle.smith_types.specs.Expressions.{reference_to}
 use Rattle.smith_types.specs.Features.{Features}
-use Rattle.smith_types.specs.Subtyping.{IsValBelow, itself}
+use Rattle.smith_types.specs.Subtyping.{itself}
 use Rattle.smith_types.specs.declared.value_type.AbstractHeapType.TheVariants as abstract
 use Rattle.smith_types.specs.declared.value_type.HeapType.{HeapType}
 use Rattle.smith_types.specs.declared.value_type.HeapType.TheVariants.{Abstract}
@@ -14,31 +14,13 @@ use Rattle.smith_types.specs.declared.value_type.ValType.TheVariants.{I32, I64, 
 use Rattle.smith_types.proofs.GrowthLemmas.{IsValBelow-refl}
 use Rattle.smith_draw.specs.Choices.{chosen_at}
 use Rattle.smith_instr.specs.Contexts.{BodyContext, IsValid, AreValid, IsHeapValid, nullable_to}
-use Rattle.smith_instr.specs.InstrTypes.{HasInstrType, sets}
-use Rattle.smith_instr.specs.declared.instr.Instr.{Instr}
 use Rattle.smith_instr.specs.declared.instr.Instr.TheVariants as instr
 use Rattle.smith_instr.specs.declared.reference.ReferenceInstr.TheVariants as reference
 use Rattle.smith_code.specs.Nodes.{IsNode, node_of}
 use Rattle.smith_code.specs.ReferenceChoices.{eq_node, eqref, externref, funcref, is_null_node, referent, referent_at, select_typed_node, test_at}
-use Rattle.smith_code.proofs.NodeLemmas.{more_valid, no_valid, one_valid, three_wide}
+use Rattle.smith_code.proofs.NodeLemmas.{more_valid, one_valid}
+use Rattle.smith_code.proofs.PlainLemmas.{gives_one}
 use Rattle.smith_code.proofs.RowLemmas.{same_item}
-
--- an instruction that gives one value
-pub gives_one : (context : BodyContext) (set : List ℕ) (wanted value : ValType) (operands : List ValType) (instruction : Instr) → ((more : List ℕ) → HasInstrType context (set ++ more) instruction operands (value ∷ [])) → IsValBelow context.types value wanted → IsValid context wanted
-    → sets instruction ≡ [] → length operands ≤ 7 → AreValid context operands → IsNode context set (wanted ∷ []) (node_of operands instruction 0)
-gives_one context set wanted value operands instruction typed below valid none few operands_valid = record {
-  results = value ∷ [];
-  dropped = [];
-  typed = typed;
-  below = (below, tt);
-  given = one_valid context wanted valid;
-  spare = no_valid context;
-  drops = refl;
-  sets_local = none;
-  few = let wide = three_wide context.types in omega arith;
-  valid = operands_valid;
-  inside = tt;
-}
 
 pub select_typed_gives : (wanted : ValType) (context : BodyContext) (set : List ℕ) → IsValid context wanted → IsNode context set (wanted ∷ []) (select_typed_node wanted)
 select_typed_gives wanted context set valid =

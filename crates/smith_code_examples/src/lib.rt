@@ -2,11 +2,17 @@
 //! these functions.
 #![tactic(auto, unfolding(smith_code::specs::Bodies::body_at, smith_code::specs::Bodies::drawing_at, smith_code::specs::Bodies::enclosed_at, smith_code::specs::Bodies::head_at, smith_code::specs::Bodies::inside_at, smith_code::specs::Bodies::leaf_in, smith_code::specs::Bodies::node_at, smith_code::specs::Bodies::statement_at, smith_code::specs::Bodies::value_at, smith_code::specs::Bodies::whole_at, smith_code::specs::Accesses::access_at, smith_code::specs::Choices::allowed_choice_at, smith_code::specs::Choices::any_block_at, smith_code::specs::Choices::any_call_at, smith_code::specs::Choices::block_at, smith_code::specs::Choices::branch_at, smith_code::specs::Choices::call_at, smith_code::specs::Choices::drop_at, smith_code::specs::Choices::dropped_at, smith_code::specs::Choices::global_set_at, smith_code::specs::Choices::leaving_at, smith_code::specs::Choices::load_at, smith_code::specs::Choices::memory_at, smith_code::specs::Choices::numeric_at, smith_code::specs::Choices::opening_at, smith_code::specs::Choices::set_at, smith_code::specs::Choices::statement_choice_at, smith_code::specs::Choices::store_at, smith_code::specs::Choices::table_at, smith_code::specs::Choices::targets_at, smith_code::specs::Choices::tee_at, smith_code::specs::Choices::value_choice_at, smith_code::specs::Leaves::any_leaf_at, smith_code::specs::Leaves::constant_at, smith_code::specs::Leaves::leaf_at, smith_code::specs::Leaves::leaf_choice_at, smith_code::specs::Leaves::named_at, smith_code::specs::Offered::offered, smith_code::specs::Scopes::widest, smith_draw::specs::Choices::chosen_at, smith_draw::specs::Below::is_heap_below, smith_draw::specs::Offered::ancestors, smith_instr::specs::Enabled::is_enabled, smith_bytes::specs::Draws::bool_at, smith_bytes::specs::Draws::choose_at, smith_bytes::specs::Draws::digit_count, smith_bytes::specs::Draws::range_at, smith_bytes::specs::Draws::whole_at))]
 
+mod atomics;
 mod blocks;
 mod branches;
+mod bulk;
 mod enabled;
 mod fuel;
 mod memories;
+mod null_branches;
+mod references;
 mod scopes;
 mod statements;
+mod tables;
 mod values;
+mod vectors;
