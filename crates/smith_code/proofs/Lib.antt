@@ -13,6 +13,10 @@ pub mod ChoiceLemmas
 pub mod ItemLemmas
 pub mod TableLemmas
 pub mod BulkLemmas
+pub mod AggregateLemmas
+pub mod CreationLemmas
+pub mod FieldLemmas
+pub mod CastLemmas
 pub mod ExactLemmas
 pub mod TargetLemmas
 pub mod LeafChoiceLemmas

@@ -2,10 +2,15 @@ pub mod Scopes
 pub mod Nodes
 pub mod Drawn
 pub mod Offered
+pub mod Fields
+pub mod Aggregates
 pub mod Rows
 pub mod Chosen
 pub mod Items
 pub mod TableChoices
+pub mod CreationChoices
+pub mod FieldChoices
+pub mod CastChoices
 pub mod BulkChoices
 pub mod ReferenceChoices
 pub mod CallChoices

@@ -32,6 +32,12 @@ pub(crate) enum ValueFamily {
     /// A vector, or the result of a vector instruction.
     Vector,
     Atomic,
+    /// A struct or an array that is created.
+    Creation,
+    /// A field of a struct, or an element of an array.
+    FieldRead,
+    /// A cast, a test or a conversion of a reference, or an instruction on an i31.
+    Cast,
 }
 
 /// Families of instructions that may be a statement.
@@ -66,6 +72,8 @@ pub(crate) enum StatementFamily {
     AtomicStore,
     /// `atomic.fence`.
     Fence,
+    /// A write to a struct or an array.
+    FieldWrite,
 }
 
 /// Families of instructions that may produce a vector.
@@ -119,6 +127,11 @@ pub(crate) fn value_families<'a>() -> &'a [ValueFamily]
         ValueFamily::Vector,
         ValueFamily::Vector,
         ValueFamily::Atomic,
+        ValueFamily::Creation,
+        ValueFamily::Creation,
+        ValueFamily::Creation,
+        ValueFamily::FieldRead,
+        ValueFamily::Cast,
     ]
 }
 
@@ -153,6 +166,7 @@ pub(crate) fn statement_families<'a>() -> &'a [StatementFamily]
         StatementFamily::StoreLane,
         StatementFamily::AtomicStore,
         StatementFamily::Fence,
+        StatementFamily::FieldWrite,
     ]
 }
 
