@@ -1,1 +1,2 @@
 pub mod ExampleBytes
+pub mod ExampleAggregates

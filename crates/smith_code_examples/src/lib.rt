@@ -4,7 +4,10 @@
 
 mod blocks;
 mod branches;
+mod casts;
+mod creations;
 mod enabled;
+mod fields;
 mod fuel;
 mod memories;
 mod scopes;
