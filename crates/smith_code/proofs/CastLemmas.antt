@@ -7,10 +7,9 @@ use Rattle.smith_types.specs.Expressions.{reference_to}
 use Rattle.smith_types.specs.Subtyping.{IsRefBelow, IsValBelow, itself}
 use Rattle.smith_types.specs.Types.{IsOrderly}
 use Rattle.smith_types.specs.declared.composite_type.SubType.{SubType}
-use Rattle.smith_types.specs.declared.value_type.AbstractHeapType.{AbstractHeapType}
 use Rattle.smith_types.specs.declared.value_type.AbstractHeapType.TheVariants as abstract
 use Rattle.smith_types.specs.declared.value_type.HeapType.{HeapType}
-use Rattle.smith_types.specs.declared.value_type.HeapType.TheVariants.{Abstract, Concrete, Exact}
+use Rattle.smith_types.specs.declared.value_type.HeapType.TheVariants.{Abstract}
 use Rattle.smith_types.specs.declared.value_type.RefType.{RefType}
 use Rattle.smith_types.specs.declared.value_type.ValType.{ValType}
 use Rattle.smith_types.specs.declared.value_type.ValType.TheVariants.{I32, I64, F32, F64, V128, Ref}
@@ -23,8 +22,9 @@ use Rattle.smith_instr.specs.declared.aggregate.AggregateInstr.TheVariants as ag
 use Rattle.smith_instr.specs.declared.instr.Instr.TheVariants as instr
 use Rattle.smith_instr.specs.declared.reference.ReferenceInstr.TheVariants as reference
 use Rattle.smith_code.specs.Aggregates.{names_types}
-use Rattle.smith_code.specs.CastChoices.{above_at, above_in, cast_at, cast_choice_at, cast_for, conversion_at, conversion_of, conversions, converted_to, i31_node, is_above, is_above_at, is_i31_below, scalar_at, scalar_of, scalars, with_null}
+use Rattle.smith_code.specs.CastChoices.{above_at, above_in, cast_at, cast_choice_at, cast_for, conversion_at, conversion_of, conversions, i31_node, is_above, is_above_at, is_i31_below, reference_local_at, scalar_at, scalar_of, scalars, tested_for, type_test_at, with_null}
 use Rattle.smith_code.specs.CreationChoices.{aggregate_of}
+use Rattle.smith_code.specs.Items.{continued}
 use Rattle.smith_code.specs.Nodes.{IsNode, node_of}
 use Rattle.smith_code.specs.NullChoices.{reference_in}
 use Rattle.smith_code.specs.Offered.{offered}
@@ -140,7 +140,7 @@ i31_none context to other another = rw (other, another) refl
 pub inside_gives : (context : BodyContext) (set : List ℕ) (nullable shared : Bool) → IsValid context (internal shared nullable) → IsNode context set (internal shared nullable ∷ []) (aggregate_of (external shared nullable ∷ []) aggregate.AnyConvertExtern)
 inside_gives context set nullable shared valid =
     let valid' : IsValid context (external shared nullable) = (valid.0, record { heap_type = (tt, valid.1.heap_type.1); nullable = valid.1.nullable }) in
-    gives_one context set (internal shared nullable) (internal shared nullable) (external shared nullable ∷ []) (instr.Aggregate aggregate.AnyConvertExtern) (λ more. (shared, nullable, (refl, refl)))
+    gives_one context set (internal shared nullable) (internal shared nullable) (external shared nullable ∷ []) (instr.Aggregate aggregate.AnyConvertExtern) (λ more. (shared, (nullable, (refl, refl))))
     (IsValBelow-refl context.types (internal shared nullable)) valid refl (omega arith) (one_valid context (external shared nullable) valid')
 
 pub outside_gives : (context : BodyContext) (set : List ℕ) (nullable shared : Bool) → names_types context ≡ true → IsValid context (external shared nullable)
@@ -148,7 +148,7 @@ pub outside_gives : (context : BodyContext) (set : List ℕ) (nullable shared : 
 outside_gives context set nullable shared named valid =
     let (on, gc) = both context.features.reference_types context.features.gc named in
     let valid' : IsValid context (internal shared nullable) = (valid.0, record { heap_type = (gc, valid.1.heap_type.1); nullable = valid.1.nullable }) in
-    gives_one context set (external shared nullable) (external shared nullable) (internal shared nullable ∷ []) (instr.Aggregate aggregate.ExternConvertAny) (λ more. (shared, nullable, (refl, refl)))
+    gives_one context set (external shared nullable) (external shared nullable) (internal shared nullable ∷ []) (instr.Aggregate aggregate.ExternConvertAny) (λ more. (shared, (nullable, (refl, refl))))
     (IsValBelow-refl context.types (external shared nullable)) valid refl (omega arith) (one_valid context (internal shared nullable) valid')
 
 pub inside_for : (context : BodyContext) (set : List ℕ) (to : RefType) (shared : Bool) → to.heap_type ≡ Abstract shared abstract.Any → IsValid context (Ref to) → IsNode context set (Ref to ∷ []) (aggregate_of (external shared to.nullable ∷ []) aggregate.AnyConvertExtern)
@@ -163,26 +163,6 @@ outside_for context set to shared named is valid =
     subst
     (λ (h : HeapType). IsValid context (Ref (record { nullable = to.nullable; heap_type = h })) → IsNode context set (Ref (record { nullable = to.nullable; heap_type = h }) ∷ []) (aggregate_of (internal shared to.nullable ∷ []) aggregate.ExternConvertAny))
     (sym is) (outside_gives context set to.nullable shared named) valid
-
--- no conversion to any other heap type
-pub converted_other : (nullable shared : Bool) (ty : AbstractHeapType) → (ty ≡ abstract.Any → ⊥) → (ty ≡ abstract.Extern → ⊥) → None ≡ converted_to nullable (Abstract shared ty)
-converted_other nullable shared abstract.Any any extern = absurd (any refl)
-converted_other nullable shared abstract.Extern any extern = absurd (extern refl)
-converted_other nullable shared abstract.Func any extern = refl
-converted_other nullable shared abstract.Exn any extern = refl
-converted_other nullable shared abstract.NoExn any extern = refl
-converted_other nullable shared abstract.None any extern = refl
-converted_other nullable shared abstract.NoExtern any extern = refl
-converted_other nullable shared abstract.NoFunc any extern = refl
-converted_other nullable shared abstract.Eq any extern = refl
-converted_other nullable shared abstract.Struct any extern = refl
-converted_other nullable shared abstract.Array any extern = refl
-converted_other nullable shared abstract.I31 any extern = refl
-
-pub converted_index : (nullable : Bool) (heap_type : HeapType) → ((shared : Bool) (ty : AbstractHeapType) → heap_type ≡ Abstract shared ty → ⊥) → None ≡ converted_to nullable heap_type
-converted_index nullable (Abstract shared ty) other = absurd (other shared ty refl)
-converted_index nullable (Concrete index) other = refl
-converted_index nullable (Exact index) other = refl
 
 -- what is chosen
 pub scalar_by : (context : BodyContext) (bytes left : List ℕ) (rows : List Scalar) (drawn kind : Scalar) → rows ≡ scalars → chosen_at scalar.Length rows bytes ≡ (drawn, left) → drawn ≡ kind → scalar_at context bytes ≡ scalar_of context kind left
@@ -204,4 +184,12 @@ cast_on context wanted bytes on = rw on refl
 
 pub cast_by : (context : BodyContext) (to from : RefType) (bytes left : List ℕ) → above_at context to bytes ≡ (from, left) → cast_at context to bytes ≡ (Some (node_of (Ref from ∷ []) (instr.Reference (reference.Cast to)) 0), left)
 unfolding cast_at
-cast_by context to from bytes left drawn = rw drawn refl
+cast_by context to from bytes left drawn = ap (λ (d : RefType × List ℕ). (Some (node_of (Ref d.0 ∷ []) (instr.Reference (reference.Cast to)) 0), d.1)) drawn
+
+pub type_test_none : (context : BodyContext) (bytes left : List ℕ) → reference_local_at context bytes ≡ (None, left) → type_test_at context bytes ≡ (None, left)
+unfolding type_test_at
+type_test_none context bytes left drawn = ap (λ (d : Option RefType × List ℕ). continued (tested_for context) d.0 d.1) drawn
+
+pub type_test_some : (context : BodyContext) (bytes left : List ℕ) (to : RefType) → reference_local_at context bytes ≡ (Some to, left) → type_test_at context bytes ≡ tested_for context to left
+unfolding type_test_at
+type_test_some context bytes left to drawn = ap (λ (d : Option RefType × List ℕ). continued (tested_for context) d.0 d.1) drawn

@@ -21,12 +21,11 @@ use Rattle.smith_code.specs.Aggregates.{created_struct_at, is_creatable_in, is_c
 use Rattle.smith_code.specs.CreationChoices.{aggregate_of, created_at, creation_of, creations, struct_new_at, struct_new_node}
 use Rattle.smith_code.specs.Fields.{is_of_bytes, is_of_references, struct_in}
 use Rattle.smith_code.specs.Nodes.{IsNode}
-use Rattle.smith_code.specs.Scopes.{IsScope}
 use Rattle.smith_code.specs.TableChoices.{is_segment_below}
 use Rattle.smith_code.specs.declared.creations.Creation.{Creation}
 use Rattle.smith_code.specs.declared.creations.Creation.TheVariants as creation
 use Rattle.smith_code.specs.declared.node.Node.{Node}
-use Rattle.smith_code.proofs.AggregateLemmas.{all_default, array_element, of_bytes, one_default, segment_of, struct_fields, struct_there}
+use Rattle.smith_code.proofs.AggregateLemmas.{all_default, of_bytes, one_default, segment_of, struct_there}
 use Rattle.smith_code.proofs.ChoiceLemmas.{chosen_by}
 use Rattle.smith_code.proofs.ItemLemmas.{given_some}
 use Rattle.smith_code.proofs.NodeLemmas.{no_valid, one_valid}
@@ -40,15 +39,15 @@ created_gives context set wanted ty operands op orderly valid below typed few op
     gives_one context set wanted (created_reference context ty) operands (instr.Aggregate op) (λ more. typed) (tested context.types orderly (created_reference context ty) wanted below) valid refl few operands_valid
 
 -- a struct
-pub struct_new_gives : (context : BodyContext) (set : List ℕ) (wanted : ValType) (ty : ℕ) (structure : StructType) → IsScope context → IsValid context wanted → is_created_struct context wanted false ty ≡ true → struct_in (slice_get context.types ty) ≡ Some structure
+pub struct_new_gives : (context : BodyContext) (set : List ℕ) (wanted : ValType) (ty : ℕ) (structure : StructType) → IsOrderly context.types → AreValid context (field_values structure.fields) → IsValid context wanted → is_created_struct context wanted false ty ≡ true → struct_in (slice_get context.types ty) ≡ Some structure
     → IsNode context set (wanted ∷ []) (aggregate_of (field_values structure.fields) (aggregate.StructNew ty))
-struct_new_gives context set wanted ty structure scope valid is at =
+struct_new_gives context set wanted ty structure orderly held valid is at =
     let (below, can) = both (is_created_below context wanted ty) (is_creatable_in false (struct_in (slice_get context.types ty))) is in
     let can' : is_creatable_in false (Some structure) ≡ true = subst (λ (o : Option StructType). is_creatable_in false o ≡ true) at can in
     let few : length structure.fields ≤ 7 = leb-true (length structure.fields) 7 can' in
     let same : length (field_values structure.fields) ≡ length structure.fields = length-map structure.fields (λ (field : FieldType). unpacked field.element_type) in
     let there = struct_there context.types ty structure at in
-    created_gives context set wanted ty (field_values structure.fields) (aggregate.StructNew ty) scope.orderly valid below (structure.fields, there, (refl, refl)) (omega arith) (struct_fields context ty structure.fields scope there)
+    created_gives context set wanted ty (field_values structure.fields) (aggregate.StructNew ty) orderly valid below (structure.fields, there, (refl, refl)) (omega arith) held
 
 default_option : (context : BodyContext) (ty : ℕ) (o : Option StructType) → struct_in (slice_get context.types ty) ≡ o → is_creatable_in true o ≡ true
     → (fields : List FieldType) × IsStructAt context.types ty fields × All IsDefaultable (field_values fields)
@@ -79,12 +78,12 @@ pub array_default_gives : (context : BodyContext) (set : List ℕ) (wanted : Val
 array_default_gives context set wanted ty element orderly valid there default below =
     created_gives context set wanted ty (I32 ∷ []) (aggregate.ArrayNewDefault ty) orderly valid below (element, there, one_default (value_of element) default, (refl, refl)) (omega arith) (one_valid context I32 tt)
 
-pub array_fixed_gives : (context : BodyContext) (set : List ℕ) (wanted : ValType) (ty size : ℕ) (element : FieldType) → IsScope context → IsValid context wanted → IsArrayAt context.types ty element → is_created_below context wanted ty ≡ true → size ≤ 7
+pub array_fixed_gives : (context : BodyContext) (set : List ℕ) (wanted : ValType) (ty size : ℕ) (element : FieldType) → IsOrderly context.types → IsValid context wanted → IsValid context (value_of element) → IsArrayAt context.types ty element → is_created_below context wanted ty ≡ true → size ≤ 7
     → IsNode context set (wanted ∷ []) (aggregate_of (replicate size (value_of element)) (aggregate.ArrayNewFixed ty size))
-array_fixed_gives context set wanted ty size element scope valid there below few =
+array_fixed_gives context set wanted ty size element orderly valid held there below few =
     let same : length (replicate size (value_of element)) ≡ size = length-replicate size (value_of element) in
-    created_gives context set wanted ty (replicate size (value_of element)) (aggregate.ArrayNewFixed ty size) scope.orderly valid below (element, there, (refl, refl)) (omega arith)
-    (All-replicate (IsValid context) size (value_of element) (array_element context ty element scope there))
+    created_gives context set wanted ty (replicate size (value_of element)) (aggregate.ArrayNewFixed ty size) orderly valid below (element, there, (refl, refl)) (omega arith)
+    (All-replicate (IsValid context) size (value_of element) held)
 
 pub array_data_gives : (context : BodyContext) (set : List ℕ) (wanted : ValType) (ty segment : ℕ) (element : FieldType) → IsOrderly context.types → IsValid context wanted → IsArrayAt context.types ty element → is_of_bytes element.element_type ≡ true → is_created_below context wanted ty ≡ true
     → segment < context.datas → IsNode context set (wanted ∷ []) (aggregate_of (I32 ∷ I32 ∷ []) (aggregate.ArrayNewData ty segment))

@@ -23,6 +23,7 @@ pub mod LeafChoiceLemmas
 pub mod ReferenceChoiceLemmas
 pub mod CallLemmas
 pub mod NullLemmas
+pub mod CastBranchLemmas
 pub mod PlainNodeLemmas
 pub mod VectorNodeLemmas
 pub mod VectorChoiceLemmas

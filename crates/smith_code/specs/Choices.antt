@@ -21,6 +21,7 @@ use Rattle.smith_instr.specs.declared.memory.MemoryInstr.TheVariants as memory
 use Rattle.smith_instr.specs.declared.numeric.NumericInstr.{NumericInstr}
 use Rattle.smith_code.specs.BulkChoices.{bulk_at}
 use Rattle.smith_code.specs.CallChoices.{by_reference_at, indirect_at, tail_call_at}
+use Rattle.smith_code.specs.CastBranchChoices.{cast_branch_at, cast_value_at}
 use Rattle.smith_code.specs.CastChoices.{cast_choice_at}
 use Rattle.smith_code.specs.Chosen.{Chosen, giving}
 use Rattle.smith_code.specs.Accesses.{access_at}
@@ -178,6 +179,7 @@ value_families =
     value.Creation ∷
     value.FieldRead ∷
     value.Cast ∷
+    value.CastBranch ∷
     []
 
 -- a value of a family: none of a leaf
@@ -203,6 +205,7 @@ value_of context wanted value.Atomic bytes = atomic_at context wanted bytes
 value_of context wanted value.Creation bytes = creation_at context wanted bytes
 value_of context wanted value.FieldRead bytes = field_read_at context wanted bytes
 value_of context wanted value.Cast bytes = cast_choice_at context wanted bytes
+value_of context wanted value.CastBranch bytes = cast_value_at context wanted bytes
 
 unfoldable pub value_choice_at : BodyContext → ValType → List ℕ → Chosen
 value_choice_at context wanted bytes = let family = chosen_at value.Leaf value_families bytes in value_of context wanted family.0 family.1
@@ -327,6 +330,7 @@ statement_families =
     statement.AtomicStore ∷
     statement.Fence ∷
     statement.FieldWrite ∷
+    statement.CastBranch ∷
     []
 
 -- a statement of a family: none of `nop`
@@ -353,6 +357,7 @@ statement_of context statement.StoreLane bytes = store_lane_at context bytes
 statement_of context statement.AtomicStore bytes = atomic_store_at context bytes
 statement_of context statement.Fence bytes = (Some (node_of [] instr.AtomicFence 0), bytes)
 statement_of context statement.FieldWrite bytes = field_write_at context bytes
+statement_of context statement.CastBranch bytes = cast_branch_at context bytes
 
 -- the node that was chosen, or `nop`
 abbrev pub or_nop : Chosen → Node × List ℕ

@@ -15,6 +15,7 @@ pub mod BulkChoices
 pub mod ReferenceChoices
 pub mod CallChoices
 pub mod NullChoices
+pub mod CastBranchChoices
 pub mod Accesses
 pub mod VectorRows
 pub mod VectorChoices

@@ -36,7 +36,7 @@ pub(crate) struct StructField {
     pub field: FieldType,
 }
 
-/// The array types whose elements have a use.
+/// Array types whose elements have a use.
 #[derive(Clone, Copy)]
 struct ArrayOffer<'a> {
     scope: &'a Scope<'a>,
@@ -64,7 +64,7 @@ impl<'a> Offer for ArrayOffer<'a> {
     }
 }
 
-/// The array types whose elements have a use, and whose values are of a type below a wanted type when they are created.
+/// Array types whose elements have a use and whose created values match a wanted type.
 #[derive(Clone, Copy)]
 struct CreatedArrayOffer<'a> {
     scope: &'a Scope<'a>,
@@ -94,8 +94,8 @@ impl<'a> Offer for CreatedArrayOffer<'a> {
     }
 }
 
-/// The struct types that may be created, of default values where `defaults` is set, and whose values are of a type below a wanted
-/// type when they are created.
+/// Struct types that may be created and whose created values match a wanted type. They are created of
+/// default values if `defaults` is set.
 #[derive(Clone, Copy)]
 struct CreatedStructOffer<'a> {
     scope: &'a Scope<'a>,
@@ -130,7 +130,7 @@ impl<'a> Offer for CreatedStructOffer<'a> {
     }
 }
 
-/// The fields that have a use.
+/// Fields that have a use.
 #[derive(Clone, Copy)]
 struct FieldOffer<'a> {
     scope: &'a Scope<'a>,
@@ -159,7 +159,7 @@ impl<'a> Offer for FieldOffer<'a> {
     }
 }
 
-/// The struct types that have a field with a use.
+/// Struct types that have a field with a use.
 #[derive(Clone, Copy)]
 struct StructOffer<'a> {
     scope: &'a Scope<'a>,
@@ -198,7 +198,7 @@ impl<'a> Offer for StructOffer<'a> {
     }
 }
 
-/// Whether references to a type of an index are values.
+/// Whether a value may be a reference to a type.
 pub(crate) fn names_types(scope: &Scope<'_>) -> bool
     ensures { result ≡ names_types (bare scope.now) }
 {
@@ -218,7 +218,7 @@ fn is_array(scope: &Scope<'_>, of: FieldUse, index: usize) -> bool
     }
 }
 
-/// Whether a value of the type at `index` is of a type below `wanted` when it is created.
+/// Whether created values of the type at `index` match `wanted`.
 fn is_created_below(scope: &Scope<'_>, wanted: ValType, index: usize) -> bool
     requires wanted { IsValid (bare scope.now) wanted }
     requires below { index < indexed (length scope.now.types.now.types) }
@@ -227,7 +227,7 @@ fn is_created_below(scope: &Scope<'_>, wanted: ValType, index: usize) -> bool
     is_sub_type(scope, created_reference(scope, index as u32), wanted)
 }
 
-/// The type of a value of the type `index` when it is created.
+/// Returns the type of created values of the type `index`.
 fn created_reference(scope: &Scope<'_>, index: u32) -> ValType
     ensures { result ≡ created_reference (bare scope.now) index }
 {
@@ -242,7 +242,8 @@ fn created_reference(scope: &Scope<'_>, index: u32) -> ValType
     })
 }
 
-/// Whether a struct of `fields` may be created, of default values where `defaults` is set.
+/// Whether a struct of `fields` may be created: of default values if `defaults` is set, else of at
+/// most seven operands.
 fn is_creatable(defaults: bool, fields: &[FieldType]) -> bool
     ensures { result ≡ is_creatable defaults fields.now }
 {
@@ -271,7 +272,7 @@ pub(crate) fn choose_array(
     Some((index as u32, element))
 }
 
-/// Chooses an array type whose element may be used for `of`, and whose values are of a type below `wanted` when they are created.
+/// Chooses an array type whose element may be used for `of` and whose created values match `wanted`.
 pub(crate) fn choose_created_array(
     scope: &Scope<'_>,
     wanted: ValType,
@@ -293,8 +294,8 @@ pub(crate) fn choose_created_array(
     Some((index as u32, element))
 }
 
-/// Chooses a struct type that may be created, of default values where `defaults` is set, and whose values are of a type below
-/// `wanted` when they are created.
+/// Chooses a struct type that may be created and whose created values match `wanted`. It is created of
+/// default values if `defaults` is set.
 pub(crate) fn choose_created_struct(
     scope: &Scope<'_>,
     wanted: ValType,

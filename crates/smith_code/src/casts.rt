@@ -1,4 +1,4 @@
-ghost use Rattle.std.specs.Prelude.{◌≡◌, true, Some, unwrap_or, [], ◌∷◌, IfOk, IfErr, IfSome};
+ghost use Rattle.std.specs.Prelude.{◌≡◌, false, true, Some, unwrap_or, [], ◌∷◌, IfOk, IfErr, IfSome};
 ghost use Rattle.smith_bytes.specs.Source.{KeepsPieces};
 ghost use Rattle.smith_types.specs.Subtyping.{IsRefBelow};
 ghost use Rattle.smith_types.specs.declared.value_type.ValType.TheVariants.{I32, Ref};
@@ -38,7 +38,7 @@ use smith_instr::{AggregateInstr, Instr, ReferenceInstr};
 use smith_types::{AbstractHeapType, HeapType, RefType, ValType};
 use std::alloc::Global;
 
-/// What gives a number out of a reference.
+/// Instructions that produce a number from a reference.
 #[derive(Clone, Copy)]
 enum Scalar {
     /// The length of an array.
@@ -51,11 +51,11 @@ enum Scalar {
     Test,
 }
 
-/// What gives a reference out of a number or another reference.
+/// Instructions that produce a reference from a number or another reference.
 #[derive(Clone, Copy)]
 enum Conversion {
     I31,
-    /// A conversion between references of inside and outside.
+    /// A conversion between internal and external references.
     Outside,
     Cast,
 }
@@ -77,7 +77,7 @@ fn conversions<'a>() -> &'a [Conversion]
     &[Conversion::I31, Conversion::Outside, Conversion::Cast]
 }
 
-/// The locals of types above a reference type.
+/// Locals whose type a reference type matches.
 #[derive(Clone, Copy)]
 struct AboveOffer<'a> {
     scope: &'a Scope<'a>,
@@ -106,7 +106,7 @@ impl<'a> Offer for AboveOffer<'a> {
     }
 }
 
-/// The locals that are references.
+/// Locals of reference types.
 #[derive(Clone, Copy)]
 struct ReferenceLocalOffer<'a> {
     scope: &'a Scope<'a>,
@@ -132,7 +132,8 @@ impl<'a> Offer for ReferenceLocalOffer<'a> {
     }
 }
 
-/// Chooses a cast, a test, a conversion or an instruction on an i31 that gives a value of the type `wanted`.
+/// Chooses a cast, a test, a conversion or an instruction on an i31 that produces a value of the
+/// type `wanted`.
 pub(crate) fn choose_cast(
     alloc: Global,
     scope: &Scope<'_>,
@@ -176,7 +177,7 @@ fn choose_cast_for(
     }
 }
 
-/// Chooses a number out of a reference.
+/// Chooses an instruction that produces a number from a reference.
 fn choose_scalar(
     alloc: Global,
     scope: &Scope<'_>,
@@ -200,7 +201,7 @@ fn choose_scalar(
     }
 }
 
-/// Makes the node of `op`, which takes a reference to the abstract heap type `ty`, null among them.
+/// Makes the node of `op`, which takes a nullable reference to the abstract heap type `ty`.
 fn out_of(alloc: Global, ty: AbstractHeapType, op: AggregateInstr) -> Result<Option<Node>, Error>
     ensures exact { IfOk result (λ chosen. chosen ≡ Some (aggregate_of (nullable_to (HeapType.Abstract false ty) ∷ []) op)) }
     ensures memory { IfErr result (λ e. e ≡ Error.Memory) }
@@ -210,7 +211,7 @@ fn out_of(alloc: Global, ty: AbstractHeapType, op: AggregateInstr) -> Result<Opt
     Ok(Some(node))
 }
 
-/// Chooses a test whether a reference is of the type of a local.
+/// Chooses a test of a reference for the type of a local.
 fn choose_type_test(
     alloc: Global,
     scope: &Scope<'_>,
@@ -229,7 +230,7 @@ fn choose_type_test(
     test_for(alloc, scope, to, draft, u)
 }
 
-/// Chooses a local that is a reference, and returns its type.
+/// Chooses a local of a reference type, and returns that type.
 fn choose_reference_local(scope: &Scope<'_>, u: &mut Unstructured<'_>) -> Option<RefType>
     requires scope { IsScope (bare scope.now) }
     ensures exact { reference_local_at (bare scope.now) u.old ≡ (result, u.new) }
@@ -243,7 +244,7 @@ fn choose_reference_local(scope: &Scope<'_>, u: &mut Unstructured<'_>) -> Option
     }
 }
 
-/// Chooses a test whether a reference is of the type `to`.
+/// Chooses a test of a reference for the type `to`.
 fn test_for(
     alloc: Global,
     scope: &Scope<'_>,
@@ -264,8 +265,8 @@ fn test_for(
     Ok(Some(node))
 }
 
-/// Draws the type of a local above `to`, or returns `to` with null where there is none.
-fn draw_above(scope: &Scope<'_>, to: RefType, u: &mut Unstructured<'_>) -> RefType
+/// Draws the type of a local that `to` matches. Returns the nullable type of `to` if there is none.
+pub(crate) fn draw_above(scope: &Scope<'_>, to: RefType, u: &mut Unstructured<'_>) -> RefType
     requires scope { IsScope (bare scope.now) }
     requires to { IsValid (bare scope.now) (Ref to) }
     ensures exact { above_at (bare scope.now) to u.old ≡ (result, u.new) }
@@ -279,8 +280,8 @@ fn draw_above(scope: &Scope<'_>, to: RefType, u: &mut Unstructured<'_>) -> RefTy
     reference_or(scope.locals[index], with_null(to))
 }
 
-/// Returns the type of references that `value` is, or `other` where it is none.
-fn reference_or(value: ValType, other: RefType) -> RefType
+/// Returns the reference type `value`, or `other` if `value` is not a reference type.
+pub(crate) fn reference_or(value: ValType, other: RefType) -> RefType
     ensures { result ≡ unwrap_or (reference_in (Some value)) other }
 {
     match value {
@@ -298,7 +299,8 @@ fn with_null(to: RefType) -> RefType
     }
 }
 
-/// Chooses what gives a reference of the type `to` out of a number or another reference.
+/// Chooses an instruction that produces a reference of the type `to` from a number or another
+/// reference.
 fn choose_conversion(
     alloc: Global,
     scope: &Scope<'_>,
@@ -321,7 +323,7 @@ fn choose_conversion(
     }
 }
 
-/// Chooses the creation of an i31 where it is of a type below `to`.
+/// Chooses the creation of an i31, if its type matches `to`.
 fn choose_i31(
     alloc: Global,
     scope: &Scope<'_>,
@@ -343,7 +345,7 @@ fn choose_i31(
     Ok(None)
 }
 
-/// Whether an i31, which is `shared` or not, is of a type below `to`.
+/// Whether the type of an i31 matches `to`. It is a shared one if `shared` is set.
 fn is_i31_below(scope: &Scope<'_>, to: RefType, shared: bool) -> bool
     requires to { IsValid (bare scope.now) (Ref to) }
     ensures { result ≡ is_i31_below (bare scope.now) to shared }
@@ -359,7 +361,8 @@ fn is_i31_below(scope: &Scope<'_>, to: RefType, shared: bool) -> bool
     is_sub_type(scope, i31, ValType::Ref(to))
 }
 
-/// Chooses the conversion to `to` between references of inside and outside, if it is one of them.
+/// Chooses the conversion between internal and external references that produces `to`, if there is
+/// one.
 fn choose_converted(
     alloc: Global,
     scope: &Scope<'_>,

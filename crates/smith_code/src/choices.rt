@@ -25,6 +25,7 @@ use crate::bulk::choose_bulk;
 use crate::calls::{
     choose_any_by_reference, choose_any_indirect, choose_by_reference, choose_indirect,
 };
+use crate::cast_branches::{choose_cast_branch, choose_kept_cast};
 use crate::casts::choose_cast;
 use crate::creations::choose_creation;
 use crate::families::{StatementFamily, ValueFamily, statement_families, value_families};
@@ -118,6 +119,7 @@ fn choose_value(
         ValueFamily::Creation => choose_creation(alloc, scope, wanted, draft, u),
         ValueFamily::FieldRead => choose_field_read(alloc, scope, wanted, draft, u),
         ValueFamily::Cast => choose_cast(alloc, scope, wanted, draft, u),
+        ValueFamily::CastBranch => choose_kept_cast(alloc, scope, wanted, draft, u),
     }
 }
 
@@ -224,6 +226,7 @@ pub(crate) fn choose_statement(
         StatementFamily::AtomicStore => choose_atomic_store(alloc, scope, draft, u),
         StatementFamily::Fence => plain(alloc, &[], Instr::AtomicFence, 0),
         StatementFamily::FieldWrite => choose_field_write(alloc, scope, draft, u),
+        StatementFamily::CastBranch => choose_cast_branch(alloc, scope, draft, u),
     }
 }
 

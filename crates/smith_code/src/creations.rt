@@ -39,7 +39,7 @@ use smith_instr::{AggregateInstr, Instr};
 use smith_types::{FieldType, RefType, ValType, unpacked};
 use std::alloc::Global;
 
-/// How a struct or an array is created.
+/// Ways to create a struct or an array.
 #[derive(Clone, Copy)]
 enum Creation {
     StructNew,
@@ -48,11 +48,11 @@ enum Creation {
     ArrayNew,
     /// An array of the default value.
     ArrayDefault,
-    /// An array of operands.
+    /// An array of the operands.
     ArrayFixed,
-    /// An array out of a data segment.
+    /// An array from a data segment.
     ArrayData,
-    /// An array out of an element segment.
+    /// An array from an element segment.
     ArrayElem,
 }
 
@@ -70,7 +70,7 @@ fn creations<'a>() -> &'a [Creation]
     ]
 }
 
-/// Chooses the creation of a struct or an array that gives a value of the type `wanted`.
+/// Chooses the creation of a struct or an array that produces a value of the type `wanted`.
 #[tactic(auto, unfolding(crate::specs::CreationChoices::creation_at))]
 pub(crate) fn choose_creation(
     alloc: Global,
@@ -92,7 +92,7 @@ pub(crate) fn choose_creation(
     }
 }
 
-/// Chooses the creation of a struct or an array that gives a reference of the type `to`.
+/// Chooses the creation of a struct or an array that produces a reference of the type `to`.
 fn choose_created(
     alloc: Global,
     scope: &Scope<'_>,
@@ -232,7 +232,7 @@ fn choose_array_fixed(
     fixed_of(alloc, scope, wanted, array, draft, u)
 }
 
-/// Chooses the creation of an array of the type `array` by at most seven elements.
+/// Chooses the creation of an array of the type `array` from at most seven operands.
 fn fixed_of(
     alloc: Global,
     scope: &Scope<'_>,
@@ -277,7 +277,7 @@ fn choose_array_data(
     data_of(alloc, scope, wanted, array, draft, u)
 }
 
-/// Chooses the creation of an array of the type `array` out of a data segment.
+/// Chooses the creation of an array of the type `array` from a data segment.
 fn data_of(
     alloc: Global,
     scope: &Scope<'_>,
@@ -325,7 +325,7 @@ fn choose_array_elem(
     elem_of(alloc, scope, wanted, array, draft, u)
 }
 
-/// Chooses the creation of an array of the type `array` out of an element segment.
+/// Chooses the creation of an array of the type `array` from an element segment.
 fn elem_of(
     alloc: Global,
     scope: &Scope<'_>,

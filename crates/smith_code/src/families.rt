@@ -38,6 +38,8 @@ pub(crate) enum ValueFamily {
     FieldRead,
     /// A cast, a test or a conversion of a reference, or an instruction on an i31.
     Cast,
+    /// A branch on a failed cast.
+    CastBranch,
 }
 
 /// Families of instructions that may be a statement.
@@ -74,6 +76,8 @@ pub(crate) enum StatementFamily {
     Fence,
     /// A write to a struct or an array.
     FieldWrite,
+    /// A branch on a cast.
+    CastBranch,
 }
 
 /// Families of instructions that may produce a vector.
@@ -132,6 +136,7 @@ pub(crate) fn value_families<'a>() -> &'a [ValueFamily]
         ValueFamily::Creation,
         ValueFamily::FieldRead,
         ValueFamily::Cast,
+        ValueFamily::CastBranch,
     ]
 }
 
@@ -167,6 +172,7 @@ pub(crate) fn statement_families<'a>() -> &'a [StatementFamily]
         StatementFamily::AtomicStore,
         StatementFamily::Fence,
         StatementFamily::FieldWrite,
+        StatementFamily::CastBranch,
     ]
 }
 

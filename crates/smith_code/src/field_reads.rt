@@ -27,7 +27,7 @@ use smith_instr::{AggregateInstr, Instr};
 use smith_types::{FieldType, HeapType, ValType};
 use std::alloc::Global;
 
-/// Chooses a read of a field or an element that gives a value of the type `wanted`.
+/// Chooses a read of a field or an element that produces a value of the type `wanted`.
 pub(crate) fn choose_field_read(
     alloc: Global,
     scope: &Scope<'_>,

@@ -38,7 +38,7 @@ use smith_instr::{AggregateInstr, Instr};
 use smith_types::{FieldType, HeapType, ValType, unpacked};
 use std::alloc::Global;
 
-/// What a statement does to a struct or an array.
+/// Statements on a struct or an array.
 #[derive(Clone, Copy)]
 enum FieldWrite {
     StructSet,
@@ -62,7 +62,7 @@ fn field_writes<'a>() -> &'a [FieldWrite]
     ]
 }
 
-/// Chooses what is done to a struct or an array, or `nop` where references to types are no values.
+/// Chooses a statement on a struct or an array, or `nop` if no value may be a reference to a type.
 pub(crate) fn choose_field_write(
     alloc: Global,
     scope: &Scope<'_>,
@@ -256,7 +256,7 @@ fn choose_init_data(
     init_data_of(alloc, scope, into, draft, u)
 }
 
-/// Chooses a data segment whose bytes are copied into an array of the type `into`.
+/// Chooses a data segment to copy into an array of the type `into`.
 fn init_data_of(
     alloc: Global,
     scope: &Scope<'_>,
@@ -302,7 +302,7 @@ fn choose_init_elem(
     init_elem_of(alloc, scope, into, draft, u)
 }
 
-/// Chooses an element segment whose references are copied into an array of the type `into`.
+/// Chooses an element segment to copy into an array of the type `into`.
 fn init_elem_of(
     alloc: Global,
     scope: &Scope<'_>,

@@ -24,26 +24,26 @@ use smith_types::{
     unpacked,
 };
 
-/// What a field of a struct or an element of an array is for.
+/// Uses of a field of a struct or of an element of an array.
 #[derive(Clone, Copy)]
 pub(crate) enum FieldUse {
-    /// It is read, for a value of a wanted type.
+    /// It is read as a value of a wanted type.
     Read(ValType),
     /// It is created of a value.
     New,
     /// It is created of the default value.
     NewDefault,
-    /// It is created of bytes of a data segment.
+    /// It is created of the bytes of a data segment.
     NewBytes,
     /// It is created of the references of an element segment.
     NewReferences,
     /// It is set.
     Set,
-    /// It is set to bytes of a data segment.
+    /// It is set to the bytes of a data segment.
     SetBytes,
     /// It is set to the references of an element segment.
     SetReferences,
-    /// It is copied into an element that stores this.
+    /// It is copied into an element of this storage type.
     CopyInto(StorageType),
 }
 
@@ -98,7 +98,8 @@ fn is_storage_below(scope: &Scope<'_>, stored: StorageType, into: StorageType) -
     }
 }
 
-/// How an integer is extended that is read out of `stored`: by its sign where it is packed and `signed`.
+/// Returns the extension of a value that is read from `stored`. A packed one is extended by its sign if
+/// `signed` is set.
 pub(crate) fn extension_of(stored: StorageType, signed: bool) -> Extension
     ensures { result ≡ extension_of stored signed }
 {

@@ -8,6 +8,7 @@ mod body;
 mod branches;
 mod bulk;
 mod calls;
+mod cast_branches;
 mod casts;
 mod choices;
 mod creations;

@@ -66,3 +66,6 @@ returns-in-FieldRead-clause-exact c = ok_by c.choose_field_read.result _ _ _ (va
 
 pub returns-in-Cast-clause-exact : goal.returns-in-Cast-clause-exact
 returns-in-Cast-clause-exact c = ok_by c.choose_cast.result _ _ _ (value_by (where_stands c.args.scope.now c.args.draft.now) c.args.wanted c.args.u.now _ c.value_families.result.now c.choose.result value.Cast c.value_families.ensures (c.choose.ensures.exact value.Leaf) c.in-Cast.is) c.choose_cast.ensures.exact
+
+pub returns-in-CastBranch-clause-exact : goal.returns-in-CastBranch-clause-exact
+returns-in-CastBranch-clause-exact c = ok_by c.choose_kept_cast.result _ _ _ (value_by (where_stands c.args.scope.now c.args.draft.now) c.args.wanted c.args.u.now _ c.value_families.result.now c.choose.result value.CastBranch c.value_families.ensures (c.choose.ensures.exact value.Leaf) c.in-CastBranch.is) c.choose_kept_cast.ensures.exact
