@@ -13,12 +13,17 @@ pub mod ChoiceLemmas
 pub mod ItemLemmas
 pub mod TableLemmas
 pub mod BulkLemmas
+pub mod AggregateLemmas
+pub mod CreationLemmas
+pub mod FieldLemmas
+pub mod CastLemmas
 pub mod ExactLemmas
 pub mod TargetLemmas
 pub mod LeafChoiceLemmas
 pub mod ReferenceChoiceLemmas
 pub mod CallLemmas
 pub mod NullLemmas
+pub mod CastBranchLemmas
 pub mod PlainNodeLemmas
 pub mod VectorNodeLemmas
 pub mod VectorChoiceLemmas

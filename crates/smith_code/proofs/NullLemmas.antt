@@ -54,7 +54,7 @@ kept_below : (types : List SubType) (taken : List ValType) (heap_type : HeapType
 kept_below types [] heap_type = (record { heap = itself; nullable = λ h. refl }, tt)
 kept_below types (value ∷ taken) heap_type = (IsValBelow-refl types value, kept_below types taken heap_type)
 
-one_longer : (values : List ValType) (top : ValType) → length (values ++ top ∷ []) ≡ length values + 1
+pub one_longer : (values : List ValType) (top : ValType) → length (values ++ top ∷ []) ≡ length values + 1
 one_longer values top = simp length-append refl
 
 pub br_on_null_gives : (scope : Scope) (labels : List (List ValType)) (set : List ℕ) (label : ℕ) (heap_type : HeapType) (taken : List ValType) → AreLabels scope labels → label < length labels → taken ≡ get_or labels label taken → is_short labels 2 label ≡ true
@@ -89,12 +89,12 @@ reference_option (Some F64) to is = cc
 reference_option (Some V128) to is = cc
 reference_option None to is = cc
 
-last_there : (taken : List ValType) (to : RefType) → last_reference taken ≡ Some to → (length taken - 1 < length taken) × (get_or taken (length taken - 1) (Ref to) ≡ Ref to)
+pub last_there : (taken : List ValType) (to : RefType) → last_reference taken ≡ Some to → (length taken - 1 < length taken) × (get_or taken (length taken - 1) (Ref to) ≡ Ref to)
 last_there taken to is =
     let at = reference_option (slice_get taken (length taken - 1)) to is in
     (slice_get_within taken (length taken - 1) (Ref to) at, get_or_from_slice_get taken (length taken - 1) (Ref to) (Ref to) at)
 
-last_is : (taken : List ValType) (to : RefType) → last_reference taken ≡ Some to → taken ≡ take (length taken - 1) taken ++ Ref to ∷ []
+pub last_is : (taken : List ValType) (to : RefType) → last_reference taken ≡ Some to → taken ≡ take (length taken - 1) taken ++ Ref to ∷ []
 last_is taken to is =
     let k = length taken - 1 in
     let (inside, here) = last_there taken to is in

@@ -43,7 +43,7 @@ table_below context wanted index d orderly inside is =
     tested context.types orderly (Ref (get_or context.tables index d).element_type) wanted
     (subst (λ (o : Option TableType). is_below_at context.types wanted (option_map (λ (table : TableType). Ref table.element_type) o) ≡ true) (slice_get-get_or context.tables index d inside) is)
 
-segment_below_at : (context : BodyContext) (wanted : ValType) (segment : ℕ) (o : Option RefType) → IsOrderly context.types → slice_get context.elements segment ≡ o → is_below_at context.types wanted (option_map Ref o) ≡ true
+pub segment_below_at : (context : BodyContext) (wanted : ValType) (segment : ℕ) (o : Option RefType) → IsOrderly context.types → slice_get context.elements segment ≡ o → is_below_at context.types wanted (option_map Ref o) ≡ true
     → (element : RefType) × (slice_get context.elements segment ≡ Some element) × IsValBelow context.types (Ref element) wanted
 segment_below_at context wanted segment (Some element) orderly at is = (element, at, tested context.types orderly (Ref element) wanted is)
 segment_below_at context wanted segment None orderly at is = cc

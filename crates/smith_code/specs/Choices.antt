@@ -21,9 +21,13 @@ use Rattle.smith_instr.specs.declared.memory.MemoryInstr.TheVariants as memory
 use Rattle.smith_instr.specs.declared.numeric.NumericInstr.{NumericInstr}
 use Rattle.smith_code.specs.BulkChoices.{bulk_at}
 use Rattle.smith_code.specs.CallChoices.{by_reference_at, indirect_at, tail_call_at}
+use Rattle.smith_code.specs.CastBranchChoices.{cast_branch_at, cast_value_at}
+use Rattle.smith_code.specs.CastChoices.{cast_choice_at}
 use Rattle.smith_code.specs.Chosen.{Chosen, giving}
 use Rattle.smith_code.specs.Accesses.{access_at}
 use Rattle.smith_code.specs.AtomicChoices.{atomic_at, atomic_store_at}
+use Rattle.smith_code.specs.CreationChoices.{creation_at}
+use Rattle.smith_code.specs.FieldChoices.{field_read_at, field_write_at}
 use Rattle.smith_code.specs.Nodes.{blocked, is_node_allowed, node_of, setting}
 use Rattle.smith_code.specs.NullChoices.{br_on_null_value_at, null_branch_at}
 use Rattle.smith_code.specs.Offered.{func_in, function_at, is_addressed, is_callable, is_local_below, is_mutable, is_target, label_count, offered}
@@ -170,6 +174,12 @@ value_families =
     value.Vector ∷
     value.Vector ∷
     value.Atomic ∷
+    value.Creation ∷
+    value.Creation ∷
+    value.Creation ∷
+    value.FieldRead ∷
+    value.Cast ∷
+    value.CastBranch ∷
     []
 
 -- a value of a family: none of a leaf
@@ -192,6 +202,10 @@ value_of context wanted value.TailCall bytes = tail_call_at context bytes
 value_of context wanted value.NullBranch bytes = br_on_null_value_at context wanted bytes
 value_of context wanted value.Vector bytes = vector_at context wanted bytes
 value_of context wanted value.Atomic bytes = atomic_at context wanted bytes
+value_of context wanted value.Creation bytes = creation_at context wanted bytes
+value_of context wanted value.FieldRead bytes = field_read_at context wanted bytes
+value_of context wanted value.Cast bytes = cast_choice_at context wanted bytes
+value_of context wanted value.CastBranch bytes = cast_value_at context wanted bytes
 
 unfoldable pub value_choice_at : BodyContext → ValType → List ℕ → Chosen
 value_choice_at context wanted bytes = let family = chosen_at value.Leaf value_families bytes in value_of context wanted family.0 family.1
@@ -315,6 +329,8 @@ statement_families =
     statement.StoreLane ∷
     statement.AtomicStore ∷
     statement.Fence ∷
+    statement.FieldWrite ∷
+    statement.CastBranch ∷
     []
 
 -- a statement of a family: none of `nop`
@@ -340,6 +356,8 @@ statement_of context statement.VectorStore bytes = vector_store_at context bytes
 statement_of context statement.StoreLane bytes = store_lane_at context bytes
 statement_of context statement.AtomicStore bytes = atomic_store_at context bytes
 statement_of context statement.Fence bytes = (Some (node_of [] instr.AtomicFence 0), bytes)
+statement_of context statement.FieldWrite bytes = field_write_at context bytes
+statement_of context statement.CastBranch bytes = cast_branch_at context bytes
 
 -- the node that was chosen, or `nop`
 abbrev pub or_nop : Chosen → Node × List ℕ

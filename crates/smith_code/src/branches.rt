@@ -1,11 +1,12 @@
-ghost use Rattle.std.specs.Prelude.{◌≡◌, ◌<◌, List, [], All, length, min, Some, IfOk, IfErr};
+ghost use Rattle.std.specs.Prelude.{◌≡◌, ◌<◌, true, List, [], All, length, min, Some, IfOk, IfErr, IfSome};
+ghost use Rattle.smith_bytes.specs.Draws.{choose_at};
 ghost use Rattle.smith_bytes.specs.Source.{KeepsPieces};
 ghost use Rattle.smith_types.specs.declared.value_type.ValType.{ValType as Val};
 ghost use Rattle.smith_instr.specs.Contexts.{AreValid};
 ghost use Rattle.smith_instr.specs.InstrTypes.{IsTaken};
 ghost use Rattle.smith_code.specs.Choices.{branch_at, leaving_at, or_nop, some_targets_at, table_at};
 ghost use Rattle.smith_code.specs.Nodes.{IsNode};
-ghost use Rattle.smith_code.specs.Offered.{are_below};
+ghost use Rattle.smith_code.specs.Offered.{are_below, is_target, offered};
 ghost use Rattle.smith_code.specs.Scopes.{AreLabels, IsScope, bare, context_of, where_stands};
 
 use crate::locals::is_below;
@@ -90,6 +91,31 @@ impl<'a> Offer for TargetOffer<'a> {
     fn is_offered(&self, index: usize) -> bool {
         are_below(self.scope, self.taken, self.labels[index].as_slice())
     }
+}
+
+/// Chooses a label that a branch with operands of the types `taken` may target, if there is one.
+pub(crate) fn choose_target(
+    scope: &Scope<'_>,
+    draft: &Draft,
+    taken: &[ValType],
+    u: &mut Unstructured<'_>,
+) -> Option<u32>
+    requires scope { IsScope (bare scope.now) }
+    requires labels { AreLabels scope.now draft.now.labels.items }
+    requires taken { AreValid (bare scope.now) taken.now }
+    ensures exact { choose_at (offered (is_target (bare scope.now).types draft.now.labels.items taken.now) (min (length draft.now.labels.items) 64)) u.old ≡ (result, u.new) }
+    ensures below { IfSome result (λ index. index < length draft.now.labels.items) }
+    ensures offered { IfSome result (λ index. is_target (bare scope.now).types draft.now.labels.items taken.now index ≡ true) }
+    ensures left { KeepsPieces u.old u.new }
+{
+    let labels = draft.labels.as_slice();
+    let offer = TargetOffer {
+        scope,
+        labels,
+        taken,
+    };
+    let index = choose_offered(&offer, u)?;
+    Some(index as u32)
 }
 
 /// Whether each of `values` matches the type at its place in `wanted`.

@@ -25,7 +25,12 @@ use crate::bulk::choose_bulk;
 use crate::calls::{
     choose_any_by_reference, choose_any_indirect, choose_by_reference, choose_indirect,
 };
+use crate::cast_branches::{choose_cast_branch, choose_kept_cast};
+use crate::casts::choose_cast;
+use crate::creations::choose_creation;
 use crate::families::{StatementFamily, ValueFamily, statement_families, value_families};
+use crate::field_reads::choose_field_read;
+use crate::field_writes::choose_field_write;
 use crate::funcs::{choose_callable, function_of};
 use crate::globals::choose_mutable;
 use crate::locals::choose_local;
@@ -91,6 +96,7 @@ fn choose_value(
     ensures memory { IfErr result (λ e. e ≡ Error.Memory) }
     ensures left { KeepsPieces u.old u.new }
 {
+    let outcome = Outcome::Wanted(wanted);
     match choose(value_families(), u) {
         ValueFamily::Leaf => Ok(None),
         ValueFamily::Numeric => choose_numeric(alloc, wanted, u),
@@ -104,16 +110,16 @@ fn choose_value(
         ValueFamily::Table => choose_table_value(alloc, scope, wanted, draft, u),
         ValueFamily::SelectTyped => choose_select_typed(alloc, wanted),
         ValueFamily::Reference => choose_reference_value(alloc, scope, wanted, draft, u),
-        ValueFamily::CallIndirect => {
-            choose_indirect(alloc, scope, Outcome::Wanted(wanted), draft, u)
-        }
-        ValueFamily::CallRef => {
-            choose_by_reference(alloc, scope, Outcome::Wanted(wanted), draft, u)
-        }
+        ValueFamily::CallIndirect => choose_indirect(alloc, scope, outcome, draft, u),
+        ValueFamily::CallRef => choose_by_reference(alloc, scope, outcome, draft, u),
         ValueFamily::TailCall => choose_tail_call(alloc, scope, draft, u),
         ValueFamily::NullBranch => choose_kept(alloc, scope, wanted, draft, u),
         ValueFamily::Vector => choose_vector(alloc, scope, wanted, draft, u),
         ValueFamily::Atomic => choose_atomic(alloc, scope, wanted, draft, u),
+        ValueFamily::Creation => choose_creation(alloc, scope, wanted, draft, u),
+        ValueFamily::FieldRead => choose_field_read(alloc, scope, wanted, draft, u),
+        ValueFamily::Cast => choose_cast(alloc, scope, wanted, draft, u),
+        ValueFamily::CastBranch => choose_kept_cast(alloc, scope, wanted, draft, u),
     }
 }
 
@@ -219,6 +225,8 @@ pub(crate) fn choose_statement(
         StatementFamily::StoreLane => choose_store_lane(alloc, scope, draft, u),
         StatementFamily::AtomicStore => choose_atomic_store(alloc, scope, draft, u),
         StatementFamily::Fence => plain(alloc, &[], Instr::AtomicFence, 0),
+        StatementFamily::FieldWrite => choose_field_write(alloc, scope, draft, u),
+        StatementFamily::CastBranch => choose_cast_branch(alloc, scope, draft, u),
     }
 }
 

@@ -32,6 +32,14 @@ pub(crate) enum ValueFamily {
     /// A vector, or the result of a vector instruction.
     Vector,
     Atomic,
+    /// A struct or an array that is created.
+    Creation,
+    /// A field of a struct, or an element of an array.
+    FieldRead,
+    /// A cast, a test or a conversion of a reference, or an instruction on an i31.
+    Cast,
+    /// A branch on a failed cast.
+    CastBranch,
 }
 
 /// Families of instructions that may be a statement.
@@ -66,6 +74,10 @@ pub(crate) enum StatementFamily {
     AtomicStore,
     /// `atomic.fence`.
     Fence,
+    /// A write to a struct or an array.
+    FieldWrite,
+    /// A branch on a cast.
+    CastBranch,
 }
 
 /// Families of instructions that may produce a vector.
@@ -119,6 +131,12 @@ pub(crate) fn value_families<'a>() -> &'a [ValueFamily]
         ValueFamily::Vector,
         ValueFamily::Vector,
         ValueFamily::Atomic,
+        ValueFamily::Creation,
+        ValueFamily::Creation,
+        ValueFamily::Creation,
+        ValueFamily::FieldRead,
+        ValueFamily::Cast,
+        ValueFamily::CastBranch,
     ]
 }
 
@@ -153,6 +171,8 @@ pub(crate) fn statement_families<'a>() -> &'a [StatementFamily]
         StatementFamily::StoreLane,
         StatementFamily::AtomicStore,
         StatementFamily::Fence,
+        StatementFamily::FieldWrite,
+        StatementFamily::CastBranch,
     ]
 }
 

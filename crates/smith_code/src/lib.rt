@@ -1,15 +1,22 @@
 //! Bodies of functions, drawn from bytes. The standard is the WebAssembly Core Specification 3.0.
 #![tactic(auto)]
 
+mod aggregates;
 mod atomics;
 mod blocks;
 mod body;
 mod branches;
 mod bulk;
 mod calls;
+mod cast_branches;
+mod casts;
 mod choices;
+mod creations;
 mod drawn;
 mod families;
+mod field_reads;
+mod field_writes;
+mod fields;
 mod funcs;
 mod function_tables;
 mod globals;
@@ -21,6 +28,7 @@ mod node;
 mod null_branches;
 mod numeric;
 mod offer;
+mod operands;
 mod outcomes;
 mod reference_values;
 mod references;

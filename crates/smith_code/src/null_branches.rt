@@ -77,7 +77,7 @@ impl<'a> Offer for ReferenceLabelOffer<'a> {
 }
 
 /// Returns the type of the last of the values `taken`, if it is a reference type.
-fn last_reference(taken: &[ValType]) -> Option<RefType>
+pub(crate) fn last_reference(taken: &[ValType]) -> Option<RefType>
     ensures { result ≡ last_reference taken.now }
 {
     if taken.len() == 0 {
@@ -102,7 +102,7 @@ fn choose_short(draft: &Draft, most: usize, u: &mut Unstructured<'_>) -> Option<
 }
 
 /// Chooses a label whose last value is a reference, if there is one.
-fn choose_of_reference(draft: &Draft, u: &mut Unstructured<'_>) -> Option<u32>
+pub(crate) fn choose_of_reference(draft: &Draft, u: &mut Unstructured<'_>) -> Option<u32>
     ensures exact { choose_at (offered (is_of_reference draft.now.labels.items) (min (length draft.now.labels.items) 64)) u.old ≡ (result, u.new) }
     ensures below { IfSome result (λ index. index < length draft.now.labels.items) }
     ensures offered { IfSome result (λ index. is_of_reference draft.now.labels.items index ≡ true) }

@@ -41,7 +41,7 @@ pub(crate) fn choose_offered<O: Offer>(offer: &O, u: &mut Unstructured<'_>) -> O
 }
 
 /// Counts the offered items.
-fn count_offered<O: Offer>(offer: &O) -> usize
+pub(crate) fn count_offered<O: Offer>(offer: &O) -> usize
     requires { O.ready offer.now }
     ensures { result ≡ length (offered (O.test offer.now) (O.size offer.now)) }
 {

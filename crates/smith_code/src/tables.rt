@@ -459,7 +459,11 @@ fn init_of(
 }
 
 /// Chooses an element segment whose type matches `wanted`, if there is one.
-fn choose_segment_below(scope: &Scope<'_>, wanted: ValType, u: &mut Unstructured<'_>) -> Option<u32>
+pub(crate) fn choose_segment_below(
+    scope: &Scope<'_>,
+    wanted: ValType,
+    u: &mut Unstructured<'_>,
+) -> Option<u32>
     requires scope { IsScope (bare scope.now) }
     requires wanted { IsValInRange (bare scope.now).types wanted }
     ensures exact { choose_at (offered (is_segment_below (bare scope.now) wanted) (indexed (length scope.now.elements.now))) u.old ≡ (result, u.new) }

@@ -1,2 +1,3 @@
 pub mod ExampleBytes
 pub mod ExampleContexts
+pub mod ExampleAggregates

@@ -23,6 +23,7 @@ use Rattle.smith_types.specs.declared.segments.ElementSegment.{ElementSegment}
 use Rattle.smith_types.specs.declared.value_type.ValType.{ValType}
 use Rattle.smith_types.proofs.ValidityLemmas.{ends_within, group_at}
 use Rattle.smith_types.proofs.EntityGrowthLemmas.{IsValTypeValid-later}
+use Rattle.smith_draw.proofs.ConstScopeLemmas.{fields_valid}
 use Rattle.smith_contents.specs.Held.{IsRaw}
 use Rattle.smith_definitions.specs.Module.{Parts, IsValid, module_features, module_imports, module_types, segment_context}
 use Rattle.smith_instr.specs.Enabled.{IsEnabled}
@@ -81,6 +82,7 @@ module_scope m valid index function there locals locals_valid =
       results_few = let wide = func_wide m.types index function there in omega arith;
       params_valid = λ i f at. (func_values features (module_types m) valid.types i f at).0;
       results_valid = λ i f at. (func_values features (module_types m) valid.types i f at).1;
+      fields_valid = fields_valid features (module_types m) valid.types;
     }
 
 -- imported functions come before the defined ones

@@ -77,3 +77,9 @@ returns-in-Fence-clause-node c = ok_like _ c.plain-in-Fence.result (fence_node (
 
 pub returns-in-Fence-clause-exact : goal.returns-in-Fence-clause-exact
 returns-in-Fence-clause-exact c = ok_like _ c.plain-in-Fence.result (statement_by (where_stands c.args.scope.now c.args.draft.now) c.args.u.now _ c.statement_families.result.now c.choose.result statement.Fence c.statement_families.ensures (c.choose.ensures.exact statement.Nop) c.in-Fence.is) c.plain-in-Fence.ensures.exact
+
+pub returns-in-FieldWrite-clause-exact : goal.returns-in-FieldWrite-clause-exact
+returns-in-FieldWrite-clause-exact c = ok_by c.choose_field_write.result _ _ _ (statement_by (where_stands c.args.scope.now c.args.draft.now) c.args.u.now _ c.statement_families.result.now c.choose.result statement.FieldWrite c.statement_families.ensures (c.choose.ensures.exact statement.Nop) c.in-FieldWrite.is) c.choose_field_write.ensures.exact
+
+pub returns-in-CastBranch-clause-exact : goal.returns-in-CastBranch-clause-exact
+returns-in-CastBranch-clause-exact c = ok_by c.choose_cast_branch.result _ _ _ (statement_by (where_stands c.args.scope.now c.args.draft.now) c.args.u.now _ c.statement_families.result.now c.choose.result statement.CastBranch c.statement_families.ensures (c.choose.ensures.exact statement.Nop) c.in-CastBranch.is) c.choose_cast_branch.ensures.exact

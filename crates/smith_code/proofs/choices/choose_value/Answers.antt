@@ -57,3 +57,15 @@ returns-in-Vector-clause-exact c = ok_by c.choose_vector.result _ _ _ (value_by 
 
 pub returns-in-Atomic-clause-exact : goal.returns-in-Atomic-clause-exact
 returns-in-Atomic-clause-exact c = ok_by c.choose_atomic.result _ _ _ (value_by (where_stands c.args.scope.now c.args.draft.now) c.args.wanted c.args.u.now _ c.value_families.result.now c.choose.result value.Atomic c.value_families.ensures (c.choose.ensures.exact value.Leaf) c.in-Atomic.is) c.choose_atomic.ensures.exact
+
+pub returns-in-Creation-clause-exact : goal.returns-in-Creation-clause-exact
+returns-in-Creation-clause-exact c = ok_by c.choose_creation.result _ _ _ (value_by (where_stands c.args.scope.now c.args.draft.now) c.args.wanted c.args.u.now _ c.value_families.result.now c.choose.result value.Creation c.value_families.ensures (c.choose.ensures.exact value.Leaf) c.in-Creation.is) c.choose_creation.ensures.exact
+
+pub returns-in-FieldRead-clause-exact : goal.returns-in-FieldRead-clause-exact
+returns-in-FieldRead-clause-exact c = ok_by c.choose_field_read.result _ _ _ (value_by (where_stands c.args.scope.now c.args.draft.now) c.args.wanted c.args.u.now _ c.value_families.result.now c.choose.result value.FieldRead c.value_families.ensures (c.choose.ensures.exact value.Leaf) c.in-FieldRead.is) c.choose_field_read.ensures.exact
+
+pub returns-in-Cast-clause-exact : goal.returns-in-Cast-clause-exact
+returns-in-Cast-clause-exact c = ok_by c.choose_cast.result _ _ _ (value_by (where_stands c.args.scope.now c.args.draft.now) c.args.wanted c.args.u.now _ c.value_families.result.now c.choose.result value.Cast c.value_families.ensures (c.choose.ensures.exact value.Leaf) c.in-Cast.is) c.choose_cast.ensures.exact
+
+pub returns-in-CastBranch-clause-exact : goal.returns-in-CastBranch-clause-exact
+returns-in-CastBranch-clause-exact c = ok_by c.choose_kept_cast.result _ _ _ (value_by (where_stands c.args.scope.now c.args.draft.now) c.args.wanted c.args.u.now _ c.value_families.result.now c.choose.result value.CastBranch c.value_families.ensures (c.choose.ensures.exact value.Leaf) c.in-CastBranch.is) c.choose_kept_cast.ensures.exact

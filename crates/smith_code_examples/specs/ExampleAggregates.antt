@@ -1,0 +1,65 @@
+-- Contexts and types that the examples of structures, arrays and casts speak of.
+use Rattle.std.specs.Prelude.{ℕ, List, [], ◌∷◌}
+use Rattle.smith_types.specs.ExampleFeatures.{without_gc}
+use Rattle.smith_types.specs.ExampleTypes.{constant, final_type, not_null, nullable, plain, struct, variable}
+use Rattle.smith_types.specs.Flags.{funcref}
+use Rattle.smith_types.specs.declared.composite_type.CompositeInnerType.TheVariants.{Array}
+use Rattle.smith_types.specs.declared.composite_type.StorageType.TheVariants.{I8, Val}
+use Rattle.smith_types.specs.declared.value_type.AbstractHeapType.{AbstractHeapType}
+use Rattle.smith_types.specs.declared.value_type.AbstractHeapType.TheVariants as heap
+use Rattle.smith_types.specs.declared.value_type.HeapType.TheVariants.{Concrete}
+use Rattle.smith_types.specs.declared.value_type.ValType.{ValType}
+use Rattle.smith_types.specs.declared.value_type.ValType.TheVariants.{I32, I64, Ref}
+use Rattle.smith_instr.specs.Contexts.{BodyContext}
+use Rattle.smith_instr.specs.declared.aggregate.AggregateInstr.{AggregateInstr}
+use Rattle.smith_instr.specs.declared.instr.Instr.TheVariants as instr
+use Rattle.smith_instr_examples.specs.ExampleBodies.{function_of, some_func}
+use Rattle.smith_code.specs.Nodes.{node_of}
+use Rattle.smith_code.specs.declared.node.Node.{Node}
+
+-- a function with these locals, over a struct of a constant packed field and a variable i64, a struct of a reference without a
+-- default, and arrays of variable i32, of constant packed integers and of variable references to functions
+abbrev pub aggregates : List ValType → BodyContext
+aggregates locals = record (function_of locals []) {
+  types =
+      final_type (struct (constant I8 ∷ variable (Val I64) ∷ []))
+      ∷ final_type (struct (constant (Val some_func) ∷ []))
+      ∷ final_type (Array (record { 0 = variable (Val I32) }))
+      ∷ final_type (Array (record { 0 = constant I8 }))
+      ∷ final_type (Array (record { 0 = variable (Val (Ref funcref)) }))
+      ∷ [];
+}
+
+-- one without garbage collection
+abbrev pub unmanaged : BodyContext
+unmanaged = record (aggregates []) { features = without_gc }
+
+-- a reference to the type of an index, which may not be null, or may be
+abbrev pub some : ℕ → ValType
+some index = Ref (not_null (Concrete index))
+
+abbrev pub any : ℕ → ValType
+any index = Ref (nullable (Concrete index))
+
+-- a reference to an abstract heap type, which may not be null, or may be
+abbrev pub some_of : AbstractHeapType → ValType
+some_of ty = Ref (not_null (plain ty))
+
+abbrev pub any_of : AbstractHeapType → ValType
+any_of ty = Ref (nullable (plain ty))
+
+-- an aggregate instruction with these operands
+abbrev pub aggregate_node : List ValType → AggregateInstr → Node
+aggregate_node operands op = node_of operands (instr.Aggregate op) 0
+
+-- locals: a number, a struct that may not be null, any struct, and any external reference
+abbrev pub references : List ValType
+references = I64 ∷ some 0 ∷ any_of heap.Struct ∷ any_of heap.Extern ∷ []
+
+-- with labels of an i32 and a struct, and of an i64
+abbrev pub branching : List ValType → BodyContext
+branching locals = record (aggregates locals) { labels = (I32 ∷ any 0 ∷ []) ∷ (I64 ∷ []) ∷ [] }
+
+-- without locals, and with these labels
+abbrev pub labelled_by : List (List ValType) → BodyContext
+labelled_by labels = record (aggregates []) { labels = labels }
