@@ -15,6 +15,7 @@ pub mod VectorRows
 pub mod VectorChoices
 pub mod AtomicRows
 pub mod AtomicChoices
+pub mod ThrowChoices
 pub mod Choices
 pub mod Leaves
 pub mod Bodies

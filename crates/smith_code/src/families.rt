@@ -32,6 +32,8 @@ pub(crate) enum ValueFamily {
     /// A vector, or the result of a vector instruction.
     Vector,
     Atomic,
+    /// `throw` or `throw_ref`.
+    Throw,
 }
 
 /// Families of instructions that may be a statement.
@@ -66,6 +68,8 @@ pub(crate) enum StatementFamily {
     AtomicStore,
     /// `atomic.fence`.
     Fence,
+    /// `throw` or `throw_ref`.
+    Throw,
 }
 
 /// Families of instructions that may produce a vector.
@@ -119,6 +123,7 @@ pub(crate) fn value_families<'a>() -> &'a [ValueFamily]
         ValueFamily::Vector,
         ValueFamily::Vector,
         ValueFamily::Atomic,
+        ValueFamily::Throw,
     ]
 }
 
@@ -153,6 +158,7 @@ pub(crate) fn statement_families<'a>() -> &'a [StatementFamily]
         StatementFamily::StoreLane,
         StatementFamily::AtomicStore,
         StatementFamily::Fence,
+        StatementFamily::Throw,
     ]
 }
 

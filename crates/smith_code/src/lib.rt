@@ -28,6 +28,7 @@ mod rows;
 mod scope;
 mod tables;
 mod tail_calls;
+mod throws;
 mod vector_memory;
 mod vector_rows;
 mod vectors;

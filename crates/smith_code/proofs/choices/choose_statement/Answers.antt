@@ -77,3 +77,6 @@ returns-in-Fence-clause-node c = ok_like _ c.plain-in-Fence.result (fence_node (
 
 pub returns-in-Fence-clause-exact : goal.returns-in-Fence-clause-exact
 returns-in-Fence-clause-exact c = ok_like _ c.plain-in-Fence.result (statement_by (where_stands c.args.scope.now c.args.draft.now) c.args.u.now _ c.statement_families.result.now c.choose.result statement.Fence c.statement_families.ensures (c.choose.ensures.exact statement.Nop) c.in-Fence.is) c.plain-in-Fence.ensures.exact
+
+pub returns-in-Throw-clause-exact : goal.returns-in-Throw-clause-exact
+returns-in-Throw-clause-exact c = ok_by c.choose_throw_statement.result _ _ _ (statement_by (where_stands c.args.scope.now c.args.draft.now) c.args.u.now _ c.statement_families.result.now c.choose.result statement.Throw c.statement_families.ensures (c.choose.ensures.exact statement.Nop) c.in-Throw.is) c.choose_throw_statement.ensures.exact
