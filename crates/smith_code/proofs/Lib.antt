@@ -29,3 +29,6 @@ pub mod VectorNodeLemmas
 pub mod VectorChoiceLemmas
 pub mod AtomicNodeLemmas
 pub mod AtomicChoiceLemmas
+pub mod ThrowLemmas
+pub mod RepeatLemmas
+pub mod TryLemmas

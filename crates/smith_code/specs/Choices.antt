@@ -35,6 +35,8 @@ use Rattle.smith_code.specs.ReferenceChoices.{reference_value_at, select_typed_n
 use Rattle.smith_code.specs.Rows.{loads_of, numeric_rows, stores}
 use Rattle.smith_code.specs.Scopes.{indexed}
 use Rattle.smith_code.specs.TableChoices.{table_change_at, table_value_at}
+use Rattle.smith_code.specs.ThrowChoices.{any_throw_at}
+use Rattle.smith_code.specs.TryChoices.{any_try_at, try_at}
 use Rattle.smith_code.specs.VectorChoices.{store_lane_at, vector_at, vector_store_at}
 use Rattle.smith_code.specs.declared.families.StatementFamily.{StatementFamily}
 use Rattle.smith_code.specs.declared.families.StatementFamily.TheVariants as statement
@@ -180,6 +182,8 @@ value_families =
     value.FieldRead ∷
     value.Cast ∷
     value.CastBranch ∷
+    value.Throw ∷
+    value.Try ∷
     []
 
 -- a value of a family: none of a leaf
@@ -206,6 +210,8 @@ value_of context wanted value.Creation bytes = creation_at context wanted bytes
 value_of context wanted value.FieldRead bytes = field_read_at context wanted bytes
 value_of context wanted value.Cast bytes = cast_choice_at context wanted bytes
 value_of context wanted value.CastBranch bytes = cast_value_at context wanted bytes
+value_of context wanted value.Throw bytes = any_throw_at context bytes
+value_of context wanted value.Try bytes = try_at context wanted bytes
 
 unfoldable pub value_choice_at : BodyContext → ValType → List ℕ → Chosen
 value_choice_at context wanted bytes = let family = chosen_at value.Leaf value_families bytes in value_of context wanted family.0 family.1
@@ -331,6 +337,8 @@ statement_families =
     statement.Fence ∷
     statement.FieldWrite ∷
     statement.CastBranch ∷
+    statement.Throw ∷
+    statement.Try ∷
     []
 
 -- a statement of a family: none of `nop`
@@ -358,6 +366,8 @@ statement_of context statement.AtomicStore bytes = atomic_store_at context bytes
 statement_of context statement.Fence bytes = (Some (node_of [] instr.AtomicFence 0), bytes)
 statement_of context statement.FieldWrite bytes = field_write_at context bytes
 statement_of context statement.CastBranch bytes = cast_branch_at context bytes
+statement_of context statement.Throw bytes = any_throw_at context bytes
+statement_of context statement.Try bytes = any_try_at context bytes
 
 -- the node that was chosen, or `nop`
 abbrev pub or_nop : Chosen → Node × List ℕ

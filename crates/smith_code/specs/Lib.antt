@@ -21,6 +21,8 @@ pub mod VectorRows
 pub mod VectorChoices
 pub mod AtomicRows
 pub mod AtomicChoices
+pub mod ThrowChoices
+pub mod TryChoices
 pub mod Choices
 pub mod Leaves
 pub mod Bodies

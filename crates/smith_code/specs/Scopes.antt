@@ -2,7 +2,7 @@
 use Rattle.std.specs.Prelude.{◌≡◌, ℕ, ◌+◌, ◌*◌, ◌≤◌, ◌-◌, ◌^◌, min, max, List, [], ◌∷◌, length, slice_get, Some, All}
 use Rattle.smith_types.specs.FeatureBits.{features_in}
 use Rattle.smith_types.specs.Types.{IsOrderly}
-use Rattle.smith_types.specs.Entities.{IsFuncAt, IsFuncValid}
+use Rattle.smith_types.specs.Entities.{IsFuncAt, IsFuncValid, IsTagValid}
 use Rattle.smith_types.specs.Expressions.{field_values}
 use Rattle.smith_types.specs.ValidTypes.{IsValTypeValid}
 use Rattle.smith_types.specs.declared.value_type.ValType.{ValType}
@@ -75,6 +75,7 @@ pub record IsScope (context : BodyContext) : Type 0 where
   pub funcs : All (IsFuncValid context.types) context.funcs
   pub globals : All (λ (global : GlobalType). IsValTypeValid context.features (length context.types) global.val_type) context.globals
   pub tables : All (λ (table : TableType). IsRefValid context table.element_type) context.tables
+  pub tags : All (IsTagValid context.types) context.tags
   pub elements : All (IsRefValid context) context.elements
   pub locals : AreValid context context.locals
   pub results : AreValid context context.results

@@ -43,6 +43,8 @@ use crate::reference_values::{choose_reference_value, choose_select_typed};
 use crate::scope::{Draft, Scope, indexed};
 use crate::tables::{choose_table_change, choose_table_value};
 use crate::tail_calls::{choose_any_tail_call, choose_tail_call};
+use crate::throws::{choose_any_throw, choose_throw_statement};
+use crate::try_tables::{choose_any_try, choose_try};
 use crate::vector_memory::{choose_store_lane, choose_vector_store};
 use crate::vectors::choose_vector;
 use smith_bytes::{Error, Unstructured};
@@ -120,6 +122,8 @@ fn choose_value(
         ValueFamily::FieldRead => choose_field_read(alloc, scope, wanted, draft, u),
         ValueFamily::Cast => choose_cast(alloc, scope, wanted, draft, u),
         ValueFamily::CastBranch => choose_kept_cast(alloc, scope, wanted, draft, u),
+        ValueFamily::Throw => choose_any_throw(alloc, scope, draft, u),
+        ValueFamily::Try => choose_try(alloc, scope, wanted, draft, u),
     }
 }
 
@@ -227,6 +231,8 @@ pub(crate) fn choose_statement(
         StatementFamily::Fence => plain(alloc, &[], Instr::AtomicFence, 0),
         StatementFamily::FieldWrite => choose_field_write(alloc, scope, draft, u),
         StatementFamily::CastBranch => choose_cast_branch(alloc, scope, draft, u),
+        StatementFamily::Throw => choose_throw_statement(alloc, scope, draft, u),
+        StatementFamily::Try => choose_any_try(alloc, scope, draft, u),
     }
 }
 

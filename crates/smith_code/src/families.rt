@@ -40,6 +40,10 @@ pub(crate) enum ValueFamily {
     Cast,
     /// A branch on a failed cast.
     CastBranch,
+    /// `throw` or `throw_ref`.
+    Throw,
+    /// A block that catches exceptions.
+    Try,
 }
 
 /// Families of instructions that may be a statement.
@@ -78,6 +82,10 @@ pub(crate) enum StatementFamily {
     FieldWrite,
     /// A branch on a cast.
     CastBranch,
+    /// `throw` or `throw_ref`.
+    Throw,
+    /// A block that catches exceptions.
+    Try,
 }
 
 /// Families of instructions that may produce a vector.
@@ -137,6 +145,8 @@ pub(crate) fn value_families<'a>() -> &'a [ValueFamily]
         ValueFamily::FieldRead,
         ValueFamily::Cast,
         ValueFamily::CastBranch,
+        ValueFamily::Throw,
+        ValueFamily::Try,
     ]
 }
 
@@ -173,6 +183,8 @@ pub(crate) fn statement_families<'a>() -> &'a [StatementFamily]
         StatementFamily::Fence,
         StatementFamily::FieldWrite,
         StatementFamily::CastBranch,
+        StatementFamily::Throw,
+        StatementFamily::Try,
     ]
 }
 
