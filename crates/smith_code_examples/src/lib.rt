@@ -6,6 +6,7 @@ mod atomics;
 mod blocks;
 mod branches;
 mod bulk;
+mod calls;
 mod enabled;
 mod fuel;
 mod memories;
