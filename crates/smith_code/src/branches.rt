@@ -94,7 +94,7 @@ impl<'a> Offer for TargetOffer<'a> {
 }
 
 /// Chooses a label that a branch with operands of the types `taken` may target, if there is one.
-pub(crate) fn choose_target(
+pub(crate) fn choose_drafted_target(
     scope: &Scope<'_>,
     draft: &Draft,
     taken: &[ValType],

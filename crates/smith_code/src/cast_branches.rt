@@ -18,7 +18,7 @@ ghost use Rattle.smith_code.specs.Choices.{or_nop};
 ghost use Rattle.smith_code.specs.Nodes.{IsNode, IsOffer};
 ghost use Rattle.smith_code.specs.Scopes.{AreLabels, IsScope, bare, where_stands};
 
-use crate::branches::choose_target;
+use crate::branches::choose_drafted_target;
 use crate::casts::{draw_above, reference_or};
 use crate::locals::choose_local;
 use crate::node::{Node, or_nop, plain, topped};
@@ -240,7 +240,7 @@ fn choose_cast_to(
     ensures left { KeepsPieces u.old u.new }
 {
     let wanted = [ValType::Ref(to)];
-    let Some(label) = choose_target(scope, draft, &wanted, u) else {
+    let Some(label) = choose_drafted_target(scope, draft, &wanted, u) else {
         return Ok(None);
     };
     let taken = draft.labels[label as usize].as_slice();

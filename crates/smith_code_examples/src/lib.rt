@@ -6,6 +6,7 @@ mod atomics;
 mod blocks;
 mod branches;
 mod bulk;
+mod calls;
 mod casts;
 mod creations;
 mod enabled;
