@@ -8,9 +8,10 @@ use Rattle.smith_types.specs.declared.value_type.ValType.{ValType}
 use Rattle.smith_types.specs.declared.value_type.ValType.TheVariants.{I32}
 use Rattle.smith_instr.specs.Contexts.{BodyContext, labelled, IsValid, AreValid, AreBelow, IsBlockType}
 use Rattle.smith_instr.specs.Enabled.{is_enabled}
-use Rattle.smith_instr.specs.InstrTypes.{sets, HasInstrType}
-use Rattle.smith_instr.specs.Sequences.{stacked, IsFramed, IsStep, AreTyped, IsBodyTyped, step, block, loop, if_alone, if_else}
+use Rattle.smith_instr.specs.InstrTypes.{sets, HasInstrType, IsCatch}
+use Rattle.smith_instr.specs.Sequences.{stacked, IsFramed, IsStep, AreTyped, IsBodyTyped, step, block, loop, if_alone, if_else, try_table}
 use Rattle.smith_instr.specs.declared.control.BlockType.{BlockType}
+use Rattle.smith_instr.specs.declared.control.Catch.{Catch}
 use Rattle.smith_instr.specs.declared.instr.Instr.{Instr}
 use Rattle.smith_instr.specs.declared.instr.Instr.TheVariants as instr
 use Rattle.smith_instr.proofs.SequenceLemmas.{below_themselves, finished}
@@ -308,28 +309,34 @@ enclosed opening.IfAlone context ty body params results values base set inner af
     if_alone refl fits typed (record { below = subst (AreBelow context params) may (below_themselves context.types params); valid = given })
     (around context (params ++ I32 ∷ []) results values base set after below valid left) (finished context (base ++ values) after (joined_valid context base values under valid))
 
-pub enclosed_drawn : {scope : Scope} {old entered inside new : Draft} (opening : Opening) (ty : BlockType) (params results values : List ValType) → IsBlockType (bare scope) ty params results → MayOpen opening params results → AreValid (bare scope) results → AreBelow (bare scope) results values → AreValid (bare scope) values
-    → IsAllowedIn scope (opened opening ty) → length params + length results ≤ widest scope.types.now.types → IsOpened (opened opening ty) (label_of opening params results) old entered → IsDrawn scope params results (length params + length results) entered inside
-    → (height : ℕ) → height ≡ length old.set.items → IsEnded instr.End height inside new → new.labels.items ≡ old.labels.items → IsDrawn scope (taken_by opening params) values (block_cost scope.types.now.types) old new
-enclosed_drawn {scope = scope} {old = old} {entered = entered} {inside = inside} {new = new} opening ty params results values fits may given below valid allowed few start drawn height high ended labels =
+-- a block that this instruction opens, whatever is in it
+abbrev Encloses : BodyContext → Instr → List ValType → List ValType → List ValType → List ValType → List ValType → Type 0
+Encloses context opening label params results taken values =
+    (body : List Instr) (base : List ValType) (set inner after : List ℕ) → AreValid context base → after ≡ set → AreTyped (labelled context label) body (stacked params set) (stacked results inner)
+    → AreTyped context (opening ∷ (body ++ instr.End ∷ [])) (stacked (base ++ taken) set) (stacked (base ++ values) after)
+
+around_drawn : {scope : Scope} {old entered inside new : Draft} (opening : Instr) (label params results taken values : List ValType) → Encloses (where_stands scope old) opening label params results taken values
+    → IsAllowedIn scope opening → length params + length results ≤ widest scope.types.now.types → IsOpened opening label old entered → IsDrawn scope params results (length params + length results) entered inside
+    → (height : ℕ) → height ≡ length old.set.items → IsEnded instr.End height inside new → new.labels.items ≡ old.labels.items → IsDrawn scope taken values (block_cost scope.types.now.types) old new
+around_drawn {scope = scope} {old = old} {entered = entered} {inside = inside} {new = new} opening label params results taken values encloses allowed few start drawn height high ended labels =
     let end : IsEnded instr.End (length old.set.items) inside new = rw high at ended in
     let context = where_stands scope old in
     let none = All-nil (IsValid (bare scope)) in
     let typed : AreTyped (context_of scope entered.labels.items) drawn.more (stacked params entered.set.items) (stacked results inside.set.items) = drawn.typed [] none in
-    let inner : AreTyped (labelled context (label_of opening params results)) drawn.more (stacked params old.set.items) (stacked results inside.set.items) = rw (start.labels, start.set) at typed in
+    let inner : AreTyped (labelled context label) drawn.more (stacked params old.set.items) (stacked results inside.set.items) = rw (start.labels, start.set) at typed in
     let left : new.set.items ≡ old.set.items = end.set ∙ height_left old.set.items drawn.set inside.set.items (drawn.set_more ∙ ap (λ (xs : List ℕ). xs ++ drawn.set) start.set) in
     let spent = drawn.spent in
     let short = drawn.short in
-    let out : new.out ≡ old.out ++ (opened opening ty ∷ (drawn.more ++ instr.End ∷ [])) = rw (end.out, drawn.longer, start.out) (simp append_assoc refl) in
+    let out : new.out ≡ old.out ++ (opening ∷ (drawn.more ++ instr.End ∷ [])) = rw (end.out, drawn.longer, start.out) (simp append_assoc refl) in
     let len : length new.out ≡ length inside.out + 1 = rw end.out (simp length-append refl) in
     let len' : length entered.out ≡ length old.out + 1 = rw start.out (simp length-append refl) in
     let same = start.fuel in
     let same' = end.fuel in
     record {
-      more = opened opening ty ∷ (drawn.more ++ instr.End ∷ []);
+      more = opening ∷ (drawn.more ++ instr.End ∷ []);
       longer = out;
-      typed = λ base under. enclosed opening context ty drawn.more params results values base old.set.items inside.set.items new.set.items fits may given below valid under left inner;
-      allowed = both_allowed scope (opened opening ty ∷ []) (drawn.more ++ instr.End ∷ []) (one_allowed scope (opened opening ty) allowed)
+      typed = λ base under. encloses drawn.more base old.set.items inside.set.items new.set.items under left inner;
+      allowed = both_allowed scope (opening ∷ []) (drawn.more ++ instr.End ∷ []) (one_allowed scope opening allowed)
           (both_allowed scope drawn.more (instr.End ∷ []) drawn.allowed (one_allowed scope instr.End (ends_allowed scope)));
       set = [];
       set_more = rw append-nil left;
@@ -337,6 +344,22 @@ enclosed_drawn {scope = scope} {old = old} {entered = entered} {inside = inside}
       spent = omega arith;
       short = rw (same', ← same) (omega arith);
     }
+
+pub enclosed_drawn : {scope : Scope} {old entered inside new : Draft} (opening : Opening) (ty : BlockType) (params results values : List ValType) → IsBlockType (bare scope) ty params results → MayOpen opening params results → AreValid (bare scope) results → AreBelow (bare scope) results values → AreValid (bare scope) values
+    → IsAllowedIn scope (opened opening ty) → length params + length results ≤ widest scope.types.now.types → IsOpened (opened opening ty) (label_of opening params results) old entered → IsDrawn scope params results (length params + length results) entered inside
+    → (height : ℕ) → height ≡ length old.set.items → IsEnded instr.End height inside new → new.labels.items ≡ old.labels.items → IsDrawn scope (taken_by opening params) values (block_cost scope.types.now.types) old new
+enclosed_drawn {scope = scope} {old = old} opening ty params results values fits may given below valid allowed few start drawn height high ended labels =
+    around_drawn (opened opening ty) (label_of opening params results) params results (taken_by opening params) values
+    (λ body base set inner after under left typed. enclosed opening (where_stands scope old) ty body params results values base set inner after fits may given below valid under left typed) allowed few start drawn height high ended labels
+
+pub try_drawn : {scope : Scope} {old entered inside new : Draft} (ty : BlockType) (clauses : List Catch) (params results values : List ValType) → IsBlockType (bare scope) ty params results → All (IsCatch (where_stands scope old)) clauses → AreBelow (bare scope) results values → AreValid (bare scope) values
+    → IsAllowedIn scope (instr.TryTable ty clauses) → length params + length results ≤ widest scope.types.now.types → IsOpened (instr.TryTable ty clauses) results old entered → IsDrawn scope params results (length params + length results) entered inside
+    → (height : ℕ) → height ≡ length old.set.items → IsEnded instr.End height inside new → new.labels.items ≡ old.labels.items → IsDrawn scope params values (block_cost scope.types.now.types) old new
+try_drawn {scope = scope} {old = old} ty clauses params results values fits caught below valid allowed few start drawn height high ended labels =
+    let context = where_stands scope old in
+    around_drawn (instr.TryTable ty clauses) results params results params values
+    (λ body base set inner after under left typed. try_table refl fits caught typed (around context params results values base set after below valid left) (finished context (base ++ values) after (joined_valid context base values under valid)))
+    allowed few start drawn height high ended labels
 
 pub if_drawn : {scope : Scope} {old entered first other last new : Draft} (ty : BlockType) (params results values : List ValType) → IsBlockType (bare scope) ty params results → AreBelow (bare scope) results values → AreValid (bare scope) values
     → IsAllowedIn scope (instr.If ty) → length params + length results ≤ widest scope.types.now.types → IsOpened (instr.If ty) results old entered → IsDrawn scope params results (length params + length results) entered first

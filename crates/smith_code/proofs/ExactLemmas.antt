@@ -6,6 +6,7 @@ use Rattle.smith_types.specs.declared.instruction_kind.InstructionKinds.{Instruc
 use Rattle.smith_types.specs.declared.value_type.ValType.{ValType}
 use Rattle.smith_instr.specs.Contexts.{BodyContext, labelled}
 use Rattle.smith_instr.specs.declared.control.BlockType.{BlockType}
+use Rattle.smith_instr.specs.declared.control.Catch.{Catch}
 use Rattle.smith_instr.specs.declared.instr.Instr.{Instr}
 use Rattle.smith_instr.specs.declared.instr.Instr.TheVariants as instr
 use Rattle.smith_code.specs.Bodies.{
@@ -103,6 +104,11 @@ pub head_enclosed : (draw : Drawing) (head : Head) (opening : Opening) (ty : Blo
 unfolding head_at
 head_enclosed draw head opening ty sides sets s is = rw is refl
 
+pub head_try : (draw : Drawing) (head : Head) (ty : BlockType) (clauses : List Catch) (sides : Sides) (sets : Option ℕ) (s : State) → head ≡ heads.Try ty clauses sides
+    → head_at draw head sets s ≡ written instr.End (enclosed_at draw sides.results sides (written (instr.TryTable ty clauses) s))
+unfolding head_at
+head_try draw head ty clauses sides sets s is = rw is refl
+
 pub head_if : (draw : Drawing) (head : Head) (ty : BlockType) (sides : Sides) (sets : Option ℕ) (s : State) → head ≡ heads.If ty sides
     → head_at draw head sets s ≡ written instr.End (enclosed_at draw sides.results sides (written instr.Else (enclosed_at draw sides.results sides (written (instr.If ty) s))))
 unfolding head_at
@@ -133,13 +139,13 @@ set_again old entered inside new height drawn same high taken =
     let taken' : new.set.items ≡ take (length old.set.items) inside.set.items = rw high at taken in
     taken' ∙ height_left old.set.items drawn.set inside.set.items (drawn.set_more ∙ ap (λ (xs : List ℕ). xs ++ drawn.set) same)
 
-pub enclosed_exact : {a b : List ValType} {n : ℕ} (scope : Scope) (draw : Drawing) (opening : Opening) (ty : BlockType) (sides : Sides) (old entered inside new : Draft) (bytes left : List ℕ) (height : ℕ)
-    → IsOpened (opened opening ty) (label_of opening sides.params sides.results) old entered → inside_at draw sides (state_of scope entered bytes) ≡ state_of scope inside left → IsDrawn scope a b n entered inside
+pub enclosed_exact : {a b : List ValType} {n : ℕ} (scope : Scope) (draw : Drawing) (opening : Instr) (label : List ValType) (sides : Sides) (old entered inside new : Draft) (bytes left : List ℕ) (height : ℕ)
+    → IsOpened opening label old entered → inside_at draw sides (state_of scope entered bytes) ≡ state_of scope inside left → IsDrawn scope a b n entered inside
     → height ≡ length old.set.items → IsEnded instr.End height inside new → new.labels.items ≡ old.labels.items
-    → written instr.End (enclosed_at draw (label_of opening sides.params sides.results) sides (written (opened opening ty) (state_of scope old bytes))) ≡ state_of scope new left
+    → written instr.End (enclosed_at draw label sides (written opening (state_of scope old bytes))) ≡ state_of scope new left
 unfolding enclosed_at
-enclosed_exact scope draw opening ty sides old entered inside new bytes left height start exact drawn high end labels =
-    let begin = entered_exact scope (opened opening ty) (label_of opening sides.params sides.results) old entered bytes start in
+enclosed_exact scope draw opening label sides old entered inside new bytes left height start exact drawn high end labels =
+    let begin = entered_exact scope opening label old entered bytes start in
     closed_exact scope instr.End _ old inside new bytes left (ap (λ (s : State). inside_at draw sides s) begin ∙ exact) end.out (set_again old entered inside new height drawn start.set high end.set) labels end.fuel
 
 pub if_exact : {a b c d : List ValType} {m n : ℕ} (scope : Scope) (draw : Drawing) (ty : BlockType) (sides : Sides) (old entered first other last new : Draft) (bytes middle left : List ℕ) (height : ℕ)

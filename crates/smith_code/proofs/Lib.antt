@@ -25,3 +25,5 @@ pub mod VectorChoiceLemmas
 pub mod AtomicNodeLemmas
 pub mod AtomicChoiceLemmas
 pub mod ThrowLemmas
+pub mod RepeatLemmas
+pub mod TryLemmas

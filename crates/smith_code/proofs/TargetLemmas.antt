@@ -1,5 +1,5 @@
 -- Labels of a branch to one of several, one after another.
-use Rattle.std.proofs.Common.{◌≡◌, ℕ, zero, suc, ◌+◌, ◌-◌, ◌<◌, ◌≤◌, List, [], ◌∷◌, ◌++◌, Option, Some, None, length, get_or, refl, sym, ap, ◌∙◌, append_assoc, arith}
+use Rattle.std.proofs.Common.{◌≡◌, ℕ, zero, suc, ◌+◌, ◌-◌, ◌<◌, ◌≤◌, List, [], ◌∷◌, ◌++◌, Option, Some, None, length, get_or, refl, sym, ap, ◌∙◌, arith}
 use Rattle.std.specs.Prelude.{slice_get}
 use Rattle.std.proofs.lemmas.List.{append-nil}
 use Rattle.std.proofs.lemmas.Option.{slice_get-get_or}
@@ -10,6 +10,7 @@ use Rattle.smith_instr.specs.Contexts.{BodyContext}
 use Rattle.smith_code.specs.Choices.{some_targets_at, targets_at}
 use Rattle.smith_code.specs.Offered.{is_target, label_count, offered}
 use Rattle.smith_code.proofs.ChoiceLemmas.{choose_none}
+use Rattle.smith_code.proofs.RepeatLemmas.{AreDrawnSoFar, all_turns, no_turn, one_turn}
 
 -- none is chosen only of none
 none_offered : {A : Type 0} (items : List A) (bytes left : List ℕ) → choose_at items bytes ≡ (None, left) → length items ≡ 0
@@ -24,33 +25,19 @@ none_offered {A = A} (x ∷ xs) bytes left drawn =
 
 -- the targets that were drawn, and those that are to come
 abbrev pub AreDrawnTargets : BodyContext → List ValType → ℕ → List ℕ → ℕ → List ℕ → List ℕ → Type 0
-AreDrawnTargets context taken count start turns done bytes =
-    targets_at context taken count start ≡ (done ++ (targets_at context taken (count - turns) bytes).0, (targets_at context taken (count - turns) bytes).1)
+AreDrawnTargets context taken count start turns done bytes = AreDrawnSoFar (targets_at context taken) count start turns done bytes
 
 pub targets_none : (context : BodyContext) (taken : List ValType) (count : ℕ) (start : List ℕ) → AreDrawnTargets context taken count start 0 [] start
-targets_none context taken count start = let all : count - 0 ≡ count = omega arith in rw all refl
-
-one_target : (done : List ℕ) (label : ℕ) (whole here next : List ℕ × List ℕ) → whole ≡ (done ++ here.0, here.1) → here ≡ (label ∷ next.0, next.1) → whole ≡ ((done ++ label ∷ []) ++ next.0, next.1)
-one_target done label whole here next so_far is =
-    let joined : (done ++ here.0, here.1) ≡ (done ++ (label ∷ next.0), next.1) = ap (λ (r : List ℕ × List ℕ). (done ++ r.0, r.1)) is in
-    rw (append_assoc done (label ∷ []) next.0) (so_far ∙ joined)
+targets_none context taken count start = no_turn (targets_at context taken) count start
 
 pub targets_more : (context : BodyContext) (taken : List ValType) (count turns label : ℕ) (start done bytes left : List ℕ) → turns < count → choose_at (offered (is_target context.types context.labels taken) (label_count context)) bytes ≡ (Some label, left)
     → AreDrawnTargets context taken count start turns done bytes → AreDrawnTargets context taken count start (turns + 1) (done ++ label ∷ []) left
 unfolding targets_at
-targets_more context taken count turns label start done bytes left more drawn so_far =
-    let rest = targets_at context taken (count - (turns + 1)) left in
-    let step : count - turns ≡ suc (count - (turns + 1)) = omega arith in
-    let next : targets_at context taken (suc (count - (turns + 1))) bytes ≡ (label ∷ rest.0, rest.1) = rw drawn refl in
-    let here : targets_at context taken (count - turns) bytes ≡ (label ∷ rest.0, rest.1) = ap (λ (n : ℕ). targets_at context taken n bytes) step ∙ next in
-    one_target done label (targets_at context taken count start) (targets_at context taken (count - turns) bytes) (targets_at context taken (count - (turns + 1)) left) so_far here
+targets_more context taken count turns label start done bytes left more drawn so_far = one_turn (targets_at context taken) count turns start bytes left done (label ∷ []) more (λ n. rw drawn refl) so_far
 
 pub targets_all : (context : BodyContext) (taken : List ValType) (count turns : ℕ) (start done bytes : List ℕ) → count ≤ turns → AreDrawnTargets context taken count start turns done bytes → targets_at context taken count start ≡ (done, bytes)
 unfolding targets_at
-targets_all context taken count turns start done bytes all so_far =
-    let none : count - turns ≡ 0 = omega arith in
-    let end : targets_at context taken (count - turns) bytes ≡ ([], bytes) = ap (λ (n : ℕ). targets_at context taken n bytes) none in
-    so_far ∙ (ap (λ (r : List ℕ × List ℕ). (done ++ r.0, r.1)) end ∙ ap (λ (targets : List ℕ). (targets, bytes)) (append-nil done))
+targets_all context taken count turns start done bytes all so_far = all_turns (targets_at context taken) count turns start bytes done all refl so_far
 
 no_targets : (context : BodyContext) (taken : List ValType) (count : ℕ) (bytes : List ℕ) → length (offered (is_target context.types context.labels taken) (label_count context)) ≡ 0 → targets_at context taken count bytes ≡ ([], bytes)
 unfolding targets_at

@@ -57,6 +57,7 @@ head_at draw (head.If ty sides) sets s =
     written instr.End (enclosed_at draw sides.results sides
     (written instr.Else (enclosed_at draw sides.results sides
     (written (instr.If ty) s))))
+head_at draw (head.Try ty clauses sides) sets s = written instr.End (enclosed_at draw sides.results sides (written (instr.TryTable ty clauses) s))
 
 -- a node takes one unit of fuel: its operands are drawn, then its other instructions
 unfoldable pub node_at : Drawing → Node → State → State

@@ -32,6 +32,7 @@ use Rattle.smith_code.specs.Rows.{loads_of, numeric_rows, stores}
 use Rattle.smith_code.specs.Scopes.{indexed}
 use Rattle.smith_code.specs.TableChoices.{table_change_at, table_value_at}
 use Rattle.smith_code.specs.ThrowChoices.{any_throw_at}
+use Rattle.smith_code.specs.TryChoices.{any_try_at, try_at}
 use Rattle.smith_code.specs.VectorChoices.{store_lane_at, vector_at, vector_store_at}
 use Rattle.smith_code.specs.declared.families.StatementFamily.{StatementFamily}
 use Rattle.smith_code.specs.declared.families.StatementFamily.TheVariants as statement
@@ -172,6 +173,7 @@ value_families =
     value.Vector ∷
     value.Atomic ∷
     value.Throw ∷
+    value.Try ∷
     []
 
 -- a value of a family: none of a leaf
@@ -195,6 +197,7 @@ value_of context wanted value.NullBranch bytes = br_on_null_value_at context wan
 value_of context wanted value.Vector bytes = vector_at context wanted bytes
 value_of context wanted value.Atomic bytes = atomic_at context wanted bytes
 value_of context wanted value.Throw bytes = any_throw_at context bytes
+value_of context wanted value.Try bytes = try_at context wanted bytes
 
 unfoldable pub value_choice_at : BodyContext → ValType → List ℕ → Chosen
 value_choice_at context wanted bytes = let family = chosen_at value.Leaf value_families bytes in value_of context wanted family.0 family.1
@@ -319,6 +322,7 @@ statement_families =
     statement.AtomicStore ∷
     statement.Fence ∷
     statement.Throw ∷
+    statement.Try ∷
     []
 
 -- a statement of a family: none of `nop`
@@ -345,6 +349,7 @@ statement_of context statement.StoreLane bytes = store_lane_at context bytes
 statement_of context statement.AtomicStore bytes = atomic_store_at context bytes
 statement_of context statement.Fence bytes = (Some (node_of [] instr.AtomicFence 0), bytes)
 statement_of context statement.Throw bytes = any_throw_at context bytes
+statement_of context statement.Try bytes = any_try_at context bytes
 
 -- the node that was chosen, or `nop`
 abbrev pub or_nop : Chosen → Node × List ℕ

@@ -16,6 +16,7 @@ pub mod VectorChoices
 pub mod AtomicRows
 pub mod AtomicChoices
 pub mod ThrowChoices
+pub mod TryChoices
 pub mod Choices
 pub mod Leaves
 pub mod Bodies

@@ -11,8 +11,9 @@ use Rattle.smith_types.specs.declared.value_type.ValType.TheVariants.{I32}
 use Rattle.smith_types.specs.declared.composite_type.SubType.{SubType}
 use Rattle.smith_instr.specs.Contexts.{BodyContext, AreValid, AreBelow, IsBlockType}
 use Rattle.smith_instr.specs.Enabled.{is_enabled}
-use Rattle.smith_instr.specs.InstrTypes.{sets, HasInstrType}
+use Rattle.smith_instr.specs.InstrTypes.{sets, HasInstrType, IsCatch}
 use Rattle.smith_instr.specs.declared.control.BlockType.{BlockType}
+use Rattle.smith_instr.specs.declared.control.Catch.{Catch}
 use Rattle.smith_instr.specs.declared.instr.Instr.{Instr}
 use Rattle.smith_instr.specs.declared.instr.Instr.TheVariants as instr
 use Rattle.smith_code.specs.Scopes.{widest, IsAllowedIn}
@@ -61,6 +62,8 @@ HasHeadType context set (head.Enclosed opening ty sides) operands results =
     × (operands ≡ taken_by opening sides.params) × (results ≡ sides.results)
 HasHeadType context set (head.If ty sides) operands results =
     IsBlockType context ty sides.params sides.results × (operands ≡ sides.params ++ I32 ∷ []) × (results ≡ sides.results)
+HasHeadType context set (head.Try ty clauses sides) operands results =
+    IsBlockType context ty sides.params sides.results × All (IsCatch context) clauses × (operands ≡ sides.params) × (results ≡ sides.results)
 
 -- the parameters and results of a block are valid, and not more than those of a function
 pub record AreSidesValid (features : Features) (types : List SubType) (sides : Sides) : Type 0 where
@@ -73,6 +76,7 @@ abbrev pub IsHeadValid : Features → List SubType → Head → Type 0
 IsHeadValid features types (head.Plain instruction) = Unit {0}
 IsHeadValid features types (head.Enclosed opening ty sides) = AreSidesValid features types sides
 IsHeadValid features types (head.If ty sides) = AreSidesValid features types sides
+IsHeadValid features types (head.Try ty clauses sides) = AreSidesValid features types sides
 
 -- the greatest number of instructions of a block, except those drawn inside it
 abbrev pub block_cost : List SubType → ℕ
@@ -88,12 +92,14 @@ abbrev pub head_instruction : Head → Instr
 head_instruction (head.Plain instruction) = instruction
 head_instruction (head.Enclosed opening ty sides) = opened opening ty
 head_instruction (head.If ty sides) = instr.If ty
+head_instruction (head.Try ty clauses sides) = instr.TryTable ty clauses
 
 -- the parameters of the block, which are dropped in it
 abbrev pub head_params : Head → List ValType
 head_params (head.Plain instruction) = []
 head_params (head.Enclosed opening ty sides) = sides.params
 head_params (head.If ty sides) = sides.params
+head_params (head.Try ty clauses sides) = sides.params
 
 -- the instructions of a head may be used, including `drop` if it drops anything
 pub record IsHeadAllowed (scope : Scope) (head : Head) : Type 0 where
@@ -153,3 +159,8 @@ opened_by None ty sides drops = record { operands = sides.params ++ I32 ∷ []; 
 
 abbrev pub blocked : Option Opening → BlockType → List ValType → List ValType → ℕ → Node
 blocked opening ty params results drops = opened_by (fitting opening params results) ty (record { params = params; results = results }) drops
+
+-- a node of a `try_table` of these clauses and sides, of whose results some are dropped
+abbrev pub trying : BlockType → List Catch → List ValType → List ValType → ℕ → Node
+trying ty clauses params results drops =
+    record { operands = params; head = head.Try ty clauses (record { params = params; results = results }); sets = None; drops = drops }

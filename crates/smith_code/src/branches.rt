@@ -1,11 +1,12 @@
-ghost use Rattle.std.specs.Prelude.{◌≡◌, ◌<◌, List, [], All, length, min, Some, IfOk, IfErr};
+ghost use Rattle.std.specs.Prelude.{◌≡◌, ◌<◌, true, List, [], All, length, min, Some, IfOk, IfErr, IfSome};
+ghost use Rattle.smith_bytes.specs.Draws.{choose_at};
 ghost use Rattle.smith_bytes.specs.Source.{KeepsPieces};
 ghost use Rattle.smith_types.specs.declared.value_type.ValType.{ValType as Val};
 ghost use Rattle.smith_instr.specs.Contexts.{AreValid};
 ghost use Rattle.smith_instr.specs.InstrTypes.{IsTaken};
 ghost use Rattle.smith_code.specs.Choices.{branch_at, leaving_at, or_nop, some_targets_at, table_at};
 ghost use Rattle.smith_code.specs.Nodes.{IsNode};
-ghost use Rattle.smith_code.specs.Offered.{are_below};
+ghost use Rattle.smith_code.specs.Offered.{are_below, is_target, offered};
 ghost use Rattle.smith_code.specs.Scopes.{AreLabels, IsScope, bare, context_of, where_stands};
 
 use crate::locals::is_below;
@@ -110,6 +111,29 @@ pub(crate) fn are_below(scope: &Scope<'_>, values: &[ValType], wanted: &[ValType
     true
 }
 
+/// Chooses a label that a branch with operands of the types `taken` may target, if there is one.
+pub(crate) fn choose_target<'a>(
+    scope: &'a Scope<'a>,
+    labels: &'a [Items<ValType>],
+    taken: &'a [ValType],
+    u: &mut Unstructured<'_>,
+) -> Option<u32>
+    requires scope { IsScope (bare scope.now) }
+    requires labels { AreLabels scope.now labels.now }
+    requires taken { AreValid (bare scope.now) taken.now }
+    ensures exact { choose_at (offered (is_target (bare scope.now).types labels.now taken.now) (min (length labels.now) 64)) u.old ≡ (result, u.new) }
+    ensures offered { IfSome result (λ label. is_target (bare scope.now).types labels.now taken.now label ≡ true) }
+    ensures left { KeepsPieces u.old u.new }
+{
+    let offer = TargetOffer {
+        scope,
+        labels,
+        taken,
+    };
+    let label = choose_offered(&offer, u)?;
+    Some(label as u32)
+}
+
 fn draw_targets<'a>(
     alloc: Global,
     scope: &'a Scope<'a>,
@@ -128,15 +152,10 @@ fn draw_targets<'a>(
     let count = u.int_in_range(0..=7u8);
     let mut targets = Items::new(alloc);
     for _ in 0..count {
-        let offer = TargetOffer {
-            scope,
-            labels,
-            taken,
-        };
-        let Some(index) = choose_offered(&offer, u) else {
+        let Some(label) = choose_target(scope, labels, taken, u) else {
             return Ok(targets);
         };
-        targets.push(index as u32)?;
+        targets.push(label)?;
     }
     Ok(targets)
 }

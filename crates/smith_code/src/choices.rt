@@ -39,6 +39,7 @@ use crate::scope::{Draft, Scope, indexed};
 use crate::tables::{choose_table_change, choose_table_value};
 use crate::tail_calls::{choose_any_tail_call, choose_tail_call};
 use crate::throws::{choose_any_throw, choose_throw_statement};
+use crate::try_tables::{choose_any_try, choose_try};
 use crate::vector_memory::{choose_store_lane, choose_vector_store};
 use crate::vectors::choose_vector;
 use smith_bytes::{Error, Unstructured};
@@ -116,6 +117,7 @@ fn choose_value(
         ValueFamily::Vector => choose_vector(alloc, scope, wanted, draft, u),
         ValueFamily::Atomic => choose_atomic(alloc, scope, wanted, draft, u),
         ValueFamily::Throw => choose_any_throw(alloc, scope, draft, u),
+        ValueFamily::Try => choose_try(alloc, scope, wanted, draft, u),
     }
 }
 
@@ -222,6 +224,7 @@ pub(crate) fn choose_statement(
         StatementFamily::AtomicStore => choose_atomic_store(alloc, scope, draft, u),
         StatementFamily::Fence => plain(alloc, &[], Instr::AtomicFence, 0),
         StatementFamily::Throw => choose_throw_statement(alloc, scope, draft, u),
+        StatementFamily::Try => choose_any_try(alloc, scope, draft, u),
     }
 }
 

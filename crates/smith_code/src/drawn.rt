@@ -1,8 +1,9 @@
-ghost use Rattle.std.specs.Prelude.{◌≡◌, ◌++◌, ◌+◌, ◌-◌, ◌<◌, ◌≤◌, [], ◌∷◌, List, length, IfErr, OnOk, option_to_list};
+ghost use Rattle.std.specs.Prelude.{◌≡◌, ◌++◌, ◌+◌, ◌-◌, ◌<◌, ◌≤◌, [], ◌∷◌, All, List, length, IfErr, OnOk, option_to_list};
 ghost use Rattle.smith_bytes.specs.Source.{KeepsPieces};
 ghost use Rattle.smith_types.specs.declared.value_type.ValType.{ValType as Val};
 ghost use Rattle.smith_types.specs.declared.value_type.ValType.TheVariants.{I32};
 ghost use Rattle.smith_instr.specs.Contexts.{AreBelow, AreValid, IsBlockType, IsValid};
+ghost use Rattle.smith_instr.specs.InstrTypes.{IsCatch};
 ghost use Rattle.smith_instr.specs.declared.instr.Instr.TheVariants as instr;
 ghost use Rattle.smith_code.specs.Bodies.{
   drawing_at,
@@ -38,8 +39,8 @@ use crate::node::{Head, Node, Opening, Sides, is_node_allowed};
 use crate::scope::{Draft, Scope};
 use crate::written::{drop_values, write_else, write_end, write_opening, write_plain};
 use smith_bytes::{Error, Unstructured};
-use smith_instr::{BlockType, Instr};
-use smith_types::ValType;
+use smith_instr::{BlockType, Catch, Instr};
+use smith_types::{Items, ValType};
 use std::alloc::Global;
 
 /// Draws a value of the type `wanted` after the instructions of `draft`, at most `depth`
@@ -132,6 +133,9 @@ fn draw_head(
             draw_enclosed(alloc, scope, opening, ty, &sides, depth, draft, u)
         }
         Head::If(ty, sides) => draw_if(alloc, scope, ty, &sides, depth, draft, u),
+        Head::Try(ty, clauses, sides) => {
+            draw_try(alloc, scope, ty, clauses, &sides, depth, draft, u)
+        }
     }
 }
 
@@ -210,6 +214,36 @@ fn draw_if(
     write_opening(alloc, Instr::If(ty), sides.results.as_slice(), draft)?;
     draw_inside(alloc, scope, sides, depth, draft, u)?;
     write_else(height, draft)?;
+    draw_inside(alloc, scope, sides, depth, draft, u)?;
+    write_end(height, draft)
+}
+
+/// Draws a `try_table` with `clauses`, whose type has `sides`.
+#[cycle(body)]
+fn draw_try(
+    alloc: Global,
+    scope: &Scope<'_>,
+    ty: BlockType,
+    clauses: Items<Catch>,
+    sides: &Sides,
+    depth: u32,
+    draft: &mut Draft,
+    u: &mut Unstructured<'_>,
+) -> Result<(), Error>
+    requires scope { IsScope (bare scope.now) }
+    requires labels { AreLabels scope.now draft.old.labels.items }
+    requires sides { AreSidesValid (bare scope.now).features (bare scope.now).types sides.now }
+    requires allowed { IsAllowedIn scope.now (instr.TryTable ty clauses) }
+    requires drops { 0 < length sides.now.params → IsAllowedIn scope.now instr.Drop }
+    ensures exact { OnOk result (written instr.End (enclosed_at (drawing_at scope.now.kinds depth) sides.now.results sides.now (written (instr.TryTable ty clauses) (state_of scope.now draft.old u.old))) ≡ state_of scope.now draft.new u.new) }
+    ensures drawn { (values : List Val) → IsBlockType (bare scope.now) ty sides.now.params sides.now.results → All (IsCatch (where_stands scope.now draft.old)) clauses → AreBelow (bare scope.now) sides.now.results values → AreValid (bare scope.now) values → OnOk result (IsDrawn scope.now sides.now.params values (block_cost scope.now.types.now.types) draft.old draft.new) }
+    ensures less { OnOk result (draft.new.fuel ≤ draft.old.fuel) }
+    ensures memory { IfErr result (λ e. e ≡ Error.Memory) }
+    ensures left { KeepsPieces u.old u.new }
+{
+    let height = draft.set.len();
+    let opening = Instr::TryTable(ty, clauses);
+    write_opening(alloc, opening, sides.results.as_slice(), draft)?;
     draw_inside(alloc, scope, sides, depth, draft, u)?;
     write_end(height, draft)
 }

@@ -34,6 +34,8 @@ pub(crate) enum ValueFamily {
     Atomic,
     /// `throw` or `throw_ref`.
     Throw,
+    /// A block that catches exceptions.
+    Try,
 }
 
 /// Families of instructions that may be a statement.
@@ -70,6 +72,8 @@ pub(crate) enum StatementFamily {
     Fence,
     /// `throw` or `throw_ref`.
     Throw,
+    /// A block that catches exceptions.
+    Try,
 }
 
 /// Families of instructions that may produce a vector.
@@ -124,6 +128,7 @@ pub(crate) fn value_families<'a>() -> &'a [ValueFamily]
         ValueFamily::Vector,
         ValueFamily::Atomic,
         ValueFamily::Throw,
+        ValueFamily::Try,
     ]
 }
 
@@ -159,6 +164,7 @@ pub(crate) fn statement_families<'a>() -> &'a [StatementFamily]
         StatementFamily::AtomicStore,
         StatementFamily::Fence,
         StatementFamily::Throw,
+        StatementFamily::Try,
     ]
 }
 

@@ -29,6 +29,7 @@ mod scope;
 mod tables;
 mod tail_calls;
 mod throws;
+mod try_tables;
 mod vector_memory;
 mod vector_rows;
 mod vectors;

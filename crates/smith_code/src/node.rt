@@ -3,6 +3,7 @@ ghost use Rattle.smith_types.specs.FeatureBits.{features_in};
 ghost use Rattle.smith_types.specs.declared.value_type.ValType.{ValType as Val};
 ghost use Rattle.smith_types.specs.declared.value_type.ValType.TheVariants.{I32};
 ghost use Rattle.smith_instr.specs.Enabled.{is_enabled};
+ghost use Rattle.smith_instr.specs.declared.control.Catch.{Catch as Clause};
 ghost use Rattle.smith_instr.specs.declared.instr.Instr.TheVariants as instr;
 ghost use Rattle.smith_code.specs.Scopes.{IsAllowedIn};
 ghost use Rattle.smith_code.specs.Nodes.{
@@ -17,11 +18,12 @@ ghost use Rattle.smith_code.specs.Nodes.{
   is_node_allowed,
   node_of,
   setting,
+  trying,
 };
 
 use crate::scope::Scope;
 use smith_bytes::Error;
-use smith_instr::{BlockType, Instr};
+use smith_instr::{BlockType, Catch, Instr};
 use smith_types::{Items, ValType};
 use std::alloc::Global;
 
@@ -32,8 +34,8 @@ pub(crate) struct Sides {
     pub results: Items<ValType>,
 }
 
-/// Opening of a block in which instructions are drawn once. An `if` with an `else` is no such
-/// block.
+/// Opening of a block without clauses in which instructions are drawn once. An `if` with an
+/// `else` is no such block.
 #[derive(Clone, Copy)]
 pub(crate) enum Opening {
     Block,
@@ -51,6 +53,8 @@ pub(crate) enum Head {
     Enclosed(Opening, BlockType, Sides),
     /// An `if` with its `else`, with its parameters and results.
     If(BlockType, Sides),
+    /// A `try_table` with its clauses, with its parameters and results.
+    Try(BlockType, Items<Catch>, Sides),
 }
 
 /// An instruction or a block, with the operands drawn before it and the drops written after it.
@@ -186,6 +190,31 @@ pub(crate) fn block(
     })
 }
 
+/// Makes the node of a `try_table` of the type `ty`, from `params` to `results`, with `clauses`.
+/// Drops `drops` of its results.
+pub(crate) fn try_table(
+    alloc: Global,
+    ty: BlockType,
+    clauses: Items<Catch>,
+    params: &[ValType],
+    results: &[ValType],
+    drops: usize,
+) -> Result<Node, Error>
+    ensures exact { IfOk result (λ node. node ≡ trying ty clauses params.now results.now drops) }
+    ensures memory { IfErr result (λ e. e ≡ Error.Memory) }
+{
+    let sides = Sides {
+        params: Items::from_slice(alloc, params)?,
+        results: Items::from_slice(alloc, results)?,
+    };
+    Ok(Node {
+        operands: Items::from_slice(alloc, params)?,
+        head: Head::Try(ty, clauses, sides),
+        sets: None,
+        drops,
+    })
+}
+
 /// Returns `opening` if a block of `sides` may have it. An `if` without `else` requires results
 /// equal to its parameters.
 fn fitting(opening: Option<Opening>, sides: &Sides) -> Option<Opening>
@@ -229,7 +258,20 @@ fn is_head_allowed(scope: &Scope<'_>, head: &Head) -> bool
             is_block_allowed(scope, &Instr::If(*ty), sides)
         }
         Head::If(ty, sides) => is_block_allowed(scope, &Instr::If(*ty), sides),
+        Head::Try(ty, _, sides) => is_try_allowed(scope, *ty, sides),
     }
+}
+
+/// Whether a `try_table` of the type `ty` is allowed in `scope`: where `throw_ref` is, and a
+/// `block` of that type.
+fn is_try_allowed(scope: &Scope<'_>, ty: BlockType, sides: &Sides) -> bool
+    ensures exact { (clauses : List Clause) → result ≡ (is_enabled (features_in scope.now.features) scope.now.kinds (instr.TryTable ty clauses) && is_drop_allowed (features_in scope.now.features) scope.now.kinds (length sides.now.params)) }
+    ensures drops { IsTrue result → 0 < length sides.now.params → IsAllowedIn scope.now instr.Drop }
+{
+    if !is_allowed(scope, &Instr::ThrowRef) {
+        return false;
+    }
+    is_block_allowed(scope, &Instr::Block(ty), sides)
 }
 
 fn is_block_allowed(scope: &Scope<'_>, opening: &Instr, sides: &Sides) -> bool

@@ -1,5 +1,6 @@
 -- Bytes that the examples speak of, and contexts of functions that give values.
-use Rattle.std.specs.Prelude.{ℕ, List, [], ◌∷◌, ◌++◌, pos}
+use Rattle.std.specs.Prelude.{ℕ, false, List, [], ◌∷◌, ◌++◌, pos}
+use Rattle.smith_types.specs.ExampleFeatures.{usual_features}
 use Rattle.smith_types.specs.ExampleTypes.{final_type}
 use Rattle.smith_types.specs.declared.value_type.ValType.{ValType}
 use Rattle.smith_types.specs.declared.value_type.ValType.TheVariants.{I32, I64}
@@ -29,3 +30,7 @@ calling results = record (function_of [] results) {
 -- without parameters, and of this type: a function that gives the i64 that it takes
 abbrev pub keeping : List ValType → BodyContext
 keeping results = record (function_of [] results) { types = final_type (Func (record { params = I64 ∷ []; results = I64 ∷ [] })) ∷ [] }
+
+-- without exceptions
+abbrev pub without_exceptions : List ValType → BodyContext
+without_exceptions results = record (function_of [] results) { features = record usual_features { exceptions = false } }

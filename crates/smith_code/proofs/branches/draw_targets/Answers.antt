@@ -15,11 +15,11 @@ loop-init c = record {
 pub loop-preserved : goal.loop-preserved
 loop-preserved c =
     let context = context_of c.args.scope.now c.args.labels.now in
-    let target = target_there c.args.scope.now c.args.labels.now c.args.taken.now c.in-Some.index c.requires.scope.orderly c.in-Some.ensures.offered in
+    let target = target_there c.args.scope.now c.args.labels.now c.args.taken.now c.in-Some.label c.requires.scope.orderly c.in-Some.ensures.offered in
     record {
-      drawn = rw c.in_ok-push.ensures.ok (targets_more context c.args.taken.now _ c.loop.counter c.in-Some.index _ c.loop.targets c.loop.u _ c.loop-test.true c.in-Some.ensures.exact c.loop.invariant.drawn);
-      all = rw c.in_ok-push.ensures.ok (All-push (IsTaken context c.args.taken.now) c.loop.targets c.in-Some.index c.loop.invariant.all target);
-      kept = λ whole h. c.choose_offered.ensures.left whole (c.loop.invariant.kept whole h);
+      drawn = rw c.in_ok-push.ensures.ok (targets_more context c.args.taken.now _ c.loop.counter c.in-Some.label _ c.loop.targets c.loop.u _ c.loop-test.true c.in-Some.ensures.exact c.loop.invariant.drawn);
+      all = rw c.in_ok-push.ensures.ok (All-push (IsTaken context c.args.taken.now) c.loop.targets c.in-Some.label c.loop.invariant.all target);
+      kept = λ whole h. c.choose_target.ensures.left whole (c.loop.invariant.kept whole h);
     }
 
 pub returns-in_default-clause-exact : goal.returns-in_default-clause-exact

@@ -80,3 +80,6 @@ returns-in-Fence-clause-exact c = ok_like _ c.plain-in-Fence.result (statement_b
 
 pub returns-in-Throw-clause-exact : goal.returns-in-Throw-clause-exact
 returns-in-Throw-clause-exact c = ok_by c.choose_throw_statement.result _ _ _ (statement_by (where_stands c.args.scope.now c.args.draft.now) c.args.u.now _ c.statement_families.result.now c.choose.result statement.Throw c.statement_families.ensures (c.choose.ensures.exact statement.Nop) c.in-Throw.is) c.choose_throw_statement.ensures.exact
+
+pub returns-in-Try-clause-exact : goal.returns-in-Try-clause-exact
+returns-in-Try-clause-exact c = ok_by c.choose_any_try.result _ _ _ (statement_by (where_stands c.args.scope.now c.args.draft.now) c.args.u.now _ c.statement_families.result.now c.choose.result statement.Try c.statement_families.ensures (c.choose.ensures.exact statement.Nop) c.in-Try.is) c.choose_any_try.ensures.exact

@@ -60,3 +60,6 @@ returns-in-Atomic-clause-exact c = ok_by c.choose_atomic.result _ _ _ (value_by 
 
 pub returns-in-Throw-clause-exact : goal.returns-in-Throw-clause-exact
 returns-in-Throw-clause-exact c = ok_by c.choose_any_throw.result _ _ _ (value_by (where_stands c.args.scope.now c.args.draft.now) c.args.wanted c.args.u.now _ c.value_families.result.now c.choose.result value.Throw c.value_families.ensures (c.choose.ensures.exact value.Leaf) c.in-Throw.is) c.choose_any_throw.ensures.exact
+
+pub returns-in-Try-clause-exact : goal.returns-in-Try-clause-exact
+returns-in-Try-clause-exact c = ok_by c.choose_try.result _ _ _ (value_by (where_stands c.args.scope.now c.args.draft.now) c.args.wanted c.args.u.now _ c.value_families.result.now c.choose.result value.Try c.value_families.ensures (c.choose.ensures.exact value.Leaf) c.in-Try.is) c.choose_try.ensures.exact

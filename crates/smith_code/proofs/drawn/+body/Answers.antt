@@ -2,9 +2,10 @@ use Rattle.std.proofs.Common.{refl, sym, arith, ◌-◌, [], length, ◌∙◌}
 use Rattle.smith_code.proofs.ResultLemmas.{ok_both}
 use Rattle.std.proofs.lemmas.Result.{on_ok_weaker}
 use Rattle.std.proofs.lemmas.List.{take_all}
-use Rattle.smith_code.proofs.DrawnLemmas.{paid_for, drawn_none, drawn_then, drawn_within, drawn_turn, dropped_drawn, plain_drawn, node_drawn, enclosed_drawn, if_drawn, labels_kept}
+use Rattle.smith_code.proofs.DrawnLemmas.{paid_for, drawn_none, drawn_then, drawn_within, drawn_turn, dropped_drawn, plain_drawn, node_drawn, enclosed_drawn, if_drawn, labels_kept, try_drawn}
 use Rattle.smith_code.specs.Bodies.{drawing_at, statement_at}
 use Rattle.smith_code.specs.Drawn.{state_of}
+use Rattle.smith_code.specs.Nodes.{label_of, opened}
 use Rattle.smith_code.specs.Scopes.{bare}
 use Rattle.smith_code.proofs.ExactLemmas.{
   all_left,
@@ -16,6 +17,7 @@ use Rattle.smith_code.proofs.ExactLemmas.{
   forbidden_statement,
   head_enclosed,
   head_if,
+  head_try,
   if_exact,
   inside_exact,
   last_statements,
@@ -30,6 +32,7 @@ use Rattle.smith_code.proofs.ExactLemmas.{
   stopped,
   unpaid_value,
 }
+use Rattle.smith_instr.specs.declared.instr.Instr.TheVariants as instr
 use Rattle.smith_code.proofs.NodeLemmas.{no_valid}
 use Rattle.smith_code.proofs.drawn.+body.Goals.{draw_value-then-depth-eq0-via-then-depth-eq0, draw_value-then-depth-eq0-via-else-depth-eq0+then-draft-eq0}
 use Rattle.smith_code.proofs.drawn.+body.Goals as goal
@@ -162,7 +165,7 @@ draw_enclosed-returns-clause-exact t c =
     let sides = c.args.sides.now in
     let start = rw (c.opened.ensures, c.label_of-label.ensures) at c.in_ok-write_opening.ensures.opened in
     let drawn = c.in_ok-draw_inside.ensures.drawn in
-    ok_both c.write_end.result (enclosed_exact c.args.scope.now (drawing_at c.args.scope.now.kinds c.args.depth) c.args.opening c.args.ty sides c.args.draft.now _ _ _ _ _ c.len-height.result start c.in_ok-draw_inside.ensures.exact drawn (c.len-height.ensures ∙ c.args.draft.now.set.ok.0))
+    ok_both c.write_end.result (enclosed_exact c.args.scope.now (drawing_at c.args.scope.now.kinds c.args.depth) (opened c.args.opening c.args.ty) (label_of c.args.opening sides.params sides.results) sides c.args.draft.now _ _ _ _ _ c.len-height.result start c.in_ok-draw_inside.ensures.exact drawn (c.len-height.ensures ∙ c.args.draft.now.set.ok.0))
     c.write_end.ensures.ended (c.write_end.ensures.left_label _ _ (drawn.same ∙ start.labels))
 
 pub draw_if-returns-clause-exact : goal.draw_if-returns-clause-exact
@@ -180,3 +183,23 @@ draw_inside-returns-clause-exact t c =
     let out = rw c.len.ensures at c.in_ok-drop_values.ensures.out in
     let dropping = drops_written c.args.scope.now (length c.args.sides.now.params) c.args.draft.now c.drop_values.new.draft c.args.u.now out c.drop_values.ensures.set c.drop_values.ensures.same c.drop_values.ensures.fuel in
     on_ok_weaker c.draw_values.result (λ is. inside_exact (drawing_at c.args.scope.now.kinds c.args.depth) c.args.sides.now (state_of c.args.scope.now c.args.draft.now c.args.u.now) _ _ dropping c.in_ok-draw_statements.ensures.exact ∙ is) (rw c.as_slice.ensures at c.draw_values.ensures.exact)
+
+pub draw_head-returns-in-Try-clause-exact : goal.draw_head-returns-in-Try-clause-exact
+draw_head-returns-in-Try-clause-exact t c =
+    on_ok_weaker c.draw_try.result (λ is. head_try (drawing_at c.args.scope.now.kinds c.args.depth) c.args.head c.in-Try.ty c.in-Try.clauses c.in-Try.sides c.args.sets (state_of c.args.scope.now c.args.draft.now c.args.u.now) c.in-Try.is ∙ is) c.draw_try.ensures.exact
+
+pub draw_try-returns-clause-drawn : goal.draw_try-returns-clause-drawn
+draw_try-returns-clause-drawn t c = λ values fits caught below valid.
+    let sides = c.args.sides.now in
+    let start = rw c.as_slice.ensures at c.in_ok-write_opening.ensures.opened in
+    let drawn = c.in_ok-draw_inside.ensures.drawn in
+    ok_both c.write_end.result (try_drawn c.args.ty c.args.clauses sides.params sides.results values fits caught below valid c.requires.allowed c.requires.sides.few start drawn c.len-height.result (c.len-height.ensures ∙ c.args.draft.now.set.ok.0))
+    c.write_end.ensures.ended (c.write_end.ensures.left_label _ _ (drawn.same ∙ start.labels))
+
+pub draw_try-returns-clause-exact : goal.draw_try-returns-clause-exact
+draw_try-returns-clause-exact t c =
+    let sides = c.args.sides.now in
+    let start = rw c.as_slice.ensures at c.in_ok-write_opening.ensures.opened in
+    let drawn = c.in_ok-draw_inside.ensures.drawn in
+    ok_both c.write_end.result (enclosed_exact c.args.scope.now (drawing_at c.args.scope.now.kinds c.args.depth) (instr.TryTable c.args.ty c.args.clauses) sides.results sides c.args.draft.now _ _ _ _ _ c.len-height.result start c.in_ok-draw_inside.ensures.exact drawn (c.len-height.ensures ∙ c.args.draft.now.set.ok.0))
+    c.write_end.ensures.ended (c.write_end.ensures.left_label _ _ (drawn.same ∙ start.labels))

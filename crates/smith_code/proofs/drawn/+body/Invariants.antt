@@ -27,6 +27,9 @@ decreases-draw_enclosed l = 8 * l.depth + 3
 abbrev pub decreases-draw_if : goal.decreases-draw_if
 decreases-draw_if l = 8 * l.depth + 3
 
+abbrev pub decreases-draw_try : goal.decreases-draw_try
+decreases-draw_try l = 8 * l.depth + 3
+
 abbrev pub decreases-draw_head : goal.decreases-draw_head
 decreases-draw_head l = 8 * l.depth + 4
 

@@ -1,0 +1,170 @@
+-- Blocks that catch exceptions, and their clauses.
+use Rattle.std.proofs.Common.{◌≡◌, ℕ, ◌+◌, ◌-◌, ◌<◌, ◌≤◌, Bool, true, false, List, [], ◌∷◌, ◌++◌, Option, Some, None, length, refl, sym, subst, ap, ◌∙◌, arith}
+use Rattle.std.specs.Prelude.{All, IfSome, IsTrue, option_map, option_to_list, slice_get, ◌&&◌}
+use Rattle.std.proofs.lemmas.List.{append-nil}
+use Rattle.std.proofs.lemmas.List.Elements.{All-push}
+use Rattle.smith_bytes.specs.Draws.{bool_at, choose_at, range_at}
+use Rattle.smith_types.specs.Entities.{IsFuncAt}
+use Rattle.smith_types.specs.Expressions.{reference_to}
+use Rattle.smith_types.specs.FeatureBits.{features_in}
+use Rattle.smith_types.specs.Features.{Features}
+use Rattle.smith_types.specs.declared.instruction_kind.InstructionKinds.{InstructionKinds}
+use Rattle.smith_types.specs.declared.value_type.ValType.{ValType}
+use Rattle.smith_types.specs.declared.composite_type.FuncType.{FuncType}
+use Rattle.smith_types.proofs.GrowthLemmas.{IsValBelow-refl}
+use Rattle.smith_instr.specs.Contexts.{BodyContext, IsValid, AreBelow, AreValid, IsBlockType}
+use Rattle.smith_types.specs.declared.instruction_kind.InstructionKind.TheVariants as kind
+use Rattle.smith_instr.specs.Enabled.{is_allowed, is_block_enabled, is_enabled}
+use Rattle.smith_instr.specs.InstrTypes.{IsCatch, IsTaken}
+use Rattle.smith_instr.specs.declared.control.BlockType.{BlockType}
+use Rattle.smith_instr.specs.declared.control.BlockType.TheVariants as block
+use Rattle.smith_instr.specs.declared.control.Catch.{Catch}
+use Rattle.smith_instr.specs.declared.instr.Instr.TheVariants as instr
+use Rattle.smith_instr.proofs.SequenceLemmas.{below_themselves}
+use Rattle.smith_code.specs.Nodes.{AreSidesValid, IsHeadAllowed, IsNode, is_drop_allowed, is_head_allowed, trying}
+use Rattle.smith_code.specs.Offered.{func_in, is_target, label_count, offered}
+use Rattle.smith_code.specs.Scopes.{IsAllowedIn, indexed}
+use Rattle.smith_code.specs.ThrowChoices.{exn, refers_to_exceptions, tag_at, tag_type_at}
+use Rattle.smith_code.specs.TryChoices.{IsCaught, any_try_at, any_try_node, brought, clause_at, clause_of, clause_to, clauses_at, referenced_at, refers_to_caught, some_clauses_at, tagged_by, tagged_clause_at, tagged_to, try_at}
+use Rattle.smith_code.specs.declared.node.Head.{Head}
+use Rattle.smith_code.specs.declared.node.Head.TheVariants as heads
+use Rattle.smith_code.specs.declared.node.Sides.{Sides}
+use Rattle.smith_code.specs.declared.scope.Scope.{Scope}
+use Rattle.smith_code.proofs.NodeLemmas.{func_wide, no_valid, one_valid, three_wide}
+use Rattle.smith_code.proofs.OfferLemmas.{both}
+use Rattle.smith_code.proofs.RepeatLemmas.{AreDrawnSoFar, all_turns, one_turn}
+
+-- what a clause brings to its label
+pub brought_valid : (context : BodyContext) (values : List ValType) (referenced : Bool) → AreValid context values → (IsTrue referenced → IsTrue (refers_to_caught context.features)) → AreValid context (brought values referenced)
+brought_valid context values false valid possible = valid
+brought_valid context values true valid possible =
+    let (refers, not_null) = both (refers_to_exceptions context.features) context.features.function_references (possible refl) in
+    let (on, exceptions) = both context.features.reference_types context.features.exceptions refers in
+    All-push (IsValid context) values (reference_to exn) valid (on, record { heap_type = (exceptions, λ h. cc); nullable = λ h. not_null })
+
+pub clause_fits : (context : BodyContext) (tag : Option ℕ) (referenced : Bool) (values : List ValType) (label : ℕ) → IsCaught context tag values → IsTaken context (brought values referenced) label → IsCatch context (clause_of tag referenced label)
+clause_fits context (Some tag) false values label caught taken = (values, caught, taken)
+clause_fits context (Some tag) true values label caught taken = (values, caught, taken)
+clause_fits context None false values label caught taken = subst (λ (values : List ValType). IsTaken context (brought values false) label) caught taken
+clause_fits context None true values label caught taken = subst (λ (values : List ValType). IsTaken context (brought values true) label) caught taken
+
+pub clause_added : (context : BodyContext) (clauses : List Catch) (clause : Option Catch) → All (IsCatch context) clauses → IfSome clause (IsCatch context) → All (IsCatch context) (clauses ++ option_to_list clause)
+clause_added context clauses (Some clause) all fits = All-push (IsCatch context) clauses clause all fits
+clause_added context clauses None all fits = rw (append-nil clauses) all
+
+-- clauses that are chosen
+pub referenced_by : (features : Features) (bytes left : List ℕ) (wanted : Bool) → bool_at bytes ≡ (wanted, left) → referenced_at features bytes ≡ (wanted && refers_to_caught features, left)
+unfolding referenced_at
+referenced_by features bytes left wanted drawn = rw drawn refl
+
+pub clause_to_by : (context : BodyContext) (tag : Option ℕ) (referenced : Bool) (values : List ValType) (bytes left : List ℕ) (label : Option ℕ)
+    → choose_at (offered (is_target context.types context.labels (brought values referenced)) (label_count context)) bytes ≡ (label, left) → clause_to context tag referenced values bytes ≡ (option_map (clause_of tag referenced) label, left)
+clause_to_by context tag referenced values bytes left label drawn = ap (λ (label : Option ℕ × List ℕ). (option_map (clause_of tag referenced) label.0, label.1)) drawn
+
+pub clause_untagged : (context : BodyContext) (bytes middle left : List ℕ) (referenced : Bool) → bool_at bytes ≡ (false, middle) → referenced_at context.features middle ≡ (referenced, left) → clause_at context bytes ≡ clause_to context None referenced [] left
+unfolding clause_at
+clause_untagged context bytes middle left referenced drawn drawn' = rw (drawn, drawn') refl
+
+pub clause_by_tag : (context : BodyContext) (bytes middle left : List ℕ) (referenced : Bool) → bool_at bytes ≡ (true, middle) → referenced_at context.features middle ≡ (referenced, left) → clause_at context bytes ≡ tagged_clause_at context referenced left
+unfolding clause_at
+clause_by_tag context bytes middle left referenced drawn drawn' = rw (drawn, drawn') refl
+
+pub tagless_clause : (context : BodyContext) (referenced : Bool) (bytes left : List ℕ) → tag_at context.tags bytes ≡ (None, left) → tagged_clause_at context referenced bytes ≡ (None, left)
+unfolding tagged_clause_at
+tagless_clause context referenced bytes left drawn = ap (λ (tag : Option ℕ × List ℕ). tagged_by context referenced tag.0 tag.1) drawn
+
+pub tagged_clause : (context : BodyContext) (referenced : Bool) (bytes left : List ℕ) (tag : ℕ) (o : Option FuncType) → tag_at context.tags bytes ≡ (Some tag, left) → tag_type_at context tag ≡ o → tagged_clause_at context referenced bytes ≡ tagged_to context referenced tag o left
+unfolding tagged_clause_at
+tagged_clause context referenced bytes left tag o drawn at =
+    ap (λ (tag : Option ℕ × List ℕ). tagged_by context referenced tag.0 tag.1) drawn ∙ ap (λ (o : Option FuncType). tagged_to context referenced tag o left) at
+
+-- clauses, one after another
+pub clauses_more : (context : BodyContext) (count turns : ℕ) (start bytes left : List ℕ) (clauses : List Catch) (clause : Option Catch) → turns < count → clause_at context bytes ≡ (clause, left)
+    → AreDrawnSoFar (clauses_at context) count start turns clauses bytes → AreDrawnSoFar (clauses_at context) count start (turns + 1) (clauses ++ option_to_list clause) left
+unfolding clauses_at
+clauses_more context count turns start bytes left clauses clause more drawn so_far = one_turn (clauses_at context) count turns start bytes left clauses (option_to_list clause) more (λ n. rw drawn refl) so_far
+
+pub clauses_all : (context : BodyContext) (count turns : ℕ) (start bytes : List ℕ) (clauses : List Catch) → count ≤ turns → AreDrawnSoFar (clauses_at context) count start turns clauses bytes → clauses_at context count start ≡ (clauses, bytes)
+unfolding clauses_at
+clauses_all context count turns start bytes clauses all so_far = all_turns (clauses_at context) count turns start bytes clauses all refl so_far
+
+pub clauses_by : (context : BodyContext) (bytes start left : List ℕ) (count : ℕ) (clauses : List Catch) → range_at 0 3 bytes ≡ (count, start) → clauses_at context count start ≡ (clauses, left) → some_clauses_at context bytes ≡ (clauses, left)
+clauses_by context bytes start left count clauses drawn is = ap (λ (r : ℕ × List ℕ). clauses_at context r.0 r.1) drawn ∙ is
+
+-- the blocks
+try_node : (context : BodyContext) (set : List ℕ) (values dropped : List ValType) (ty : BlockType) (clauses : List Catch) (params results : List ValType) → IsBlockType context ty params results → All (IsCatch context) clauses → AreBelow context results (values ++ dropped)
+    → AreValid context values → AreValid context dropped → AreSidesValid context.features context.types (record { params = params; results = results }) → length dropped ≤ length results → IsNode context set values (trying ty clauses params results (length dropped))
+try_node context set values dropped ty clauses params results fits caught below given spare valid less = record {
+  results = results;
+  dropped = dropped;
+  typed = λ more. (fits, caught, refl, refl);
+  below = below;
+  given = given;
+  spare = spare;
+  drops = refl;
+  sets_local = refl;
+  few = let few = valid.few in omega arith;
+  valid = valid.params;
+  inside = valid;
+}
+
+pub value_try : (context : BodyContext) (set : List ℕ) (clauses : List Catch) (wanted : ValType) → All (IsCatch context) clauses → IsValid context wanted → IsNode context set (wanted ∷ []) (trying (block.Value wanted) clauses [] (wanted ∷ []) 0)
+value_try context set clauses wanted caught valid =
+    let one = one_valid context wanted valid in
+    try_node context set (wanted ∷ []) [] (block.Value wanted) clauses [] (wanted ∷ []) (valid, refl, refl) caught (IsValBelow-refl context.types wanted, tt) one (no_valid context)
+    (record { params = no_valid context; results = one; few = let wide = three_wide context.types in omega arith }) (omega arith)
+
+pub empty_try : (context : BodyContext) (set : List ℕ) (clauses : List Catch) → All (IsCatch context) clauses → IsNode context set [] (trying block.Empty clauses [] [] 0)
+empty_try context set clauses caught =
+    let none = no_valid context in
+    try_node context set [] [] block.Empty clauses [] [] (refl, refl) caught tt none none (record { params = none; results = none; few = omega arith }) (omega arith)
+
+pub func_try : (context : BodyContext) (set : List ℕ) (clauses : List Catch) (index : ℕ) (function : FuncType) → All (IsCatch context) clauses → IsFuncAt context.types index function → AreValid context function.params → AreValid context function.results
+    → IsNode context set [] (trying (block.Func index) clauses function.params function.results (length function.results))
+func_try context set clauses index function caught there params results =
+    try_node context set [] function.results (block.Func index) clauses function.params function.results (function, there, refl, refl) caught (below_themselves context.types function.results) (no_valid context) results
+    (record { params = params; results = results; few = func_wide context.types index function there }) (omega arith)
+
+pub try_by : (context : BodyContext) (wanted : ValType) (bytes left : List ℕ) (clauses : List Catch) → some_clauses_at context bytes ≡ (clauses, left) → try_at context wanted bytes ≡ (Some (trying (block.Value wanted) clauses [] (wanted ∷ []) 0), left)
+unfolding try_at
+try_by context wanted bytes left clauses drawn = ap (λ (clauses : List Catch × List ℕ). (Some (trying (block.Value wanted) clauses.0 [] (wanted ∷ []) 0), clauses.1)) drawn
+
+pub any_try_by : (context : BodyContext) (bytes middle left : List ℕ) (clauses : List Catch) (index : ℕ) (o : Option FuncType) → some_clauses_at context bytes ≡ (clauses, middle) → range_at 0 (indexed (length context.types)) middle ≡ (index, left)
+    → func_in (slice_get context.types index) ≡ o → any_try_at context bytes ≡ (Some (any_try_node clauses index o), left)
+unfolding any_try_at
+any_try_by context bytes middle left clauses index o drawn drawn' at =
+    ap (λ (clauses : List Catch × List ℕ). let index = range_at 0 (indexed (length context.types)) clauses.1 in (Some (any_try_node clauses.0 index.0 (func_in (slice_get context.types index.0))), index.1)) drawn
+    ∙ (ap (λ (index : ℕ × List ℕ). (Some (any_try_node clauses index.0 (func_in (slice_get context.types index.0))), index.1)) drawn'
+    ∙ ap (λ (o : Option FuncType). (Some (any_try_node clauses index o), left)) at)
+
+-- where a block that catches exceptions is allowed
+shuffled : (b e k : Bool) → ((b && e) && k) ≡ ((e && k) && (b && k))
+shuffled true true true = refl
+shuffled true true false = refl
+shuffled true false k = refl
+shuffled false true true = refl
+shuffled false true false = refl
+shuffled false false k = refl
+
+try_enabled : (features : Features) (kinds : InstructionKinds) (ty : BlockType) (clauses : List Catch) → is_enabled features kinds (instr.TryTable ty clauses) ≡ (is_enabled features kinds instr.ThrowRef && is_enabled features kinds (instr.Block ty))
+unfolding is_enabled
+try_enabled features kinds ty clauses = shuffled (is_block_enabled features ty) features.exceptions (is_allowed kinds kind.Control)
+
+pub try_forbidden : (features : Features) (kinds : InstructionKinds) (ty : BlockType) (clauses : List Catch) (drop : Bool) → is_enabled features kinds instr.ThrowRef ≡ false → false ≡ (is_enabled features kinds (instr.TryTable ty clauses) && drop)
+try_forbidden features kinds ty clauses drop off = rw (try_enabled features kinds ty clauses, off) refl
+
+pub try_allowed : (features : Features) (kinds : InstructionKinds) (ty : BlockType) (clauses : List Catch) (drop result : Bool) → is_enabled features kinds instr.ThrowRef ≡ true → result ≡ (is_enabled features kinds (instr.Block ty) && drop)
+    → result ≡ (is_enabled features kinds (instr.TryTable ty clauses) && drop)
+try_allowed features kinds ty clauses drop result on is = rw (try_enabled features kinds ty clauses, on) is
+
+pub try_head : (scope : Scope) (head : Head) (ty : BlockType) (clauses : List Catch) (sides : Sides) (result : Bool) → head ≡ heads.Try ty clauses sides
+    → ((clauses : List Catch) → result ≡ (is_enabled (features_in scope.features) scope.kinds (instr.TryTable ty clauses) && is_drop_allowed (features_in scope.features) scope.kinds (length sides.params)))
+    → result ≡ is_head_allowed (features_in scope.features) scope.kinds head
+try_head scope head ty clauses sides result is exact = rw is (exact clauses)
+
+pub try_head_allowed : (scope : Scope) (head : Head) (ty : BlockType) (clauses : List Catch) (sides : Sides) (result : Bool) → head ≡ heads.Try ty clauses sides
+    → ((clauses : List Catch) → result ≡ (is_enabled (features_in scope.features) scope.kinds (instr.TryTable ty clauses) && is_drop_allowed (features_in scope.features) scope.kinds (length sides.params)))
+    → (IsTrue result → 0 < length sides.params → IsAllowedIn scope instr.Drop) → IsTrue result → IsHeadAllowed scope head
+try_head_allowed scope head ty clauses sides result is exact drops true_result =
+    let (enabled, _) = both (is_enabled (features_in scope.features) scope.kinds (instr.TryTable ty clauses)) (is_drop_allowed (features_in scope.features) scope.kinds (length sides.params)) (sym (exact clauses) ∙ true_result) in
+    rw is (record { instruction = enabled; drops = drops true_result })
