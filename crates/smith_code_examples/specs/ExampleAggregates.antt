@@ -11,11 +11,7 @@ use Rattle.smith_types.specs.declared.value_type.HeapType.TheVariants.{Concrete}
 use Rattle.smith_types.specs.declared.value_type.ValType.{ValType}
 use Rattle.smith_types.specs.declared.value_type.ValType.TheVariants.{I32, I64, Ref}
 use Rattle.smith_instr.specs.Contexts.{BodyContext}
-use Rattle.smith_instr.specs.declared.aggregate.AggregateInstr.{AggregateInstr}
-use Rattle.smith_instr.specs.declared.instr.Instr.TheVariants as instr
 use Rattle.smith_instr_examples.specs.ExampleBodies.{function_of, some_func}
-use Rattle.smith_code.specs.Nodes.{node_of}
-use Rattle.smith_code.specs.declared.node.Node.{Node}
 
 -- a function with these locals, over a struct of a constant packed field and a variable i64, a struct of a reference without a
 -- default, and arrays of variable i32, of constant packed integers and of variable references to functions
@@ -47,10 +43,6 @@ some_of ty = Ref (not_null (plain ty))
 
 abbrev pub any_of : AbstractHeapType → ValType
 any_of ty = Ref (nullable (plain ty))
-
--- an aggregate instruction with these operands
-abbrev pub aggregate_node : List ValType → AggregateInstr → Node
-aggregate_node operands op = node_of operands (instr.Aggregate op) 0
 
 -- locals: a number, a struct that may not be null, any struct, and any external reference
 abbrev pub references : List ValType

@@ -11,13 +11,14 @@ ghost use Rattle.smith_instr.specs.declared.instr.Instr.TheVariants as instr;
 ghost use Rattle.smith_instr.specs.declared.reference.ReferenceInstr.TheVariants as reference;
 ghost use Rattle.smith_code.specs.CastBranchChoices.{cast_branch_at, cast_value_at};
 ghost use Rattle.smith_code.specs.CastChoices.{cast_choice_at};
+ghost use Rattle.smith_code.specs.CreationChoices.{aggregate_of};
 ghost use Rattle.smith_code.specs.Nodes.{node_of};
-ghost use Rattle.smith_code_examples.specs.ExampleAggregates.{aggregate_node, aggregates, any, any_of, branching, labelled_by, references, some, some_of, unmanaged};
+ghost use Rattle.smith_code_examples.specs.ExampleAggregates.{aggregates, any, any_of, branching, labelled_by, references, some, some_of, unmanaged};
 
 fn numbers()
-    ensures length { cast_choice_at (aggregates []) I32 (0 ∷ 9 ∷ []) ≡ (Some (aggregate_node (any_of heap.Array ∷ []) aggregate.ArrayLen), 9 ∷ []) }
-    ensures with_its_sign { cast_choice_at (aggregates []) I32 (1 ∷ 9 ∷ []) ≡ (Some (aggregate_node (any_of heap.I31 ∷ []) aggregate.I31GetS), 9 ∷ []) }
-    ensures without_a_sign { cast_choice_at (aggregates []) I32 (2 ∷ 9 ∷ []) ≡ (Some (aggregate_node (any_of heap.I31 ∷ []) aggregate.I31GetU), 9 ∷ []) }
+    ensures length { cast_choice_at (aggregates []) I32 (0 ∷ 9 ∷ []) ≡ (Some (aggregate_of (any_of heap.Array ∷ []) aggregate.ArrayLen), 9 ∷ []) }
+    ensures with_its_sign { cast_choice_at (aggregates []) I32 (1 ∷ 9 ∷ []) ≡ (Some (aggregate_of (any_of heap.I31 ∷ []) aggregate.I31GetS), 9 ∷ []) }
+    ensures without_a_sign { cast_choice_at (aggregates []) I32 (2 ∷ 9 ∷ []) ≡ (Some (aggregate_of (any_of heap.I31 ∷ []) aggregate.I31GetU), 9 ∷ []) }
     ensures wide { cast_choice_at (aggregates []) I64 (0 ∷ 9 ∷ []) ≡ (None, 0 ∷ 9 ∷ []) }
     ensures without_garbage_collection { cast_choice_at unmanaged I32 (0 ∷ 9 ∷ []) ≡ (None, 0 ∷ 9 ∷ []) }
 {}
@@ -30,12 +31,12 @@ fn tests()
 {}
 
 fn conversions()
-    ensures i31 { cast_choice_at (aggregates []) (any_of heap.Eq) (0 ∷ 9 ∷ []) ≡ (Some (aggregate_node (I32 ∷ []) aggregate.RefI31), 9 ∷ []) }
-    ensures shared_i31 { cast_choice_at (aggregates []) (Ref (not_null (Abstract true heap.I31))) (0 ∷ 9 ∷ []) ≡ (Some (aggregate_node (I32 ∷ []) aggregate.RefI31Shared), 9 ∷ []) }
+    ensures i31 { cast_choice_at (aggregates []) (any_of heap.Eq) (0 ∷ 9 ∷ []) ≡ (Some (aggregate_of (I32 ∷ []) aggregate.RefI31), 9 ∷ []) }
+    ensures shared_i31 { cast_choice_at (aggregates []) (Ref (not_null (Abstract true heap.I31))) (0 ∷ 9 ∷ []) ≡ (Some (aggregate_of (I32 ∷ []) aggregate.RefI31Shared), 9 ∷ []) }
     ensures no_i31 { cast_choice_at (aggregates []) (Ref funcref) (0 ∷ 9 ∷ []) ≡ (None, 9 ∷ []) }
-    ensures to_internal { cast_choice_at (aggregates []) (any_of heap.Any) (1 ∷ 9 ∷ []) ≡ (Some (aggregate_node (any_of heap.Extern ∷ []) aggregate.AnyConvertExtern), 9 ∷ []) }
-    ensures to_external { cast_choice_at (aggregates []) (some_of heap.Extern) (1 ∷ 9 ∷ []) ≡ (Some (aggregate_node (some_of heap.Any ∷ []) aggregate.ExternConvertAny), 9 ∷ []) }
-    ensures null_becomes_something { ¬ (cast_choice_at (aggregates []) (some_of heap.Extern) (1 ∷ 9 ∷ []) ≡ (Some (aggregate_node (any_of heap.Any ∷ []) aggregate.ExternConvertAny), 9 ∷ [])) }
+    ensures to_internal { cast_choice_at (aggregates []) (any_of heap.Any) (1 ∷ 9 ∷ []) ≡ (Some (aggregate_of (any_of heap.Extern ∷ []) aggregate.AnyConvertExtern), 9 ∷ []) }
+    ensures to_external { cast_choice_at (aggregates []) (some_of heap.Extern) (1 ∷ 9 ∷ []) ≡ (Some (aggregate_of (some_of heap.Any ∷ []) aggregate.ExternConvertAny), 9 ∷ []) }
+    ensures null_becomes_something { ¬ (cast_choice_at (aggregates []) (some_of heap.Extern) (1 ∷ 9 ∷ []) ≡ (Some (aggregate_of (any_of heap.Any ∷ []) aggregate.ExternConvertAny), 9 ∷ [])) }
     ensures to_a_struct { cast_choice_at (aggregates []) (some 0) (1 ∷ 9 ∷ []) ≡ (None, 9 ∷ []) }
 {}
 
