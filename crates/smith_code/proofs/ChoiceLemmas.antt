@@ -5,7 +5,7 @@ use Rattle.std.specs.Cmp.{unsigned_Decides}
 use Rattle.std.proofs.lemmas.Option.{slice_get-get_or, slice_get_past}
 use Rattle.smith_bytes.specs.Draws.{bool_at, choose_at, digit_count, range_at, whole_at}
 use Rattle.smith_bytes.specs.declared.error.Error.{Error}
-use Rattle.smith_types.specs.declared.instruction_kind.InstructionKinds.{InstructionKinds}
+use Rattle.smith_config.specs.declared.config.Config.{Config}
 use Rattle.smith_types.specs.declared.value_type.ValType.{ValType}
 use Rattle.smith_types.specs.declared.value_type.ValType.TheVariants.{I32, I64, F32, F64}
 use Rattle.smith_types.specs.declared.composite_type.FuncType.{FuncType}
@@ -314,16 +314,16 @@ statement_by context bytes left families drawn_family family are drawn is =
     chosen_by (λ family bytes. or_nop (statement_of context family bytes)) statement.Nop statement_families families bytes left drawn_family family are drawn is
 
 -- the node where it is allowed
-pub allowed_node : (kinds : InstructionKinds) (context : BodyContext) (wanted : ValType) (bytes left : List ℕ) (node : Node) → value_choice_at context wanted bytes ≡ (Some node, left) → is_node_allowed context.features kinds node ≡ true
-    → allowed_choice_at kinds context wanted bytes ≡ (Some node, left)
+pub allowed_node : (config : Config) (context : BodyContext) (wanted : ValType) (bytes left : List ℕ) (node : Node) → value_choice_at context wanted bytes ≡ (Some node, left) → is_node_allowed context.features config node ≡ true
+    → allowed_choice_at config context wanted bytes ≡ (Some node, left)
 unfolding allowed_choice_at
-allowed_node kinds context wanted bytes left node drawn allowed = rw (drawn, allowed) refl
+allowed_node config context wanted bytes left node drawn allowed = rw (drawn, allowed) refl
 
-pub forbidden_node : (kinds : InstructionKinds) (context : BodyContext) (wanted : ValType) (bytes left : List ℕ) (node : Node) → value_choice_at context wanted bytes ≡ (Some node, left) → is_node_allowed context.features kinds node ≡ false
-    → allowed_choice_at kinds context wanted bytes ≡ (None, left)
+pub forbidden_node : (config : Config) (context : BodyContext) (wanted : ValType) (bytes left : List ℕ) (node : Node) → value_choice_at context wanted bytes ≡ (Some node, left) → is_node_allowed context.features config node ≡ false
+    → allowed_choice_at config context wanted bytes ≡ (None, left)
 unfolding allowed_choice_at
-forbidden_node kinds context wanted bytes left node drawn forbidden = rw (drawn, forbidden) refl
+forbidden_node config context wanted bytes left node drawn forbidden = rw (drawn, forbidden) refl
 
-pub allowed_none : (kinds : InstructionKinds) (context : BodyContext) (wanted : ValType) (bytes left : List ℕ) → value_choice_at context wanted bytes ≡ (None, left) → allowed_choice_at kinds context wanted bytes ≡ (None, left)
+pub allowed_none : (config : Config) (context : BodyContext) (wanted : ValType) (bytes left : List ℕ) → value_choice_at context wanted bytes ≡ (None, left) → allowed_choice_at config context wanted bytes ≡ (None, left)
 unfolding allowed_choice_at
-allowed_none kinds context wanted bytes left drawn = rw drawn refl
+allowed_none config context wanted bytes left drawn = rw drawn refl

@@ -24,3 +24,4 @@ pub mod VectorNodeLemmas
 pub mod VectorChoiceLemmas
 pub mod AtomicNodeLemmas
 pub mod AtomicChoiceLemmas
+pub mod TrapLemmas

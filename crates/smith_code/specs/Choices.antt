@@ -3,7 +3,7 @@
 use Rattle.std.specs.Prelude.{ℕ, zero, suc, ◌-◌, ◌==◌, Bool, true, false, Option, Some, None, option_map, option_to_list, unwrap_or, List, [], ◌∷◌, ◌++◌, length, slice_get, slice_index_or, if◌then◌else◌}
 use Rattle.smith_bytes.specs.Draws.{bool_at, range_at, choose_at}
 use Rattle.smith_types.specs.Features.{Features}
-use Rattle.smith_types.specs.declared.instruction_kind.InstructionKinds.{InstructionKinds}
+use Rattle.smith_config.specs.declared.config.Config.{Config}
 use Rattle.smith_types.specs.declared.value_type.ValType.{ValType}
 use Rattle.smith_types.specs.declared.value_type.ValType.TheVariants.{I32, I64, F32, F64, Ref}
 use Rattle.smith_types.specs.declared.composite_type.FuncType.{FuncType}
@@ -197,14 +197,14 @@ unfoldable pub value_choice_at : BodyContext → ValType → List ℕ → Chosen
 value_choice_at context wanted bytes = let family = chosen_at value.Leaf value_families bytes in value_of context wanted family.0 family.1
 
 -- that node, if it is allowed
-abbrev pub if_allowed : Features → InstructionKinds → Option Node → Option Node
-if_allowed features kinds None = None
-if_allowed features kinds (Some node) = if is_node_allowed features kinds node then Some node else None
+abbrev pub if_allowed : Features → Config → Option Node → Option Node
+if_allowed features config None = None
+if_allowed features config (Some node) = if is_node_allowed features config node then Some node else None
 
-unfoldable pub allowed_choice_at : InstructionKinds → BodyContext → ValType → List ℕ → Chosen
-allowed_choice_at kinds context wanted bytes =
+unfoldable pub allowed_choice_at : Config → BodyContext → ValType → List ℕ → Chosen
+allowed_choice_at config context wanted bytes =
     let chosen = value_choice_at context wanted bytes in
-    (if_allowed context.features kinds chosen.0, chosen.1)
+    (if_allowed context.features config chosen.0, chosen.1)
 
 -- a value that is dropped: of a type of numbers, or of the type of a local
 unfoldable pub dropped_at : List ValType → List ℕ → ValType × List ℕ

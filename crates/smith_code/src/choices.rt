@@ -58,7 +58,7 @@ pub(crate) fn choose_allowed(
     requires scope { IsScope (bare scope.now) }
     requires labels { AreLabels scope.now draft.now.labels.items }
     requires wanted { IsValid (bare scope.now) wanted }
-    ensures exact { IfOk result (λ chosen. allowed_choice_at scope.now.kinds (where_stands scope.now draft.now) wanted u.old ≡ (chosen, u.new)) }
+    ensures exact { IfOk result (λ chosen. allowed_choice_at scope.now.config.now (where_stands scope.now draft.now) wanted u.old ≡ (chosen, u.new)) }
     ensures offer { IsOffer (where_stands scope.now draft.now) draft.now.set.items (wanted ∷ []) result }
     ensures allowed { IfOk result (λ chosen. IfSome chosen (IsNodeAllowed scope.now)) }
     ensures memory { IfErr result (λ e. e ≡ Error.Memory) }

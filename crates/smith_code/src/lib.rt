@@ -28,6 +28,7 @@ mod rows;
 mod scope;
 mod tables;
 mod tail_calls;
+mod traps;
 mod vector_memory;
 mod vector_rows;
 mod vectors;
