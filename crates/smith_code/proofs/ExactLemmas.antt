@@ -175,12 +175,12 @@ no_values draw (value ∷ wanted) zero s past = absurd (omega arith)
 no_values draw (value ∷ wanted) (suc place) s past = no_values draw wanted place s (omega arith)
 
 -- a statement
-pub chosen_statement : (config : Config) (below : Drawing) (s : State) (node : Node) (left : List ℕ) → statement_choice_at s.context s.bytes ≡ (node, left) → is_node_allowed s.context.features config node ≡ true
+pub chosen_statement : (config : Config) (below : Drawing) (s : State) (node : Node) (left : List ℕ) → statement_choice_at config s.context s.bytes ≡ (node, left) → is_node_allowed s.context.features config node ≡ true
     → statement_at config below s ≡ node_at below node (record s { bytes = left })
 unfolding statement_at
 chosen_statement config below s node left chosen allowed = rw (chosen, allowed) refl
 
-pub forbidden_statement : (config : Config) (below : Drawing) (s : State) (node : Node) (left : List ℕ) → statement_choice_at s.context s.bytes ≡ (node, left) → is_node_allowed s.context.features config node ≡ false
+pub forbidden_statement : (config : Config) (below : Drawing) (s : State) (node : Node) (left : List ℕ) → statement_choice_at config s.context s.bytes ≡ (node, left) → is_node_allowed s.context.features config node ≡ false
     → statement_at config below s ≡ record s { fuel = s.fuel - 1; bytes = left }
 unfolding statement_at
 forbidden_statement config below s node left chosen forbidden = rw (chosen, forbidden) refl

@@ -25,3 +25,4 @@ pub mod VectorChoiceLemmas
 pub mod AtomicNodeLemmas
 pub mod AtomicChoiceLemmas
 pub mod TrapLemmas
+pub mod MemoryLemmas

@@ -87,7 +87,7 @@ allowed_at config below node s =
 -- a statement, given the draws one level deeper
 unfoldable pub statement_at : Config → Drawing → State → State
 statement_at config below s =
-    let chosen = statement_choice_at s.context s.bytes in
+    let chosen = statement_choice_at config s.context s.bytes in
     allowed_at config below chosen.0 (record s { bytes = chosen.1 })
 
 -- at most `most` statements, until the fuel ends or a drawn number is 0

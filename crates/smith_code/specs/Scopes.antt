@@ -3,7 +3,7 @@ use Rattle.std.specs.Prelude.{ℕ, ◌+◌, ◌*◌, ◌≤◌, ◌-◌, ◌^◌
 use Rattle.smith_types.specs.FeatureBits.{features_in}
 use Rattle.smith_types.specs.Features.{Features}
 use Rattle.smith_types.specs.Types.{IsOrderly}
-use Rattle.smith_types.specs.Entities.{IsFuncAt, IsFuncValid}
+use Rattle.smith_types.specs.Entities.{IsFuncAt, IsFuncValid, IsMemoryValid}
 use Rattle.smith_types.specs.ValidTypes.{IsValTypeValid}
 use Rattle.smith_types.specs.declared.value_type.ValType.{ValType}
 use Rattle.smith_types.specs.declared.composite_type.CompositeInnerType.{CompositeInnerType}
@@ -83,6 +83,7 @@ pub record IsScope (context : BodyContext) : Type 0 where
   pub funcs : All (IsFuncValid context.types) context.funcs
   pub globals : All (λ (global : GlobalType). IsValTypeValid context.features (length context.types) global.val_type) context.globals
   pub tables : All (λ (table : TableType). IsRefValid context table.element_type) context.tables
+  pub memories : All (IsMemoryValid context.features) context.memories
   pub elements : All (IsRefValid context) context.elements
   pub locals : AreValid context context.locals
   pub results : AreValid context context.results

@@ -75,6 +75,7 @@ module_scope m valid index function there locals locals_valid =
       funcs = valid.entities.funcs;
       globals = All-weaker (IsGlobalValid features m.types) (λ (global : GlobalType). P global.val_type) (λ (global : GlobalType) (h : IsGlobalValid features m.types global). h.value) m.globals valid.entities.globals;
       tables = All-weaker (IsTableValid features m.types) (λ (table : TableType). R table.element_type) (λ (table : TableType) (h : IsTableValid features m.types table). h.element) m.tables valid.entities.tables;
+      memories = valid.entities.memories;
       elements = All-map R (λ (segment : ElementSegment). segment.ty) m.elems
           (All-weaker (IsElementValid (segment_context m) m.tables) (λ (segment : ElementSegment). R segment.ty) (λ (segment : ElementSegment) (h : IsElementValid (segment_context m) m.tables segment). h.ty) m.elems valid.elements);
       locals = All-append P function.params locals params locals_valid;
