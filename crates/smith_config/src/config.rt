@@ -133,8 +133,10 @@ pub struct Config {
     /// all the same.
     pub allow_floats: bool,
 
-    /// Whether active segments stay inside their tables and memories, so that none of them traps. A
-    /// start function still may. Default false. Where true, a table may have one element and a
+    /// Whether active segments stay inside their tables and memories, so that none of them traps, and
+    /// no instruction of a drawn body may trap but `unreachable`, which is then drawn only without
+    /// fuel, or for a value that no other instruction without operands produces. Imported functions
+    /// and raw bytes still may trap. Default false. Where true, a table may have one element and a
     /// memory one page whatever `max_table_elements`, `max_memory32_bytes` and `max_memory64_bytes`
     /// say.
     pub disallow_traps: bool,
@@ -219,8 +221,8 @@ pub struct Config {
     /// bodies hold no drawn instruction; those of a program hold such kinds alone.
     pub allowed_instructions: InstructionKinds,
 
-    /// The weights by which the offset of a memory access lies inside the memory. Kept without
-    /// effect: offsets are chosen without weights.
+    /// The weights by which the offset of a memory access lies inside the memory. No effect on a
+    /// module, whose bodies hold no drawn instruction.
     pub memory_offset_choices: MemoryOffsetChoices,
 
     /// The number of instructions with operands, or with others inside, that are chosen for a body
