@@ -3,15 +3,14 @@ ghost use Rattle.std.specs.List.{flat_map};
 ghost use Rattle.smith_bytes.specs.Source.{KeepsPieces};
 ghost use Rattle.smith_bytes.specs.Takes.{Takes};
 ghost use Rattle.smith_types.specs.Entities.{IsTableValid};
-ghost use Rattle.smith_types.specs.Floats.{HasNoFloat};
+ghost use Rattle.smith_types.specs.Floats.{HasNoFloat, GivesNoFloat};
 ghost use Rattle.smith_config.specs.Features.{features_of};
-ghost use Rattle.smith_draw.specs.Bounds.{IsTableWithin};
-ghost use Rattle.smith_draw.specs.ConstFloats.{GivesNoFloat};
+ghost use Rattle.smith_config.specs.EntityBounds.{IsTableWithin};
 ghost use Rattle.smith_bytes.specs.Spelling.{SpellsEmpty};
 ghost use Rattle.smith_definitions.specs.Defined.{IsFilled, AreAdded, MayInitialise, MayRefuseDrawn, drawn_over, standing_of};
 ghost use Rattle.smith_definitions.specs.DefinedTables.{IsTableFit, AreTablesDrawn};
 ghost use Rattle.smith_definitions.specs.Definitions.{table_at, tables_at};
-ghost use Rattle.smith_definitions.specs.Promises.{initial_of};
+ghost use Rattle.smith_rules.specs.Promises.{initial_of};
 ghost use Rattle.smith_bytes.specs.Spelling.{SpellsNone};
 
 use crate::past_full::ask_past_full;

@@ -11,7 +11,7 @@ use Rattle.smith_config.specs.InUse.{HasNoShapes}
 use Rattle.smith_draw.specs.Spelling.{IsRoot}
 use Rattle.smith_spell.specs.declared.earlier.Known.{Known}
 use Rattle.smith_spell.specs.Family.{IsMemberType}
-use Rattle.smith_spell.specs.Minimums.{HasNoMinimums}
+use Rattle.smith_config.specs.Minimums.{HasNoMinimums}
 
 -- the configuration asks for nothing beside what is spelled
 pub record AsksForNothing (config : Config) : Type 0 where
