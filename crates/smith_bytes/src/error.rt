@@ -149,11 +149,11 @@ pub enum Error {
 }
 
 impl Error {
-    ghost use Rattle.smith_bytes.specs.ErrorNames.{kind_name};
+    ghost use Rattle.smith_bytes.specs.ErrorNames.{refusal_name};
 
     /// The name of the variant without what the variant holds, for lines of text: `Memory`, `Config`.
     pub fn name(&self) -> &'static str
-        ensures name { result.now ≡ kind_name self.now }
+        ensures name { result.now ≡ refusal_name self.now }
         ensures short { length result.now ≤ 15 }
     {
         match self {

@@ -11,7 +11,7 @@ use Rattle.smith_instr.specs.Enabled.{is_enabled}
 use Rattle.smith_instr.specs.declared.instr.Instr.{Instr}
 use Rattle.smith_instr.specs.declared.instr.Instr.TheVariants as instr
 use Rattle.smith_code.specs.Chosen.{giving}
-use Rattle.smith_code.specs.Leaves.{any_leaf_at, constant_at, leaf_at, leaf_choice_at, leaf_families, leaf_of, named_at, or_constant}
+use Rattle.smith_code.specs.Leaves.{any_leaf_at, constant_instr_at, leaf_at, leaf_choice_at, leaf_families, leaf_of, named_at, or_constant}
 use Rattle.smith_code.specs.Offered.{is_reference, offered}
 use Rattle.smith_code.specs.declared.families.LeafFamily.{LeafFamily}
 use Rattle.smith_code.specs.declared.families.LeafFamily.TheVariants as leaf
@@ -38,7 +38,7 @@ pub leaf_chosen : (context : BodyContext) (set : List ℕ) (wanted : ValType) (b
 unfolding any_leaf_at
 leaf_chosen context set wanted bytes left instruction drawn = ap (λ (d : Option Instr × List ℕ). or_constant wanted d.0 d.1) drawn
 
-pub leaf_constant : (context : BodyContext) (set : List ℕ) (wanted : ValType) (bytes middle left : List ℕ) (instruction : Instr) → leaf_choice_at context set wanted bytes ≡ (None, middle) → constant_at wanted middle ≡ (instruction, left)
+pub leaf_constant : (context : BodyContext) (set : List ℕ) (wanted : ValType) (bytes middle left : List ℕ) (instruction : Instr) → leaf_choice_at context set wanted bytes ≡ (None, middle) → constant_instr_at wanted middle ≡ (instruction, left)
     → any_leaf_at context set wanted bytes ≡ (instruction, left)
 unfolding any_leaf_at
 leaf_constant context set wanted bytes middle left instruction drawn is = ap (λ (d : Option Instr × List ℕ). or_constant wanted d.0 d.1) drawn ∙ is

@@ -2,7 +2,7 @@
 use Rattle.std.specs.Prelude.{ℕ, ◌+◌, ◌*◌, ◌≤◌, ◌-◌, ◌^◌, min, max, List, [], ◌∷◌, length, All}
 use Rattle.smith_types.specs.FeatureBits.{features_in}
 use Rattle.smith_types.specs.Types.{IsOrderly}
-use Rattle.smith_types.specs.Entities.{IsFuncAt, IsFuncValid}
+use Rattle.smith_types.specs.Entities.{IsFuncAt, IsFuncTypeIndex}
 use Rattle.smith_types.specs.ValidTypes.{IsValTypeValid}
 use Rattle.smith_types.specs.declared.value_type.ValType.{ValType}
 use Rattle.smith_types.specs.declared.composite_type.CompositeInnerType.{CompositeInnerType}
@@ -70,7 +70,7 @@ most types = 4 * widest types + 4
 -- the parts of a context are valid
 pub record IsScope (context : BodyContext) : Type 0 where
   pub orderly : IsOrderly context.types
-  pub funcs : All (IsFuncValid context.types) context.funcs
+  pub funcs : All (IsFuncTypeIndex context.types) context.funcs
   pub globals : All (λ (global : GlobalType). IsValTypeValid context.features (length context.types) global.val_type) context.globals
   pub tables : All (λ (table : TableType). IsRefValid context table.element_type) context.tables
   pub elements : All (IsRefValid context) context.elements

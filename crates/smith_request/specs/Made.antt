@@ -15,7 +15,7 @@ pub data IsConfigured (text : List ℕ) (config : Config) : Type 0 where
   read : ReadsText text (Ok (config, [])) → IsConfigured text config
 
 -- the generator may answer this for a configuration and an input: all that it promises holds of it
-pub record Answers (config : Config) (input : List ℕ) (answer : Result Program Error) : Type 0 where
+pub record IsProgramAnswer (config : Config) (input : List ℕ) (answer : Result Program Error) : Type 0 where
   pub left : List ℕ
   pub generated : IsProgram config input answer left
 
@@ -23,7 +23,7 @@ pub record Answers (config : Config) (input : List ℕ) (answer : Result Program
 pub record AnswersText (text input : List ℕ) (answer : Result Program Error) : Type 0 where
   pub config : Config
   pub configured : IsConfigured text config
-  pub answers : Answers config input answer
+  pub answers : IsProgramAnswer config input answer
 
 -- the bytes are that program in the binary format, with the sections that its module wants
 pub record IsBinary (text input bytes : List ℕ) : Type 0 where

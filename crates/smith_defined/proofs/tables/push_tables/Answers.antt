@@ -1,9 +1,9 @@
-use Rattle.smith_defined.specs.Defined.{standing_of}
+use Rattle.smith_defined.specs.Defined.{scope_of_spaces}
 use Rattle.smith_defined.proofs.DefinedTablesLoop.{tables_start, tables_go, tables_stop, tables_full}
 use Rattle.smith_defined.proofs.tables.push_tables.Goals as goal
 
 pub loop-made-init : goal.loop-made-init
-loop-made-init c = tables_start c.args.config.now (standing_of c.args.spaces.now) c.args.tables.now c.args.initials.now c.args.u.now
+loop-made-init c = tables_start c.args.config.now (scope_of_spaces c.args.spaces.now) c.args.tables.now c.args.initials.now c.args.u.now
 
 pub returns-then-not-goes_on-clause-exact : goal.returns-then-not-goes_on-clause-exact
 returns-then-not-goes_on-clause-exact c =
@@ -19,4 +19,4 @@ loop-made-preserved c =
 pub returns-clause-exact : goal.returns-clause-exact
 returns-clause-exact c =
     let count = c.len-before.ensures in
-    tables_full c.loop-made.invariant (rw (c.saturating_sub-most.ensures, count) at c.loop-made-test.false) (rw count at c.ask_past_full.ensures.exact)
+    tables_full c.loop-made.invariant (rw (c.saturating_sub-most.ensures, count) at c.loop-made-test.false) (rw count at c.discard_past_maximum.ensures.exact)

@@ -1,6 +1,6 @@
-use Rattle.smith_defined.specs.Defined.{standing_of}
+use Rattle.smith_defined.specs.Defined.{scope_of_spaces}
 use Rattle.smith_defined.proofs.DefinedTablesLoop.{IsDefiningTables}
 use Rattle.smith_defined.proofs.tables.push_tables.Given as goal
 
 abbrev pub invariant-loop-made : goal.invariant-loop-made
-invariant-loop-made l = IsDefiningTables l.config (standing_of l.spaces) l.fn.tables l.tables l.fn.initials l.initials l.made l.fn.u l.u
+invariant-loop-made l = IsDefiningTables l.config (scope_of_spaces l.spaces) l.fn.tables l.tables l.fn.initials l.initials l.made l.fn.u l.u
