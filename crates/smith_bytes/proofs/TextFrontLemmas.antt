@@ -106,8 +106,7 @@ valid_len_by_part bs part within inside =
     let down = valid_len_longest bs (utf8_valid_len (take part bs)) (omega (arith, length-take part bs)) (part_text bs part within) in
     omega arith
 
--- if a whole character still fits after the longest UTF-8 prefix of the window, no UTF-8 prefix extends beyond the
--- window
+-- if a whole character still fits after the longest UTF-8 prefix of the window, no UTF-8 prefix extends beyond the window
 pub valid_len_by_window : (bs : List ℕ) (window : ℕ) → window ≤ length bs → utf8_valid_len (take window bs) + 4 ≤ window → utf8_valid_len bs ≤ window
 valid_len_by_window bs window within room =
     let n = utf8_valid_len (take window bs) in

@@ -1,5 +1,5 @@
--- Pieces of bytes that spell a value to be drawn. A rule of this project. A spelling describes bytes and mentions no
--- draw; that a draw reads what is spelled is a law.
+-- Pieces of bytes that spell a value to be drawn. A rule of this project. A spelling describes bytes and mentions no draw;
+-- that a draw reads what is spelled is a law.
 use Rattle.std.specs.Prelude.{◌≡◌, ℕ, zero, suc, ◌+◌, ◌-◌, ◌%◌, ◌<◌, nat_lt, Bool, true, false, List, [], ◌∷◌, ◌++◌, length, if◌then◌else◌}
 use Rattle.smith_bytes.specs.Draws.{big_endian, digit_count}
 
@@ -9,7 +9,8 @@ pub record SpellsBool (value : Bool) (piece : List ℕ) : Type 0 where
   pub whole : piece ≡ byte ∷ []
   pub lowest : byte % 2 ≡ (if value then 1 else 0)
 
--- a number in lo..=hi: as many digits as hi - lo has, most significant first, added to lo modulo the size of the range
+-- a number in lo..=hi: as many digits as hi - lo has, most significant first; their value modulo the size of the range is
+-- added to lo
 pub record SpellsNumber (value lo hi : ℕ) (piece : List ℕ) : Type 0 where
   pub digits : length piece ≡ digit_count (hi - lo)
   pub read : value ≡ lo + big_endian piece % (hi - lo + 1)

@@ -105,8 +105,8 @@ impl<'a> Unstructured<'a> {
     ///
     /// ```rust
     /// let mut u = Unstructured::new(&[3, 232]);
-    /// assert_eq!(rt; u.int_in_range(0..=1000), 1000u32);
-    /// assert_eq!(rt; u.int_in_range(5..=9), 5u8);
+    /// assert_eq!(rt; u.int_in_range(0u32..=1000), 1000);
+    /// assert_eq!(rt; u.int_in_range(5u8..=9), 5);
     /// ```
     #[tactic(auto, unfolding(crate::specs::Draws::range_at))]
     pub fn int_in_range<T: Int>(&mut self, range: RangeInclusive<T>) -> T

@@ -22,8 +22,8 @@ use Rattle.smith_config.specs.declared.shape.Shape.{Shape}
 use Rattle.smith_config.specs.Features.{features_of}
 use Rattle.smith_config.specs.Shapes.{IsShort, IsShallow, IsPlain, HasNothingLeftOut, AreCountsFor, space_of, shape_spaces}
 
--- types, and the entities that refer to them, are valid with every feature enabled; shared ones hold only values that
--- may be shared
+-- types, and the entities that refer to them, are valid with every feature enabled; shared ones hold only values that may be
+-- shared
 pub record AreTypesSound (space : Space) (spaces : IndexSpaces) : Type 0 where
   pub types : AreTypesValid every_feature space
   pub values : All (IsValTypeValid every_feature (length space.types)) (values_in space.types spaces)
@@ -86,8 +86,8 @@ pub record IsFirstShapeFault (which : Which) (config : Config) (shape : Shape) (
   pub earlier : All (λ other. ¬ HasShapeFault which config shape other) before
   pub there : HasShapeFault which config shape found
 
--- the errors of the check of a shape: its first fault, or a failed allocation; the check of a shape that is too long
--- does not allocate
+-- the errors of the check of a shape: its first fault, or a failed allocation; the check of a shape that is too long does
+-- not allocate
 abbrev pub IsRefused : Which → Config → Shape → Error → Type 0
 IsRefused which config shape error.Memory = IsShort shape
 IsRefused which config shape (error.Shape named found) = (named ≡ which) × IsFirstShapeFault which config shape found

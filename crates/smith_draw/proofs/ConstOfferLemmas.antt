@@ -338,8 +338,8 @@ module _ (config : Config) (context : Context) (wanted : ValType) (fuel : ℕ) (
 
 -- the choices offered for a reference
 module _ (config : Config) (context : Context) (r : RefType) (fuel : ℕ) (scope : IsScope context) (valid : IsValTypeValid context.features (length context.types) (Ref r)) where
-  -- a conversion is offered for a nullable reference or with `non_nullable_enabled` off: if its operand may lack
-  -- choices, so may the reference
+  -- a conversion is offered for a nullable reference or with `non_nullable_enabled` off: if its operand may lack choices, so
+  -- may the reference
   lacking_by : (nullable on : Bool) (P Q : Type 0) → (nullable || not on) ≡ true → (nullable ≡ false) × (IsTrue on → P) → (nullable ≡ false) × (IsTrue on → Q)
   lacking_by true on P Q may (not_null, h) = cc
   lacking_by false true P Q may (not_null, h) = cc

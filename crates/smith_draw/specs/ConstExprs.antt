@@ -75,8 +75,7 @@ abbrev pub const_expr_at : Config → Context → ValType → List ℕ → Optio
 const_expr_at config context wanted bytes =
     expression_alone_at context config config.const_expr_fuel wanted bytes
 
--- the initialiser of a table: none without garbage collection; for nullable elements, a bool decides whether there is
--- none
+-- the initialiser of a table: none without garbage collection; for nullable elements, a bool decides whether there is none
 unfoldable pub table_init_at : Config → Context → RefType → List ℕ → Option (Option (List ConstInstr) × List ℕ)
 table_init_at config context element bytes =
     let null = if element.nullable then bool_at bytes else (false, bytes) in

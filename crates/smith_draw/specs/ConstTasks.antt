@@ -40,8 +40,7 @@ abbrev pub IsStep : Context → Config → Task → List Task → State → List
 IsStep context config (Draw operand) todo old todo' new = ((todo' ≡ todo) × IsOperandDrawn context config operand old new) ⊎ IsOperandBegun context config operand todo old todo' new
 IsStep context config (Write instruction) todo old todo' new = (todo' ≡ todo) × (new ≡ behind instruction old)
 
--- a step adds at most the operands of one node and its instruction to the tasks, and makes them more only if it spends
--- fuel
+-- a step adds at most the operands of one node and its instruction to the tasks, and makes them more only if it spends fuel
 pub record IsGrowthPaid (context : Context) (todo : List Task) (fuel : ℕ) (todo' : List Task) (left : ℕ) : Type 0 where
   pub few : length todo' ≤ length todo + (widest context.types + 1)
   pub paid : length todo < length todo' → left < fuel

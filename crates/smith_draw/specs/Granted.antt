@@ -7,7 +7,7 @@ use Rattle.smith_types.specs.declared.composite_type.SubType.{SubType}
 use Rattle.smith_config.specs.declared.config.Config.{Config}
 use Rattle.smith_draw.specs.ConstBounds.{IsUngrounded}
 
--- a value type that is not a non-nullable reference, or is one that is grounded with `non_nullable_enabled`
+-- a value type that is not a non-nullable reference, or is a grounded one with `non_nullable_enabled` on
 abbrev pub IsGranted : Config → Context → ValType → Type 0
 IsGranted config context value = ¬ IsUngrounded config context value
 

@@ -48,8 +48,8 @@ abbrev pub any_from : {A : Type 0} → (ℕ → A → Bool) → ℕ → List A �
 any_from test start [] = false
 any_from test start (x ∷ xs) = test start x || any_from test (start + 1) xs
 
--- whether the type at this index is a struct type whose fields all have defaults, and a reference to such a struct is
--- below a heap type
+-- whether the type at this index is a struct type whose fields all have defaults, and a reference to such a struct is below
+-- a heap type
 abbrev pub type_grounds : Context → HeapType → ℕ → SubType → Bool
 type_grounds context ty index t = is_ground t && is_val_below context.types (created context index) (reference_to ty)
 

@@ -119,8 +119,7 @@ ancestors_within (suc most) types index = elim (supertype_at types index) [ None
 unfoldable pub ancestors : List SubType → ℕ → List HeapType
 ancestors types index = ancestors_within (length types) types index
 
--- over orderly types none is missing: the first is the declared supertype, and the others are the proper supertypes of
--- that
+-- over orderly types none is missing: the first is the declared supertype, and the others are the proper supertypes of that
 abbrev pub AncestorsAreAll : Type 0
 AncestorsAreAll = (types : List SubType) → IsOrderly types → (index supertype : ℕ) → supertype_at types index ≡ Some supertype → ancestors types index ≡ Concrete supertype ∷ ancestors types supertype
 

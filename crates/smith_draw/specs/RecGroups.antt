@@ -41,8 +41,7 @@ new_group_at config context allow_empty space bytes =
 abbrev pub members : List SubType → Range ℕ → List SubType
 members types group = take (group.end - group.start) (drop group.start types)
 
--- a group may be cloned unless it is empty and that is not allowed, or it has more types than may still be added (own
--- rule)
+-- a group may be cloned unless it is empty and that is not allowed, or it has more types than may still be added (own rule)
 abbrev pub may_be_cloned : Config → Bool → Space → Range ℕ → Bool
 may_be_cloned config allow_empty space group =
     (allow_empty || nat_lt group.start group.end) && nat_le (group.end - group.start) (types_left config space)
@@ -92,8 +91,8 @@ more_types_at config context (suc most) space bytes =
     then (if go.0 then more_types_at config context most grown.0 grown.1 else (space, go.1))
     else (space, bytes)
 
--- groups until the minimum number of types is reached, then further groups; each of these but the last takes a byte
--- (own rule)
+-- groups until the minimum number of types is reached, then further groups; each of these but the last takes a byte (own
+-- rule)
 unfoldable pub types_at : Config → Context → Space → List ℕ → Space × List ℕ
 types_at config context space bytes =
     let least = least_types_at config context config.min_types space bytes in

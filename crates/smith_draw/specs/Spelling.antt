@@ -125,8 +125,8 @@ pub record SpellsCompositeType (config : Config) (limit : ℕ) (composite : Comp
 abbrev pub is_open : SubType → Bool
 is_open t = not t.is_final
 
--- with garbage collection: that no supertype is chosen, whether the type is final, that it is unshared, and its
--- composite type
+-- with garbage collection: that no supertype is chosen, whether the type is final, that it is unshared, and its composite
+-- type
 abbrev pub SpellsDeclared : Config → List SubType → ℕ → SubType → List ℕ → Type 0
 SpellsDeclared config before limit t =
     Joined (Where (list_any is_open before) (SpellsRefusal 32))
@@ -169,7 +169,7 @@ SpellsGroups config before stands (group ∷ groups) piece =
 abbrev pub IsRoot : SubType → Type 0
 IsRoot t = t.supertype ≡ None
 
--- a value type that refers only to these types, and whose non-nullable references are grounded by struct types among
+-- a value type that refers only to these types, and, if it is a non-nullable reference, is grounded by a struct type among
 -- them
 abbrev pub RefersTo : Config → List SubType → ValType → Type 0
 RefersTo config types (vals.Ref reference) =
@@ -181,15 +181,14 @@ abbrev pub ReferBack : Config → List SubType → List SubType → Type 0
 ReferBack config before [] = Unit {0}
 ReferBack config before (t ∷ types) = All (RefersTo config before) (values_of t.composite_type.inner) × ReferBack config (before ++ t ∷ []) types
 
--- groups after types: none is empty, there is room for all, and their types refer only to types before them, which
--- ground their non-nullable references
+-- groups after types: none is empty, there is room for all, and their types refer only to types before them, which ground
+-- their non-nullable references
 abbrev pub GroupsFit : Config → List SubType → List (List SubType) → Type 0
 GroupsFit config before [] = Unit {0}
 GroupsFit config before (group ∷ groups) =
     (0 < length group) × (length before + length group ≤ config.max_types) × ReferBack config before group × GroupsFit config (before ++ group) groups
 
--- a space with one more group, of types that refer only to types before them, which ground their non-nullable
--- references
+-- a space with one more group, of types that refer only to types before them, which ground their non-nullable references
 pub record SpellsAdded (config : Config) (before space : Space) (piece : List ℕ) : Type 0 where
   pub added : List SubType
   pub is_behind : space ≡ with_group (before.types ++ added) before.groups

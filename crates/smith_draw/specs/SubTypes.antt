@@ -11,8 +11,7 @@ use Rattle.smith_draw.specs.Offered.{ancestors}
 use Rattle.smith_draw.specs.CompositeTypes.{composite_type_at}
 use Rattle.smith_draw.specs.MatchingComposites.{matching_composite_type_at}
 
--- the number of types on the path along declared supertypes of the type at this index, including the type itself (own
--- rule)
+-- the number of types on the path along declared supertypes of the type at this index, including the type itself (own rule)
 abbrev pub depth_at : List SubType → ℕ → ℕ
 depth_at types index = suc (length (ancestors types index))
 
@@ -20,8 +19,8 @@ depth_at types index = suc (length (ancestors types index))
 abbrev pub may_have_subtypes : List SubType → ℕ → SubType → Bool
 may_have_subtypes types index t = not t.is_final && nat_lt (depth_at types index) 60
 
--- a declared supertype exists, has the same kind and sharedness (Validation, Recursive Types), and may have subtypes
--- (own rule)
+-- a declared supertype exists, has the same kind and sharedness (Validation, Recursive Types), and may have subtypes (own
+-- rule)
 pub record HasSuperType (types : List SubType) (t : SubType) : Type 0 where
   pub below : (s : ℕ) → t.supertype ≡ Some s → (u : SubType) × (slice_get types s ≡ Some u) × IsAlike t u
   pub allowed : (s : ℕ) (u : SubType) → t.supertype ≡ Some s → slice_get types s ≡ Some u → may_have_subtypes types s u ≡ true
@@ -72,8 +71,8 @@ sub_type_of_at config context limit indices bytes =
     let index = chosen_at 0 indices bytes in
     sub_type_below_at config context limit index.0 (slice_get context.types index.0) index.1
 
--- whether to choose a supertype, given the number of types that may have subtypes: with garbage collection, if some
--- type may, in one case of 32 (own rule)
+-- whether to choose a supertype, given the number of types that may have subtypes: with garbage collection, if some type
+-- may, in one case of 32 (own rule)
 abbrev pub supertype_wanted_at : Config → ℕ → List ℕ → Bool × List ℕ
 supertype_wanted_at config count bytes =
     if config.gc_enabled && nat_lt 0 count then ratio_at 1 32 bytes else (false, bytes)

@@ -74,8 +74,8 @@ heap_type_at config types must_share limit bytes =
     let index = type_index_at config types must_share limit bytes in
     heap_type_of_at config must_share index.0 index.1
 
--- whether a reference is non-nullable: with `non_nullable_enabled`, if a bool is true and the heap type is grounded
--- (own rule)
+-- whether a reference is non-nullable: with `non_nullable_enabled`, if a bool is true and the heap type is grounded (own
+-- rule)
 unfoldable pub granted_at : Config → Context → HeapType → List ℕ → Bool × List ℕ
 granted_at config context ty bytes =
     let wanted = bool_at bytes in

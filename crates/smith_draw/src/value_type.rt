@@ -123,8 +123,8 @@ fn kept_index(types: &[SubType], must_share: bool, index: u32) -> Option<u32>
     }
 }
 
-/// Draws the index of a type below `limit`, if a drawn bool is true. Discards the index if it must
-/// be of a shared type and is not.
+/// Draws the index of a type below `limit`, if a drawn bool is true. Discards the index if its type
+/// does not exist, or is unshared although `must_share` is `true`.
 #[tactic(auto, unfolding(crate::specs::ValueTypes::type_index_at))]
 fn draw_type_index(
     config: &Config,

@@ -1,6 +1,6 @@
--- Constant expressions: the section Validation, Instructions, Constant Expressions, of the WebAssembly Core
--- Specification 3.0. The treatment of shared references and exact types is a rule of this project. Subtyping includes
--- the own rules of `Subtyping`.
+-- Constant expressions: the section Validation, Instructions, Constant Expressions, of the WebAssembly Core Specification
+-- 3.0. The treatment of shared references and exact types is a rule of this project. Subtyping includes the own rules of
+-- `Subtyping`.
 use Rattle.std.specs.Prelude.{◌≡◌, ℕ, ◌<◌, Bool, true, false, nat_le, IsTrue, List, [], ◌∷◌, ◌++◌, map, replicate, length, slice_get, Some, All, if◌then◌else◌}
 use Rattle.std.specs.List.{AllZip}
 use Rattle.smith_types.specs.Features.{Features}
@@ -21,8 +21,8 @@ use Rattle.smith_types.specs.declared.entity_type.GlobalType.{GlobalType}
 use Rattle.smith_types.specs.declared.const_instr.ConstInstr.{ConstInstr}
 use Rattle.smith_types.specs.declared.const_instr.ConstInstr.TheVariants as instr
 
--- the context of an expression (Validation, Contexts); imported functions and globals come first, and only globals
--- below `visible` may be read
+-- the context of an expression (Validation, Contexts); imported functions and globals come first, and only globals below
+-- `visible` may be read
 pub record Context : Type 0 where
   pub features : Features
   pub types : List SubType
@@ -36,8 +36,7 @@ pub record Context : Type 0 where
 abbrev pub reference_to : HeapType → ValType
 reference_to heap_type = Ref (record { nullable = false; heap_type = heap_type })
 
--- the reference to a created value of a type, or to a defined function of a type: exact with custom descriptors (own
--- rule)
+-- the reference to a created value of a type, or to a defined function of a type: exact with custom descriptors (own rule)
 abbrev pub created : Context → ℕ → ValType
 created context index = reference_to (if context.features.custom_descriptors then Exact index else Concrete index)
 
@@ -146,13 +145,13 @@ pub record IsConstExpr (context : Context) (wanted : ValType) (expression : List
 abbrev pub seen_by_tables : Context → ℕ
 seen_by_tables context = context.imported_globals
 
--- the end of the globals visible to the global at this index: before it (Validation, Modules); without garbage
--- collection, after the imported globals (own rule)
+-- the end of the globals visible to the global at this index: before it (Validation, Modules); without garbage collection,
+-- after the imported globals (own rule)
 abbrev pub seen_by_global : Context → ℕ → ℕ
 seen_by_global context index = if context.features.gc then index else context.imported_globals
 
--- the end of the globals visible to segments: after all globals (Validation, Modules); without garbage collection,
--- after the imported globals (own rule)
+-- the end of the globals visible to segments: after all globals (Validation, Modules); without garbage collection, after the
+-- imported globals (own rule)
 abbrev pub seen_by_segments : Context → ℕ
 seen_by_segments context = if context.features.gc then length context.globals else context.imported_globals
 

@@ -1,5 +1,5 @@
--- The features that each construct requires. That a module may use a construct only if its feature is enabled is a rule
--- of this project; the standard defines one language.
+-- The features that each construct requires. That a module may use a construct only if its feature is enabled is a rule of
+-- this project; the standard defines one language.
 use Rattle.std.specs.Prelude.{◌≡◌, ℕ, ◌<◌, ◌≤◌, true, false, IsTrue, IsSome, length}
 use Rattle.smith_types.specs.Features.{Features}
 use Rattle.smith_types.specs.declared.value_type.AbstractHeapType.{AbstractHeapType}

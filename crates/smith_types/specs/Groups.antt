@@ -1,5 +1,5 @@
--- Types given in their groups, as lists of lists: the section Structure, Types, Recursive Types, of the WebAssembly
--- Core Specification 3.0.
+-- Types given in their groups, as lists of lists: the section Structure, Types, Recursive Types, of the WebAssembly Core
+-- Specification 3.0.
 use Rattle.std.specs.Prelude.{◌≡◌, ℕ, ◌+◌, ◌<◌, List, [], ◌∷◌, Some, length, slice_get}
 use Rattle.std.specs.List.{flat_map}
 use Rattle.std.specs.declared.ops.Range.{Range}

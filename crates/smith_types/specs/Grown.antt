@@ -13,8 +13,7 @@ pub record Extends {A : Type 0} (old new : List A) : Type 0 where
   pub more : List A
   pub parts : new ≡ old ++ more
 
--- a context with types, functions and globals appended, the same features and imports, and at least as many visible
--- globals
+-- a context with types, functions and globals appended, the same features and imports, and at least as many visible globals
 pub record IsContextGrown (old new : Context) : Type 0 where
   pub features : new.features ≡ old.features
   pub types : Extends old.types new.types

@@ -1,5 +1,5 @@
--- Imports one by one, and the index spaces that start with them: the sections Structure, Imports, and Validation,
--- Imports, of the WebAssembly Core Specification 3.0. Groups of imports are those of the compact imports proposal.
+-- Imports one by one, and the index spaces that start with them: the sections Structure, Imports, and Validation, Imports,
+-- of the WebAssembly Core Specification 3.0. Groups of imports are those of the compact imports proposal.
 use Rattle.std.specs.Prelude.{◌≡◌, ℕ, ◌<◌, List, [], ◌∷◌, ◌++◌, map, length}
 use Rattle.std.specs.List.{flat_map}
 use Rattle.smith_types.specs.Features.{Features}
@@ -53,8 +53,7 @@ global_of _ = []
 abbrev pub imported : {A : Type 0} → (EntityType → List A) → List Import → List A
 imported of_kind imports = flat_map (λ (one : Import). of_kind one.entity_type) imports
 
--- the index spaces except that of types (Structure, Indices); tags and functions are given by the indices of their
--- types
+-- the index spaces except that of types (Structure, Indices); tags and functions are given by the indices of their types
 pub record IndexSpaces : Type 0 where
   pub tags : List ℕ
   pub funcs : List ℕ

@@ -108,8 +108,7 @@ pub record IsFirstUnknown (parts : List (List ℕ)) (place : ℕ) : Type 0 where
   pub kinds : List InstructionKind
   pub before : AllZip IsNamed (take place parts) kinds
 
--- the result of parsing a set: the kinds named by the parts of the text, or the position of the first part that names
--- none
+-- the result of parsing a set: the kinds named by the parts of the text, or the position of the first part that names none
 abbrev pub AreReadKinds : List ℕ → Result InstructionKinds UnknownKind → Type 0
 AreReadKinds text (Ok all) = (kinds : List InstructionKind) × AllZip IsNamed (parts_of text) kinds × (kinds_bits all ≡ union_of kinds)
 AreReadKinds text (Err e) = IsFirstUnknown (parts_of text) e.part

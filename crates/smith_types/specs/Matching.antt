@@ -1,5 +1,5 @@
--- Matching of storage, field and composite types. Sections are those of the WebAssembly Core Specification 3.0.
--- Subtyping of value types includes the own rules of `Subtyping`.
+-- Matching of storage, field and composite types. Sections are those of the WebAssembly Core Specification 3.0. Subtyping of
+-- value types includes the own rules of `Subtyping`.
 use Rattle.std.specs.Prelude.{◌≡◌, IsTrue, List, [], ◌∷◌, All}
 use Rattle.smith_types.specs.declared.value_type.ValType.{ValType}
 use Rattle.smith_types.specs.declared.composite_type.StorageType.{StorageType}
@@ -19,8 +19,8 @@ IsStorageMatch types I16 I16 = Unit {0}
 IsStorageMatch types (Val a) (Val b) = IsValBelow types a b
 IsStorageMatch types _ _ = ⊥
 
--- one field matches another of the same mutability; mutable fields match in both directions (Validation, Matching,
--- Field Types)
+-- one field matches another of the same mutability; mutable fields match in both directions (Validation, Matching, Field
+-- Types)
 pub record IsFieldMatch (types : List SubType) (f g : FieldType) : Type 0 where
   pub same : f.mutable ≡ g.mutable
   pub below : IsStorageMatch types f.element_type g.element_type

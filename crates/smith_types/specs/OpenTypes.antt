@@ -1,5 +1,5 @@
--- Valid types while a group is under construction. Type validation, in the section Validation, Types, of the
--- WebAssembly Core Specification 3.0.
+-- Valid types while a group is under construction. Type validation, in the section Validation, Types, of the WebAssembly
+-- Core Specification 3.0.
 use Rattle.std.specs.Prelude.{◌≡◌, ℕ, ◌≤◌, Some, length, slice_get, All}
 use Rattle.smith_types.specs.declared.composite_type.SubType.{SubType}
 use Rattle.smith_types.specs.Features.{Features}

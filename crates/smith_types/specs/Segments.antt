@@ -48,16 +48,16 @@ AreItemsValid context ty (Expressions expressions) = IsTrue context.features.ref
 abbrev pub table_index : Option ℕ → ℕ
 table_index table = unwrap_or table 0
 
--- the item type is a subtype of the table's element type, and the offset fits the table's addresses (Validation,
--- Element Segments)
+-- the item type is a subtype of the table's element type, and the offset fits the table's addresses (Validation, Element
+-- Segments)
 pub record IsActiveElement (context : Context) (tables : List TableType) (ty : RefType) (index : ℕ) (offset : Offset) : Type 0 where
   pub table : TableType
   pub stands : slice_get tables index ≡ Some table
   pub below : IsRefBelow context.types ty table.element_type
   pub offset_valid : IsOffsetValid context table.table64 offset
 
--- an active segment is copied into a table that accepts it, the first if none is given; the other forms require bulk
--- memory (own rule)
+-- an active segment is copied into a table that accepts it, the first if none is given; the other forms require bulk memory
+-- (own rule)
 abbrev pub IsElementKindValid : Context → List TableType → RefType → ElementKind → Type 0
 IsElementKindValid context tables ty element.Passive = IsTrue context.features.bulk_memory
 IsElementKindValid context tables ty element.Declared = IsTrue context.features.bulk_memory
@@ -71,8 +71,7 @@ pub record IsElementValid (context : Context) (tables : List TableType) (segment
   pub items : AreItemsValid context segment.ty segment.items
   pub kind : IsElementKindValid context tables segment.ty segment.kind
 
--- the memory of an active data segment exists (Validation, Data Segments); passive segments require bulk memory (own
--- rule)
+-- the memory of an active data segment exists (Validation, Data Segments); passive segments require bulk memory (own rule)
 abbrev pub IsDataKindValid : Context → List MemoryType → DataSegmentKind → Type 0
 IsDataKindValid context memories data_kind.Passive = IsTrue context.features.bulk_memory
 IsDataKindValid context memories (data_kind.Active index offset) =

@@ -15,8 +15,8 @@ pub record IsSound (space : Space) : Type 0 where
   pub within : next_start space.groups ≤ length space.types
   pub few : length space.types < 2 ^ 32
 
--- a type may be appended to these: its supertype, if any, exists and is of the same kind and sharedness, and an index
--- is available
+-- a type may be appended to these: its supertype, if any, exists and is of the same kind and sharedness, and an index is
+-- available
 pub record MayFollow (types : List SubType) (t : SubType) : Type 0 where
   pub below : (s : ℕ) → t.supertype ≡ Some s → (u : SubType) × (slice_get types s ≡ Some u) × IsAlike t u
   pub room : length types + 1 < 2 ^ 32
@@ -31,8 +31,8 @@ pub record AreDepths (types : List SubType) (depths : List ℕ) : Type 0 where
   pub long : length depths ≡ length types
   pub each : (i : ℕ) → i < length types → HasDepth types i (slice_index depths i)
 
--- the indices, starting at `first`, of the types that may have subtypes, given the depth of each: types that are not
--- final and have a depth less than 60 (own rule)
+-- the indices, starting at `first`, of the types that may have subtypes, given the depth of each: types that are not final
+-- and have a depth less than 60 (own rule)
 abbrev pub extensible_from : ℕ → List SubType → List ℕ → List ℕ
 extensible_from first [] depths = []
 extensible_from first (t ∷ types) [] = []

@@ -218,9 +218,8 @@ impl TypeSpace {
         last_counts(self.places.as_slice()).count(shared, kind)
     }
 
-    /// Returns the index of a type among those counted by [`TypeSpace::count_of_kind`]. They are
-    /// numbered from 0 in index order, and `place` is the number of the type. Requires `place` to
-    /// be less than that count.
+    /// Returns the index of the type at position `place`, from 0, among those counted by
+    /// [`TypeSpace::count_of_kind`], in index order. Requires `place` to be less than that count.
     pub fn index_of_kind(&self, shared: bool, kind: AbstractHeapType, place: u32) -> u32
         requires { place < length (indices_of_kind self.now.types shared kind) }
         ensures { slice_get (indices_of_kind self.now.types shared kind) place ≡ Some result }
@@ -249,9 +248,9 @@ impl TypeSpace {
         }
     }
 
-    /// Returns the index of a type among those counted by [`TypeSpace::count_of_direct_subtypes`].
-    /// They are numbered from 0 in index order, and `place` is the number of the type. Requires
-    /// `place` to be less than that count.
+    /// Returns the index of the type at position `place`, from 0, among those counted by
+    /// [`TypeSpace::count_of_direct_subtypes`], in index order. Requires `place` to be less than
+    /// that count.
     ///
     /// Takes a step for each direct subtype after the result.
     pub fn direct_subtype(&self, index: u32, place: u32) -> u32

@@ -55,9 +55,8 @@ use std::alloc::Global;
 /// # Errors
 ///
 /// Returns `EmptyChoose` if nothing produces a value that is needed. This happens only if `wanted`,
-/// or a field or element type of `spaces`, is a non-nullable reference. If `config` enables
-/// non-nullable references, it also happens only if no struct type and no function of `spaces`
-/// grounds that reference.
+/// or a field or element type of `spaces`, is a non-nullable reference; with
+/// `non_nullable_enabled`, only if in addition no struct type or function of `spaces` grounds it.
 pub fn arbitrary_const_expr(
     alloc: Global,
     config: &Config,
