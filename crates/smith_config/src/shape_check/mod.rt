@@ -35,8 +35,8 @@ impl Shape {
     /// Checks the shape for the use `which` in the configuration `config`.
     ///
     /// Allocates from `alloc`, unless a list of the shape is too long. Takes time linear in the
-    /// size of the shape, apart from names, which are looked up in a set, and supertypes, each of
-    /// which takes time logarithmic in the depth of its type.
+    /// size of the shape, apart from names, which are looked up in a set, and types with a
+    /// supertype, each of which takes time and memory up to its depth.
     ///
     /// # Errors
     ///
