@@ -70,6 +70,27 @@ fn spell_in_family(
 /// # Errors
 ///
 /// `Memory` for lack of memory.
+///
+/// # Examples
+///
+/// Adds bytes to a corpus from which modules with the types `groups` and one function of the first
+/// type are drawn:
+///
+/// ```
+/// use std::alloc::Global;
+/// use wasm_smith::{Config, Error, Items, SubType, spell};
+///
+/// fn add_seed(
+///     alloc: Global,
+///     groups: &[Items<SubType>],
+///     corpus: &mut Vec<Items<u8>>,
+/// ) -> Result<(), Error> {
+///     if let Some(seed) = spell(alloc, &Config::default(), groups, &[0])? {
+///         corpus.push(seed)?;
+///     }
+///     Ok(())
+/// }
+/// ```
 pub fn spell(
     alloc: Global,
     config: &Config,
