@@ -1,4 +1,4 @@
-ghost use Rattle.std.specs.Prelude.{◌≡◌, ◌++◌, ◌↔◌, IsTrue, IfSome, OnOk, IfOk, IfErr, map};
+ghost use Rattle.std.specs.Prelude.{◌≡◌, ◌≤◌, ◌++◌, ◌↔◌, IsTrue, IfSome, OnOk, IfOk, IfErr, map};
 ghost use Rattle.smith_types.specs.Expressions.{Context};
 ghost use Rattle.smith_types.specs.Subtyping.{IsValInRange};
 ghost use Rattle.smith_types.specs.declared.value_type.ValType.{ValType as Wanted};
@@ -18,7 +18,8 @@ use std::alloc::Global;
 const FEW: usize = 32;
 
 /// The globals and functions that are offered for each type that was wanted, where they're kept: many draws then look at a global or a
-/// function once for each of these types. Nothing is kept, and no memory taken, where there are few globals and functions.
+/// function once for each of these types. Initialisers of tables and of globals may share it: what has looked at defined globals isn't
+/// used where only imported ones may be read. Nothing is kept, and no memory taken, where there are few globals and functions.
 #[derive(Drop)]
 pub struct KeptOffers {
     kept: Vec<KeptOffer>,
@@ -65,18 +66,19 @@ impl KeptOffers {
         if scope.visible + entities.funcs.len() < FEW {
             return Ok(None);
         }
-        let place = self.place_of(alloc, wanted)?;
+        let place = self.place_of(alloc, wanted, scope.visible)?;
         self.kept[place].look(scope)?;
         Ok(Some(place))
     }
 
-    /// Returns the place of what is kept for a value of the type `wanted`, and begins to keep it where there is none.
-    fn place_of(&mut self, alloc: Global, wanted: ValType) -> Result<usize, Error>
+    /// Returns the place of what is kept for a value of the type `wanted`, of the first `visible` globals at most, and begins to keep
+    /// it where there is none.
+    fn place_of(&mut self, alloc: Global, wanted: ValType, visible: usize) -> Result<usize, Error>
         ensures kept { (context : Context) → IsValInRange context.types wanted → AreKeptOffers context self.old → OnOk result (AreKeptOffers context self.new) }
         ensures place { IfOk result (λ place. IsKeptAt self.new.kept.items place wanted) }
         ensures memory { IfErr result (λ e. e ≡ Error.Memory) }
     {
-        if let Some(place) = find(self.kept.as_slice(), wanted) {
+        if let Some(place) = find(self.kept.as_slice(), wanted, visible) {
             return Ok(place);
         }
         let place = self.kept.len();
@@ -99,12 +101,12 @@ impl KeptOffers {
     }
 }
 
-/// Returns the place of what `kept` has for a value of the type `wanted`, if anything.
-fn find(kept: &[KeptOffer], wanted: ValType) -> Option<usize>
+/// Returns the place of what `kept` has for a value of the type `wanted`, of the first `visible` globals at most, if anything.
+fn find(kept: &[KeptOffer], wanted: ValType, visible: usize) -> Option<usize>
     ensures { IfSome result (λ place. IsKeptAt kept.now place wanted) }
 {
     for place in 0..kept.len() {
-        if kept[place].is_for(wanted) {
+        if kept[place].is_for(wanted, visible) {
             return Some(place);
         }
     }
@@ -137,11 +139,11 @@ impl KeptOffer {
         }
     }
 
-    /// Whether this is kept for a value of the type `wanted`.
-    fn is_for(&self, wanted: ValType) -> bool
-        ensures { IsTrue result ↔ (self.now.wanted ≡ wanted) }
+    /// Whether this is kept for a value of the type `wanted`, and no global past the first `visible` was looked at.
+    fn is_for(&self, wanted: ValType, visible: usize) -> bool
+        ensures { IsTrue result ↔ ((self.now.wanted ≡ wanted) × (self.now.globals_seen ≤ visible)) }
     {
-        is_same(&self.wanted, &wanted)
+        is_same(&self.wanted, &wanted) && self.globals_seen <= visible
     }
 
     /// Looks at those globals and functions of `scope` that weren't looked at.
