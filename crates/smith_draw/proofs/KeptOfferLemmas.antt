@@ -2,20 +2,19 @@
 use Rattle.std.proofs.Common.{◌≡◌, ℕ, zero, suc, ◌+◌, ◌-◌, ◌<◌, ◌≤◌, Bool, true, false, List, [], ◌∷◌, ◌++◌, take, get_or, set, map, length, refl, sym, ap, ◌∙◌, subst, arith}
 use Rattle.std.specs.Prelude.{All, Some, Result, Ok, Err, not, ◌&&◌}
 use Rattle.std.proofs.lemmas.List.{append-nil, append_assoc, get_or-set_same, length-map, length-set, map-append}
-use Rattle.std.proofs.Math.Seq.{take-length}
 use Rattle.std.proofs.lemmas.Option.{get_or_from_slice_get, slice_get-get_or, slice_get_within}
 use Rattle.smith_types.specs.Expressions.{Context, function_reference}
 use Rattle.smith_types.specs.declared.entity_type.GlobalType.{GlobalType}
 use Rattle.smith_types.specs.declared.value_type.ValType.{ValType}
 use Rattle.smith_draw.specs.Below.{is_val_below}
 use Rattle.smith_draw.specs.ConstOffers.{each_from, offered_if, past, global_offers, function_offers}
-use Rattle.smith_draw.specs.KeptOffers.{IsKeptAt, IsKeptOffer, IsWhole}
+use Rattle.smith_draw.specs.KeptOffers.{IsKeptAt, IsKeptOffer}
 use Rattle.smith_draw.specs.declared.const_expr.kept_offers.KeptOffer.{KeptOffer}
 use Rattle.smith_draw.specs.declared.const_expr.node_choice.Choice.TheVariants as choice
 use Rattle.smith_draw.proofs.ConstFoundLemmas.{past_end}
 
 -- what the items up to one offer, and this one
-each_more : {A B : Type 0} (offer : ℕ → A → List B) (start : ℕ) (xs : List A) (k : ℕ) (d : A) → k < length xs → each_from offer start (take (suc k) xs) ≡ each_from offer start (take k xs) ++ offer (start + k) (get_or xs k d)
+pub each_more : {A B : Type 0} (offer : ℕ → A → List B) (start : ℕ) (xs : List A) (k : ℕ) (d : A) → k < length xs → each_from offer start (take (suc k) xs) ≡ each_from offer start (take k xs) ++ offer (start + k) (get_or xs k d)
 each_more offer start [] k d inside = absurd (omega arith)
 each_more offer start (x ∷ xs) zero d inside = append-nil (offer start x) ∙ ap (λ (n : ℕ). offer n x) (omega arith)
 each_more offer start (x ∷ xs) (suc k) d inside =
@@ -23,7 +22,7 @@ each_more offer start (x ∷ xs) (suc k) d inside =
     let same : start + 1 + k ≡ start + suc k = omega arith in
     ap (λ ys. offer start x ++ ys) (more ∙ ap (λ (n : ℕ). each_from offer (start + 1) (take k xs) ++ offer n (get_or xs k d)) same) ∙ sym (append_assoc (offer start x) (each_from offer (start + 1) (take k xs)) (offer (start + suc k) (get_or xs k d)))
 
-made_if : {B : Type 0} (make : ℕ → B) (offered : Bool) (k : ℕ) → map make (offered_if offered k) ≡ offered_if offered (make k)
+pub made_if : {B : Type 0} (make : ℕ → B) (offered : Bool) (k : ℕ) → map make (offered_if offered k) ≡ offered_if offered (make k)
 made_if make true k = refl
 made_if make false k = refl
 
@@ -95,16 +94,3 @@ kept_again kept place d old new wanted (offer, at, same) is still =
       slice_get-get_or (set kept place new) place new (rw (length-set kept place new) inside) ∙ ap (λ (each : KeptOffer). Some each) (get_or-set_same kept place new new inside),
       still ∙ ap (λ (each : KeptOffer). each.wanted) (is ∙ get_or_from_slice_get kept place offer d at) ∙ same,
     )
-
--- what is kept of all visible globals and all functions is all that they offer
-pub whole_kept : (context : Context) (offer : KeptOffer) (wanted : ValType) → IsKeptOffer context offer → offer.wanted ≡ wanted → offer.globals_seen ≡ context.visible → offer.funcs_seen ≡ length context.funcs → IsWhole context wanted offer
-whole_kept context offer wanted kept same globals funcs = record {
-  globals =
-      kept.globals
-      ∙ ap (λ (w : ValType). each_from (global_offers context w) 0 (take offer.globals_seen context.globals)) same
-      ∙ ap (λ (n : ℕ). each_from (global_offers context wanted) 0 (take n context.globals)) globals;
-  funcs =
-      kept.funcs
-      ∙ ap (λ (w : ValType). each_from (function_offers context w) 0 (take offer.funcs_seen context.funcs)) same
-      ∙ ap (λ (xs : List ℕ). each_from (function_offers context wanted) 0 xs) (ap (λ (n : ℕ). take n context.funcs) funcs ∙ take-length context.funcs);
-}

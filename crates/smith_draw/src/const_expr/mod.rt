@@ -22,6 +22,7 @@ mod constant;
 mod drawn;
 mod extended;
 mod found;
+mod hierarchy;
 mod kept_offers;
 mod node;
 mod node_choice;
